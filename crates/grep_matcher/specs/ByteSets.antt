@@ -1,0 +1,6 @@
+-- Sets of bytes, as contracts see them: for each number below 256 whether it is a member.
+use Rattle.std.specs.Prelude.{ℕ, Bool, false, List, slice_index_or}
+
+-- whether a number is in the set
+abbrev pub holds : List Bool → ℕ → Bool
+holds set byte = slice_index_or set byte false

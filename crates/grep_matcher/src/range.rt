@@ -1,0 +1,101 @@
+//! A range of places.
+ghost use Rattle.std.specs.Prelude.{◌≡◌, ◌≤◌, ◌<◌, ◌+◌, ◌-◌, ◌^◌, ◌↔◌, ℕ, IsTrue};
+
+use std::marker::Model;
+
+/// A range of places in a haystack, in bytes: its start, and its end, which isn't below the start.
+#[derive(Clone, Copy, PartialEq, Eq, Debug)]
+pub struct Match {
+    start: usize,
+    end: usize,
+}
+
+impl Model for Match {
+    ghost Value = { ℕ × ℕ };
+
+    ghost view = { λ m. (m.start, m.end) };
+
+    ghost invariant = { λ m. m.start ≤ m.end };
+
+    ghost inverse = { λ v. record { start = v.0; end = v.1 } };
+}
+
+impl Match {
+    /// The range from `start` up to `end`. The caller ensures that `start` is at most `end`.
+    #[inline]
+    pub fn new(start: usize, end: usize) -> Match
+        requires { start ≤ end }
+        ensures { result ≡ (start, end) }
+    {
+        Match { start, end }
+    }
+
+    /// The empty range at a place.
+    #[inline]
+    pub fn zero(place: usize) -> Match
+        ensures { result ≡ (place, place) }
+    {
+        Match {
+            start: place,
+            end: place,
+        }
+    }
+
+    /// Where the range starts.
+    #[inline]
+    pub fn start(&self) -> usize
+        ensures value { result ≡ self.now.0 }
+        ensures ordered { self.now.0 ≤ self.now.1 }
+    {
+        self.start
+    }
+
+    /// Where the range ends: one past its last byte.
+    #[inline]
+    pub fn end(&self) -> usize
+        ensures value { result ≡ self.now.1 }
+        ensures ordered { self.now.0 ≤ self.now.1 }
+    {
+        self.end
+    }
+
+    /// How many bytes the range has.
+    #[inline]
+    pub fn len(&self) -> usize
+        ensures { result ≡ self.now.1 - self.now.0 }
+    {
+        self.end - self.start
+    }
+
+    /// Whether the range has no bytes.
+    #[inline]
+    pub fn is_empty(&self) -> bool
+        ensures { IsTrue result ↔ (self.now.0 ≡ self.now.1) }
+    {
+        self.start == self.end
+    }
+
+    /// The range moved up by `amount`. The caller ensures that both of its places then fit a `usize`.
+    #[inline]
+    pub fn offset(&self, amount: usize) -> Match
+        requires { self.now.1 + amount < 2 ^ 64 }
+        ensures { result ≡ (self.now.0 + amount, self.now.1 + amount) }
+    {
+        Match {
+            start: self.start + amount,
+            end: self.end + amount,
+        }
+    }
+
+    /// The range from the same start up to `end`. The caller ensures that its start is at most `end`.
+    #[inline]
+    pub fn with_end(&self, end: usize) -> Match
+        requires { self.now.0 ≤ end }
+        ensures { result ≡ (self.now.0, end) }
+    {
+        Match {
+            start: self.start,
+            end,
+        }
+    }
+}
