@@ -1,0 +1,5 @@
+use Rattle.grep_lines.proofs.LawLemmas.{AreLines-lines}
+use Rattle.grep_lines.proofs.laws.lines_join.Goals as goal
+
+pub returns : goal.returns
+returns c = AreLines-lines

@@ -1,0 +1,15 @@
+-- Laws of the lines of some bytes.
+use Rattle.std.specs.Prelude.{◌≡◌, ℕ, ◌-◌, ◌<◌, List, ◌++◌, length, slice_index}
+use Rattle.grep_matcher.specs.Lines.{lines, AreLines}
+
+-- the lines have the four properties that say what lines are
+abbrev pub LinesJoin : Type 0
+LinesJoin = (t : ℕ) (bytes : List ℕ) → AreLines t bytes (lines t bytes)
+
+-- no other pieces have them
+abbrev pub LinesAreDetermined : Type 0
+LinesAreDetermined = (t : ℕ) (bytes : List ℕ) (pieces : List (List ℕ)) → AreLines t bytes pieces → pieces ≡ lines t bytes
+
+-- behind bytes that are empty or end in a terminator the lines begin anew
+abbrev pub LinesAppend : Type 0
+LinesAppend = (t : ℕ) (front back : List ℕ) → (0 < length front → slice_index front (length front - 1) ≡ t) → lines t (front ++ back) ≡ lines t front ++ lines t back

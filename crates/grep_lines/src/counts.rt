@@ -1,0 +1,93 @@
+//! How many of a byte stand in some bytes.
+ghost use Rattle.std.specs.Prelude.{◌≡◌, ◌==◌, ◌<◌, ◌^◌, length, count_by};
+
+use std::simd::prelude::*;
+
+// How many bytes are looked at in one step.
+const WIDE: usize = 64;
+
+// The same where fewer are left.
+const NARROW: usize = 16;
+
+/// How many of the bytes are `terminator`.
+pub fn count(bytes: &[u8], terminator: u8) -> u64
+    ensures { result ≡ count_by (λ b. b == terminator) bytes.now }
+{
+    let mut total = 0;
+    let mut rest = bytes;
+    while rest.len() >= WIDE {
+        let (part, others) = rest.split_at(WIDE);
+        total += count_wide(part, terminator);
+        rest = others;
+    }
+    total + count_rest(rest, terminator)
+}
+
+// The same in smaller steps.
+#[inline(always)]
+fn count_rest(bytes: &[u8], terminator: u8) -> u64
+    ensures { result ≡ count_by (λ b. b == terminator) bytes.now }
+{
+    let mut total = 0;
+    let mut rest = bytes;
+    while rest.len() >= NARROW {
+        let (part, others) = rest.split_at(NARROW);
+        total += count_narrow(part, terminator);
+        rest = others;
+    }
+    total + count_few(rest, terminator)
+}
+
+// The same of a wide part.
+#[inline(always)]
+fn count_wide(part: &[u8], terminator: u8) -> u64
+    requires { length part.now ≡ WIDE }
+    ensures { result ≡ count_by (λ b. b == terminator) part.now }
+{
+    count_wide_vector(u8x64::from_slice(part), terminator)
+}
+
+// The same of a wide vector.
+#[inline(always)]
+fn count_wide_vector(bytes: u8x64, terminator: u8) -> u64
+    ensures { result ≡ count_by (λ b. b == terminator) bytes }
+{
+    bytes
+        .simd_eq(u8x64::splat(terminator))
+        .to_bitmask()
+        .count_ones() as u64
+}
+
+// The same of a narrow part.
+#[inline(always)]
+fn count_narrow(part: &[u8], terminator: u8) -> u64
+    requires { length part.now ≡ NARROW }
+    ensures { result ≡ count_by (λ b. b == terminator) part.now }
+{
+    count_narrow_vector(u8x16::from_slice(part), terminator)
+}
+
+// The same of a narrow vector.
+#[inline(always)]
+fn count_narrow_vector(bytes: u8x16, terminator: u8) -> u64
+    ensures { result ≡ count_by (λ b. b == terminator) bytes }
+{
+    bytes
+        .simd_eq(u8x16::splat(terminator))
+        .to_bitmask()
+        .count_ones() as u64
+}
+
+// The same a byte at a time.
+#[inline(always)]
+fn count_few(bytes: &[u8], terminator: u8) -> u64
+    ensures { result ≡ count_by (λ b. b == terminator) bytes.now }
+{
+    let mut total = 0;
+    for byte in bytes {
+        if *byte == terminator {
+            total += 1;
+        }
+    }
+    total
+}

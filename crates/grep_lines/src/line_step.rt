@@ -1,0 +1,83 @@
+//! Steps from line to line.
+ghost use Rattle.std.specs.Prelude.{◌≡◌, ◌∷◌, ◌↔◌, ◌≤◌, ◌<◌, ◌-◌, ℕ, length, drop, IsNone, IfSome, IfNone};
+ghost use Rattle.grep_matcher.specs.Lines.{lines};
+ghost use Rattle.grep_lines.specs.Places.{slice, IsLineStart, IsLine};
+ghost use Rattle.grep_lines.specs.FirstLine.{IsFirstLine};
+
+use memchr::memchr;
+use std::marker::Model;
+
+/// A walk over the lines of some bytes, which it isn't holding: the caller lends the same bytes at each step.
+#[derive(Debug, Drop)]
+pub struct LineStep {
+    terminator: u8,
+    start: usize,
+    end: usize,
+}
+
+impl Model for LineStep {
+    ghost use Rattle.std.specs.Prelude.{◌≤◌};
+    ghost use Rattle.grep_lines.specs.Steps.{Step};
+
+    ghost Value = { Step };
+
+    ghost view = { λ s. record { terminator = s.terminator; start = s.start; end = s.end } };
+
+    ghost invariant = { λ s. s.start ≤ s.end };
+}
+
+impl LineStep {
+    /// The walk over the lines of the bytes from place `start` up to place `end`, split at the byte `terminator`. The
+    /// caller ensures that `start` is at most `end`.
+    #[inline]
+    pub fn new(terminator: u8, start: usize, end: usize) -> LineStep
+        requires { start ≤ end }
+        ensures { result ≡ record { terminator = terminator; start = start; end = end } }
+    {
+        LineStep {
+            terminator,
+            start,
+            end,
+        }
+    }
+
+    /// The places where the next line starts and ends, its terminator with it; none where no bytes are left. The caller
+    /// ensures that the end of the walk lies within `bytes`.
+    ///
+    /// Where the walk stands at line i of all the bytes and goes on to their end, what comes is line i.
+    #[inline]
+    pub fn next(&mut self, bytes: &[u8]) -> Option<(usize, usize)>
+        requires { self.old.end ≤ length bytes.now }
+        ensures none { IsNone result ↔ (self.old.start ≡ self.old.end) }
+        ensures unchanged { IfNone result (self.new ≡ self.old) }
+        ensures starts { IfSome result (λ line. line.0 ≡ self.old.start) }
+        ensures bounds { IfSome result (λ line. (line.0 < line.1) × (line.1 ≤ self.old.end)) }
+        ensures moves { IfSome result (λ line. self.new ≡ record self.old { start = line.1 }) }
+        ensures first { IfSome result (λ line. lines self.old.terminator (slice bytes.now line.0 self.old.end)
+            ≡ slice bytes.now line.0 line.1 ∷ lines self.old.terminator (slice bytes.now line.1 self.old.end)) }
+        ensures listed { IfSome result (λ line. (i : ℕ) → self.old.end ≡ length bytes.now
+            → IsLineStart self.old.terminator bytes.now line.0 i → IsLine self.old.terminator bytes.now i line.0 line.1) }
+        ensures last { IfNone result ((i : ℕ) → self.old.end ≡ length bytes.now
+            → IsLineStart self.old.terminator bytes.now self.old.start i → i ≡ length (lines self.old.terminator bytes.now)) }
+    {
+        if self.start == self.end {
+            return None;
+        }
+        let start = self.start;
+        let end = start + first_line_length(self.terminator, &bytes[start..self.end]);
+        self.start = end;
+        Some((start, end))
+    }
+}
+
+/// How many bytes the first line has.
+#[inline]
+pub(crate) fn first_line_length(terminator: u8, bytes: &[u8]) -> usize
+    requires { 0 < length bytes.now }
+    ensures { IsFirstLine terminator bytes.now result }
+{
+    match memchr(terminator, bytes) {
+        Some(at) => at + 1,
+        None => bytes.len(),
+    }
+}
