@@ -1,0 +1,6 @@
+-- What contracts see of a standard reader as a source: the reader, and whether its last call failed.
+use Rattle.std.specs.Prelude.{Bool}
+
+pub record Reader (R : Type 0) : Type 0 where
+  pub inner : R
+  pub failed : Bool
