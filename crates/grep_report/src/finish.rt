@@ -1,0 +1,52 @@
+//! The end of a search.
+ghost use Rattle.std.specs.Prelude.{◌≡◌};
+
+use std::marker::Model;
+
+/// The end of a search: how far into the input its calls came.
+#[derive(Clone, Copy, Debug)]
+pub struct SinkFinish {
+    byte_count: u64,
+    binary_byte_offset: Option<u64>,
+}
+
+impl Model for SinkFinish {
+    ghost use Rattle.grep_report.specs.Reports.{FinishReport};
+
+    ghost Value = { FinishReport };
+
+    ghost view = { λ f. record { byte_count = f.byte_count; binary_byte_offset = f.binary_byte_offset } };
+
+    ghost inverse = { λ f. record { byte_count = f.byte_count; binary_byte_offset = f.binary_byte_offset } };
+}
+
+impl SinkFinish {
+    /// The end of a search whose calls came `byte_count` bytes into the input, and which found its first binary byte at
+    /// `binary_byte_offset`, in bytes, if it found one.
+    #[inline]
+    pub fn new(byte_count: u64, binary_byte_offset: Option<u64>) -> SinkFinish
+        ensures { result ≡ record { byte_count = byte_count; binary_byte_offset = binary_byte_offset } }
+    {
+        SinkFinish {
+            byte_count,
+            binary_byte_offset,
+        }
+    }
+
+    /// How many bytes of the input the calls came through: up to the end of the last line that had a turn, or of the
+    /// turn that was answered false.
+    #[inline]
+    pub fn byte_count(&self) -> u64
+        ensures { result ≡ self.now.byte_count }
+    {
+        self.byte_count
+    }
+
+    /// The place of the first binary byte in the whole input, in bytes, if the search found one.
+    #[inline]
+    pub fn binary_byte_offset(&self) -> Option<u64>
+        ensures { result ≡ self.now.binary_byte_offset }
+    {
+        self.binary_byte_offset
+    }
+}
