@@ -1,0 +1,11 @@
+pub mod Settings
+pub mod Configs
+pub mod Calls
+pub mod Numbers
+pub mod Reports
+pub mod Runs
+pub mod Refusals
+pub mod Searches
+pub mod Laws
+pub mod Readers
+pub mod Walks

@@ -1,0 +1,18 @@
+//! The settings of a searcher.
+use grep_matcher::LineTerminator;
+use grep_report::MmapChoice;
+
+/// What a builder sets and a searcher keeps.
+#[derive(Clone, Copy, Debug)]
+pub(crate) struct Config {
+    pub(crate) line_terminator: LineTerminator,
+    pub(crate) invert_match: bool,
+    pub(crate) line_number: bool,
+    pub(crate) after_context: usize,
+    pub(crate) before_context: usize,
+    pub(crate) passthru: bool,
+    pub(crate) heap_limit: Option<usize>,
+    pub(crate) memory_map: MmapChoice,
+    pub(crate) stop_on_nonmatch: bool,
+    pub(crate) max_matches: Option<u64>,
+}

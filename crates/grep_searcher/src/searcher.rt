@@ -1,0 +1,160 @@
+//! The searcher and its builder.
+ghost use Rattle.std.specs.Prelude.{◌≡◌, ℕ, true, None, Ok, IfOk, IfErr, IsOk, Result};
+ghost use Rattle.grep_searcher.specs.Configs.{default_settings};
+ghost use Rattle.grep_searcher.specs.Readers.{IsReaderSearched};
+ghost use Rattle.grep_searcher.specs.Refusals.{refusal_of};
+ghost use Rattle.grep_searcher.specs.Runs.{NeverFails};
+ghost use Rattle.grep_searcher.specs.Searches.{IsSearched, IsSearchedAlong};
+
+mod builder;
+mod queries;
+mod read;
+mod tell;
+mod walk;
+
+use crate::config::Config;
+use crate::searcher::read::read_to_end;
+use crate::sink::Sink;
+pub use builder::SearcherBuilder;
+use grep_decode::Source;
+use grep_matcher::Matcher;
+use grep_report::{ConfigError, SinkError, SinkFinish};
+use std::alloc::{Allocator, Global};
+use std::marker::Model;
+
+/// A search by line, as it was configured by a `SearcherBuilder`. It may search as often as one likes; each search
+/// begins anew.
+#[derive(Drop)]
+pub struct Searcher<A: Allocator + Copy = Global> {
+    config: Config,
+    alloc: A,
+}
+
+impl<A: Allocator + Copy> Model for Searcher<A> {
+    ghost use Rattle.std.specs.Prelude.{◌≡◌, true};
+    ghost use Rattle.grep_searcher.specs.Settings.{Settings};
+    ghost use Rattle.grep_searcher.specs.Configs.{settings_of};
+
+    ghost Value = { Settings };
+
+    ghost view = { λ s. settings_of s.config };
+
+    ghost invariant = { λ s. s.config.passthru ≡ true → (s.config.after_context ≡ 0) × (s.config.before_context ≡ 0) };
+}
+
+impl<A: Allocator + Copy> Searcher<A> {
+    /// The searcher with the default settings, those of `SearcherBuilder::new`. The only error is `Memory`, where there
+    /// is none for its buffers.
+    pub fn new(alloc: A) -> Result<Searcher<A>, ConfigError>
+        ensures settings { IfOk result (λ searcher. searcher ≡ default_settings) }
+        ensures error { IfErr result (λ e. e ≡ ConfigError.Memory) }
+    {
+        SearcherBuilder::new().build(alloc)
+    }
+
+    /// A searcher with the same settings and buffers of its own. The only error is `Memory`, where there is none for
+    /// its buffers.
+    pub fn clone(&self) -> Result<Searcher<A>, ConfigError>
+        ensures settings { IfOk result (λ searcher. searcher ≡ self.now) }
+        ensures error { IfErr result (λ e. e ≡ ConfigError.Memory) }
+    {
+        Ok(Searcher {
+            config: self.config,
+            alloc: self.alloc,
+        })
+    }
+
+    /// Searches some bytes, and tells the sink what it finds. The caller ensures that the sink may be called.
+    ///
+    /// A search that is refused makes no call: where the heap limit is 0 the error is made of `SearchUnavailable`, else
+    /// where the matcher names another terminator than the searcher's, of `MismatchedLineTerminators`. Any other search
+    /// makes the calls that are defined, up to the first that isn't answered true, and after a false `finish` with the
+    /// end of that turn. It ends in the sink's error, or in an error made of the matcher's; then `finish` isn't called.
+    /// It takes no memory, so that it fails in no other way, and the settings stay as they were.
+    pub fn search_slice<M: Matcher, S: Sink>(
+        &mut self,
+        matcher: M,
+        bytes: &[u8],
+        sink: &mut S,
+    ) -> Result<(), S::Error>
+    where
+        M: Drop,
+        S::Error: SinkError<A>,
+        requires { S.may_call sink.old }
+        ensures settings { self.new ≡ self.old }
+        ensures searched { IsSearched S.step S.Error.is_message S.Error.is_config M.Error.output (M.never_fails matcher)
+            self.old (M.meaning matcher) bytes.now sink.old result sink.new }
+        ensures succeeds { M.never_fails matcher → NeverFails S.step → refusal_of self.old (M.meaning matcher) ≡ None → IsOk result }
+        ensures may_call { S.may_call sink.new }
+    {
+        match self.refusal(&matcher) {
+            Some(refusal) => Err(S::Error::error_config(self.alloc, refusal)),
+            None => self.search_bytes(&matcher, bytes, sink),
+        }
+    }
+
+    /// Reads a reader to its end, and searches what it gave as `search_slice` does. The caller ensures that the sink may
+    /// be called.
+    ///
+    /// A search that is refused reads nothing. Where the reader fails, the error is made of its error, unchanged, and
+    /// where there is no memory for its bytes, of one of kind `OutOfMemory`; then the sink had no call. A reader that
+    /// is interrupted isn't asked again. The bytes don't count against the heap limit.
+    pub fn search_reader<M: Matcher, R: Source, S: Sink>(
+        &mut self,
+        matcher: M,
+        reader: &mut R,
+        sink: &mut S,
+    ) -> Result<(), S::Error>
+    where
+        M: Drop,
+        S::Error: SinkError<A>,
+        requires { S.may_call sink.old }
+        ensures settings { self.new ≡ self.old }
+        ensures searched { IsReaderSearched R.told R.step S.step S.Error.is_message S.Error.is_io S.Error.is_config M.Error.output (M.never_fails matcher)
+            self.old (M.meaning matcher) reader.old sink.old result reader.new sink.new }
+        ensures may_call { S.may_call sink.new }
+    {
+        if let Some(refusal) = self.refusal(&matcher) {
+            return Err(S::Error::error_config(self.alloc, refusal));
+        }
+        match read_to_end(self.alloc, reader) {
+            Ok(bytes) => self.search_bytes(&matcher, &bytes, sink),
+            Err(error) => Err(S::Error::error_io(self.alloc, error)),
+        }
+    }
+
+    // Why a search is refused, if it is.
+    fn refusal<M: Matcher>(&self, matcher: &M) -> Option<ConfigError>
+        ensures { result ≡ refusal_of self.now (M.meaning matcher.now) }
+    {
+        if self.config.heap_limit == Some(0) {
+            return Some(ConfigError::SearchUnavailable);
+        }
+        let searcher = self.config.line_terminator;
+        match matcher.line_terminator() {
+            Some(matcher) if matcher != searcher => {
+                Some(ConfigError::MismatchedLineTerminators { matcher, searcher })
+            }
+            _ => None,
+        }
+    }
+
+    // A search that isn't refused.
+    fn search_bytes<M: Matcher, S: Sink>(
+        &self,
+        matcher: &M,
+        bytes: &[u8],
+        sink: &mut S,
+    ) -> Result<(), S::Error>
+    where
+        S::Error: SinkError<A>,
+        requires { S.may_call sink.old }
+        ensures searched { IsSearchedAlong S.step S.Error.is_message S.Error.is_config M.Error.output (M.never_fails matcher.now)
+            self.now (M.meaning matcher.now) bytes.now sink.old result sink.new }
+        ensures succeeds { M.never_fails matcher.now → NeverFails S.step → IsOk result }
+        ensures may_call { S.may_call sink.new }
+    {
+        let count = self.tell_all(matcher, bytes, sink)?;
+        sink.finish(self, &SinkFinish::new(count as u64, None))
+    }
+}

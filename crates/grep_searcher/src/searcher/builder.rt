@@ -1,0 +1,177 @@
+//! The builder of a searcher.
+ghost use Rattle.std.specs.Prelude.{◌≡◌, IfOk, IfErr};
+ghost use Rattle.grep_searcher.specs.Configs.{default_settings, built};
+
+use crate::config::Config;
+use crate::searcher::Searcher;
+use grep_matcher::LineTerminator;
+use grep_report::{ConfigError, MmapChoice};
+use std::alloc::{AllocError, Allocator};
+use std::marker::Model;
+
+/// The settings of a searcher that is to be built. Each setter changes its own setting alone, and answers the builder.
+#[derive(Debug, Drop)]
+pub struct SearcherBuilder {
+    config: Config,
+}
+
+impl Model for SearcherBuilder {
+    ghost use Rattle.grep_searcher.specs.Settings.{Settings};
+    ghost use Rattle.grep_searcher.specs.Configs.{settings_of};
+
+    ghost Value = { Settings };
+
+    ghost view = { λ b. settings_of b.config };
+}
+
+impl Default for SearcherBuilder {
+    ghost use Rattle.std.specs.Prelude.{◌≡◌};
+    ghost use Rattle.grep_searcher.specs.Configs.{default_settings};
+
+    ghost is_default = { λ b. b ≡ default_settings };
+
+    fn default() -> SearcherBuilder {
+        SearcherBuilder::new()
+    }
+}
+
+/// An equal builder. It takes no memory, so that it never fails.
+impl Clone for SearcherBuilder {
+    ghost is_clone = { λ b copy. copy ≡ b };
+
+    ghost is_infallible = { λ _. Unit {0} };
+
+    fn clone(&self) -> Result<SearcherBuilder, AllocError> {
+        Ok(SearcherBuilder {
+            config: self.config,
+        })
+    }
+}
+
+impl SearcherBuilder {
+    /// The default settings: lines end at a line feed and are numbered; nothing is inverted, limited or stopped early,
+    /// and no lines are told but those that match.
+    pub fn new() -> SearcherBuilder
+        ensures { result ≡ default_settings }
+    {
+        SearcherBuilder {
+            config: Config {
+                line_terminator: LineTerminator::Byte(b'\n'),
+                invert_match: false,
+                line_number: true,
+                after_context: 0,
+                before_context: 0,
+                passthru: false,
+                heap_limit: None,
+                memory_map: MmapChoice::Never,
+                stop_on_nonmatch: false,
+                max_matches: None,
+            },
+        }
+    }
+
+    /// A searcher with these settings, but that both contexts are 0 under `passthru`. It keeps `alloc` for what it
+    /// needs memory for. The only error is `Memory`, where there is none for its buffers.
+    pub fn build<A: Allocator + Copy>(&self, alloc: A) -> Result<Searcher<A>, ConfigError>
+        ensures settings { IfOk result (λ searcher. searcher ≡ built self.now) }
+        ensures error { IfErr result (λ e. e ≡ ConfigError.Memory) }
+    {
+        let mut config = self.config;
+        if config.passthru {
+            config.after_context = 0;
+            config.before_context = 0;
+        }
+        Ok(Searcher { config, alloc })
+    }
+
+    /// What ends a line; a line feed by default.
+    pub fn line_terminator(&mut self, terminator: LineTerminator) -> &mut SearcherBuilder
+        ensures reference { result.ghost_name ≡ self.entry.ghost_name }
+        ensures set { result.now ≡ record self.old { line_terminator = terminator } }
+    {
+        self.config.line_terminator = terminator;
+        self
+    }
+
+    /// Whether the lines that don't match are selected, in place of those that do; not by default.
+    pub fn invert_match(&mut self, yes: bool) -> &mut SearcherBuilder
+        ensures reference { result.ghost_name ≡ self.entry.ghost_name }
+        ensures set { result.now ≡ record self.old { invert_match = yes } }
+    {
+        self.config.invert_match = yes;
+        self
+    }
+
+    /// Whether lines are numbered, from 1; they are by default.
+    pub fn line_number(&mut self, yes: bool) -> &mut SearcherBuilder
+        ensures reference { result.ghost_name ≡ self.entry.ghost_name }
+        ensures set { result.now ≡ record self.old { line_number = yes } }
+    {
+        self.config.line_number = yes;
+        self
+    }
+
+    /// How many lines are told after a match; 0 by default.
+    pub fn after_context(&mut self, lines: usize) -> &mut SearcherBuilder
+        ensures reference { result.ghost_name ≡ self.entry.ghost_name }
+        ensures set { result.now ≡ record self.old { after_context = lines } }
+    {
+        self.config.after_context = lines;
+        self
+    }
+
+    /// How many lines are told before a match; 0 by default.
+    pub fn before_context(&mut self, lines: usize) -> &mut SearcherBuilder
+        ensures reference { result.ghost_name ≡ self.entry.ghost_name }
+        ensures set { result.now ≡ record self.old { before_context = lines } }
+    {
+        self.config.before_context = lines;
+        self
+    }
+
+    /// Whether each line is told, match or not, up to a stop; not by default. Both contexts then count as 0.
+    pub fn passthru(&mut self, yes: bool) -> &mut SearcherBuilder
+        ensures reference { result.ghost_name ≡ self.entry.ghost_name }
+        ensures set { result.now ≡ record self.old { passthru = yes } }
+    {
+        self.config.passthru = yes;
+        self
+    }
+
+    /// How many bytes a search may hold of its input at most; no limit by default. A limit of 0 refuses each search. The
+    /// bytes of a slice, and those of a reader that are read whole, don't count.
+    pub fn heap_limit(&mut self, bytes: Option<usize>) -> &mut SearcherBuilder
+        ensures reference { result.ghost_name ≡ self.entry.ghost_name }
+        ensures set { result.now ≡ record self.old { heap_limit = bytes } }
+    {
+        self.config.heap_limit = bytes;
+        self
+    }
+
+    /// Whether a file is mapped into memory; never.
+    pub fn memory_map(&mut self, choice: MmapChoice) -> &mut SearcherBuilder
+        ensures reference { result.ghost_name ≡ self.entry.ghost_name }
+        ensures set { result.now ≡ record self.old { memory_map = choice } }
+    {
+        self.config.memory_map = choice;
+        self
+    }
+
+    /// Whether the first line that isn't selected, behind one that is, ends the search; not by default.
+    pub fn stop_on_nonmatch(&mut self, yes: bool) -> &mut SearcherBuilder
+        ensures reference { result.ghost_name ≡ self.entry.ghost_name }
+        ensures set { result.now ≡ record self.old { stop_on_nonmatch = yes } }
+    {
+        self.config.stop_on_nonmatch = yes;
+        self
+    }
+
+    /// How many lines are selected at most; no limit by default. At 0 nothing is, and without `passthru` nothing is told.
+    pub fn max_matches(&mut self, limit: Option<u64>) -> &mut SearcherBuilder
+        ensures reference { result.ghost_name ≡ self.entry.ghost_name }
+        ensures set { result.now ≡ record self.old { max_matches = limit } }
+    {
+        self.config.max_matches = limit;
+        self
+    }
+}

@@ -1,0 +1,92 @@
+//! What a searcher was configured with.
+ghost use Rattle.std.specs.Prelude.{◌≡◌, true};
+
+use crate::searcher::Searcher;
+use grep_matcher::LineTerminator;
+use grep_report::MmapChoice;
+use std::alloc::Allocator;
+use std::fmt;
+
+impl<A: Allocator + Copy> Searcher<A> {
+    /// What ends a line.
+    pub fn line_terminator(&self) -> LineTerminator
+        ensures { result ≡ self.now.line_terminator }
+    {
+        self.config.line_terminator
+    }
+
+    /// Whether the lines that don't match are selected.
+    pub fn invert_match(&self) -> bool
+        ensures { result ≡ self.now.invert_match }
+    {
+        self.config.invert_match
+    }
+
+    /// Whether lines are numbered.
+    pub fn line_number(&self) -> bool
+        ensures { result ≡ self.now.line_number }
+    {
+        self.config.line_number
+    }
+
+    /// How many lines are told after a match; 0 under `passthru`.
+    pub fn after_context(&self) -> usize
+        ensures value { result ≡ self.now.after_context }
+        ensures bare { self.now.passthru ≡ true → result ≡ 0 }
+    {
+        self.config.after_context
+    }
+
+    /// How many lines are told before a match; 0 under `passthru`.
+    pub fn before_context(&self) -> usize
+        ensures value { result ≡ self.now.before_context }
+        ensures bare { self.now.passthru ≡ true → result ≡ 0 }
+    {
+        self.config.before_context
+    }
+
+    /// Whether each line is told, up to the last that has a turn.
+    pub fn passthru(&self) -> bool
+        ensures value { result ≡ self.now.passthru }
+        ensures bare { self.now.passthru ≡ true → (self.now.after_context ≡ 0) × (self.now.before_context ≡ 0) }
+    {
+        self.config.passthru
+    }
+
+    /// How many bytes a search may hold of its input at most, if there is a limit.
+    pub fn heap_limit(&self) -> Option<usize>
+        ensures { result ≡ self.now.heap_limit }
+    {
+        self.config.heap_limit
+    }
+
+    /// Whether a file is mapped into memory.
+    pub fn memory_map(&self) -> MmapChoice
+        ensures { result ≡ self.now.memory_map }
+    {
+        self.config.memory_map
+    }
+
+    /// Whether the first line that isn't selected, behind one that is, ends the search.
+    pub fn stop_on_nonmatch(&self) -> bool
+        ensures { result ≡ self.now.stop_on_nonmatch }
+    {
+        self.config.stop_on_nonmatch
+    }
+
+    /// How many lines are selected at most, if there is a limit.
+    pub fn max_matches(&self) -> Option<u64>
+        ensures { result ≡ self.now.max_matches }
+    {
+        self.config.max_matches
+    }
+}
+
+/// The settings alone.
+impl<A: Allocator + Copy> fmt::Debug for Searcher<A> {
+    fn fmt<W: fmt::Write>(&self, f: &mut fmt::Formatter<W>) -> fmt::Result {
+        f.debug_struct("Searcher")
+            .field("config", &self.config)
+            .finish()
+    }
+}

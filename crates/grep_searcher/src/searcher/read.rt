@@ -1,0 +1,64 @@
+//! A reader, read to its end.
+ghost use Rattle.std.specs.Prelude.{◌≡◌, ◌≤◌, ◌<◌, ◌+◌, length, take, drop, vec_len, IfOk, IfErr, OnOk};
+ghost use Rattle.std.specs.Io.KnownBytes.{Consumes, IsAtEnd};
+ghost use Rattle.grep_decode.specs.Source.{answer_of};
+ghost use Rattle.grep_searcher.specs.Readers.{IsRead, IsUnread};
+
+use grep_decode::Source;
+use std::alloc::{AllocError, Allocator};
+use std::io;
+
+// How many bytes each read asks for at least.
+const LEAST_FREE: usize = 64 * 1024;
+
+// All that a reader gives until a read gives nothing. An error is the reader's own, or one of kind `OutOfMemory`.
+pub(crate) fn read_to_end<A: Allocator, R: Source>(
+    alloc: A,
+    reader: &mut R,
+) -> io::Result<Vec<u8, A>>
+    ensures read { IfOk result (λ bytes. IsRead R.told R.step reader.old bytes.items reader.new) }
+    ensures unread { IfErr result (λ e. IsUnread R.told R.step reader.old e reader.new) }
+{
+    let mut bytes = Vec::new(alloc);
+    let mut filled = 0;
+    loop {
+        if make_room(&mut bytes, filled).is_err() {
+            return Err(io::Error::from(io::ErrorKind::OutOfMemory));
+        }
+        let count = match read_behind(reader, &mut bytes, filled) {
+            Ok(count) => count,
+            Err(e) => return Err(e),
+        };
+        if count == 0 {
+            bytes.truncate(filled);
+            return Ok(bytes);
+        }
+        filled += count;
+    }
+}
+
+// One read into the bytes behind the filled ones.
+fn read_behind<R: Source>(reader: &mut R, bytes: &mut [u8], filled: usize) -> io::Result<usize>
+    requires { filled < length bytes.old }
+    ensures bound { IfOk result (λ count. filled + count ≤ length bytes.new) }
+    ensures front { take filled bytes.new ≡ take filled bytes.old }
+    ensures takes { IfOk result (λ count. Consumes (R.told reader.old) (R.told reader.new) (take count (drop filled bytes.new))) }
+    ensures end { IfOk result (λ count. count ≡ 0 → IsAtEnd (R.told reader.new)) }
+    ensures step { R.step reader.old (answer_of result (drop filled bytes.new)) reader.new }
+{
+    reader.pull(&mut bytes[filled..])
+}
+
+// Makes room behind the filled bytes, where there is too little, by doubling.
+fn make_room<A: Allocator>(bytes: &mut Vec<u8, A>, filled: usize) -> Result<(), AllocError>
+    requires { filled ≤ vec_len bytes.old }
+    ensures kept { take filled bytes.new.items ≡ take filled bytes.old.items }
+    ensures within { filled ≤ vec_len bytes.new }
+    ensures room { OnOk result (filled + LEAST_FREE ≤ vec_len bytes.new) }
+{
+    let len = bytes.len();
+    if len - filled >= LEAST_FREE {
+        return Ok(());
+    }
+    bytes.resize(2 * len.max(LEAST_FREE), 0)
+}
