@@ -1,0 +1,244 @@
+//! A case: what is searched for, in what, and how.
+use grep_matcher::LineTerminator;
+use grep_searcher::SearcherBuilder;
+use hex::{FromHex, FromHexError};
+use std::alloc::Global;
+use std::str;
+use std::str::FromStr;
+
+/// Why a line is no case that can be run.
+#[derive(Clone, Copy, Debug, PartialEq, Eq)]
+pub(crate) enum CaseError {
+    /// A field isn't known, or its value isn't one of the field's, or the input or the literal is missing. The fields
+    /// that no setting stands behind are never this, but `Unsupported`.
+    Malformed,
+    /// `multi`, `bom`, `bin` or `enc`, which no setting stands behind, has any other value than its default, or a
+    /// reader is to be searched under a heap limit above 0, which has no effect there yet.
+    Unsupported,
+    /// There was no memory for the input or the literal.
+    OutOfMemory,
+}
+
+impl From<FromHexError> for CaseError {
+    fn from(error: FromHexError) -> CaseError {
+        match error {
+            FromHexError::OutOfMemory => CaseError::OutOfMemory,
+            _ => CaseError::Malformed,
+        }
+    }
+}
+
+/// Which matcher is made of the literal.
+#[derive(Clone, Copy, Debug, PartialEq, Eq)]
+pub(crate) enum Pattern {
+    /// The literal matcher.
+    Literal,
+    /// One with the same matches that tells no bytes.
+    Plain,
+    /// One that matches the empty haystack alone.
+    Empty,
+}
+
+impl FromStr for Pattern {
+    type Err = CaseError;
+
+    fn from_str(text: &str) -> Result<Pattern, CaseError> {
+        match text {
+            "lit" => Ok(Pattern::Literal),
+            "plain" => Ok(Pattern::Plain),
+            "empty" => Ok(Pattern::Empty),
+            _ => Err(CaseError::Malformed),
+        }
+    }
+}
+
+/// How the input is given to the search.
+#[derive(Clone, Copy, Debug, PartialEq, Eq)]
+pub(crate) enum Mode {
+    /// As a slice.
+    Slice,
+    /// By a reader.
+    Reader,
+}
+
+impl FromStr for Mode {
+    type Err = CaseError;
+
+    fn from_str(text: &str) -> Result<Mode, CaseError> {
+        match text {
+            "slice" => Ok(Mode::Slice),
+            "reader" => Ok(Mode::Reader),
+            _ => Err(CaseError::Malformed),
+        }
+    }
+}
+
+/// What a case says beside its input and its literal.
+#[derive(Debug, Drop)]
+pub(crate) struct Options {
+    /// Which matcher is made of the literal.
+    pub(crate) pattern: Pattern,
+    /// How the input is given.
+    pub(crate) mode: Mode,
+    /// How many bytes the reader gives at most at a read; 0: as many as are asked for.
+    pub(crate) piece: usize,
+    /// Which read fails, counted from 1.
+    pub(crate) error_at: Option<u64>,
+    /// Which call is answered false, counted from 1.
+    pub(crate) false_at: Option<u64>,
+    /// The settings of the search.
+    pub(crate) settings: SearcherBuilder,
+    // whether every field that no setting stands behind has its default
+    is_supported: bool,
+    // whether the settings have a heap limit above 0
+    has_heap: bool,
+}
+
+/// A search that is to be made.
+#[derive(Debug, Drop)]
+pub(crate) struct Case {
+    /// What is searched.
+    pub(crate) input: Vec<u8>,
+    /// What is searched for.
+    pub(crate) literal: Vec<u8>,
+    /// The rest.
+    pub(crate) options: Options,
+}
+
+impl Case {
+    /// The case of a line: fields `key=value` with a space between.
+    ///
+    /// An error is that of the first field that isn't taken: `OutOfMemory` where there is none for the input or the
+    /// literal, else `Malformed`, also where the line isn't UTF-8 or lacks the input or the literal. `Unsupported` comes
+    /// behind these.
+    pub(crate) fn parse(alloc: Global, line: &[u8]) -> Result<Case, CaseError> {
+        let line = str::from_utf8(line).map_err(|_| CaseError::Malformed)?;
+        let mut input = None;
+        let mut literal = None;
+        let mut options = Options::new();
+        for field in line.split(' ') {
+            let (key, value) = field.split_once('=').ok_or(CaseError::Malformed)?;
+            match key {
+                "in" => input = Some(hex::decode(alloc, value)?),
+                "lit" => literal = Some(hex::decode(alloc, value)?),
+                _ => options.set(key, value)?,
+            }
+        }
+        let (Some(input), Some(literal)) = (input, literal) else {
+            return Err(CaseError::Malformed);
+        };
+        let is_limited_reader = options.mode == Mode::Reader && options.has_heap;
+        if !options.is_supported || is_limited_reader {
+            return Err(CaseError::Unsupported);
+        }
+        Ok(Case {
+            input,
+            literal,
+            options,
+        })
+    }
+}
+
+impl Options {
+    // As they are where nothing is said.
+    fn new() -> Options {
+        Options {
+            pattern: Pattern::Literal,
+            mode: Mode::Slice,
+            piece: 0,
+            error_at: None,
+            false_at: None,
+            settings: SearcherBuilder::new(),
+            is_supported: true,
+            has_heap: false,
+        }
+    }
+
+    // Takes a field over.
+    fn set(&mut self, key: &str, value: &str) -> Result<(), CaseError> {
+        match key {
+            "matcher" => self.pattern = value.parse()?,
+            "mode" => self.mode = value.parse()?,
+            "piece" => self.piece = number(value)?,
+            "err_at" => self.error_at = ordinal(value)?,
+            "false_at" => self.false_at = ordinal(value)?,
+            "heap" => self.limit_heap(limit(value)?),
+            "multi" => self.support(value == "0"),
+            "bom" => self.support(value == "1"),
+            "bin" | "enc" => self.support(value == "none"),
+            _ => configure(&mut self.settings, key, value)?,
+        }
+        Ok(())
+    }
+
+    fn limit_heap(&mut self, bytes: Option<usize>) {
+        self.settings.heap_limit(bytes);
+        self.has_heap = bytes.is_some_and(|bytes| bytes > 0);
+    }
+
+    fn support(&mut self, is_supported: bool) {
+        self.is_supported = self.is_supported && is_supported;
+    }
+}
+
+// Takes a field of the searcher's settings over.
+fn configure(settings: &mut SearcherBuilder, key: &str, value: &str) -> Result<(), CaseError> {
+    match key {
+        "term" => settings.line_terminator(terminator(value)?),
+        "invert" => settings.invert_match(flag(value)?),
+        "nums" => settings.line_number(flag(value)?),
+        "after" => settings.after_context(number(value)?),
+        "before" => settings.before_context(number(value)?),
+        "passthru" => settings.passthru(flag(value)?),
+        "stop" => settings.stop_on_nonmatch(flag(value)?),
+        "max" => settings.max_matches(limit(value)?),
+        _ => return Err(CaseError::Malformed),
+    };
+    Ok(())
+}
+
+fn flag(text: &str) -> Result<bool, CaseError> {
+    match text {
+        "0" => Ok(false),
+        "1" => Ok(true),
+        _ => Err(CaseError::Malformed),
+    }
+}
+
+fn number<N: FromStr>(text: &str) -> Result<N, CaseError>
+where
+    N::Err: Drop,
+{
+    text.parse::<N>().map_err(|_| CaseError::Malformed)
+}
+
+// A number, or none.
+fn limit<N: FromStr>(text: &str) -> Result<Option<N>, CaseError>
+where
+    N::Err: Drop,
+{
+    if text == "none" {
+        Ok(None)
+    } else {
+        Ok(Some(number(text)?))
+    }
+}
+
+// Which one, counted from 1, or none.
+fn ordinal(text: &str) -> Result<Option<u64>, CaseError> {
+    match limit(text)? {
+        Some(0) => Err(CaseError::Malformed),
+        place => Ok(place),
+    }
+}
+
+fn terminator(text: &str) -> Result<LineTerminator, CaseError> {
+    match text {
+        "lf" => Ok(LineTerminator::byte(b'\n')),
+        "crlf" => Ok(LineTerminator::crlf()),
+        _ => {
+            let [byte] = <[u8; 1]>::from_hex(text)?;
+            Ok(LineTerminator::byte(byte))
+        }
+    }
+}
