@@ -1,0 +1,58 @@
+//! Searches standard input for a literal, line by line.
+#![tactic(auto)]
+
+use grep_searcher::{Reading, SearchError};
+use lgrep_cli::{Options, OptionsFault, USAGE, run, status};
+use std::alloc::Global;
+use std::env::Env;
+use std::io::{BufWriter, Read, Write};
+use std::process::ExitCode;
+use std::{env, io};
+
+// How many bytes of output are kept before they are written.
+const OUTPUT_LEN: usize = 64 * 1024;
+
+// What is said of a fault that isn't one of usage.
+const FAILED: &str = "lgrep: search failed";
+
+fn main(rt: HostRuntime) -> ExitCode {
+    let Ok(words) = words(&rt) else {
+        return stop(&rt, FAILED);
+    };
+    let options = match Options::parse(rt.alloc(), &words) {
+        Ok(options) => options,
+        Err(OptionsFault::Usage) => return stop(&rt, USAGE),
+        Err(OptionsFault::Memory) => return stop(&rt, FAILED),
+    };
+    let outcome = search(rt.alloc(), &options, rt.stdin(), rt.stdout());
+    if outcome.is_err() {
+        let _ = rt.eprintln(FAILED);
+    }
+    ExitCode::from(status(&outcome))
+}
+
+// The words behind the program's name.
+fn words(rt: &(impl Env + AllocGlobal)) -> io::Result<Vec<String>> {
+    let mut words = env::args(rt)?;
+    let _ = words.next();
+    Ok(words.collect(rt.alloc())?)
+}
+
+// Searches some input, and keeps the output in a buffer until it is written.
+fn search<R: Read + Drop, W: Write + Drop>(
+    alloc: Global,
+    options: &Options,
+    input: R,
+    output: W,
+) -> Result<bool, SearchError> {
+    match BufWriter::with_capacity(alloc, OUTPUT_LEN, output) {
+        Ok(mut writer) => run(alloc, options, &mut Reading::new(input), &mut writer),
+        Err(error) => Err(SearchError::Io(error)),
+    }
+}
+
+// Says on standard error why there is no search.
+fn stop(rt: &impl Eprint, line: &str) -> ExitCode {
+    let _ = rt.eprintln(line);
+    ExitCode::from(2)
+}

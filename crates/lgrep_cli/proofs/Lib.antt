@@ -1,0 +1,5 @@
+pub mod PrintLemmas
+pub mod NumberLemmas
+pub mod PrinterLemmas
+pub mod SearchLemmas
+pub mod WordLemmas

@@ -1,0 +1,14 @@
+-- The settings that options ask for.
+use Rattle.grep_searcher.specs.Configs.{built, default_settings}
+use Rattle.grep_searcher.specs.Settings.{Settings}
+use Rattle.lgrep_cli.specs.declared.options.Options.{Options}
+
+-- what no option sets is at its default; both contexts are 0 under passthru
+abbrev pub settings_of_options : Options → Settings
+settings_of_options options = built (record default_settings {
+  invert_match = options.invert;
+  after_context = options.after;
+  before_context = options.before;
+  passthru = options.passthru;
+  max_matches = options.max;
+})

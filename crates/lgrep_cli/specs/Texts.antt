@@ -1,0 +1,50 @@
+-- The text that lgrep writes for the calls of a search.
+use Rattle.std.specs.Prelude.{ℕ, ◌+◌, ◌-◌, ◌^◌, min, Bool, true, false, ◌||◌, ◌==◌, if◌then◌else◌, List, [], ◌∷◌, ◌++◌, length, slice_index, decimal, Option, Some, None}
+use Rattle.grep_matcher.specs.Lines.{lines}
+use Rattle.grep_searcher.specs.Calls.{Call, Turn, begins, matches, context, breaks, binary_data, finishes}
+
+-- a line with a line feed at its end, which is added where it lacks one
+abbrev pub ended : List ℕ → List ℕ
+ended line = if slice_index line (length line - 1) == 10 then line else line ++ 10 ∷ []
+
+-- a line behind its number, if it has one, and a mark: a colon for a match, a dash for another line
+abbrev pub numbered : Option ℕ → ℕ → List ℕ → List ℕ
+numbered None mark line = ended line
+numbered (Some number) mark line = decimal number ++ mark ∷ ended line
+
+-- numbers go up by one, and stay at the greatest of 64 bits
+abbrev pub next_number : Option ℕ → Option ℕ
+next_number None = None
+next_number (Some number) = Some (min (number + 1) (2 ^ 64 - 1))
+
+-- each line of a match behind its own number
+abbrev pub match_text : Option ℕ → List (List ℕ) → List ℕ
+match_text number [] = []
+match_text number (line ∷ later) = numbered number 58 line ++ match_text (next_number number) later
+
+-- the text of a call; a break is two dashes
+abbrev pub call_text : Call → List ℕ
+call_text begins = []
+call_text (matches number offset bytes) = match_text number (lines 10 bytes)
+call_text (context kind number offset line) = numbered number 45 line
+call_text breaks = 45 ∷ 45 ∷ 10 ∷ []
+call_text (binary_data offset) = []
+call_text (finishes count binary) = []
+
+-- the text of some calls, in order
+abbrev pub text : List Turn → List ℕ
+text [] = []
+text (turn ∷ later) = call_text turn.call ++ text later
+
+abbrev pub is_match : Call → Bool
+is_match begins = false
+is_match (matches number offset bytes) = true
+is_match (context kind number offset line) = false
+is_match breaks = false
+is_match (binary_data offset) = false
+is_match (finishes count binary) = false
+
+-- whether some call reports a match
+abbrev pub has_match : List Turn → Bool
+has_match [] = false
+has_match (turn ∷ later) = is_match turn.call || has_match later

@@ -1,0 +1,143 @@
+//! The sink that writes what it is told.
+ghost use Rattle.std.specs.Prelude.{◌≡◌, ◌∷◌, ◌++◌, [], true, false, Ok, Err, OnOk, MatchResult, decimal};
+ghost use Rattle.grep_matcher.specs.Lines.{lines};
+ghost use Rattle.std.specs.Io.KnownBytes.{Appends};
+ghost use Rattle.lgrep_cli.specs.Texts.{ended, numbered, next_number, match_text};
+
+use grep_searcher::{LineIter, SearchError, Searcher, Sink, SinkContext, SinkFinish, SinkMatch};
+use itoa::write_digits;
+use std::alloc::Allocator;
+use std::io;
+use std::io::Write;
+
+// Writes the lines that it is told, and keeps whether one of them was a match.
+#[derive(Drop)]
+pub(crate) struct Printer<'w, W> {
+    pub(crate) writer: &'w mut W,
+    pub(crate) found: bool,
+}
+
+impl<'w, W: Write> Printer<'w, W> {
+    // Nothing is told yet.
+    pub(crate) fn new(writer: &'w mut W) -> Printer<'w, W>
+        ensures same_writer { result.writer.ghost_name ≡ writer.entry.ghost_name }
+        ensures writer { result.writer.now ≡ writer.entry.now }
+        ensures found { result.found ≡ false }
+    {
+        Printer {
+            writer,
+            found: false,
+        }
+    }
+}
+
+impl<'w, W: Write> Sink for Printer<'w, W> {
+    type Error = SearchError;
+
+    ghost use Rattle.lgrep_cli.specs.Printers.{Prints};
+
+    ghost step = { Prints W.contents };
+
+    ghost may_call = { λ _. Unit {0} };
+
+    fn begin<A: Allocator + Copy>(&mut self, _searcher: &Searcher<A>) -> Result<bool, SearchError> {
+        Ok(true)
+    }
+
+    fn matched<A: Allocator + Copy>(
+        &mut self,
+        _searcher: &Searcher<A>,
+        found: &SinkMatch<'_>,
+    ) -> Result<bool, SearchError> {
+        self.found = true;
+        answer(write_lines(self.writer, found.line_number(), found.bytes()))
+    }
+
+    fn context<A: Allocator + Copy>(
+        &mut self,
+        _searcher: &Searcher<A>,
+        line: &SinkContext<'_>,
+    ) -> Result<bool, SearchError> {
+        answer(write_line(self.writer, line.line_number(), b'-', line.bytes()))
+    }
+
+    fn context_break<A: Allocator + Copy>(
+        &mut self,
+        _searcher: &Searcher<A>,
+    ) -> Result<bool, SearchError> {
+        answer(self.writer.write_all(b"--\n"))
+    }
+
+    fn finish<A: Allocator + Copy>(
+        &mut self,
+        _searcher: &Searcher<A>,
+        _finish: &SinkFinish,
+    ) -> Result<(), SearchError> {
+        Ok(())
+    }
+}
+
+// The answer to a call whose text was written or not.
+fn answer(written: io::Result<()>) -> Result<bool, SearchError>
+    ensures { MatchResult written (λ _. result ≡ Ok true) (λ error. result ≡ Err (SearchError.Io error)) }
+{
+    match written {
+        Ok(()) => Ok(true),
+        Err(error) => Err(SearchError::Io(error)),
+    }
+}
+
+// Writes the lines of a match, each behind its number.
+fn write_lines<W: Write>(writer: &mut W, number: Option<u64>, bytes: &[u8]) -> io::Result<()>
+    ensures { OnOk result (Appends (W.contents writer.old) (W.contents writer.new) (match_text number (lines 10 bytes.now))) }
+{
+    let mut number = number;
+    for line in LineIter::new(b'\n', bytes) {
+        write_line(writer, number, b':', line)?;
+        number = next_number(number);
+    }
+    Ok(())
+}
+
+// The number of the next line.
+fn next_number(number: Option<u64>) -> Option<u64>
+    ensures { result ≡ next_number number }
+{
+    number.map(|number| number.saturating_add(1))
+}
+
+// Writes a line behind its number, if it has one, and a mark.
+fn write_line<W: Write>(
+    writer: &mut W,
+    number: Option<u64>,
+    mark: u8,
+    line: &[u8],
+) -> io::Result<()>
+    ensures { OnOk result (Appends (W.contents writer.old) (W.contents writer.new) (numbered number mark line.now)) }
+{
+    if let Some(number) = number {
+        write_number(writer, number, mark)?;
+    }
+    write_ended(writer, line)
+}
+
+// Writes a number and a mark.
+fn write_number<W: Write>(writer: &mut W, number: u64, mark: u8) -> io::Result<()>
+    ensures { OnOk result (Appends (W.contents writer.old) (W.contents writer.new) (decimal number ++ mark ∷ [])) }
+{
+    // The digits of 64 bits are 20 at most.
+    let mut text = [mark; 21];
+    let start = write_digits(number, &mut text, 20);
+    writer.write_all(&text[start..])
+}
+
+// Writes a line, and a line feed where it lacks one.
+fn write_ended<W: Write>(writer: &mut W, line: &[u8]) -> io::Result<()>
+    ensures { OnOk result (Appends (W.contents writer.old) (W.contents writer.new) (ended line.now)) }
+{
+    writer.write_all(line)?;
+    if line.last() == Some(&b'\n') {
+        return Ok(());
+    }
+    writer.write_all(b"\n")
+}

@@ -1,0 +1,83 @@
+//! A search of a reader, with the text of its lines written.
+ghost use Rattle.std.specs.Prelude.{◌≡◌, false, OnOk, IfOk, IfErr, string_bytes};
+ghost use Rattle.std.specs.declared.io.Error.{Error};
+ghost use Rattle.lgrep_cli.specs.OptionSettings.{settings_of_options};
+ghost use Rattle.lgrep_cli.specs.Runs.{IsOutOfMemory, IsPrinted, IsFailure};
+
+use crate::options::Options;
+use crate::printer::Printer;
+use grep_matcher::LiteralMatcher;
+use grep_searcher::{SearchError, Searcher, SearcherBuilder, Source};
+use std::alloc::Global;
+use std::io;
+use std::io::Write;
+
+/// Searches what a reader gives, writes the text of what is found, flushes the writer, and answers whether a match was
+/// reported.
+///
+/// An error is an io error: of the reader, then nothing was written; of the writer at a write or at the flush, which
+/// may have taken a part; or of kind `OutOfMemory`.
+pub fn run<R: Source, W: Write>(
+    alloc: Global,
+    options: &Options,
+    reader: &mut R,
+    writer: &mut W,
+) -> Result<bool, SearchError>
+    ensures printed { IfOk result (λ found. IsPrinted R.told R.step W.contents options.now reader.old writer.old found reader.new writer.new) }
+    ensures failed { IfErr result (λ e. (error : Error) × (e ≡ SearchError.Io error) × IsFailure R.told R.step W.contents reader.old writer.old error reader.new writer.new) }
+{
+    let mut printer = Printer::new(writer);
+    print(alloc, options, reader, &mut printer)?;
+    let found = printer.found;
+    match writer.flush() {
+        Ok(()) => Ok(found),
+        Err(error) => Err(SearchError::Io(error)),
+    }
+}
+
+// Searches what a reader gives with a printer, which was told nothing yet.
+fn print<R: Source, W: Write>(
+    alloc: Global,
+    options: &Options,
+    reader: &mut R,
+    printer: &mut Printer<'_, W>,
+) -> Result<(), SearchError>
+    requires { printer.old.found ≡ false }
+    ensures same_writer { printer.new.writer.ghost_name ≡ printer.old.writer.ghost_name }
+    ensures printed { OnOk result (IsPrinted R.told R.step W.contents options.now reader.old printer.old.writer.now printer.new.found reader.new printer.new.writer.now) }
+    ensures failed { IfErr result (λ e. (error : Error) × (e ≡ SearchError.Io error) × IsFailure R.told R.step W.contents reader.old printer.old.writer.now error reader.new printer.new.writer.now) }
+{
+    let mut searcher = searcher(alloc, options)?;
+    let matcher = matcher(alloc, options)?;
+    searcher.search_reader(matcher, reader, printer)
+}
+
+// A searcher with the settings of the options.
+fn searcher(alloc: Global, options: &Options) -> Result<Searcher, SearchError>
+    ensures settings { IfOk result (λ searcher. searcher ≡ settings_of_options options.now) }
+    ensures memory { IfErr result IsOutOfMemory }
+{
+    SearcherBuilder::new()
+        .invert_match(options.invert)
+        .after_context(options.after)
+        .before_context(options.before)
+        .passthru(options.passthru)
+        .max_matches(options.max)
+        .build(alloc)
+        .map_err(|_| out_of_memory())
+}
+
+// A matcher of the literal.
+fn matcher(alloc: Global, options: &Options) -> Result<LiteralMatcher, SearchError>
+    ensures literal { IfOk result (λ matcher. matcher ≡ string_bytes options.now.literal) }
+    ensures memory { IfErr result IsOutOfMemory }
+{
+    LiteralMatcher::new(alloc, options.literal.as_bytes()).map_err(|_| out_of_memory())
+}
+
+// The error of want of memory.
+fn out_of_memory() -> SearchError
+    ensures { IsOutOfMemory result }
+{
+    SearchError::Io(io::Error::from(io::ErrorKind::OutOfMemory))
+}
