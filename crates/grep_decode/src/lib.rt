@@ -1,4 +1,4 @@
-//! Readers of bytes, each known by what one call does and, where it tells them, by the bytes still to come.
+//! Sources of bytes for a search, each given by what one call does and, if it says so, by the bytes that remain.
 #![tactic(auto)]
 
 mod source;

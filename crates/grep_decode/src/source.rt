@@ -1,46 +1,49 @@
-//! Readers of bytes.
-ghost use Rattle.std.specs.Prelude.{◌≡◌, ◌++◌, ℕ, List, Option, None, Some, Result, Ok, Err, Bool, true, false, length, MatchResult, IsOk};
+//! Sources of bytes for a search.
+ghost use Rattle.std.specs.Prelude.{◌≡◌, ◌++◌, ℕ, List, Option, None, Some, Result, Ok, Err, true, false, MatchResult};
 ghost use Rattle.std.specs.Io.{ReadsAtMost};
 ghost use Rattle.std.specs.Io.KnownBytes.{ReadConsumes, Consumes, Keeps};
 ghost use Rattle.std.specs.declared.io.Error.{Error};
-ghost use Rattle.grep_decode.specs.Source.{Answer, answer_of};
+ghost use Rattle.grep_decode.specs.Source.{ReadResult, read_result};
 
 use std::io;
 use std::io::Read;
 use std::marker::Model;
 
-/// A reader of bytes.
+/// A source of bytes.
 ///
-/// It is known by its steps: the state before a call, what the call answered with the bytes that it gave, and the state
-/// after. Where it tells the bytes still to come, a call gives those from the front, and gives none for a request of
-/// some only where none are left, so that such a reader stays at its end. It may tell nothing.
+/// It is given by its steps: the state before a call, the bytes or the error that the call returned, and the state
+/// after. It may also say which bytes remain. A call then returns bytes from the front of those, and returns none to
+/// a buffer with room only if none remain, so the source stays at its end.
 pub trait Source {
-    /// The bytes that calls will give from here on, where the reader tells them.
-    ghost told: { Self → Option (List ℕ) } = { λ _. None };
+    /// The bytes that calls will return from here on, if the source says which.
+    ghost remaining: { Self → Option (List ℕ) } = { λ _. None };
 
-    /// One call: the state before, the answer, the state after.
-    ghost step: { Self → Answer → Self → Type 0 };
+    /// What one call may do: the state before, the result, the state after.
+    ghost step: { Self → ReadResult → Self → Type 0 };
 
-    /// Reads bytes into the front of `buffer`, and answers how many, which may be fewer than there is room for. A reader
-    /// that tells its bytes answers 0 to a buffer with room only where none are left, and takes none where it fails. An
-    /// error is the reader's own.
+    /// Reads bytes into the front of `buffer` and returns how many, which may be fewer than the buffer has room for.
+    ///
+    /// If the source says which bytes remain, it returns 0 to a buffer with room only if none remain, and a call that
+    /// fails takes none. An error is the source's own.
     fn pull(&mut self, buffer: &mut [u8]) -> io::Result<usize>
         ensures bound { ReadsAtMost result buffer.new }
-        ensures bytes { ReadConsumes (told self.old) (told self.new) result buffer.new }
-        ensures step { step self.old (answer_of result buffer.new) self.new };
+        ensures bytes { ReadConsumes (remaining self.old) (remaining self.new) result buffer.new }
+        ensures step { step self.old (read_result result buffer.new) self.new };
 
-    /// Bytes that a step gave were the front of those told.
-    ghost gives: { (s t : Self) (bytes : List ℕ) → step s (Ok bytes) t → Consumes (told s) (told t) bytes };
+    /// The bytes of a step are the front of those that remained.
+    ghost gives: { (s t : Self) (bytes : List ℕ) → step s (Ok bytes) t
+        → Consumes (remaining s) (remaining t) bytes };
 
-    /// A step that failed took none.
-    ghost keeps: { (s t : Self) (e : Error) → step s (Err e) t → Keeps (told s) (told t) };
+    /// A step that failed took no bytes.
+    ghost keeps: { (s t : Self) (e : Error) → step s (Err e) t
+        → Keeps (remaining s) (remaining t) };
 }
 
-/// The bytes themselves, from the front. It never fails.
+/// The bytes of the slice, from the front. It never fails.
 impl Source for &[u8] {
-    ghost told = { λ s. Some s.now };
+    ghost remaining = { λ s. Some s.now };
 
-    ghost step = { λ s answer t. MatchResult answer (λ bytes. s.now ≡ bytes ++ t.now) (λ _. ⊥) };
+    ghost step = { λ s result t. MatchResult result (λ bytes. s.now ≡ bytes ++ t.now) (λ _. ⊥) };
 
     ghost gives = { λ s t bytes h. h };
 
@@ -51,7 +54,8 @@ impl Source for &[u8] {
     }
 }
 
-/// A standard reader as a source. It tells what the reader tells of its bytes, and keeps whether its last call failed.
+/// A standard reader as a source. It says as much of the remaining bytes as the reader does, and keeps whether the last
+/// call failed.
 #[derive(Drop)]
 pub struct Reading<R> {
     inner: R,
@@ -67,7 +71,7 @@ impl<R> Model for Reading<R> {
 }
 
 impl<R> Reading<R> {
-    /// The reader as a source.
+    /// The reader as a source, of which no call has failed.
     pub fn new(inner: R) -> Reading<R>
         ensures inner { result.inner ≡ inner }
         ensures failed { result.failed ≡ false }
@@ -78,7 +82,7 @@ impl<R> Reading<R> {
         }
     }
 
-    /// The reader.
+    /// The reader back.
     pub fn into_inner(self) -> R
         ensures { result ≡ self.inner }
     {
@@ -88,9 +92,9 @@ impl<R> Reading<R> {
 }
 
 impl<R: Read> Source for Reading<R> {
-    ghost told = { λ s. R.remaining s.inner };
+    ghost remaining = { λ s. R.remaining s.inner };
 
-    ghost step = { λ s answer t. MatchResult answer
+    ghost step = { λ s result t. MatchResult result
         (λ bytes. (t.failed ≡ false) × Consumes (R.remaining s.inner) (R.remaining t.inner) bytes)
         (λ _. (t.failed ≡ true) × Keeps (R.remaining s.inner) (R.remaining t.inner)) };
 
@@ -99,8 +103,8 @@ impl<R: Read> Source for Reading<R> {
     ghost keeps = { λ s t e h. h.1 };
 
     fn pull(&mut self, buffer: &mut [u8]) -> io::Result<usize> {
-        let answer = self.inner.read(buffer);
-        self.failed = answer.is_err();
-        answer
+        let result = self.inner.read(buffer);
+        self.failed = result.is_err();
+        result
     }
 }

@@ -1,4 +1,4 @@
--- The lines of some bytes have the four properties that say what lines are, and nothing else has them.
+-- The lines of some bytes have the four properties that make a list their lines, and no other list has them.
 use Rattle.std.proofs.Common.{◌≡◌, ◌≢◌, ℕ, zero, suc, ◌-◌, ◌<◌, List, [], ◌∷◌, ◌++◌, length, drop, slice_index, refl, ap, sym, ◌∙◌, subst, arith, length-append, ⊎_elim}
 use Rattle.std.proofs.lemmas.Bool.{cases_eq}
 use Rattle.std.proofs.lemmas.List.{get_or_append_left, take_at, drop_at}
@@ -9,7 +9,7 @@ use Rattle.grep_matcher.specs.Lines.{lines, onto_first, IsUnbroken, AreEnded, Ar
 use Rattle.grep_lines.specs.FirstLine.{IsFirstLine}
 use Rattle.grep_lines.proofs.LineLemmas.{lines-end, lines-inner, lines-first}
 
--- a byte t as a line before the others
+-- a byte t in front, as a line of its own
 AreLines-end : (t b : ℕ) (bytes : List ℕ) (ls : List (List ℕ)) → b ≡ t → AreLines t bytes ls → AreLines t (b ∷ bytes) ((b ∷ []) ∷ ls)
 AreLines-end t b bytes ls same later = record {
   joined = ap (λ l. b ∷ l) later.joined;
@@ -33,7 +33,8 @@ AreLines-inner t b bytes [] other later = record {
 AreLines-inner t b bytes (line ∷ ls) other later = record {
   joined = ap (λ l. b ∷ l) later.joined;
   filled = All-cons (λ piece. 0 < length piece) (b ∷ line) ls (omega arith) (All-tail (λ piece. 0 < length piece) line ls later.filled);
-  unbroken = All-cons (IsUnbroken t) (b ∷ line) ls (longer line (All-head (IsUnbroken t) line ls later.unbroken)) (All-tail (IsUnbroken t) line ls later.unbroken);
+  unbroken = All-cons (IsUnbroken t) (b ∷ line) ls (longer line (All-head (IsUnbroken t) line ls later.unbroken))
+      (All-tail (IsUnbroken t) line ls later.unbroken);
   ended = end line ls (All-head (λ piece. 0 < length piece) line ls later.filled) later.ended;
 }
   where
@@ -68,7 +69,9 @@ pieces-lines t (piece ∷ rest) h =
       unbroken = All-tail (IsUnbroken t) piece rest h.unbroken;
       ended = tail rest h.ended;
     }) in
-    ap (λ ls. piece ∷ ls) later ∙ sym (parts ∙ (ap (λ l. l ∷ lines t (drop (length piece) (piece ++ concat rest))) (take_at piece (concat rest) (length piece) refl) ∙ ap (λ l. piece ∷ lines t l) (drop_at piece (concat rest) (length piece) refl)))
+    ap (λ ls. piece ∷ ls) later
+    ∙ sym (parts ∙ (ap (λ l. l ∷ lines t (drop (length piece) (piece ++ concat rest)))
+    (take_at piece (concat rest) (length piece) refl) ∙ ap (λ l. piece ∷ lines t l) (drop_at piece (concat rest) (length piece) refl)))
   where
     tail : (more : List (List ℕ)) → AreEnded t (piece ∷ more) → AreEnded t more
     tail [] is = tt
@@ -77,7 +80,8 @@ pieces-lines t (piece ∷ rest) h =
     some : 0 < length piece
     some = All-head (λ p. 0 < length p) piece rest h.filled
 
-    last : (more : List (List ℕ)) → AreEnded t (piece ∷ more) → length piece < length (piece ++ concat more) → slice_index piece (length piece - 1) ≡ t
+    last : (more : List (List ℕ)) → AreEnded t (piece ∷ more) → length piece < length (piece ++ concat more)
+        → slice_index piece (length piece - 1) ≡ t
     last [] is below = absurd (omega (arith, length-append piece []))
     last (next ∷ more) is below = is.0
 
@@ -85,10 +89,16 @@ pieces-lines t (piece ∷ rest) h =
     first more is = record {
       above = some;
       within = omega (arith, length-append piece (concat more));
-      inner = λ i below same. All-head (IsUnbroken t) piece rest h.unbroken i below (sym (get_or_append_left piece (concat more) 0 i (omega arith)) ∙ same);
+      inner = λ i below same. All-head (IsUnbroken t) piece rest h.unbroken i below
+          (sym (get_or_append_left piece (concat more) 0 i (omega arith)) ∙ same);
       closed = λ below. get_or_append_left piece (concat more) 0 (length piece - 1) (omega (arith, some)) ∙ last more is below;
     }
 
--- no other pieces have them
+-- no other pieces have the four properties
 pub AreLines-same : (t : ℕ) (bytes : List ℕ) (pieces : List (List ℕ)) → AreLines t bytes pieces → pieces ≡ lines t bytes
-AreLines-same t bytes pieces h = pieces-lines t pieces (record { joined = refl; filled = h.filled; unbroken = h.unbroken; ended = h.ended }) ∙ ap (lines t) h.joined
+AreLines-same t bytes pieces h = pieces-lines t pieces (record {
+  joined = refl;
+  filled = h.filled;
+  unbroken = h.unbroken;
+  ended = h.ended;
+}) ∙ ap (lines t) h.joined

@@ -1,4 +1,4 @@
 pub mod LineLemmas
 pub mod LawLemmas
 pub mod WalkLemmas
-pub mod PlaceLemmas
+pub mod PositionLemmas

@@ -7,11 +7,11 @@ use native.Mathlib.Numerals.{unary_clauses}
 use Rattle.grep_matcher.specs.Lines.{lines, onto_first}
 use Rattle.grep_lines.specs.FirstLine.{IsFirstLine}
 
--- a byte t is a line of its own before the others
+-- a byte t in front is a line of its own
 pub lines-end : (t b : ℕ) (bytes : List ℕ) → b ≡ t → lines t (b ∷ bytes) ≡ (b ∷ []) ∷ lines t bytes
 lines-end t b bytes same = let yes = eq-eqb b t same in rw yes refl
 
--- another byte goes in front of the first line
+-- another byte in front belongs to the first line
 pub lines-inner : (t b : ℕ) (bytes : List ℕ) → b ≢ t → lines t (b ∷ bytes) ≡ onto_first b (lines t bytes)
 lines-inner t b bytes other = let no = ne_eqb b t other in rw no refl
 
@@ -52,7 +52,15 @@ IsFirstLine-cons t b bytes e other h = record {
 -- some bytes have a first line
 pub first_line : (t : ℕ) (bytes : List ℕ) → 0 < length bytes → (e : ℕ) × IsFirstLine t bytes (suc e)
 first_line t [] some = absurd (omega arith)
-first_line t (b ∷ []) some = (0, record { above = omega arith; within = omega arith; inner = λ i below. absurd (omega arith); closed = λ below. absurd (omega arith) })
+first_line t (b ∷ []) some = (
+  0,
+  record {
+    above = omega arith;
+    within = omega arith;
+    inner = λ i below. absurd (omega arith);
+    closed = λ below. absurd (omega arith);
+  },
+)
 first_line t (b ∷ c ∷ later) some =
     let rest = first_line t (c ∷ later) (omega arith) in
     ⊎_elim
@@ -66,22 +74,26 @@ lines-first t [] e h = absurd (omega (arith, h.above, h.within))
 lines-first t (b ∷ bytes) zero h = absurd (omega (arith, h.above))
 lines-first t (b ∷ []) (suc zero) h = ⊎_elim (λ same. lines-end t b [] same) (λ other. lines-inner t b [] other) (cases_eq b t)
 lines-first t (b ∷ c ∷ later) (suc zero) h = lines-end t b (c ∷ later) (h.closed (omega arith))
-lines-first t (b ∷ bytes) (suc (suc e)) h = lines-inner t b bytes (h.inner 0 (omega arith)) ∙ ap (onto_first b) (lines-first t bytes (suc e) (IsFirstLine-tail t b bytes e h))
+lines-first t (b ∷ bytes) (suc (suc e)) h = lines-inner t b bytes (h.inner 0 (omega arith))
+    ∙ ap (onto_first b) (lines-first t bytes (suc e) (IsFirstLine-tail t b bytes e h))
 
 -- the same of two parts
-pub lines-parts : (t : ℕ) (bytes line rest : List ℕ) (e : ℕ) → IsFirstLine t bytes e → line ≡ take e bytes → rest ≡ drop e bytes → lines t bytes ≡ line ∷ lines t rest
+pub lines-parts : (t : ℕ) (bytes line rest : List ℕ) (e : ℕ) → IsFirstLine t bytes e → line ≡ take e bytes → rest ≡ drop e bytes
+    → lines t bytes ≡ line ∷ lines t rest
 lines-parts t bytes line rest e is_first is_line is_rest = lines-first t bytes e is_first ∙ sym (ap₂ ◌∷◌ is_line (ap (lines t) is_rest))
 
--- the first line holds one t, where something follows it
+-- a first line that isn't the last holds one t
 pub count-first_line : (t : ℕ) (bytes : List ℕ) (e : ℕ) → IsFirstLine t bytes e → e < length bytes → count t (take e bytes) ≡ 1
 count-first_line t [] e h more = absurd (omega arith)
 count-first_line t (b ∷ bytes) zero h more = absurd (omega (arith, h.above))
 count-first_line t (b ∷ bytes) (suc zero) h more = count-end t b [] (h.closed more)
-count-first_line t (b ∷ bytes) (suc (suc e)) h more = count-inner t b (take (suc e) bytes) (h.inner 0 (omega arith)) ∙ count-first_line t bytes (suc e) (IsFirstLine-tail t b bytes e h) (omega arith)
+count-first_line t (b ∷ bytes) (suc (suc e)) h more = count-inner t b (take (suc e) bytes) (h.inner 0 (omega arith))
+    ∙ count-first_line t bytes (suc e) (IsFirstLine-tail t b bytes e h) (omega arith)
 
 -- some bytes have a line
 lines-some : (t b : ℕ) (bytes : List ℕ) → 0 < length (lines t (b ∷ bytes))
-lines-some t b bytes = ⊎_elim (λ same. rw (lines-end t b bytes same) (omega arith)) (λ other. rw (lines-inner t b bytes other) (onto (lines t bytes))) (cases_eq b t)
+lines-some t b bytes = ⊎_elim (λ same. rw (lines-end t b bytes same) (omega arith)) (λ other.
+    rw (lines-inner t b bytes other) (onto (lines t bytes))) (cases_eq b t)
   where
     onto : (rest : List (List ℕ)) → 0 < length (onto_first b rest)
     onto [] = omega arith
@@ -91,19 +103,23 @@ lines-some t b bytes = ⊎_elim (λ same. rw (lines-end t b bytes same) (omega a
 abbrev pub IsClosed : ℕ → List ℕ → Type 0
 IsClosed t bytes = 0 < length bytes → slice_index bytes (length bytes - 1) ≡ t
 
--- that holds behind their first byte too
+-- then so do the bytes after the first one
 IsClosed-tail : (t b c : ℕ) (bytes : List ℕ) → IsClosed t (b ∷ c ∷ bytes) → IsClosed t (c ∷ bytes)
 IsClosed-tail t b c bytes closed = λ some. simp unary_clauses (simp unary_clauses at (closed (omega arith)))
 
--- behind such bytes the lines begin anew
+-- after such bytes the lines begin anew
 pub lines-append : (t : ℕ) (front back : List ℕ) → IsClosed t front → lines t (front ++ back) ≡ lines t front ++ lines t back
 lines-append t [] back closed = refl
-lines-append t (b ∷ []) back closed = let same : b ≡ t = closed (omega arith) in lines-end t b back same ∙ ap (λ ls. ls ++ lines t back) (sym (lines-end t b [] same))
+lines-append t (b ∷ []) back closed = let same : b ≡ t = closed (omega arith) in
+    lines-end t b back same ∙ ap (λ ls. ls ++ lines t back) (sym (lines-end t b [] same))
 lines-append t (b ∷ c ∷ front) back closed =
     let later = lines-append t (c ∷ front) back (IsClosed-tail t b c front closed) in
     ⊎_elim
-    (λ same. lines-end t b (c ∷ (front ++ back)) same ∙ (ap (λ ls. (b ∷ []) ∷ ls) later ∙ ap (λ ls. ls ++ lines t back) (sym (lines-end t b (c ∷ front) same))))
-    (λ other. lines-inner t b (c ∷ (front ++ back)) other ∙ (ap (onto_first b) later ∙ (onto (lines t (c ∷ front)) (lines-some t c front) ∙ ap (λ ls. ls ++ lines t back) (sym (lines-inner t b (c ∷ front) other)))))
+    (λ same. lines-end t b (c ∷ (front ++ back)) same
+    ∙ (ap (λ ls. (b ∷ []) ∷ ls) later ∙ ap (λ ls. ls ++ lines t back) (sym (lines-end t b (c ∷ front) same))))
+    (λ other. lines-inner t b (c ∷ (front ++ back)) other
+    ∙ (ap (onto_first b) later ∙ (onto (lines t (c ∷ front)) (lines-some t c front)
+    ∙ ap (λ ls. ls ++ lines t back) (sym (lines-inner t b (c ∷ front) other)))))
     (cases_eq b t)
   where
     onto : (first : List (List ℕ)) → 0 < length first → onto_first b (first ++ lines t back) ≡ onto_first b first ++ lines t back
@@ -118,7 +134,8 @@ lines-closed t (b ∷ c ∷ bytes) closed =
     let later = lines-closed t (c ∷ bytes) (IsClosed-tail t b c bytes closed) in
     ⊎_elim
     (λ same. omega (arith, ap length (lines-end t b (c ∷ bytes) same), count-end t b (c ∷ bytes) same, later))
-    (λ other. ap length (lines-inner t b (c ∷ bytes) other) ∙ (onto (lines t (c ∷ bytes)) (lines-some t c bytes) ∙ (later ∙ sym (count-inner t b (c ∷ bytes) other))))
+    (λ other. ap length (lines-inner t b (c ∷ bytes) other) ∙ (onto (lines t (c ∷ bytes)) (lines-some t c bytes)
+    ∙ (later ∙ sym (count-inner t b (c ∷ bytes) other))))
     (cases_eq b t)
   where
     onto : (rest : List (List ℕ)) → 0 < length rest → length (onto_first b rest) ≡ length rest

@@ -1,5 +1,5 @@
 pub mod Blocks
 pub mod FirstLine
-pub mod Laws
-pub mod Places
+pub mod LineLaws
+pub mod Positions
 pub mod Steps

@@ -1,12 +1,12 @@
-//! How many of a byte stand in some bytes.
-ghost use Rattle.std.specs.Prelude.{◌≡◌, ◌==◌, ◌<◌, ◌^◌, length, count_by};
+//! How often a byte occurs in some bytes.
+ghost use Rattle.std.specs.Prelude.{◌≡◌, ◌==◌, length, count_by};
 
 use std::simd::prelude::*;
 
-// How many bytes are looked at in one step.
+// How many bytes are compared at once.
 const WIDE: usize = 64;
 
-// The same where fewer are left.
+// The same if fewer are left.
 const NARROW: usize = 16;
 
 /// How many of the bytes are `terminator`.
@@ -23,7 +23,7 @@ pub fn count(bytes: &[u8], terminator: u8) -> u64
     total + count_rest(rest, terminator)
 }
 
-// The same in smaller steps.
+// The same for fewer bytes than a wide part.
 #[inline(always)]
 fn count_rest(bytes: &[u8], terminator: u8) -> u64
     ensures { result ≡ count_by (λ b. b == terminator) bytes.now }
@@ -38,7 +38,7 @@ fn count_rest(bytes: &[u8], terminator: u8) -> u64
     total + count_few(rest, terminator)
 }
 
-// The same of a wide part.
+// The same for a wide part.
 #[inline(always)]
 fn count_wide(part: &[u8], terminator: u8) -> u64
     requires { length part.now ≡ WIDE }
@@ -47,7 +47,7 @@ fn count_wide(part: &[u8], terminator: u8) -> u64
     count_wide_vector(u8x64::from_slice(part), terminator)
 }
 
-// The same of a wide vector.
+// The same for a wide vector.
 #[inline(always)]
 fn count_wide_vector(bytes: u8x64, terminator: u8) -> u64
     ensures { result ≡ count_by (λ b. b == terminator) bytes }
@@ -58,7 +58,7 @@ fn count_wide_vector(bytes: u8x64, terminator: u8) -> u64
         .count_ones() as u64
 }
 
-// The same of a narrow part.
+// The same for a narrow part.
 #[inline(always)]
 fn count_narrow(part: &[u8], terminator: u8) -> u64
     requires { length part.now ≡ NARROW }
@@ -67,7 +67,7 @@ fn count_narrow(part: &[u8], terminator: u8) -> u64
     count_narrow_vector(u8x16::from_slice(part), terminator)
 }
 
-// The same of a narrow vector.
+// The same for a narrow vector.
 #[inline(always)]
 fn count_narrow_vector(bytes: u8x16, terminator: u8) -> u64
     ensures { result ≡ count_by (λ b. b == terminator) bytes }
@@ -78,7 +78,7 @@ fn count_narrow_vector(bytes: u8x16, terminator: u8) -> u64
         .count_ones() as u64
 }
 
-// The same a byte at a time.
+// The same, a byte at a time.
 #[inline(always)]
 fn count_few(bytes: &[u8], terminator: u8) -> u64
     ensures { result ≡ count_by (λ b. b == terminator) bytes.now }

@@ -1,16 +1,18 @@
-//! The lines of some bytes, as places in the one list of lines: steps from line to line, a count of terminators, the
-//! whole lines of a match, and the lines before a place.
+//! The lines of some bytes, as positions in them: steps from line to line, a count of terminators, the whole lines
+//! that a match extends over, and the lines before a position. The functions follow grep-searcher's module `lines`.
 #![tactic(auto)]
 
 mod counts;
 pub mod laws;
 mod line_iter;
 mod line_step;
-mod places;
+mod preceding_lines;
 mod strip;
+mod whole_lines;
 
 pub use counts::count;
 pub use line_iter::LineIter;
 pub use line_step::LineStep;
-pub use places::{locate, preceding, preceding_by_pos};
+pub use preceding_lines::{preceding, preceding_by_pos};
 pub use strip::without_terminator;
+pub use whole_lines::locate;

@@ -1,13 +1,13 @@
 //! Steps from line to line.
-ghost use Rattle.std.specs.Prelude.{◌≡◌, ◌∷◌, ◌↔◌, ◌≤◌, ◌<◌, ◌-◌, ℕ, length, drop, IsNone, IfSome, IfNone};
+ghost use Rattle.std.specs.Prelude.{◌≡◌, ◌∷◌, ◌↔◌, ◌≤◌, ◌<◌, ℕ, length, IsNone, IfSome, IfNone};
 ghost use Rattle.grep_matcher.specs.Lines.{lines};
-ghost use Rattle.grep_lines.specs.Places.{slice, IsLineStart, IsLine};
+ghost use Rattle.grep_lines.specs.Positions.{slice, IsLineStart, IsLine};
 ghost use Rattle.grep_lines.specs.FirstLine.{IsFirstLine};
 
 use memchr::memchr;
 use std::marker::Model;
 
-/// A walk over the lines of some bytes, which it isn't holding: the caller lends the same bytes at each step.
+/// A walk over the lines of some bytes. It doesn't hold the bytes: the caller passes the same ones at each step.
 #[derive(Debug, Drop)]
 pub struct LineStep {
     terminator: u8,
@@ -27,8 +27,8 @@ impl Model for LineStep {
 }
 
 impl LineStep {
-    /// The walk over the lines of the bytes from place `start` up to place `end`, split at the byte `terminator`. The
-    /// caller ensures that `start` is at most `end`.
+    /// The walk over the lines from position `start` up to position `end`, split at the byte `terminator`. The caller
+    /// ensures that `start` is at most `end`.
     #[inline]
     pub fn new(terminator: u8, start: usize, end: usize) -> LineStep
         requires { start ≤ end }
@@ -41,10 +41,11 @@ impl LineStep {
         }
     }
 
-    /// The places where the next line starts and ends, its terminator with it; none where no bytes are left. The caller
-    /// ensures that the end of the walk lies within `bytes`.
+    /// The start and the end of the next line with its terminator, as positions in `bytes`; `None` if no bytes are
+    /// left. The caller ensures that the walk ends within `bytes`.
     ///
-    /// Where the walk stands at line i of all the bytes and goes on to their end, what comes is line i.
+    /// If the walk is at the start of line i of all the bytes and goes up to their end, the result is line i, and
+    /// `None` means that there are i lines.
     #[inline]
     pub fn next(&mut self, bytes: &[u8]) -> Option<(usize, usize)>
         requires { self.old.end ≤ length bytes.now }
@@ -53,12 +54,16 @@ impl LineStep {
         ensures starts { IfSome result (λ line. line.0 ≡ self.old.start) }
         ensures bounds { IfSome result (λ line. (line.0 < line.1) × (line.1 ≤ self.old.end)) }
         ensures moves { IfSome result (λ line. self.new ≡ record self.old { start = line.1 }) }
-        ensures first { IfSome result (λ line. lines self.old.terminator (slice bytes.now line.0 self.old.end)
-            ≡ slice bytes.now line.0 line.1 ∷ lines self.old.terminator (slice bytes.now line.1 self.old.end)) }
+        ensures first { IfSome result (λ line.
+            lines self.old.terminator (slice bytes.now line.0 self.old.end)
+            ≡ slice bytes.now line.0 line.1
+            ∷ lines self.old.terminator (slice bytes.now line.1 self.old.end)) }
         ensures listed { IfSome result (λ line. (i : ℕ) → self.old.end ≡ length bytes.now
-            → IsLineStart self.old.terminator bytes.now line.0 i → IsLine self.old.terminator bytes.now i line.0 line.1) }
+            → IsLineStart self.old.terminator bytes.now line.0 i
+            → IsLine self.old.terminator bytes.now i line.0 line.1) }
         ensures last { IfNone result ((i : ℕ) → self.old.end ≡ length bytes.now
-            → IsLineStart self.old.terminator bytes.now self.old.start i → i ≡ length (lines self.old.terminator bytes.now)) }
+            → IsLineStart self.old.terminator bytes.now self.old.start i
+            → i ≡ length (lines self.old.terminator bytes.now)) }
     {
         if self.start == self.end {
             return None;
@@ -70,7 +75,7 @@ impl LineStep {
     }
 }
 
-/// How many bytes the first line has.
+/// The length of the first line in bytes, with its terminator. The caller ensures that there is a byte.
 #[inline]
 pub(crate) fn first_line_length(terminator: u8, bytes: &[u8]) -> usize
     requires { 0 < length bytes.now }

@@ -1,4 +1,4 @@
--- A search for a literal finds its first place, and what stands there is in the literal.
+-- A search for a literal finds its first occurrence, whose bytes are the literal's.
 use Rattle.std.proofs.Common.{◌≡◌, ℕ, ◌+◌, ◌-◌, ◌<◌, ◌≤◌, false, List, length, slice_index, Option, Some, None, ap, sym, ◌∙◌, arith}
 use Rattle.std.proofs.Math.Bool.{and-false}
 use Rattle.std.proofs.lemmas.Bool.{eq-eqb}
@@ -11,19 +11,22 @@ use Rattle.grep_matcher.specs.Literals.{literal_match, lacks}
 
 module _ (hay literal : List ℕ) where
   with_end : ℕ → ℕ × ℕ
-  with_end place = (place, place + length literal)
+  with_end start = (start, start + length literal)
 
-  pub match-found : (place : ℕ) → FindsNeedle hay literal 0 (Some place) → ◌≡◌ {A = Option (ℕ × ℕ)} (Some (place, place + length literal)) (literal_match literal hay)
+  pub match-found : (start : ℕ) → FindsNeedle hay literal 0 (Some start)
+      → ◌≡◌ {A = Option (ℕ × ℕ)} (Some (start, start + length literal)) (literal_match literal hay)
   unfolding with_end
-  match-found place found = ap (option_map with_end) (FindsNeedle-value hay literal (Some place) found)
+  match-found start found = ap (option_map with_end) (FindsNeedle-value hay literal (Some start) found)
 
   pub match-none : FindsNeedle hay literal 0 None → ◌≡◌ {A = Option (ℕ × ℕ)} None (literal_match literal hay)
   unfolding with_end
   match-none none = ap (option_map with_end) (FindsNeedle-value hay literal None none)
 
-  pub match-avoids : (place : ℕ) → OccursAt hay literal place → (i : ℕ) → place ≤ i → i < place + length literal → lacks literal (slice_index hay i) ≡ false
-  match-avoids place occurs i low high =
-      let sum : place + (i - place) ≡ i = omega arith in
-      let same : slice_index literal (i - place) ≡ slice_index hay i = sym (occurs.reads (i - place) (omega arith)) ∙ ap (slice_index hay) sum in
-      let there = list_any_at (λ b. b == slice_index hay i) literal (i - place) 0 (omega arith) (eq-eqb _ _ same) in
+  pub match-avoids : (start : ℕ) → OccursAt hay literal start → (i : ℕ) → start ≤ i → i < start + length literal
+      → lacks literal (slice_index hay i) ≡ false
+  match-avoids start occurs i low high =
+      let sum : start + (i - start) ≡ i = omega arith in
+      let same : slice_index literal (i - start) ≡ slice_index hay i = sym (occurs.reads (i - start) (omega arith))
+      ∙ ap (slice_index hay) sum in
+      let there = list_any_at (λ b. b == slice_index hay i) literal (i - start) 0 (omega arith) (eq-eqb _ _ same) in
       rw there (and-false (nat_lt (slice_index hay i) 256))

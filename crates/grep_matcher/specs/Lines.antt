@@ -4,21 +4,22 @@ use Rattle.std.specs.List.{concat, ends_with}
 use Rattle.grep_matcher.specs.declared.line_terminator.LineTerminator.{LineTerminator}
 use Rattle.grep_matcher.specs.Terminators.{bytes_of}
 
--- a byte put in front of the first line
+-- a byte added at the front of the first line
 abbrev pub onto_first : ℕ → List (List ℕ) → List (List ℕ)
 onto_first b [] = (b ∷ []) ∷ []
 onto_first b (line ∷ later) = (b ∷ line) ∷ later
 
--- the lines of the bytes: a byte t ends a line and belongs to it, any other byte belongs to the line of what follows it
+-- the lines of some bytes: a byte t ends a line and belongs to it; any other byte belongs to the same line as
+-- the byte after it
 abbrev pub lines : ℕ → List ℕ → List (List ℕ)
 lines t [] = []
 lines t (b ∷ bytes) = if b == t then (b ∷ []) ∷ lines t bytes else onto_first b (lines t bytes)
 
--- where line i begins: how many bytes the lines before it have
+-- the position at which line i starts: the number of bytes in the lines before it
 abbrev pub line_start : ℕ → List ℕ → ℕ → ℕ
 line_start t bytes i = length (concat (take i (lines t bytes)))
 
--- t stands nowhere but at the end of a piece
+-- t occurs nowhere but at the end of the piece
 abbrev pub IsUnbroken : ℕ → List ℕ → Type 0
 IsUnbroken t piece = (k : ℕ) → k + 1 < length piece → slice_index piece k ≢ t
 
@@ -28,14 +29,15 @@ AreEnded t [] = Unit {0}
 AreEnded t (last ∷ []) = Unit {0}
 AreEnded t (piece ∷ next ∷ later) = (slice_index piece (length piece - 1) ≡ t) × AreEnded t (next ∷ later)
 
--- what the lines of some bytes are, said of the whole list: no other list of pieces has these four properties
+-- what makes a list the lines of some bytes: exactly one list has these four properties
 pub record AreLines (t : ℕ) (bytes : List ℕ) (pieces : List (List ℕ)) : Type 0 where
   pub joined : concat pieces ≡ bytes
   pub filled : All (λ piece. 0 < length piece) pieces
   pub unbroken : All (IsUnbroken t) pieces
   pub ended : AreEnded t pieces
 
--- a line without its terminator, where it ends with all of it; under CRLF a line that ends in a line feed alone keeps it
+-- a line without its terminator, if it ends with all of it; under CRLF a line that ends in a line feed alone keeps it
 abbrev pub strip : LineTerminator → List ℕ → List ℕ
 strip terminator line =
-    if ends_with nat_eq line (bytes_of terminator) then take (length line - length (bytes_of terminator)) line else line
+    if ends_with nat_eq line (bytes_of terminator) then take (length line - length (bytes_of terminator)) line
+    else line

@@ -5,14 +5,16 @@ use Rattle.std.specs.List.{list_any}
 use Rattle.memchr.specs.Find.{matches, first_of}
 use Rattle.grep_matcher.specs.Matching.{Meaning}
 
--- the first place at which the literal stands in a haystack, and the place behind it
+-- the first occurrence of the literal in a haystack: its start and its end
 abbrev pub literal_match : List ℕ → List ℕ → Option (ℕ × ℕ)
-literal_match literal haystack = option_map (λ place. (place, place + length literal)) (first_of (matches haystack literal 0))
+literal_match literal haystack =
+    option_map (λ start. (start, start + length literal)) (first_of (matches haystack literal 0))
 
--- whether a number is a byte that the literal lacks
+-- whether a number is a byte that doesn't occur in the literal
 abbrev pub lacks : List ℕ → ℕ → Bool
 lacks literal byte = nat_lt byte 256 && not (list_any (λ b. b == byte) literal)
 
--- the first match is where the literal first stands; no terminator is named, and the bytes that the literal lacks are told
+-- the first match is the literal's first occurrence; no terminator is declared; no match contains a byte that
+-- the literal lacks
 abbrev pub literal_meaning : List ℕ → Meaning
 literal_meaning literal = record { first = literal_match literal; terminator = None; absent = lacks literal }

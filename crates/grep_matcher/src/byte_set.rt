@@ -1,11 +1,11 @@
 //! A set of bytes.
-ghost use Rattle.std.specs.Prelude.{◌≡◌, ℕ, ◌<◌, ◌||◌, ◌&&◌, ◌==◌, not, nat_lt, Bool, true, false, List, length, slice_index_or};
+ghost use Rattle.std.specs.Prelude.{◌≡◌, ℕ, ◌||◌, ◌&&◌, ◌==◌, not, nat_lt, Bool, true, false, List};
 ghost use Rattle.grep_matcher.specs.ByteSets.{holds};
 
 use std::alloc::AllocError;
 use std::marker::Model;
 
-/// A set of the numbers 0 to 255.
+/// A set of bytes.
 #[derive(Debug, Drop)]
 pub struct ByteSet {
     members: [bool; 256],
@@ -17,7 +17,7 @@ impl Model for ByteSet {
     ghost view = { λ set. set.members };
 }
 
-/// An equal set. It takes no memory, so that it never fails.
+/// An equal set. It takes no memory, so it never fails.
 impl Clone for ByteSet {
     ghost is_clone = { λ set copy. copy ≡ set };
 
@@ -31,7 +31,7 @@ impl Clone for ByteSet {
 }
 
 impl ByteSet {
-    /// The set with no byte.
+    /// The set of no bytes.
     pub fn empty() -> ByteSet
         ensures { (byte : ℕ) → holds result byte ≡ false }
     {
@@ -40,7 +40,7 @@ impl ByteSet {
         }
     }
 
-    /// The set with each byte.
+    /// The set of all bytes.
     pub fn full() -> ByteSet
         ensures { (byte : ℕ) → holds result byte ≡ nat_lt byte 256 }
     {
@@ -49,16 +49,17 @@ impl ByteSet {
         }
     }
 
-    /// Puts a byte into the set. It changes nothing else, and nothing where the byte is there.
+    /// Adds a byte to the set, and changes nothing else. It has no effect if the byte is in the set.
     pub fn add(&mut self, byte: u8)
         ensures { (other : ℕ) → holds self.new other ≡ (other == byte || holds self.old other) }
     {
         self.members[byte as usize] = true;
     }
 
-    /// Takes a byte out of the set. It changes nothing else, and nothing where the byte isn't there.
+    /// Removes a byte from the set, and changes nothing else. It has no effect if the byte isn't in the set.
     pub fn remove(&mut self, byte: u8)
-        ensures { (other : ℕ) → holds self.new other ≡ (not (other == byte) && holds self.old other) }
+        ensures { (other : ℕ) →
+            holds self.new other ≡ (not (other == byte) && holds self.old other) }
     {
         self.members[byte as usize] = false;
     }

@@ -1,5 +1,5 @@
-//! What a line-oriented search asks of a pattern: its matches, the terminator that it names and the bytes that stand in
-//! no match. The definitions of lines, of a line without its terminator and of what a matcher means stand in `specs/`.
+//! What a line-oriented search asks of a pattern: its matches, the line terminator that it declares, and the bytes that
+//! no match contains. `specs/` defines lines, a line without its terminator, and what a matcher means.
 #![tactic(auto)]
 
 mod byte_set;

@@ -1,13 +1,14 @@
-//! What ends a line.
+//! A line terminator.
 ghost use Rattle.std.specs.Prelude.{◌≡◌, ◌↔◌, IsTrue};
 ghost use Rattle.grep_matcher.specs.Terminators.{byte_of, bytes_of};
 
 use std::slice;
 
-/// What ends a line: one byte, or a carriage return and a line feed.
+/// A line terminator: one byte, or a carriage return and a line feed (CRLF).
 ///
-/// Lines are split at one byte in either case. Under CRLF that byte is the line feed, so `a\nb\r\n` has two lines;
-/// what differs is which bytes a line loses before it is matched. `byte(b'\n')` and `crlf()` are unequal.
+/// Lines are split at one byte in both cases. Under CRLF that byte is the line feed, so `a\nb\r\n` has two lines. The
+/// terminators differ in which bytes are removed from a line before it is matched, so `byte(b'\n')` and `crlf()` are
+/// unequal.
 #[derive(Clone, Copy, PartialEq, Eq, Debug)]
 pub enum LineTerminator {
     /// One byte.
@@ -17,28 +18,28 @@ pub enum LineTerminator {
 }
 
 impl LineTerminator {
-    /// The terminator that is one byte.
+    /// The terminator of one byte.
     pub fn byte(byte: u8) -> LineTerminator
         ensures { result ≡ LineTerminator.Byte byte }
     {
         LineTerminator::Byte(byte)
     }
 
-    /// The terminator that is a carriage return and a line feed.
+    /// The terminator of a carriage return and a line feed.
     pub fn crlf() -> LineTerminator
         ensures { result ≡ LineTerminator.Crlf }
     {
         LineTerminator::Crlf
     }
 
-    /// Whether it is a carriage return and a line feed.
+    /// Whether the terminator is a carriage return and a line feed.
     pub fn is_crlf(&self) -> bool
         ensures { IsTrue result ↔ (self.now ≡ LineTerminator.Crlf) }
     {
         matches!(self, LineTerminator::Crlf)
     }
 
-    /// The byte at which lines are split: a line feed under CRLF.
+    /// The byte at which lines are split: under CRLF a line feed.
     pub fn as_byte(&self) -> u8
         ensures { result ≡ byte_of self.now }
     {
@@ -48,7 +49,8 @@ impl LineTerminator {
         }
     }
 
-    /// The bytes that a line loses before it is matched: the one byte, or a carriage return and a line feed.
+    /// The bytes that are removed from the end of a line before it is matched: the one byte, or a carriage return and a
+    /// line feed.
     pub fn as_bytes(&self) -> &[u8]
         ensures { result.now ≡ bytes_of self.now }
     {

@@ -1,7 +1,7 @@
-//! A pattern that is some bytes themselves.
-ghost use Rattle.std.specs.Prelude.{◌≡◌, ◌&&◌, ◌==◌, not, nat_lt, ℕ, List, take, IfOk};
-ghost use Rattle.std.specs.List.{list_any};
+//! A pattern that matches a literal.
+ghost use Rattle.std.specs.Prelude.{◌≡◌, ℕ, IfOk};
 ghost use Rattle.grep_matcher.specs.ByteSets.{holds};
+ghost use Rattle.grep_matcher.specs.Literals.{lacks};
 
 use crate::byte_set::ByteSet;
 use crate::line_terminator::LineTerminator;
@@ -12,16 +12,17 @@ use std::alloc::{AllocError, Global};
 use std::io;
 use std::marker::Model;
 
-/// A pattern that is some bytes themselves. The empty literal matches each haystack at its start.
+/// A pattern that matches a literal: some bytes, exactly. The empty literal matches every haystack, at its start.
 ///
-/// It names no terminator, tells all bytes that its literal lacks, and never fails.
+/// It declares no line terminator, its non-matching bytes are all those that don't occur in the literal, and it never
+/// fails.
 #[derive(Drop)]
-pub struct LiteralMatcher {
-    finder: Finder<'static>,
+pub struct LiteralMatcher<'n> {
+    finder: Finder<'n>,
     absent: ByteSet,
 }
 
-impl Model for LiteralMatcher {
+impl<'n> Model for LiteralMatcher<'n> {
     ghost use Rattle.std.specs.Prelude.{◌≡◌, ℕ, List};
     ghost use Rattle.grep_matcher.specs.ByteSets.{holds};
     ghost use Rattle.grep_matcher.specs.Literals.{lacks};
@@ -33,9 +34,10 @@ impl Model for LiteralMatcher {
     ghost invariant = { λ m. (byte : ℕ) → holds m.absent byte ≡ lacks m.finder byte };
 }
 
-impl LiteralMatcher {
-    /// The matcher of a literal, of which it keeps a copy. An error is want of memory for that.
-    pub fn new(alloc: Global, literal: &[u8]) -> Result<LiteralMatcher, AllocError>
+impl LiteralMatcher<'static> {
+    /// The matcher of a literal, of which it keeps a copy. The only error is being out of memory for the copy, which
+    /// `memchr`'s `Finder` makes in the global allocator: for a literal in another one, see `borrowed`.
+    pub fn new(alloc: Global, literal: &[u8]) -> Result<LiteralMatcher<'static>, AllocError>
         ensures { IfOk result (λ m. m ≡ literal.now) }
     {
         let finder = Finder::new(literal).into_owned(alloc)?;
@@ -46,9 +48,21 @@ impl LiteralMatcher {
     }
 }
 
-// The bytes that a literal lacks.
+impl<'n> LiteralMatcher<'n> {
+    /// The matcher of a literal that its caller keeps, in whatever allocator. It takes no memory.
+    pub fn borrowed(literal: &'n [u8]) -> LiteralMatcher<'n>
+        ensures { result ≡ literal.now }
+    {
+        LiteralMatcher {
+            finder: Finder::new(literal),
+            absent: absent_from(literal),
+        }
+    }
+}
+
+// The bytes that don't occur in a literal.
 fn absent_from(literal: &[u8]) -> ByteSet
-    ensures { (byte : ℕ) → holds result byte ≡ (nat_lt byte 256 && not (list_any (λ b. b == byte) literal.now)) }
+    ensures { (byte : ℕ) → holds result byte ≡ lacks literal.now byte }
 {
     let mut absent = ByteSet::full();
     for byte in literal {
@@ -57,14 +71,14 @@ fn absent_from(literal: &[u8]) -> ByteSet
     absent
 }
 
-impl Matcher for LiteralMatcher {
+impl Matcher for LiteralMatcher<'_> {
     type Error = io::Error;
 
     ghost use Rattle.grep_matcher.specs.Literals.{literal_meaning};
 
     ghost meaning = { literal_meaning };
 
-    ghost never_fails = { λ _. Unit {0} };
+    ghost fails = { λ _ _ _. ⊥ };
 
     #[inline]
     fn find(&self, haystack: &[u8]) -> Result<Option<Match>, io::Error> {

@@ -1,17 +1,17 @@
 //! The trait of a pattern.
-ghost use Rattle.std.specs.Prelude.{◌≡◌, ℕ, Bool, List, Option, is_some, IfOk, IsOk};
+ghost use Rattle.std.specs.Prelude.{◌≡◌, ℕ, List, Option, is_some, IfOk, IfErr};
 ghost use Rattle.std.specs.Option.{option_copied};
-ghost use Rattle.grep_matcher.specs.Matching.{Meaning, IsWithin, Avoids, IsPlace, holds_if_some};
+ghost use Rattle.grep_matcher.specs.Matching.{Meaning, IsWithin, Avoids, IsPosition, holds_if_some};
 
 use crate::byte_set::ByteSet;
 use crate::line_terminator::LineTerminator;
 use crate::range::Match;
 use std::fmt::Display;
 
-/// A pattern, known by what it means: the first match of each haystack, the terminator that it names and the bytes that
-/// stand in no match.
+/// A pattern, given by what it means: the first match of each haystack, the line terminator that it declares, and the
+/// bytes that no match contains.
 ///
-/// A call may fail with the matcher's own error. A call that answers agrees with the meaning.
+/// A call may fail with an error of the matcher's own. A call that succeeds agrees with the meaning.
 pub trait Matcher {
     /// Why a call failed.
     type Error: Display + Drop;
@@ -19,21 +19,27 @@ pub trait Matcher {
     /// What the matcher means.
     ghost meaning: { Self → Meaning };
 
-    /// Whether no call answers an error.
-    ghost never_fails: { Self → Type 0 };
+    /// Which errors `find`, `shortest_match` and `is_match` may return for a haystack.
+    ghost fails: { Self → List ℕ → Self.Error → Type 0 };
 
-    /// The first match of a haystack, as places in it. An error is the matcher's own.
+    /// The first match of a haystack, as positions in it, or `None` if it has no match. The match lies within the
+    /// haystack and contains none of the non-matching bytes. An error is one that the matcher may return for this
+    /// haystack.
     fn find(&self, haystack: &[u8]) -> Result<Option<Match>, Self::Error>
         ensures value { IfOk result (λ m. m ≡ (meaning self.now).first haystack.now) }
         ensures within { IfOk result (IsWithin haystack.now) }
         ensures avoids { IfOk result (Avoids (meaning self.now).absent haystack.now) }
-        ensures answers { never_fails self.now → IsOk result };
+        ensures error { IfErr result (λ e. fails self.now haystack.now e) };
 
-    /// A place in the haystack, exactly where the haystack matches; which place it is isn't said, so that a matcher may
-    /// stop early. An error is the matcher's own. The default asks `find` and answers the end of the match.
+    /// A position in the haystack if it has a match, and `None` otherwise. Which position isn't specified, so a matcher
+    /// can return as soon as it knows that there is a match. An error is one that the matcher may return for this
+    /// haystack.
+    ///
+    /// The default calls `find` and returns the end of its match.
     fn shortest_match(&self, haystack: &[u8]) -> Result<Option<usize>, Self::Error>
-        ensures place { IfOk result (IsPlace haystack.now ((meaning self.now).first haystack.now)) }
-        ensures answers { never_fails self.now → IsOk result }
+        ensures position { IfOk result
+            (IsPosition haystack.now ((meaning self.now).first haystack.now)) }
+        ensures error { IfErr result (λ e. fails self.now haystack.now e) }
     {
         match self.find(haystack)? {
             Some(found) => Ok(Some(found.end())),
@@ -41,21 +47,25 @@ pub trait Matcher {
         }
     }
 
-    /// Whether the haystack matches. An error is the matcher's own. The default asks `shortest_match`.
+    /// Whether the haystack has a match. An error is one that the matcher may return for this haystack.
+    ///
+    /// The default calls `shortest_match`.
     fn is_match(&self, haystack: &[u8]) -> Result<bool, Self::Error>
-        ensures value { IfOk result (λ matches. matches ≡ is_some ((meaning self.now).first haystack.now)) }
-        ensures answers { never_fails self.now → IsOk result }
+        ensures value { IfOk result
+            (λ matches. matches ≡ is_some ((meaning self.now).first haystack.now)) }
+        ensures error { IfErr result (λ e. fails self.now haystack.now e) }
     {
         Ok(self.shortest_match(haystack)?.is_some())
     }
 
-    /// The terminator that the matcher names, if it names one: a search whose lines end otherwise is refused.
+    /// The line terminator that the matcher declares, if any. A search with another line terminator is refused.
     fn line_terminator(&self) -> Option<LineTerminator>
         ensures { result ≡ (meaning self.now).terminator };
 
-    /// Bytes that stand in no match, if the matcher tells some.
+    /// Bytes that no match contains, if the matcher knows of any. It needn't give all of them.
     fn non_matching_bytes(&self) -> Option<&ByteSet>
-        ensures { (byte : ℕ) → (meaning self.now).absent byte ≡ holds_if_some (option_copied result) byte };
+        ensures { (byte : ℕ) →
+            (meaning self.now).absent byte ≡ holds_if_some (option_copied result) byte };
 }
 
 /// A reference is the matcher that it refers to.
@@ -64,7 +74,7 @@ impl<M: Matcher> Matcher for &M {
 
     ghost meaning = { λ m. M.meaning m.now };
 
-    ghost never_fails = { λ m. M.never_fails m.now };
+    ghost fails = { λ m. M.fails m.now };
 
     fn find(&self, haystack: &[u8]) -> Result<Option<Match>, M::Error> {
         (**self).find(haystack)

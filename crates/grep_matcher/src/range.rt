@@ -1,9 +1,9 @@
-//! A range of places.
+//! A range of positions.
 ghost use Rattle.std.specs.Prelude.{◌≡◌, ◌≤◌, ◌<◌, ◌+◌, ◌-◌, ◌^◌, ◌↔◌, ℕ, IsTrue};
 
 use std::marker::Model;
 
-/// A range of places in a haystack, in bytes: its start, and its end, which isn't below the start.
+/// A range of positions in a haystack, in bytes, from its start up to its end, which is at least its start.
 #[derive(Clone, Copy, PartialEq, Eq, Debug)]
 pub struct Match {
     start: usize,
@@ -30,18 +30,18 @@ impl Match {
         Match { start, end }
     }
 
-    /// The empty range at a place.
+    /// The empty range at a position.
     #[inline]
-    pub fn zero(place: usize) -> Match
-        ensures { result ≡ (place, place) }
+    pub fn zero(offset: usize) -> Match
+        ensures { result ≡ (offset, offset) }
     {
         Match {
-            start: place,
-            end: place,
+            start: offset,
+            end: offset,
         }
     }
 
-    /// Where the range starts.
+    /// The position of the first byte of the range.
     #[inline]
     pub fn start(&self) -> usize
         ensures value { result ≡ self.now.0 }
@@ -50,7 +50,7 @@ impl Match {
         self.start
     }
 
-    /// Where the range ends: one past its last byte.
+    /// The position after the last byte of the range. It is at least `start`.
     #[inline]
     pub fn end(&self) -> usize
         ensures value { result ≡ self.now.1 }
@@ -59,7 +59,7 @@ impl Match {
         self.end
     }
 
-    /// How many bytes the range has.
+    /// The length of the range, in bytes.
     #[inline]
     pub fn len(&self) -> usize
         ensures { result ≡ self.now.1 - self.now.0 }
@@ -67,7 +67,7 @@ impl Match {
         self.end - self.start
     }
 
-    /// Whether the range has no bytes.
+    /// Whether the range is empty.
     #[inline]
     pub fn is_empty(&self) -> bool
         ensures { IsTrue result ↔ (self.now.0 ≡ self.now.1) }
@@ -75,7 +75,7 @@ impl Match {
         self.start == self.end
     }
 
-    /// The range moved up by `amount`. The caller ensures that both of its places then fit a `usize`.
+    /// The range with both ends moved up by `amount`. The caller ensures that the new end fits in a `usize`.
     #[inline]
     pub fn offset(&self, amount: usize) -> Match
         requires { self.now.1 + amount < 2 ^ 64 }
@@ -87,7 +87,7 @@ impl Match {
         }
     }
 
-    /// The range from the same start up to `end`. The caller ensures that its start is at most `end`.
+    /// The range from the same start up to `end`. The caller ensures that the start is at most `end`.
     #[inline]
     pub fn with_end(&self, end: usize) -> Match
         requires { self.now.0 ≤ end }

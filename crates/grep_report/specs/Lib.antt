@@ -1,2 +1,2 @@
-pub mod Reports
+pub mod SinkReports
 pub mod SearchErrors

@@ -1,16 +1,16 @@
-//! What a search tells its sink, and the faults that it can end in.
+//! What a search reports to its sink, and the errors that it can end in.
 #![tactic(auto)]
 
 mod config_error;
-mod context;
-mod finish;
-mod found;
 mod mmap_choice;
+mod sink_context;
 mod sink_error;
+mod sink_finish;
+mod sink_match;
 
 pub use config_error::ConfigError;
-pub use context::{SinkContext, SinkContextKind};
-pub use finish::SinkFinish;
-pub use found::SinkMatch;
 pub use mmap_choice::MmapChoice;
+pub use sink_context::{SinkContext, SinkContextKind};
 pub use sink_error::{SearchError, SinkError};
+pub use sink_finish::SinkFinish;
+pub use sink_match::SinkMatch;

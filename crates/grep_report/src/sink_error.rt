@@ -1,48 +1,52 @@
-//! The faults that a search ends in.
+//! The errors that a search can end in.
 ghost use Rattle.std.specs.Prelude.{◌≡◌, ℕ, List, Option};
 ghost use Rattle.std.specs.declared.io.Error.{Error};
 ghost use Rattle.grep_report.specs.declared.config_error.ConfigError.{ConfigError};
 
 use crate::config_error::ConfigError;
-use std::alloc::{Allocator, Global};
+use std::alloc::{AllocError, Allocator, Global};
 use std::fmt::Display;
 use std::io;
 use thiserror::Error as ThisError;
 
-/// An error that a search can end in, made by the searcher of what went wrong. `A` is the searcher's allocator.
+/// An error type that a search can return: the searcher makes the error of what went wrong, by one of three functions.
+///
+/// `A` is the searcher's allocator. Each of the functions is given one, for an error that keeps text.
 pub trait SinkError<A: Allocator>: Sized {
-    /// Whether the error is made of a message, by the message's text where its type tells it.
+    /// Which errors may be made of a message, given by the text that its `Display` writes, if that text is known.
     ghost is_message: { Option (List ℕ) → Self → Type 0 };
 
-    /// Whether the error is made of a reader's error, or of one like it.
+    /// Which errors may be made of an `io::Error`.
     ghost is_io: { Error → Self → Type 0 };
 
-    /// Whether the error is made of a fault of the configuration.
+    /// Which errors may be made of a `ConfigError`.
     ghost is_config: { ConfigError → Self → Type 0 };
 
-    /// The error of a message, as of a matcher's error. Where there is no memory for the text, it is made without it.
+    /// The error of a message, such as a matcher's error. If there is no memory for its text, the error is made
+    /// without it.
     fn error_message<T: Display + Drop>(alloc: A, message: T) -> Self
         ensures { is_message (T.output message) result };
 
-    /// The error of a reader's error, of a heap limit that was reached, or of want of memory.
+    /// The error of an `io::Error`: a reader's, or one for a heap limit that was reached, or one for being out of
+    /// memory.
     fn error_io(alloc: A, error: io::Error) -> Self
         ensures { is_io error result };
 
-    /// The error of a configuration that can't be searched with.
+    /// The error of a configuration that no search can run with.
     fn error_config(alloc: A, error: ConfigError) -> Self
         ensures { is_config error result };
 }
 
-/// An error for sinks that need none of their own: one variant for each cause.
+/// The error for sinks that need none of their own: one variant for each of `SinkError`'s functions.
 #[derive(Debug, Drop, ThisError)]
 pub enum SearchError<A: Allocator = Global> {
-    /// A message, as of a matcher's error; empty where there was no memory for it.
+    /// The text of a message, such as a matcher's error; empty if there was no memory for it.
     #[error("{0}")]
     Message(String<A>),
-    /// A reader's or a writer's error, a heap limit that was reached, or want of memory.
+    /// A reader's or a writer's error, or one for a heap limit that was reached, or one for being out of memory.
     #[error("{0}")]
     Io(io::Error),
-    /// A configuration that can't be searched with.
+    /// A configuration that no search can run with.
     #[error("{0}")]
     Config(ConfigError),
 }
@@ -65,10 +69,43 @@ impl<A: Allocator + Copy> SinkError<A> for SearchError<A> {
     }
 
     fn error_io(_alloc: A, error: io::Error) -> SearchError<A> {
-        SearchError::Io(error)
+        SearchError::from(error)
     }
 
     fn error_config(_alloc: A, error: ConfigError) -> SearchError<A> {
+        SearchError::from(error)
+    }
+}
+
+/// Out of memory, as an `io::Error` of the kind `OutOfMemory`.
+impl<A: Allocator> From<AllocError> for SearchError<A> {
+    ghost use Rattle.grep_report.specs.SearchErrors.{IsOutOfMemory};
+
+    ghost from_gives = { λ _ e. IsOutOfMemory e };
+
+    fn from(error: AllocError) -> SearchError<A> {
+        SearchError::Io(io::Error::from(error))
+    }
+}
+
+/// The error itself, as `Io`.
+impl<A: Allocator> From<io::Error> for SearchError<A> {
+    ghost use Rattle.grep_report.specs.declared.sink_error.SearchError.TheVariants.{Io};
+
+    ghost from_gives = { λ error e. e ≡ Io error };
+
+    fn from(error: io::Error) -> SearchError<A> {
+        SearchError::Io(error)
+    }
+}
+
+/// The error itself, as `Config`.
+impl<A: Allocator> From<ConfigError> for SearchError<A> {
+    ghost use Rattle.grep_report.specs.declared.sink_error.SearchError.TheVariants.{Config};
+
+    ghost from_gives = { λ error e. e ≡ Config error };
+
+    fn from(error: ConfigError) -> SearchError<A> {
         SearchError::Config(error)
     }
 }

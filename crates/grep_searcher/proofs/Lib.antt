@@ -1,13 +1,4 @@
-pub mod NumberLemmas
-pub mod RunLemmas
+pub mod BeforeContextLemmas
+pub mod WalkLemmas
 pub mod FinishLemmas
-pub mod OpenLemmas
-pub mod ContextLemmas
-pub mod StepLemmas
-pub mod PendingLemmas
-pub mod ReadLemmas
-pub mod LineStartLemmas
-pub mod PrefixLemmas
-pub mod BeginLemmas
-pub mod LawLemmas
-pub mod Rows
+pub mod ReaderLemmas

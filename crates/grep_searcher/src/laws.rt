@@ -1,43 +1,53 @@
-//! Laws of the calls that a search makes, over their definition alone: each is the contract of a function that does
-//! nothing.
-ghost use Rattle.grep_searcher.specs.Laws.{ReportsAscend, AfterWins, InversionComplements, FirstLinesBegin, AtMostLimit, WholeCount};
+//! Laws of the calls that a search makes, each the contract of a function that does nothing. The first
+//! ones are over the definition of those calls alone, the others say what a sink makes of them.
+ghost use Rattle.grep_definitions.specs.SinkFolds.{RunsFold, RunsFoldAll, RunsFoldMatches};
+ghost use Rattle.grep_definitions.specs.SinkFolds.{SearchesFail, ReaderSearchesFail};
 
-use grep_lines::laws::{lines_append, lines_join};
+use crate::sink::Sink;
+use grep_decode::Source;
+pub use grep_definitions::laws::{
+    after_wins, at_most_limit, first_lines_begin, first_match_is_first, inversion_complements,
+    lines_are_numbered, matches_are_counted, matches_are_few, matches_are_selected, reports_ascend,
+    whole_count,
+};
+use grep_matcher::Matcher;
+use grep_report::SinkError;
+use std::alloc::Allocator;
 
-/// The reports ascend, and no line is told twice.
-pub fn reports_ascend()
-    ensures { ReportsAscend }
-{
-    lines_join();
-}
-
-/// A line in reach of an earlier selected line is told as the line after it, even where it stands before a later one
-/// too.
-pub fn after_wins()
-    ensures { AfterWins }
+/// A run that ended in `Ok`, of a sink whose steps are functions of the state and the call, is a fold
+/// over its turns: up to the first after which the sink doesn't go on, and then `finish`.
+pub fn runs_fold<S: Sink>()
+    ensures { RunsFold S.step }
 {}
 
-/// Without limit and stop, a search and its inversion select complementary lines.
-pub fn inversion_complements()
-    ensures { InversionComplements }
+/// If such a sink always goes on, that is std's `fold` over all calls of the run.
+pub fn runs_fold_all<S: Sink>()
+    ensures { RunsFoldAll S.step }
 {}
 
-/// The calls over some first lines, but `finish`, begin those over all lines, under settings as they are built.
-pub fn first_lines_begin()
-    ensures { FirstLinesBegin }
-{
-    lines_join();
-    lines_append();
-}
-
-/// No more matches are told than the limit has.
-pub fn at_most_limit()
-    ensures { AtMostLimit }
+/// If only matches change the state of a sink, and only a match ends the search, a run that ended in
+/// `Ok` is a fold over the matches that are reported, up to the first after which the sink doesn't go
+/// on.
+pub fn runs_fold_matches<S: Sink>()
+    ensures { RunsFoldMatches S.step }
 {}
 
-/// Where each line has a turn and no call is answered false, the byte count is the length.
-pub fn whole_count()
-    ensures { WholeCount }
-{
-    lines_join();
-}
+/// If the matcher never fails and the search isn't refused, an error that a search of a slice ended in
+/// is that of a step of the sink.
+pub fn searches_fail<A: Allocator + Copy, M: Matcher, S: Sink>()
+where
+    S::Error: SinkError<A>,
+    ensures { (matcher : M) → SearchesFail S.step
+        (record { is_message = S.Error.is_message; is_io = S.Error.is_io; is_config = S.Error.is_config })
+        (record { meaning = M.meaning matcher; fails = M.fails matcher; text_of = M.Error.output }) }
+{}
+
+/// The same of a search of a reader: an error is that of a step of the sink, or one of reading.
+pub fn reader_searches_fail<A: Allocator + Copy, M: Matcher, R: Source, S: Sink>()
+where
+    S::Error: SinkError<A>,
+    ensures { (matcher : M) → ReaderSearchesFail S.step
+        (record { is_message = S.Error.is_message; is_io = S.Error.is_io; is_config = S.Error.is_config })
+        (record { meaning = M.meaning matcher; fails = M.fails matcher; text_of = M.Error.output })
+        R.remaining R.step }
+{}

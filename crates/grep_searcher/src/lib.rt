@@ -1,8 +1,9 @@
-//! Line-oriented search: a `Searcher` takes a caller's `Matcher` and the bytes to search, and tells a caller's `Sink`
-//! the matching lines, the lines near them, and how far it came.
+//! Line-oriented search: a `Searcher` takes a caller's `Matcher` and the bytes to search, and reports to a caller's
+//! `Sink` the matching lines, the lines near them, and how far it came.
 //!
-//! Which calls a search makes is defined in `specs/Reports.antt`, over the whole list of lines; what a sink makes of
-//! them in `specs/Runs.antt`; and what a search does, with its faults, in `specs/Searches.antt`.
+//! Which calls a search makes is defined in grep_definitions: `specs/LineSearch.antt` says it of the whole list of
+//! lines, `specs/SinkRuns.antt` what a sink makes of the calls, and `specs/Searches.antt` what a search does, with its
+//! faults.
 #![tactic(auto)]
 
 mod config;
@@ -12,6 +13,7 @@ mod sink;
 
 pub use grep_decode::{Reading, Source};
 pub use grep_lines::{LineIter, LineStep};
+pub use grep_matcher::{ByteSet, LineTerminator, LiteralMatcher, Match, Matcher};
 pub use grep_report::{
     ConfigError, MmapChoice, SearchError, SinkContext, SinkContextKind, SinkError, SinkFinish,
     SinkMatch,

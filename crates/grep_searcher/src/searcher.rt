@@ -1,15 +1,17 @@
 //! The searcher and its builder.
 ghost use Rattle.std.specs.Prelude.{◌≡◌, ℕ, true, None, Ok, IfOk, IfErr, IsOk, Result};
-ghost use Rattle.grep_searcher.specs.Configs.{default_settings};
-ghost use Rattle.grep_searcher.specs.Readers.{IsReaderSearched};
-ghost use Rattle.grep_searcher.specs.Refusals.{refusal_of};
-ghost use Rattle.grep_searcher.specs.Runs.{NeverFails};
-ghost use Rattle.grep_searcher.specs.Searches.{IsSearched, IsSearchedAlong};
+ghost use Rattle.std.specs.declared.io.Error.{Error};
+ghost use Rattle.grep_matcher.specs.Matching.{IsInfallible};
+ghost use Rattle.grep_definitions.specs.ReaderSearches.{IsReaderSearched, IsUnread};
+ghost use Rattle.grep_definitions.specs.Refusals.{refusal_of};
+ghost use Rattle.grep_definitions.specs.Searches.{IsSearched, IsSearchedAlong};
+ghost use Rattle.grep_definitions.specs.Settings.{default_settings};
+ghost use Rattle.grep_definitions.specs.SinkRuns.{NeverFails};
 
 mod builder;
 mod queries;
 mod read;
-mod tell;
+mod sink_lines;
 mod walk;
 
 use crate::config::Config;
@@ -22,8 +24,7 @@ use grep_report::{ConfigError, SinkError, SinkFinish};
 use std::alloc::{Allocator, Global};
 use std::marker::Model;
 
-/// A search by line, as it was configured by a `SearcherBuilder`. It may search as often as one likes; each search
-/// begins anew.
+/// A search by line, as a `SearcherBuilder` configured it. It can be used for any number of searches; each begins anew.
 #[derive(Drop)]
 pub struct Searcher<A: Allocator + Copy = Global> {
     config: Config,
@@ -32,19 +33,20 @@ pub struct Searcher<A: Allocator + Copy = Global> {
 
 impl<A: Allocator + Copy> Model for Searcher<A> {
     ghost use Rattle.std.specs.Prelude.{◌≡◌, true};
-    ghost use Rattle.grep_searcher.specs.Settings.{Settings};
+    ghost use Rattle.grep_definitions.specs.Settings.{Settings};
     ghost use Rattle.grep_searcher.specs.Configs.{settings_of};
 
     ghost Value = { Settings };
 
     ghost view = { λ s. settings_of s.config };
 
-    ghost invariant = { λ s. s.config.passthru ≡ true → (s.config.after_context ≡ 0) × (s.config.before_context ≡ 0) };
+    ghost invariant = { λ s.
+        s.config.passthru ≡ true → (s.config.after_context ≡ 0) × (s.config.before_context ≡ 0) };
 }
 
 impl<A: Allocator + Copy> Searcher<A> {
-    /// The searcher with the default settings, those of `SearcherBuilder::new`. The only error is `Memory`, where there
-    /// is none for its buffers.
+    /// The searcher with the default settings, those of `SearcherBuilder::new`. The only error is `Memory`, if there is
+    /// none for its buffers.
     pub fn new(alloc: A) -> Result<Searcher<A>, ConfigError>
         ensures settings { IfOk result (λ searcher. searcher ≡ default_settings) }
         ensures error { IfErr result (λ e. e ≡ ConfigError.Memory) }
@@ -52,7 +54,7 @@ impl<A: Allocator + Copy> Searcher<A> {
         SearcherBuilder::new().build(alloc)
     }
 
-    /// A searcher with the same settings and buffers of its own. The only error is `Memory`, where there is none for
+    /// A searcher with the same settings and buffers of its own. The only error is `Memory`, if there is none for
     /// its buffers.
     pub fn clone(&self) -> Result<Searcher<A>, ConfigError>
         ensures settings { IfOk result (λ searcher. searcher ≡ self.now) }
@@ -64,13 +66,13 @@ impl<A: Allocator + Copy> Searcher<A> {
         })
     }
 
-    /// Searches some bytes, and tells the sink what it finds. The caller ensures that the sink may be called.
+    /// Searches some bytes, and reports to the sink what it finds. The caller ensures that the sink may be called.
     ///
-    /// A search that is refused makes no call: where the heap limit is 0 the error is made of `SearchUnavailable`, else
-    /// where the matcher names another terminator than the searcher's, of `MismatchedLineTerminators`. Any other search
-    /// makes the calls that are defined, up to the first that isn't answered true, and after a false `finish` with the
-    /// end of that turn. It ends in the sink's error, or in an error made of the matcher's; then `finish` isn't called.
-    /// It takes no memory, so that it fails in no other way, and the settings stay as they were.
+    /// A search that is refused makes no call: if the heap limit is 0 the error is made of `SearchUnavailable`, else if
+    /// the matcher names another terminator than the searcher's, of `MismatchedLineTerminators`. Any other search makes
+    /// the calls that are defined, up to the first that doesn't return true, and after a false `finish` with the end of
+    /// that turn. It ends in the sink's error, or in an error made of the matcher's; then `finish` isn't called. It
+    /// takes no memory, so it fails in no other way. The settings stay as they were.
     pub fn search_slice<M: Matcher, S: Sink>(
         &mut self,
         matcher: M,
@@ -82,9 +84,20 @@ impl<A: Allocator + Copy> Searcher<A> {
         S::Error: SinkError<A>,
         requires { S.may_call sink.old }
         ensures settings { self.new ≡ self.old }
-        ensures searched { IsSearched S.step S.Error.is_message S.Error.is_config M.Error.output (M.never_fails matcher)
-            self.old (M.meaning matcher) bytes.now sink.old result sink.new }
-        ensures succeeds { M.never_fails matcher → NeverFails S.step → refusal_of self.old (M.meaning matcher) ≡ None → IsOk result }
+        ensures searched { IsSearched S.step
+            (record {
+              is_message = S.Error.is_message;
+              is_io = S.Error.is_io;
+              is_config = S.Error.is_config;
+            })
+            (record {
+              meaning = M.meaning matcher;
+              fails = M.fails matcher;
+              text_of = M.Error.output;
+            })
+            self.old bytes.now sink.old result sink.new }
+        ensures succeeds { NeverFails S.step S.may_call → IsInfallible (M.fails matcher)
+            → refusal_of self.old (M.meaning matcher) ≡ None → IsOk result }
         ensures may_call { S.may_call sink.new }
     {
         match self.refusal(&matcher) {
@@ -93,12 +106,12 @@ impl<A: Allocator + Copy> Searcher<A> {
         }
     }
 
-    /// Reads a reader to its end, and searches what it gave as `search_slice` does. The caller ensures that the sink may
-    /// be called.
+    /// Reads a reader to its end, and searches what it gave as `search_slice` does. The caller ensures that the sink
+    /// may be called.
     ///
-    /// A search that is refused reads nothing. Where the reader fails, the error is made of its error, unchanged, and
-    /// where there is no memory for its bytes, of one of kind `OutOfMemory`; then the sink had no call. A reader that
-    /// is interrupted isn't asked again. The bytes don't count against the heap limit.
+    /// A search that is refused reads nothing. If the reader fails, the error is made of its error, unchanged, and if
+    /// there is no memory for its bytes, of one of kind `OutOfMemory`; then the sink had no call. An interrupted read
+    /// isn't tried again. The bytes don't count against the heap limit.
     pub fn search_reader<M: Matcher, R: Source, S: Sink>(
         &mut self,
         matcher: M,
@@ -110,8 +123,22 @@ impl<A: Allocator + Copy> Searcher<A> {
         S::Error: SinkError<A>,
         requires { S.may_call sink.old }
         ensures settings { self.new ≡ self.old }
-        ensures searched { IsReaderSearched R.told R.step S.step S.Error.is_message S.Error.is_io S.Error.is_config M.Error.output (M.never_fails matcher)
-            self.old (M.meaning matcher) reader.old sink.old result reader.new sink.new }
+        ensures searched { IsReaderSearched R.remaining R.step S.step
+            (record {
+              is_message = S.Error.is_message;
+              is_io = S.Error.is_io;
+              is_config = S.Error.is_config;
+            })
+            (record {
+              meaning = M.meaning matcher;
+              fails = M.fails matcher;
+              text_of = M.Error.output;
+            })
+            self.old reader.old sink.old result reader.new sink.new }
+        ensures succeeds { NeverFails S.step S.may_call → IsInfallible (M.fails matcher)
+            → refusal_of self.old (M.meaning matcher) ≡ None
+            → IfErr result (λ e. (error : Error)
+            × IsUnread R.remaining R.step reader.old error reader.new × S.Error.is_io error e) }
         ensures may_call { S.may_call sink.new }
     {
         if let Some(refusal) = self.refusal(&matcher) {
@@ -149,12 +176,23 @@ impl<A: Allocator + Copy> Searcher<A> {
     where
         S::Error: SinkError<A>,
         requires { S.may_call sink.old }
-        ensures searched { IsSearchedAlong S.step S.Error.is_message S.Error.is_config M.Error.output (M.never_fails matcher.now)
-            self.now (M.meaning matcher.now) bytes.now sink.old result sink.new }
-        ensures succeeds { M.never_fails matcher.now → NeverFails S.step → IsOk result }
+        ensures searched { IsSearchedAlong S.step
+            (record {
+              is_message = S.Error.is_message;
+              is_io = S.Error.is_io;
+              is_config = S.Error.is_config;
+            })
+            (record {
+              meaning = M.meaning matcher.now;
+              fails = M.fails matcher.now;
+              text_of = M.Error.output;
+            })
+            self.now bytes.now sink.old result sink.new }
+        ensures succeeds { NeverFails S.step S.may_call → IsInfallible (M.fails matcher.now)
+            → IsOk result }
         ensures may_call { S.may_call sink.new }
     {
-        let count = self.tell_all(matcher, bytes, sink)?;
-        sink.finish(self, &SinkFinish::new(count as u64, None))
+        let count = self.match_by_line(matcher, bytes, sink)?;
+        sink.finish(self, &SinkFinish::new(count, None))
     }
 }

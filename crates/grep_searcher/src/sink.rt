@@ -1,36 +1,40 @@
-//! What hears a search.
-ghost use Rattle.std.specs.Prelude.{◌≡◌, Bool, Result};
+//! What a search reports to.
+ghost use Rattle.std.specs.Prelude.{◌≡◌, ◌+◌, ◌<◌, ◌^◌, Bool, Result, length, is_some};
 ghost use Rattle.grep_matcher.specs.Terminators.{byte_of};
-ghost use Rattle.grep_searcher.specs.Settings.{Settings};
-ghost use Rattle.grep_searcher.specs.Calls.{Call, begins, breaks, match_call, context_call, finish_call};
-ghost use Rattle.grep_searcher.specs.Runs.{as_answer};
+ghost use Rattle.grep_definitions.specs.Settings.{Settings};
+ghost use Rattle.grep_report.specs.SinkReports.{match_bytes};
+ghost use Rattle.grep_definitions.specs.SinkCalls.{Call, begins, breaks, match_call, context_call, finish_call};
+ghost use Rattle.grep_definitions.specs.SinkRuns.{finish_result};
 
 use crate::searcher::Searcher;
 use grep_report::{SinkContext, SinkFinish, SinkMatch};
 use std::alloc::Allocator;
 
-/// What hears a search: `begin`, then the matches, the lines near them and the breaks between, in the order of lines,
-/// then `finish`. Each call is lent the searcher.
+/// What a search reports to: `begin`, then the matches, the lines near them and the breaks between, in the order of
+/// lines, then `finish`. Each call gets the searcher, whose queries give the settings.
 ///
-/// A sink that answers false ends the search: `finish` alone follows. An error ends it at once, and nothing follows.
+/// A sink that returns false ends the search: `finish` alone follows. An error ends it at once, and nothing follows.
 pub trait Sink {
-    /// Why a call failed. A search needs it to be made of its own faults too, as `SinkError` says.
+    /// Why a call failed. A search also makes its own faults of it, as `SinkError` says.
     type Error;
 
-    /// One call: the state before, the searcher's settings, the call with its data, the answer, the state after.
+    /// One call: the state before, the searcher's settings, the call with its data, what it returned, the state after.
     ghost step: { Self → Settings → Call → Result Bool Self.Error → Self → Type 0 };
 
     /// Whether the sink may be called. The caller of a search ensures it, and each call keeps it.
     ghost may_call: { Self → Type 0 };
 
-    /// A search begins. The answer is whether it goes on; an error is the sink's own.
+    /// A search begins. Returns whether it goes on; an error is the sink's own.
     fn begin<A: Allocator + Copy>(&mut self, searcher: &Searcher<A>) -> Result<bool, Self::Error>
         requires { may_call self.old }
         ensures step { step self.old searcher.now begins result self.new }
         ensures may_call { may_call self.new };
 
-    /// Selected lines, split as the searcher splits lines. The answer is whether the search goes on; an error is the
-    /// sink's own.
+    /// Selected lines, split as the searcher splits lines. Returns whether the search goes on; an error is the sink's
+    /// own.
+    ///
+    /// The caller ensures that the match has a line number exactly if the searcher numbers lines, and that the offset
+    /// of its end fits in 64 bits.
     fn matched<A: Allocator + Copy>(
         &mut self,
         searcher: &Searcher<A>,
@@ -38,20 +42,27 @@ pub trait Sink {
     ) -> Result<bool, Self::Error>
         requires may_call { may_call self.old }
         requires split { found.now.terminator ≡ byte_of searcher.now.line_terminator }
+        requires numbered { is_some found.now.line_number ≡ searcher.now.line_number }
+        requires fits { found.now.offset + length (match_bytes found.now) < 2 ^ 64 }
         ensures step { step self.old searcher.now (match_call found.now) result self.new }
         ensures may_call { may_call self.new };
 
-    /// A line that isn't selected and is told. The answer is whether the search goes on; an error is the sink's own.
+    /// A line that isn't selected and is reported. Returns whether the search goes on; an error is the sink's own.
+    ///
+    /// The caller ensures that the line has a number exactly if the searcher numbers lines, and that the offset of its
+    /// end fits in 64 bits.
     fn context<A: Allocator + Copy>(
         &mut self,
         searcher: &Searcher<A>,
         line: &SinkContext<'_>,
     ) -> Result<bool, Self::Error>
-        requires { may_call self.old }
+        requires may_call { may_call self.old }
+        requires numbered { is_some line.now.line_number ≡ searcher.now.line_number }
+        requires fits { line.now.offset + length line.now.bytes < 2 ^ 64 }
         ensures step { step self.old searcher.now (context_call line.now) result self.new }
         ensures may_call { may_call self.new };
 
-    /// Lines were left out since the last report. The answer is whether the search goes on; an error is the sink's own.
+    /// Lines were left out since the last report. Returns whether the search goes on; an error is the sink's own.
     fn context_break<A: Allocator + Copy>(
         &mut self,
         searcher: &Searcher<A>,
@@ -67,15 +78,17 @@ pub trait Sink {
         finish: &SinkFinish,
     ) -> Result<(), Self::Error>
         requires { may_call self.old }
-        ensures step { step self.old searcher.now (finish_call finish.now) (as_answer result) self.new }
+        ensures step { step self.old searcher.now (finish_call finish.now) (finish_result result)
+            self.new }
         ensures may_call { may_call self.new };
 }
 
-/// A reference is the sink that it refers to: each call is that sink's.
+/// A reference is the sink that it refers to: each call is that sink's, and it stays a reference to that sink.
 impl<S: Sink> Sink for &mut S {
     type Error = S::Error;
 
-    ghost step = { λ s settings call answer t. S.step s.now settings call answer t.now };
+    ghost step = { λ s settings call result t.
+        (t.ghost_name ≡ s.ghost_name) × S.step s.now settings call result t.now };
 
     ghost may_call = { λ s. S.may_call s.now };
 

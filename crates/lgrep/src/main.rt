@@ -2,7 +2,7 @@
 #![tactic(auto)]
 
 use grep_searcher::{Reading, SearchError};
-use lgrep_cli::{Options, OptionsFault, USAGE, run, status};
+use lgrep_cli::{Options, OptionsFault, USAGE, Writing, run, status};
 use std::alloc::Global;
 use std::env::Env;
 use std::io::{BufWriter, Read, Write};
@@ -12,14 +12,14 @@ use std::{env, io};
 // How many bytes of output are kept before they are written.
 const OUTPUT_LEN: usize = 64 * 1024;
 
-// What is said of a fault that isn't one of usage.
+// The message of any error but one of usage.
 const FAILED: &str = "lgrep: search failed";
 
 fn main(rt: HostRuntime) -> ExitCode {
-    let Ok(words) = words(&rt) else {
+    let Ok(arguments) = arguments(&rt) else {
         return stop(&rt, FAILED);
     };
-    let options = match Options::parse(rt.alloc(), &words) {
+    let options = match Options::parse(rt.alloc(), &arguments) {
         Ok(options) => options,
         Err(OptionsFault::Usage) => return stop(&rt, USAGE),
         Err(OptionsFault::Memory) => return stop(&rt, FAILED),
@@ -31,11 +31,11 @@ fn main(rt: HostRuntime) -> ExitCode {
     ExitCode::from(status(&outcome))
 }
 
-// The words behind the program's name.
-fn words(rt: &(impl Env + AllocGlobal)) -> io::Result<Vec<String>> {
-    let mut words = env::args(rt)?;
-    let _ = words.next();
-    Ok(words.collect(rt.alloc())?)
+// The arguments after the program's name.
+fn arguments(rt: &(impl Env + AllocGlobal)) -> io::Result<Vec<String>> {
+    let mut arguments = env::args(rt)?;
+    let _ = arguments.next();
+    Ok(arguments.collect(rt.alloc())?)
 }
 
 // Searches some input, and keeps the output in a buffer until it is written.
@@ -46,12 +46,17 @@ fn search<R: Read + Drop, W: Write + Drop>(
     output: W,
 ) -> Result<bool, SearchError> {
     match BufWriter::with_capacity(alloc, OUTPUT_LEN, output) {
-        Ok(mut writer) => run(alloc, options, &mut Reading::new(input), &mut writer),
+        Ok(writer) => run(
+            alloc,
+            options,
+            &mut Reading::new(input),
+            &mut Writing::new(writer),
+        ),
         Err(error) => Err(SearchError::Io(error)),
     }
 }
 
-// Says on standard error why there is no search.
+// Writes on standard error why there is no search.
 fn stop(rt: &impl Eprint, line: &str) -> ExitCode {
     let _ = rt.eprintln(line);
     ExitCode::from(2)

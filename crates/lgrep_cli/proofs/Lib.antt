@@ -1,5 +1,7 @@
+pub mod CommandLemmas
+pub mod CommandRows
 pub mod PrintLemmas
-pub mod NumberLemmas
+pub mod NumeralLemmas
 pub mod PrinterLemmas
 pub mod SearchLemmas
-pub mod WordLemmas
+pub mod WritingLemmas

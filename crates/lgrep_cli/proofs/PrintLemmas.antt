@@ -1,41 +1,68 @@
 -- The text of the lines of a match, written line by line.
-use Rattle.std.proofs.Common.{◌≡◌, ℕ, List, [], ◌∷◌, ◌++◌, refl, sym, ap, ◌∙◌, append_assoc}
-use Rattle.std.specs.Prelude.{Option, Some, None}
-use Rattle.std.specs.Io.KnownBytes.{Appends}
+use Rattle.std.proofs.Common.{◌≡◌, ℕ, List, [], ◌∷◌, ◌++◌, refl, sym, ◌∙◌, append_assoc, subst}
+use Rattle.std.specs.Prelude.{decimal, Option, Some, Result, Ok, Err}
+use Rattle.std.specs.declared.io.Error.{Error}
 use Rattle.std.proofs.lemmas.List.{append-nil}
-use Rattle.lgrep_cli.specs.Texts.{numbered, next_number, match_text}
+use Rattle.lgrep_cli.specs.Texts.{ended, numbered, next_number, match_text}
+use Rattle.lgrep_cli.specs.Writing.{Writer, Writes}
+use Rattle.lgrep_cli.proofs.WritingLemmas.{Writes-none, Writes-more, Writes-cut}
 
--- nothing more
-pub Appends-none : (known : Option (List ℕ)) → Appends known known []
-Appends-none None = tt
-Appends-none (Some xs) = sym (append-nil xs)
+module _ {W : Type 0} (contents : W → Option (List ℕ)) where
+  -- what is written so far, and the lines to come, make the text of all lines
+  pub record IsPrinting (old now : Writer W) (first : Option ℕ) (all : List (List ℕ)) (number : Option ℕ)
+      (later : List (List ℕ)) : Type 0 where
+    pub text : List ℕ
+    pub written : Writes contents old text (Ok tt) now
+    pub whole : match_text first all ≡ text ++ match_text number later
 
--- one text behind another
-pub Appends-more : (a b c : Option (List ℕ)) (xs ys : List ℕ) → Appends a b xs → Appends b c ys → Appends a c (xs ++ ys)
-Appends-more None b c xs ys first later = tt
-Appends-more (Some all) None c xs ys first later = absurd first
-Appends-more (Some all) (Some more) None xs ys first later = absurd later
-Appends-more (Some all) (Some more) (Some end) xs ys first later = later ∙ (ap (λ zs. zs ++ ys) first ∙ append_assoc all xs ys)
+  pub printing-none : (writer : Writer W) (number : Option ℕ) (all : List (List ℕ)) → IsPrinting writer writer number all number all
+  printing-none writer number all = record { text = []; written = Writes-none contents writer; whole = refl }
 
--- what is written so far, and the lines to come, make the text of all lines
-pub record IsPrinting (old now : Option (List ℕ)) (first : Option ℕ) (all : List (List ℕ)) (number : Option ℕ) (later : List (List ℕ)) : Type 0 where
-  pub written : List ℕ
-  pub appended : Appends old now written
-  pub whole : match_text first all ≡ written ++ match_text number later
+  -- one more line
+  pub printing-more : (old now new : Writer W) (first number : Option ℕ) (all later : List (List ℕ)) (line : List ℕ)
+      → IsPrinting old now first all number (line ∷ later) → Writes contents now (numbered number 58 line) (Ok tt) new
+      → IsPrinting old new first all (next_number number) later
+  printing-more old now new first number all later line printing wrote = record {
+    text = printing.text ++ numbered number 58 line;
+    written = Writes-more contents old now new printing.text (numbered number 58 line) (Ok tt) printing.written wrote;
+    whole = printing.whole ∙ sym (append_assoc printing.text (numbered number 58 line) (match_text (next_number number) later));
+  }
 
-pub printing-none : (known : Option (List ℕ)) (number : Option ℕ) (all : List (List ℕ)) → IsPrinting known known number all number all
-printing-none known number all = record { written = []; appended = Appends-none known; whole = refl }
+  -- a line that isn't written whole
+  pub printing-cut : (old now new : Writer W) (first number : Option ℕ) (all later : List (List ℕ)) (line : List ℕ) (error : Error)
+      → IsPrinting old now first all number (line ∷ later) → Writes contents now (numbered number 58 line) (Err error) new
+      → Writes contents old (match_text first all) (Err error) new
+  printing-cut old now new first number all later line error printing wrote =
+      subst (λ text. Writes contents old text (Err error) new) (sym printing.whole)
+      (Writes-more contents old now new printing.text (numbered number 58 line ++ match_text (next_number number) later)
+      (Err error) printing.written
+      (Writes-cut contents now new (numbered number 58 line) (match_text (next_number number) later) error wrote))
 
--- one more line
-pub printing-more : (old now new : Option (List ℕ)) (first number : Option ℕ) (all later : List (List ℕ)) (line : List ℕ) → IsPrinting old now first all number (line ∷ later) → Appends now new (numbered number 58 line) → IsPrinting old new first all (next_number number) later
-printing-more old now new first number all later line printing wrote = record {
-  written = printing.written ++ numbered number 58 line;
-  appended = Appends-more old now new printing.written (numbered number 58 line) printing.appended wrote;
-  whole = printing.whole ∙ sym (append_assoc printing.written (numbered number 58 line) (match_text (next_number number) later));
-}
+  -- no line is left
+  pub printing-whole : (old new : Writer W) (first number : Option ℕ) (all : List (List ℕ)) → IsPrinting old new first all number []
+      → Writes contents old (match_text first all) (Ok tt) new
+  printing-whole old new first number all printing =
+      subst (λ text. Writes contents old text (Ok tt) new) (sym (printing.whole ∙ append-nil printing.text)) printing.written
 
--- no line is left
-pub printing-whole : (old new : Option (List ℕ)) (first number : Option ℕ) (all : List (List ℕ)) → IsPrinting old new first all number [] → Appends old new (match_text first all)
-printing-whole None new first number all printing = tt
-printing-whole (Some xs) None first number all printing = printing.appended
-printing-whole (Some xs) (Some ys) first number all printing = printing.appended ∙ ap (λ zs. xs ++ zs) (sym (printing.whole ∙ append-nil printing.written))
+  -- a line that ends without a line feed
+  pub ended-more : (old mid new : Writer W) (line : List ℕ) (result : Result (Unit {0}) Error) → ended line ≡ line ++ 10 ∷ []
+      → Writes contents old line (Ok tt) mid → Writes contents mid (10 ∷ []) result new → Writes contents old (ended line) result new
+  ended-more old mid new line result is first later =
+      subst (λ text. Writes contents old text result new) (sym is) (Writes-more contents old mid new line (10 ∷ []) result first later)
+
+  -- a number that isn't written whole
+  pub numbered-cut : (old new : Writer W) (number : Option ℕ) (n mark : ℕ) (line : List ℕ) (error : Error) → number ≡ Some n
+      → Writes contents old (decimal n ++ mark ∷ []) (Err error) new → Writes contents old (numbered number mark line) (Err error) new
+  numbered-cut old new number n mark line error is wrote =
+      subst (λ o. Writes contents old (numbered o mark line) (Err error) new) (sym is)
+      (subst (λ text. Writes contents old text (Err error) new) (append_assoc (decimal n) (mark ∷ []) (ended line))
+      (Writes-cut contents old new (decimal n ++ mark ∷ []) (ended line) error wrote))
+
+  -- a number, and then its line
+  pub numbered-more : (old mid new : Writer W) (number : Option ℕ) (n mark : ℕ) (line : List ℕ) (result : Result (Unit {0}) Error)
+      → number ≡ Some n → Writes contents old (decimal n ++ mark ∷ []) (Ok tt) mid → Writes contents mid (ended line) result new
+      → Writes contents old (numbered number mark line) result new
+  numbered-more old mid new number n mark line result is first later =
+      subst (λ o. Writes contents old (numbered o mark line) result new) (sym is)
+      (subst (λ text. Writes contents old text result new) (append_assoc (decimal n) (mark ∷ []) (ended line))
+      (Writes-more contents old mid new (decimal n ++ mark ∷ []) (ended line) result first later))

@@ -1,6 +1,7 @@
-pub mod Numbers
+pub mod CommandLine
+pub mod Numerals
 pub mod OptionSettings
 pub mod Printers
-pub mod Runs
+pub mod ProgramRuns
 pub mod Texts
-pub mod Words
+pub mod Writing

@@ -1,5 +1,5 @@
 -- The settings that options ask for.
-use Rattle.grep_searcher.specs.Configs.{built, default_settings}
+use Rattle.grep_searcher.specs.Settings.{built, default_settings}
 use Rattle.grep_searcher.specs.Settings.{Settings}
 use Rattle.lgrep_cli.specs.declared.options.Options.{Options}
 

@@ -1,13 +1,14 @@
 -- The text that lgrep writes for the calls of a search.
-use Rattle.std.specs.Prelude.{ℕ, ◌+◌, ◌-◌, ◌^◌, min, Bool, true, false, ◌||◌, ◌==◌, if◌then◌else◌, List, [], ◌∷◌, ◌++◌, length, slice_index, decimal, Option, Some, None}
+use Rattle.std.specs.Prelude.{ℕ, ◌+◌, ◌-◌, ◌^◌, min, Bool, false, ◌||◌, ◌==◌, if◌then◌else◌, List, [], ◌∷◌, ◌++◌, length, slice_index, decimal, Option, Some, None}
 use Rattle.grep_matcher.specs.Lines.{lines}
-use Rattle.grep_searcher.specs.Calls.{Call, Turn, begins, matches, context, breaks, binary_data, finishes}
+use Rattle.grep_searcher.specs.SearchLaws.{is_match}
+use Rattle.grep_searcher.specs.SinkCalls.{Call, Turn, begins, matches, context, breaks, binary_data, finishes}
 
--- a line with a line feed at its end, which is added where it lacks one
+-- a line with a line feed at its end, which is added if there is none
 abbrev pub ended : List ℕ → List ℕ
 ended line = if slice_index line (length line - 1) == 10 then line else line ++ 10 ∷ []
 
--- a line behind its number, if it has one, and a mark: a colon for a match, a dash for another line
+-- a line after its number, if it has one, and a mark: a colon for a match, a dash for any other line
 abbrev pub numbered : Option ℕ → ℕ → List ℕ → List ℕ
 numbered None mark line = ended line
 numbered (Some number) mark line = decimal number ++ mark ∷ ended line
@@ -17,7 +18,7 @@ abbrev pub next_number : Option ℕ → Option ℕ
 next_number None = None
 next_number (Some number) = Some (min (number + 1) (2 ^ 64 - 1))
 
--- each line of a match behind its own number
+-- each line of a match after its own number
 abbrev pub match_text : Option ℕ → List (List ℕ) → List ℕ
 match_text number [] = []
 match_text number (line ∷ later) = numbered number 58 line ++ match_text (next_number number) later
@@ -35,14 +36,6 @@ call_text (finishes count binary) = []
 abbrev pub text : List Turn → List ℕ
 text [] = []
 text (turn ∷ later) = call_text turn.call ++ text later
-
-abbrev pub is_match : Call → Bool
-is_match begins = false
-is_match (matches number offset bytes) = true
-is_match (context kind number offset line) = false
-is_match breaks = false
-is_match (binary_data offset) = false
-is_match (finishes count binary) = false
 
 -- whether some call reports a match
 abbrev pub has_match : List Turn → Bool

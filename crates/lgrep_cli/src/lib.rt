@@ -1,7 +1,8 @@
-//! A search of lines for a literal, as a program makes it: the options of its words, the search of a reader with the
-//! text of its lines written, and the status that the program ends with.
+//! A search of lines for a literal, as a program makes it: the options that its arguments ask for, the search of a
+//! reader, whose text is written, and the status that the program exits with.
 //!
-//! What is written for the calls of a search is defined in `specs/Texts.antt`, and what a run does in `specs/Runs.antt`.
+//! `specs/CommandLine.antt` defines what arguments ask for, `specs/Texts.antt` the text of a search's calls, and
+//! `specs/ProgramRuns.antt` what a run does. `CALLING.md` has an example.
 #![tactic(auto)]
 
 mod exit;
@@ -10,7 +11,9 @@ mod printer;
 mod search;
 #[cfg(test)]
 mod tests;
+mod writing;
 
 pub use exit::status;
 pub use options::{Options, OptionsFault, USAGE};
 pub use search::run;
+pub use writing::{LastCall, Writing};

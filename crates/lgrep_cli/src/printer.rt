@@ -1,25 +1,26 @@
-//! The sink that writes what it is told.
-ghost use Rattle.std.specs.Prelude.{◌≡◌, ◌∷◌, ◌++◌, [], true, false, Ok, Err, OnOk, MatchResult, decimal};
+//! The sink that writes what is reported.
+ghost use Rattle.std.specs.Prelude.{◌≡◌, ◌∷◌, ◌++◌, [], true, false, Ok, Err, MatchResult, decimal};
 ghost use Rattle.grep_matcher.specs.Lines.{lines};
-ghost use Rattle.std.specs.Io.KnownBytes.{Appends};
 ghost use Rattle.lgrep_cli.specs.Texts.{ended, numbered, next_number, match_text};
+ghost use Rattle.lgrep_cli.specs.Writing.{Writes};
 
+use crate::writing::Writing;
 use grep_searcher::{LineIter, SearchError, Searcher, Sink, SinkContext, SinkFinish, SinkMatch};
 use itoa::write_digits;
 use std::alloc::Allocator;
 use std::io;
 use std::io::Write;
 
-// Writes the lines that it is told, and keeps whether one of them was a match.
+// Writes the lines that are reported, and keeps whether one of them was a match.
 #[derive(Drop)]
 pub(crate) struct Printer<'w, W> {
-    pub(crate) writer: &'w mut W,
+    pub(crate) writer: &'w mut Writing<W>,
     pub(crate) found: bool,
 }
 
 impl<'w, W: Write> Printer<'w, W> {
-    // Nothing is told yet.
-    pub(crate) fn new(writer: &'w mut W) -> Printer<'w, W>
+    // Nothing is reported yet.
+    pub(crate) fn new(writer: &'w mut Writing<W>) -> Printer<'w, W>
         ensures same_writer { result.writer.ghost_name ≡ writer.entry.ghost_name }
         ensures writer { result.writer.now ≡ writer.entry.now }
         ensures found { result.found ≡ false }
@@ -50,7 +51,7 @@ impl<'w, W: Write> Sink for Printer<'w, W> {
         found: &SinkMatch<'_>,
     ) -> Result<bool, SearchError> {
         self.found = true;
-        answer(write_lines(self.writer, found.line_number(), found.bytes()))
+        returned(write_lines(self.writer, found.line_number(), found.bytes()))
     }
 
     fn context<A: Allocator + Copy>(
@@ -58,14 +59,14 @@ impl<'w, W: Write> Sink for Printer<'w, W> {
         _searcher: &Searcher<A>,
         line: &SinkContext<'_>,
     ) -> Result<bool, SearchError> {
-        answer(write_line(self.writer, line.line_number(), b'-', line.bytes()))
+        returned(write_line(self.writer, line.line_number(), b'-', line.bytes()))
     }
 
     fn context_break<A: Allocator + Copy>(
         &mut self,
         _searcher: &Searcher<A>,
     ) -> Result<bool, SearchError> {
-        answer(self.writer.write_all(b"--\n"))
+        returned(self.writer.write_all(b"--\n"))
     }
 
     fn finish<A: Allocator + Copy>(
@@ -77,9 +78,10 @@ impl<'w, W: Write> Sink for Printer<'w, W> {
     }
 }
 
-// The answer to a call whose text was written or not.
-fn answer(written: io::Result<()>) -> Result<bool, SearchError>
-    ensures { MatchResult written (λ _. result ≡ Ok true) (λ error. result ≡ Err (SearchError.Io error)) }
+// What a call returns, by how its text was written.
+fn returned(written: io::Result<()>) -> Result<bool, SearchError>
+    ensures { MatchResult written (λ _. result ≡ Ok true)
+        (λ error. result ≡ Err (SearchError.Io error)) }
 {
     match written {
         Ok(()) => Ok(true),
@@ -87,9 +89,14 @@ fn answer(written: io::Result<()>) -> Result<bool, SearchError>
     }
 }
 
-// Writes the lines of a match, each behind its number.
-fn write_lines<W: Write>(writer: &mut W, number: Option<u64>, bytes: &[u8]) -> io::Result<()>
-    ensures { OnOk result (Appends (W.contents writer.old) (W.contents writer.new) (match_text number (lines 10 bytes.now))) }
+// Writes the lines of a match, each after its number.
+fn write_lines<W: Write>(
+    writer: &mut Writing<W>,
+    number: Option<u64>,
+    bytes: &[u8],
+) -> io::Result<()>
+    ensures { Writes W.contents writer.old (match_text number (lines 10 bytes.now))
+        result writer.new }
 {
     let mut number = number;
     for line in LineIter::new(b'\n', bytes) {
@@ -106,14 +113,14 @@ fn next_number(number: Option<u64>) -> Option<u64>
     number.map(|number| number.saturating_add(1))
 }
 
-// Writes a line behind its number, if it has one, and a mark.
+// Writes a line after its number, if it has one, and a mark.
 fn write_line<W: Write>(
-    writer: &mut W,
+    writer: &mut Writing<W>,
     number: Option<u64>,
     mark: u8,
     line: &[u8],
 ) -> io::Result<()>
-    ensures { OnOk result (Appends (W.contents writer.old) (W.contents writer.new) (numbered number mark line.now)) }
+    ensures { Writes W.contents writer.old (numbered number mark line.now) result writer.new }
 {
     if let Some(number) = number {
         write_number(writer, number, mark)?;
@@ -122,18 +129,18 @@ fn write_line<W: Write>(
 }
 
 // Writes a number and a mark.
-fn write_number<W: Write>(writer: &mut W, number: u64, mark: u8) -> io::Result<()>
-    ensures { OnOk result (Appends (W.contents writer.old) (W.contents writer.new) (decimal number ++ mark ∷ [])) }
+fn write_number<W: Write>(writer: &mut Writing<W>, number: u64, mark: u8) -> io::Result<()>
+    ensures { Writes W.contents writer.old (decimal number ++ mark ∷ []) result writer.new }
 {
-    // The digits of 64 bits are 20 at most.
+    // A number of 64 bits has 20 digits at most.
     let mut text = [mark; 21];
     let start = write_digits(number, &mut text, 20);
     writer.write_all(&text[start..])
 }
 
-// Writes a line, and a line feed where it lacks one.
-fn write_ended<W: Write>(writer: &mut W, line: &[u8]) -> io::Result<()>
-    ensures { OnOk result (Appends (W.contents writer.old) (W.contents writer.new) (ended line.now)) }
+// Writes a line, and a line feed if it has none.
+fn write_ended<W: Write>(writer: &mut Writing<W>, line: &[u8]) -> io::Result<()>
+    ensures { Writes W.contents writer.old (ended line.now) result writer.new }
 {
     writer.write_all(line)?;
     if line.last() == Some(&b'\n') {

@@ -1,30 +1,37 @@
 //! A search of a reader, with the text of its lines written.
-ghost use Rattle.std.specs.Prelude.{◌≡◌, false, OnOk, IfOk, IfErr, string_bytes};
-ghost use Rattle.std.specs.declared.io.Error.{Error};
+ghost use Rattle.std.specs.Prelude.{◌≡◌, false, Ok, OnOk, IfOk, IfErr, string_bytes};
 ghost use Rattle.lgrep_cli.specs.OptionSettings.{settings_of_options};
-ghost use Rattle.lgrep_cli.specs.Runs.{IsOutOfMemory, IsPrinted, IsFailure};
+ghost use Rattle.grep_searcher.specs.SearchErrors.{IsOutOfMemory};
+ghost use Rattle.lgrep_cli.specs.ProgramRuns.{IsPrinted, IsFailure};
 
 use crate::options::Options;
 use crate::printer::Printer;
+use crate::writing::{LastCall, Writing};
 use grep_matcher::LiteralMatcher;
 use grep_searcher::{SearchError, Searcher, SearcherBuilder, Source};
 use std::alloc::Global;
 use std::io;
 use std::io::Write;
 
-/// Searches what a reader gives, writes the text of what is found, flushes the writer, and answers whether a match was
-/// reported.
+/// Searches what a reader gives, writes the text of what is found, flushes the writer, and returns whether a match
+/// was reported.
 ///
-/// An error is an io error: of the reader, then nothing was written; of the writer at a write or at the flush, which
-/// may have taken a part; or of kind `OutOfMemory`.
+/// An error is a `SearchError::Io`:
+/// - of kind `OutOfMemory`, if there is no memory for the search or for the input: nothing is written;
+/// - the reader's own: nothing is written;
+/// - what the writer's last call returned, or of kind `WriteZero` if that call took nothing: at a write, after some
+///   first bytes of the text, or at the flush, after all of it.
 pub fn run<R: Source, W: Write>(
     alloc: Global,
     options: &Options,
     reader: &mut R,
-    writer: &mut W,
+    writer: &mut Writing<W>,
 ) -> Result<bool, SearchError>
-    ensures printed { IfOk result (λ found. IsPrinted R.told R.step W.contents options.now reader.old writer.old found reader.new writer.new) }
-    ensures failed { IfErr result (λ e. (error : Error) × (e ≡ SearchError.Io error) × IsFailure R.told R.step W.contents reader.old writer.old error reader.new writer.new) }
+    ensures printed { IfOk result (λ found. IsPrinted R.remaining R.step W.contents options.now
+        reader.old writer.old found reader.new writer.new) }
+    ensures flushed { OnOk result (writer.new.last ≡ LastCall.Flush (Ok tt)) }
+    ensures failed { IfErr result (λ error. IsFailure R.remaining R.step W.contents options.now
+        reader.old writer.old error reader.new writer.new) }
 {
     let mut printer = Printer::new(writer);
     print(alloc, options, reader, &mut printer)?;
@@ -35,7 +42,7 @@ pub fn run<R: Source, W: Write>(
     }
 }
 
-// Searches what a reader gives with a printer, which was told nothing yet.
+// Searches what a reader gives with a printer to which nothing is reported yet.
 fn print<R: Source, W: Write>(
     alloc: Global,
     options: &Options,
@@ -44,8 +51,10 @@ fn print<R: Source, W: Write>(
 ) -> Result<(), SearchError>
     requires { printer.old.found ≡ false }
     ensures same_writer { printer.new.writer.ghost_name ≡ printer.old.writer.ghost_name }
-    ensures printed { OnOk result (IsPrinted R.told R.step W.contents options.now reader.old printer.old.writer.now printer.new.found reader.new printer.new.writer.now) }
-    ensures failed { IfErr result (λ e. (error : Error) × (e ≡ SearchError.Io error) × IsFailure R.told R.step W.contents reader.old printer.old.writer.now error reader.new printer.new.writer.now) }
+    ensures printed { OnOk result (IsPrinted R.remaining R.step W.contents options.now
+        reader.old printer.old.writer.now printer.new.found reader.new printer.new.writer.now) }
+    ensures failed { IfErr result (λ error. IsFailure R.remaining R.step W.contents options.now
+        reader.old printer.old.writer.now error reader.new printer.new.writer.now) }
 {
     let mut searcher = searcher(alloc, options)?;
     let matcher = matcher(alloc, options)?;
@@ -75,7 +84,7 @@ fn matcher(alloc: Global, options: &Options) -> Result<LiteralMatcher, SearchErr
     LiteralMatcher::new(alloc, options.literal.as_bytes()).map_err(|_| out_of_memory())
 }
 
-// The error of want of memory.
+// The error of kind `OutOfMemory`.
 fn out_of_memory() -> SearchError
     ensures { IsOutOfMemory result }
 {

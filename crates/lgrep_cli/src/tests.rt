@@ -1,57 +1,50 @@
-//! What words, runs and faults come to.
-use crate::{Options, OptionsFault, USAGE, run};
+//! What arguments, runs and errors come to.
+use crate::{Options, OptionsFault, USAGE, Writing, run};
 use grep_searcher::{SearchError, Source};
 use std::alloc::{AllocError, Global};
 use std::io;
 use std::io::Write;
 use std::test::Fail;
 
-fn words(alloc: Global, line: &str) -> Result<Vec<String>, AllocError> {
-    let mut words = Vec::new(alloc);
-    for word in line.split(' ') {
-        if !word.is_empty() {
-            words.push(String::from_str(alloc, word)?)?;
-        }
+// The arguments of a line, which one space each keeps apart.
+fn arguments(alloc: Global, line: &str) -> Result<Vec<String>, AllocError> {
+    let mut arguments = Vec::new(alloc);
+    for argument in line.split(' ') {
+        arguments.push(String::from_str(alloc, argument)?)?;
     }
-    Ok(words)
+    Ok(arguments)
 }
 
-fn searched<W: Write>(
-    alloc: Global,
-    line: &str,
-    input: &str,
-    writer: &mut W,
-) -> Result<bool, Fail> {
-    let options = Options::parse(alloc, &words(alloc, line)?)?;
-    Ok(run(alloc, &options, &mut input.as_bytes(), writer)?)
+// Whether a search of some input reports a match, and the text that it writes.
+fn searched(alloc: Global, line: &str, input: &str) -> Result<(bool, Vec<u8>), Fail> {
+    let options = Options::parse(alloc, &arguments(alloc, line)?)?;
+    let mut writer = Writing::new(Vec::new(alloc));
+    let found = run(alloc, &options, &mut input.as_bytes(), &mut writer)?;
+    Ok((found, writer.into_inner()))
 }
 
 #[test]
-fn refuses_words(rt: HostRuntime) -> Result<(), Fail> {
+fn refuses_arguments(rt: HostRuntime) -> Result<(), Fail> {
     for line in [
         "-m 4294967296 a",
         "-m 00000000001 a",
-        "-m +1 a",
+        "-A +1 a",
+        "-B x a",
         "-m a",
-        "-m",
+        "-A",
         "-x a",
         "-U a",
-        "-c a",
-        "",
+        "-v",
         "a b",
         "a -v",
-        "-A",
-        "-A x a",
-        "-A -1 a",
-        "-B",
-        "-B x a",
         "--",
         "-- a b",
-        "--pass a",
     ] {
-        let parsed = Options::parse(rt.alloc(), &words(rt.alloc(), line)?);
-        assert_eq!(rt; parsed.err(), Some(OptionsFault::Usage), "at {line:?}");
+        let parsed = Options::parse(rt.alloc(), &arguments(rt.alloc(), line)?);
+        assert_eq!(rt; parsed.err(), Some(OptionsFault::Usage), "at {line}");
     }
+    let parsed = Options::parse(rt.alloc(), &[]);
+    assert_eq!(rt; parsed.err(), Some(OptionsFault::Usage));
     assert_eq!(rt;
         USAGE,
         "usage: lgrep [-v] [-A N] [-B N] [-m N] [-U] [--passthru] [-c] LITERAL [PATH]"
@@ -60,20 +53,18 @@ fn refuses_words(rt: HostRuntime) -> Result<(), Fail> {
 }
 
 #[test]
-fn reads_words(rt: HostRuntime) -> Result<(), Fail> {
+fn reads_arguments(rt: HostRuntime) -> Result<(), Fail> {
     for (line, invert, after, before, passthru, max, literal) in [
         ("a", false, 0, 0, false, None, "a"),
-        ("-v -A 1 -B 2 a", true, 1, 2, false, None, "a"),
-        ("-A 4294967295 a", false, 4294967295, 0, false, None, "a"),
-        ("--passthru -m 0 a", false, 0, 0, true, Some(0), "a"),
-        ("-m 1 -m 2 a", false, 0, 0, false, Some(2), "a"),
-        ("-A 1 -A 2 -B 3 -B 4 a", false, 2, 4, false, None, "a"),
-        ("-m 0000000001 a", false, 0, 0, false, Some(1), "a"),
-        ("-- -v", false, 0, 0, false, None, "-v"),
+        ("", false, 0, 0, false, None, ""),
+        ("-v -v ", true, 0, 0, false, None, ""),
+        ("-B 4294967295 a", false, 0, 4294967295, false, None, "a"),
+        ("-m 1 --passthru a", false, 0, 0, true, Some(1), "a"),
+        ("-m 1 -A 3 -m 2 -A 4 a", false, 4, 0, false, Some(2), "a"),
         ("-v -- --", true, 0, 0, false, None, "--"),
         ("-", false, 0, 0, false, None, "-"),
     ] {
-        let options = Options::parse(rt.alloc(), &words(rt.alloc(), line)?)?;
+        let options = Options::parse(rt.alloc(), &arguments(rt.alloc(), line)?)?;
         assert_eq!(rt; options.invert, invert, "at {line}");
         assert_eq!(rt; options.after, after, "at {line}");
         assert_eq!(rt; options.before, before, "at {line}");
@@ -95,90 +86,98 @@ fn writes_what_it_finds(rt: HostRuntime) -> Result<(), Fail> {
         ("--passthru -v -m 1 a", "b\na\nb\n", "1:b\n2-a\n3-b\n", true),
         ("-m 1 -A 2 a", "a\na\nb\na\n", "1:a\n2-a\n3-b\n", true),
         ("a", "", "", false),
-        ("a", "a\nb\n\nc\n\n\nd\n", "1:a\n", true),
+        (
+            "Sherlock",
+            "For Sherlock\nHolmeses\nof luck. Sherlock Holmes\n",
+            "1:For Sherlock\n3:of luck. Sherlock Holmes\n",
+            true,
+        ),
     ] {
-        let mut written = Vec::new(rt.alloc());
-        assert_eq!(rt;
-            searched(rt.alloc(), line, input, &mut written)?,
-            found,
-            "at {line}"
-        );
+        let (is_found, written) = searched(rt.alloc(), line, input)?;
+        assert_eq!(rt; is_found, found, "at {line}");
         assert_eq!(rt; written.as_slice(), text.as_bytes(), "at {line}");
     }
     Ok(())
 }
 
-// The last line has no line feed.
-const SHERLOCK: &str = "\
-For the Doctor Watsons of this world, as opposed to the Sherlock
-Holmeses, success in the province of detective work must always
-be, to a very large extent, the result of luck. Sherlock Holmes
-can extract a clew from a wisp of straw or a flake of cigar ash;
-but Doctor Watson has to have it taken out for him and dusted,
-and exhibited clearly, with a label attached.";
+// Takes a few bytes a call, after a first call that is interrupted.
+#[derive(Drop)]
+struct Slow {
+    is_interrupted: bool,
+    taken: Vec<u8>,
+}
+
+impl Write for Slow {
+    fn write(&mut self, buffer: &[u8]) -> io::Result<usize> {
+        if !self.is_interrupted {
+            self.is_interrupted = true;
+            return Err(io::Error::from(io::ErrorKind::Interrupted));
+        }
+        let count = buffer.len().min(3);
+        self.taken.extend_from_slice(&buffer[..count])?;
+        Ok(count)
+    }
+
+    fn flush(&mut self) -> io::Result<()> {
+        Ok(())
+    }
+}
 
 #[test]
-fn writes_lines_of_prose(rt: HostRuntime) -> Result<(), Fail> {
-    for (line, numbers) in [
-        ("Sherlock", [1, 3].as_slice()),
-        ("NADA", &[]),
-        ("a", &[1, 2, 3, 4, 5, 6]),
-        ("-v Sherlock", &[2, 4, 5, 6]),
-    ] {
-        let mut text = String::new(rt.alloc());
-        for (index, prose) in SHERLOCK.lines().enumerate() {
-            if numbers.contains(&(index + 1)) {
-                write!(text, "{}:{prose}\n", index + 1)?;
-            }
-        }
-        let mut written = Vec::new(rt.alloc());
-        let found = searched(rt.alloc(), line, SHERLOCK, &mut written)?;
-        assert_eq!(rt; found, !numbers.is_empty(), "at {line}");
-        assert_eq!(rt; written.as_slice(), text.as_bytes(), "at {line}");
-    }
+fn writes_all_in_parts(rt: HostRuntime) -> Result<(), Fail> {
+    let options = Options::parse(rt.alloc(), &arguments(rt.alloc(), "-A 1 a")?)?;
+    let mut writer = Writing::new(Slow {
+        is_interrupted: false,
+        taken: Vec::new(rt.alloc()),
+    });
+    let input = "a needle\nand a haystack";
+    assert!(rt; run(rt.alloc(), &options, &mut input.as_bytes(), &mut writer)?);
+    let Slow { taken, .. } = writer.into_inner();
+    assert_eq!(rt;
+        taken.as_slice(),
+        b"1:a needle\n2:and a haystack\n".as_slice()
+    );
     Ok(())
 }
 
-// Fails once it has taken some writes, or when it is flushed.
+// Fails once it has taken some writes, and when it is flushed.
 #[derive(Drop)]
 struct Broken {
     left: usize,
 }
 
-// The error of such a writer.
-fn broken_pipe() -> io::Error {
-    io::Error::new(io::ErrorKind::BrokenPipe, "the pipe broke")
-}
-
 impl Write for Broken {
     fn write(&mut self, buffer: &[u8]) -> io::Result<usize> {
         if self.left == 0 {
-            return Err(broken_pipe());
+            return Err(io::Error::new(io::ErrorKind::BrokenPipe, "no reader"));
         }
         self.left -= 1;
         Ok(buffer.len())
     }
 
     fn flush(&mut self) -> io::Result<()> {
-        Err(broken_pipe())
+        Err(io::Error::new(io::ErrorKind::StorageFull, "no room"))
     }
 }
 
 #[test]
-fn ends_where_a_write_fails(rt: HostRuntime) -> Result<(), Fail> {
-    let options = Options::parse(rt.alloc(), &words(rt.alloc(), "-A 1 a")?)?;
-    let text = format!(in rt.alloc(); "{:?}", SearchError::<Global>::Io(broken_pipe()))?;
-    // No write fails at the last row, but the flush does.
-    for left in [0, 1, 2, 3, 4, 5, 6, 7, 100] {
-        let mut writer = Broken { left };
+fn returns_the_error_of_the_writer(rt: HostRuntime) -> Result<(), Fail> {
+    let options = Options::parse(rt.alloc(), &arguments(rt.alloc(), "-A 1 a")?)?;
+    // Two writes a line, one for the break, and one for the line feed at the end.
+    for (left, kind) in [
+        (0, io::ErrorKind::BrokenPipe),
+        (1, io::ErrorKind::BrokenPipe),
+        (4, io::ErrorKind::BrokenPipe),
+        (7, io::ErrorKind::BrokenPipe),
+        (8, io::ErrorKind::StorageFull),
+    ] {
+        let mut writer = Writing::new(Broken { left });
         let input = "a\nx\nx\na";
         match run(rt.alloc(), &options, &mut input.as_bytes(), &mut writer) {
-            Err(error) => {
-                let debug = format!(in rt.alloc(); "{error:?}")?;
-                assert_eq!(rt; debug.as_str(), text.as_str(), "at {left}");
-            }
+            Err(SearchError::Io(error)) => assert_eq!(rt; error.kind(), kind, "at {left}"),
             _ => assert!(rt; false, "at {left}"),
         }
+        assert_eq!(rt; writer.into_inner().left, 0, "at {left}");
     }
     Ok(())
 }
@@ -186,7 +185,7 @@ fn ends_where_a_write_fails(rt: HostRuntime) -> Result<(), Fail> {
 // Gives a matching line, and then fails.
 #[derive(Drop)]
 struct Cut {
-    read: bool,
+    is_read: bool,
 }
 
 impl Source for Cut {
@@ -197,10 +196,10 @@ impl Source for Cut {
     ghost keeps = { λ _ _ _ _. tt };
 
     fn pull(&mut self, buffer: &mut [u8]) -> io::Result<usize> {
-        if self.read {
+        if self.is_read {
             return Err(io::Error::from(io::ErrorKind::ConnectionReset));
         }
-        self.read = true;
+        self.is_read = true;
         let line = b"a\n";
         let count = line.len().min(buffer.len());
         buffer[..count].copy_from_slice(&line[..count]);
@@ -209,15 +208,20 @@ impl Source for Cut {
 }
 
 #[test]
-fn writes_nothing_where_a_read_fails(rt: HostRuntime) -> Result<(), Fail> {
-    let options = Options::parse(rt.alloc(), &words(rt.alloc(), "a")?)?;
-    let mut written = Vec::new(rt.alloc());
-    match run(rt.alloc(), &options, &mut Cut { read: false }, &mut written) {
+fn writes_nothing_if_a_read_fails(rt: HostRuntime) -> Result<(), Fail> {
+    let options = Options::parse(rt.alloc(), &arguments(rt.alloc(), "a")?)?;
+    let mut writer = Writing::new(Vec::new(rt.alloc()));
+    match run(
+        rt.alloc(),
+        &options,
+        &mut Cut { is_read: false },
+        &mut writer,
+    ) {
         Err(SearchError::Io(error)) => {
             assert_eq!(rt; error.kind(), io::ErrorKind::ConnectionReset);
         }
         _ => assert!(rt; false),
     }
-    assert!(rt; written.is_empty());
+    assert!(rt; writer.into_inner().is_empty());
     Ok(())
 }

@@ -2,21 +2,27 @@
 use grep_matcher::LineTerminator;
 use grep_searcher::SearcherBuilder;
 use hex::{FromHex, FromHexError};
-use std::alloc::Global;
+use std::alloc::{AllocError, Global};
 use std::str;
 use std::str::FromStr;
 
 /// Why a line is no case that can be run.
-#[derive(Clone, Copy, Debug, PartialEq, Eq)]
+#[derive(Clone, Copy)]
 pub(crate) enum CaseError {
-    /// A field isn't known, or its value isn't one of the field's, or the input or the literal is missing. The fields
-    /// that no setting stands behind are never this, but `Unsupported`.
+    /// A field isn't known, or its value isn't one of the field's, or the input or the literal is missing. A value of
+    /// `multi`, `bom`, `bin` or `enc` is never this, but `Unsupported`.
     Malformed,
-    /// `multi`, `bom`, `bin` or `enc`, which no setting stands behind, has any other value than its default, or a
-    /// reader is to be searched under a heap limit above 0, which has no effect there yet.
+    /// `multi`, `bom`, `bin` or `enc`, for which there is no setting yet, has another value than its default,
+    /// or a reader is to be searched under a heap limit above 0, which has no effect there yet.
     Unsupported,
-    /// There was no memory for the input or the literal.
+    /// There was no memory for the input or a literal.
     OutOfMemory,
+}
+
+impl From<AllocError> for CaseError {
+    fn from(_error: AllocError) -> CaseError {
+        CaseError::OutOfMemory
+    }
 }
 
 impl From<FromHexError> for CaseError {
@@ -28,15 +34,19 @@ impl From<FromHexError> for CaseError {
     }
 }
 
-/// Which matcher is made of the literal.
-#[derive(Clone, Copy, Debug, PartialEq, Eq)]
+/// Which matcher searches.
+#[derive(Clone, Copy)]
 pub(crate) enum Pattern {
-    /// The literal matcher.
+    /// The matcher of the literal.
     Literal,
-    /// One with the same matches that tells no bytes.
+    /// One with the same matches and no byte set.
     Plain,
-    /// One that matches the empty haystack alone.
+    /// One of the literal or the other literal.
+    Either,
+    /// One that the empty haystack alone matches.
     Empty,
+    /// One that fails at a haystack with `!`, and that any other matches.
+    Failing,
 }
 
 impl FromStr for Pattern {
@@ -46,14 +56,16 @@ impl FromStr for Pattern {
         match text {
             "lit" => Ok(Pattern::Literal),
             "plain" => Ok(Pattern::Plain),
+            "either" => Ok(Pattern::Either),
             "empty" => Ok(Pattern::Empty),
+            "fail" => Ok(Pattern::Failing),
             _ => Err(CaseError::Malformed),
         }
     }
 }
 
 /// How the input is given to the search.
-#[derive(Clone, Copy, Debug, PartialEq, Eq)]
+#[derive(Clone, Copy)]
 pub(crate) enum Mode {
     /// As a slice.
     Slice,
@@ -73,34 +85,44 @@ impl FromStr for Mode {
     }
 }
 
-/// What a case says beside its input and its literal.
-#[derive(Debug, Drop)]
+/// What a case says beside its input and its literals.
+#[derive(Drop)]
 pub(crate) struct Options {
-    /// Which matcher is made of the literal.
+    /// Which matcher searches.
     pub(crate) pattern: Pattern,
+    /// The terminator that the matcher names.
+    pub(crate) names: Option<LineTerminator>,
     /// How the input is given.
     pub(crate) mode: Mode,
+    /// Whether the searcher is written in its debug form in place of the search.
+    pub(crate) debug: bool,
+    /// How often the input that was given is repeated.
+    pub(crate) times: usize,
     /// How many bytes the reader gives at most at a read; 0: as many as are asked for.
     pub(crate) piece: usize,
     /// Which read fails, counted from 1.
     pub(crate) error_at: Option<u64>,
-    /// Which call is answered false, counted from 1.
+    /// Which call of the sink returns false, counted from 1.
     pub(crate) false_at: Option<u64>,
+    /// Which call of the sink fails, counted from 1.
+    pub(crate) fail_at: Option<u64>,
     /// The settings of the search.
     pub(crate) settings: SearcherBuilder,
-    // whether every field that no setting stands behind has its default
+    // whether every field for which there is no setting has its default
     is_supported: bool,
     // whether the settings have a heap limit above 0
     has_heap: bool,
 }
 
 /// A search that is to be made.
-#[derive(Debug, Drop)]
+#[derive(Drop)]
 pub(crate) struct Case {
     /// What is searched.
     pub(crate) input: Vec<u8>,
     /// What is searched for.
     pub(crate) literal: Vec<u8>,
+    /// The other literal of `Pattern::Either`.
+    pub(crate) other: Vec<u8>,
     /// The rest.
     pub(crate) options: Options,
 }
@@ -108,60 +130,80 @@ pub(crate) struct Case {
 impl Case {
     /// The case of a line: fields `key=value` with a space between.
     ///
-    /// An error is that of the first field that isn't taken: `OutOfMemory` where there is none for the input or the
-    /// literal, else `Malformed`, also where the line isn't UTF-8 or lacks the input or the literal. `Unsupported` comes
-    /// behind these.
+    /// An error is that of the first field that can't be read: `OutOfMemory` if there is none for the input or a
+    /// literal, else `Malformed`, which is also the error of a line that isn't UTF-8 or lacks the input or the literal.
+    /// `Unsupported` comes after these, and `OutOfMemory` for a repeated input after that.
     pub(crate) fn parse(alloc: Global, line: &[u8]) -> Result<Case, CaseError> {
         let line = str::from_utf8(line).map_err(|_| CaseError::Malformed)?;
         let mut input = None;
         let mut literal = None;
+        let mut other = Vec::new(alloc);
         let mut options = Options::new();
         for field in line.split(' ') {
             let (key, value) = field.split_once('=').ok_or(CaseError::Malformed)?;
             match key {
                 "in" => input = Some(hex::decode(alloc, value)?),
                 "lit" => literal = Some(hex::decode(alloc, value)?),
+                "or" => other = hex::decode(alloc, value)?,
                 _ => options.set(key, value)?,
             }
         }
         let (Some(input), Some(literal)) = (input, literal) else {
             return Err(CaseError::Malformed);
         };
-        let is_limited_reader = options.mode == Mode::Reader && options.has_heap;
-        if !options.is_supported || is_limited_reader {
-            return Err(CaseError::Unsupported);
-        }
+        options.check()?;
         Ok(Case {
-            input,
+            input: repeated(alloc, input, options.times)?,
             literal,
+            other,
             options,
         })
     }
 }
 
+// Some bytes, so many times.
+fn repeated(alloc: Global, bytes: Vec<u8>, times: usize) -> Result<Vec<u8>, AllocError> {
+    if times == 1 {
+        return Ok(bytes);
+    }
+    let mut all = Vec::new(alloc);
+    for _ in 0..times {
+        all.extend_from_slice(&bytes)?;
+    }
+    Ok(all)
+}
+
 impl Options {
-    // As they are where nothing is said.
+    // The default of each field.
     fn new() -> Options {
         Options {
             pattern: Pattern::Literal,
+            names: None,
             mode: Mode::Slice,
+            debug: false,
+            times: 1,
             piece: 0,
             error_at: None,
             false_at: None,
+            fail_at: None,
             settings: SearcherBuilder::new(),
             is_supported: true,
             has_heap: false,
         }
     }
 
-    // Takes a field over.
+    // Sets the option of a field.
     fn set(&mut self, key: &str, value: &str) -> Result<(), CaseError> {
         match key {
             "matcher" => self.pattern = value.parse()?,
+            "names" => self.names = Some(terminator(value)?),
             "mode" => self.mode = value.parse()?,
+            "debug" => self.debug = flag(value)?,
+            "times" => self.times = number(value)?,
             "piece" => self.piece = number(value)?,
             "err_at" => self.error_at = ordinal(value)?,
             "false_at" => self.false_at = ordinal(value)?,
+            "fail_at" => self.fail_at = ordinal(value)?,
             "heap" => self.limit_heap(limit(value)?),
             "multi" => self.support(value == "0"),
             "bom" => self.support(value == "1"),
@@ -179,9 +221,18 @@ impl Options {
     fn support(&mut self, is_supported: bool) {
         self.is_supported = self.is_supported && is_supported;
     }
+
+    // Refuses what can't be run yet.
+    fn check(&self) -> Result<(), CaseError> {
+        let is_limited_reader = matches!(self.mode, Mode::Reader) && self.has_heap;
+        if !self.is_supported || is_limited_reader {
+            return Err(CaseError::Unsupported);
+        }
+        Ok(())
+    }
 }
 
-// Takes a field of the searcher's settings over.
+// Sets the searcher's setting of a field.
 fn configure(settings: &mut SearcherBuilder, key: &str, value: &str) -> Result<(), CaseError> {
     match key {
         "term" => settings.line_terminator(terminator(value)?),
@@ -228,7 +279,7 @@ where
 fn ordinal(text: &str) -> Result<Option<u64>, CaseError> {
     match limit(text)? {
         Some(0) => Err(CaseError::Malformed),
-        place => Ok(place),
+        ordinal => Ok(ordinal),
     }
 }
 

@@ -3,9 +3,6 @@
 #![tactic(auto)]
 
 mod case;
-mod matchers;
-mod readers;
-mod recorder;
 mod run;
 
 use std::io;
@@ -17,7 +14,7 @@ fn main(rt: HostRuntime) -> io::Result<()> {
     let mut output = BufWriter::new(rt.alloc(), rt.stdout())?;
     for line in input.as_slice().split(|byte| *byte == b'\n') {
         if !line.is_empty() {
-            run::answer(rt.alloc(), line, &mut output)?;
+            run::replay(rt.alloc(), line, &mut output)?;
         }
     }
     output.flush()

@@ -1,27 +1,41 @@
-//! The search of a case, and its answer.
+//! The search of a case, and how its outcome is written.
 use crate::case::{Case, CaseError, Mode, Pattern};
-use crate::matchers::{Empty, Plain};
-use crate::readers::Pieces;
-use crate::recorder::{Recorder, no_memory};
 use grep_matcher::{LiteralMatcher, Matcher};
-use grep_searcher::{ConfigError, SearchError};
-use std::alloc::Global;
+use grep_searcher::{ConfigError, SearchError, Searcher};
+use grep_testing::{Either, Empty, Failing, Naming, Pieces, Plain, RECORDER_MESSAGE, Recorder};
+use std::alloc::{AllocError, Global};
 use std::io;
 
 /// Runs the case of a line, and writes its calls and how it ended. A line that is no case that can be run, and a search
-/// that fails, are told in what is written. An error is that of the write to `output`.
-pub(crate) fn answer<W: io::Write>(alloc: Global, line: &[u8], output: &mut W) -> io::Result<()> {
+/// that fails, are reported in what is written. An error is that of the write to `output`.
+pub(crate) fn replay<W: io::Write>(alloc: Global, line: &[u8], output: &mut W) -> io::Result<()> {
     let case = match Case::parse(alloc, line) {
         Ok(case) => case,
         Err(error) => return writeln!(output, "err {}", case_fault(error)),
     };
-    let mut recorder = Recorder::new(alloc, case.options.false_at);
+    if case.options.debug {
+        return write_forms(alloc, &case, output);
+    }
+    let mut recorder = Recorder::new(alloc, case.options.false_at, case.options.fail_at);
     let ended = search(alloc, &case, &mut recorder);
     let calls = recorder.text();
     match &ended {
         Ok(()) => writeln!(output, "{calls}ok"),
         Err(error) => writeln!(output, "{calls}err {}", search_fault(error)),
     }
+}
+
+// Writes the debug forms of the case's searcher and of its clone.
+fn write_forms<W: io::Write>(alloc: Global, case: &Case, output: &mut W) -> io::Result<()> {
+    match build(alloc, case).and_then(|searcher| Ok((searcher.clone()?, searcher))) {
+        Ok((copy, searcher)) => writeln!(output, "{searcher:?};{copy:?};ok"),
+        Err(_) => writeln!(output, "err memory"),
+    }
+}
+
+// The searcher of a case.
+fn build(alloc: Global, case: &Case) -> Result<Searcher, ConfigError> {
+    case.options.settings.build(alloc)
 }
 
 // Why a line is no case that can be run.
@@ -36,6 +50,7 @@ fn case_fault(error: CaseError) -> &'static str {
 // Why a search failed.
 fn search_fault(error: &SearchError) -> &'static str {
     match error {
+        SearchError::Message(text) if text.as_str() == RECORDER_MESSAGE => "sink",
         SearchError::Message(_) => "matcher",
         SearchError::Io(error) if error.kind() == io::ErrorKind::OutOfMemory => "memory",
         SearchError::Io(_) => "read",
@@ -46,21 +61,54 @@ fn search_fault(error: &SearchError) -> &'static str {
     }
 }
 
+// Searches with the matcher of the case.
 fn search(alloc: Global, case: &Case, recorder: &mut Recorder) -> Result<(), SearchError> {
-    let literal = case.literal.as_slice();
     match case.options.pattern {
-        Pattern::Literal => {
-            let matcher = LiteralMatcher::new(alloc, literal).map_err(no_memory)?;
-            search_with(alloc, matcher, case, recorder)
-        }
+        Pattern::Literal => search_named(alloc, literal(alloc, &case.literal)?, case, recorder),
         Pattern::Plain => {
-            let matcher = Plain::new(alloc, literal).map_err(no_memory)?;
-            search_with(alloc, matcher, case, recorder)
+            let matcher = Plain(literal(alloc, &case.literal)?);
+            search_named(alloc, matcher, case, recorder)
         }
-        Pattern::Empty => search_with(alloc, Empty, case, recorder),
+        Pattern::Either => {
+            let first = literal(alloc, &case.literal)?;
+            let second = literal(alloc, &case.other)?;
+            search_named(alloc, Either { first, second }, case, recorder)
+        }
+        Pattern::Empty => search_named(alloc, Empty, case, recorder),
+        Pattern::Failing => search_named(alloc, Failing, case, recorder),
     }
 }
 
+// The matcher of a literal.
+fn literal(alloc: Global, literal: &[u8]) -> Result<LiteralMatcher<'static>, SearchError> {
+    LiteralMatcher::new(alloc, literal).map_err(no_memory)
+}
+
+// The error of a search that found no memory.
+fn no_memory(error: AllocError) -> SearchError {
+    SearchError::Io(io::Error::from(error))
+}
+
+// Searches with a matcher, which names the terminator of the case, if there is one.
+fn search_named<M: Matcher + Drop>(
+    alloc: Global,
+    matcher: M,
+    case: &Case,
+    recorder: &mut Recorder,
+) -> Result<(), SearchError> {
+    match case.options.names {
+        Some(terminator) => {
+            let matcher = Naming {
+                matcher,
+                terminator,
+            };
+            search_with(alloc, matcher, case, recorder)
+        }
+        None => search_with(alloc, matcher, case, recorder),
+    }
+}
+
+// Searches the slice or the reader of the case.
 fn search_with<M: Matcher + Drop>(
     alloc: Global,
     matcher: M,
@@ -69,48 +117,15 @@ fn search_with<M: Matcher + Drop>(
 ) -> Result<(), SearchError> {
     let input = case.input.as_slice();
     let options = &case.options;
-    let mut searcher = options
-        .settings
-        .build(alloc)
-        .map_err(|error| SearchError::Config(error))?;
+    let mut searcher = build(alloc, case).map_err(|error| SearchError::Config(error))?;
     match options.mode {
         Mode::Slice => searcher.search_slice(matcher, input, recorder),
         Mode::Reader => {
-            let mut reader = Pieces::new(input, options.piece, options.error_at);
+            let fault = options
+                .error_at
+                .map(|read| (read, io::Error::from(io::ErrorKind::Other)));
+            let mut reader = Pieces::new(input, options.piece, fault);
             searcher.search_reader(matcher, &mut reader, recorder)
         }
-    }
-}
-
-#[cfg(test)]
-mod tests {
-    use super::*;
-    use std::test::Fail;
-
-    #[test]
-    fn says_why_it_failed(rt: HostRuntime) -> Result<(), Fail> {
-        let rows = [
-            ("lit=61", "err case\n"),
-            ("in=61", "err case\n"),
-            ("in=6 lit=61", "err case\n"),
-            ("in=61 lit=6g", "err case\n"),
-            ("in=61 lit=61 after=x", "err case\n"),
-            ("in=61 lit=61 term=0", "err case\n"),
-            ("in=61 lit=61 color=1", "err case\n"),
-            ("in=61 lit=61 false_at=0", "err case\n"),
-            ("in=61 lit=61 err_at=0", "err case\n"),
-            ("in=61 lit=61 multi=1", "err unsupported\n"),
-            ("in=61 lit=61 bin=quit:0", "err unsupported\n"),
-            ("in=61 lit=61 mode=reader heap=6", "err unsupported\n"),
-            ("in=61 lit=61 heap=6 mode=reader", "err unsupported\n"),
-            ("in=61 lit=61 heap=0", "err unavailable\n"),
-            ("in=61 lit=61 mode=reader err_at=1", "err read\n"),
-        ];
-        for (line, want) in rows {
-            let mut output = Vec::new(rt.alloc());
-            answer(rt.alloc(), line.as_bytes(), &mut output)?;
-            assert_eq!(rt; output.as_slice(), want.as_bytes(), "at {line}");
-        }
-        Ok(())
     }
 }

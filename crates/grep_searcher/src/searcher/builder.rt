@@ -1,6 +1,6 @@
 //! The builder of a searcher.
 ghost use Rattle.std.specs.Prelude.{◌≡◌, IfOk, IfErr};
-ghost use Rattle.grep_searcher.specs.Configs.{default_settings, built};
+ghost use Rattle.grep_definitions.specs.Settings.{default_settings, built};
 
 use crate::config::Config;
 use crate::searcher::Searcher;
@@ -9,14 +9,14 @@ use grep_report::{ConfigError, MmapChoice};
 use std::alloc::{AllocError, Allocator};
 use std::marker::Model;
 
-/// The settings of a searcher that is to be built. Each setter changes its own setting alone, and answers the builder.
+/// The settings of a searcher that is to be built. Each setter changes its own setting alone, and returns the builder.
 #[derive(Debug, Drop)]
 pub struct SearcherBuilder {
     config: Config,
 }
 
 impl Model for SearcherBuilder {
-    ghost use Rattle.grep_searcher.specs.Settings.{Settings};
+    ghost use Rattle.grep_definitions.specs.Settings.{Settings};
     ghost use Rattle.grep_searcher.specs.Configs.{settings_of};
 
     ghost Value = { Settings };
@@ -26,7 +26,7 @@ impl Model for SearcherBuilder {
 
 impl Default for SearcherBuilder {
     ghost use Rattle.std.specs.Prelude.{◌≡◌};
-    ghost use Rattle.grep_searcher.specs.Configs.{default_settings};
+    ghost use Rattle.grep_definitions.specs.Settings.{default_settings};
 
     ghost is_default = { λ b. b ≡ default_settings };
 
@@ -50,7 +50,7 @@ impl Clone for SearcherBuilder {
 
 impl SearcherBuilder {
     /// The default settings: lines end at a line feed and are numbered; nothing is inverted, limited or stopped early,
-    /// and no lines are told but those that match.
+    /// and only matching lines are reported.
     pub fn new() -> SearcherBuilder
         ensures { result ≡ default_settings }
     {
@@ -70,8 +70,8 @@ impl SearcherBuilder {
         }
     }
 
-    /// A searcher with these settings, but that both contexts are 0 under `passthru`. It keeps `alloc` for what it
-    /// needs memory for. The only error is `Memory`, where there is none for its buffers.
+    /// A searcher with these settings, except that both contexts are 0 under `passthru`. It keeps `alloc` for what it
+    /// needs memory for. The only error is `Memory`, if there is none for its buffers.
     pub fn build<A: Allocator + Copy>(&self, alloc: A) -> Result<Searcher<A>, ConfigError>
         ensures settings { IfOk result (λ searcher. searcher ≡ built self.now) }
         ensures error { IfErr result (λ e. e ≡ ConfigError.Memory) }
@@ -93,7 +93,7 @@ impl SearcherBuilder {
         self
     }
 
-    /// Whether the lines that don't match are selected, in place of those that do; not by default.
+    /// Whether the lines that don't match are selected, instead of those that do; not by default.
     pub fn invert_match(&mut self, yes: bool) -> &mut SearcherBuilder
         ensures reference { result.ghost_name ≡ self.entry.ghost_name }
         ensures set { result.now ≡ record self.old { invert_match = yes } }
@@ -111,7 +111,7 @@ impl SearcherBuilder {
         self
     }
 
-    /// How many lines are told after a match; 0 by default.
+    /// How many lines are reported after a match; 0 by default.
     pub fn after_context(&mut self, lines: usize) -> &mut SearcherBuilder
         ensures reference { result.ghost_name ≡ self.entry.ghost_name }
         ensures set { result.now ≡ record self.old { after_context = lines } }
@@ -120,7 +120,7 @@ impl SearcherBuilder {
         self
     }
 
-    /// How many lines are told before a match; 0 by default.
+    /// How many lines are reported before a match; 0 by default.
     pub fn before_context(&mut self, lines: usize) -> &mut SearcherBuilder
         ensures reference { result.ghost_name ≡ self.entry.ghost_name }
         ensures set { result.now ≡ record self.old { before_context = lines } }
@@ -129,7 +129,7 @@ impl SearcherBuilder {
         self
     }
 
-    /// Whether each line is told, match or not, up to a stop; not by default. Both contexts then count as 0.
+    /// Whether every line is reported, match or not, up to a stop; not by default. Both contexts then count as 0.
     pub fn passthru(&mut self, yes: bool) -> &mut SearcherBuilder
         ensures reference { result.ghost_name ≡ self.entry.ghost_name }
         ensures set { result.now ≡ record self.old { passthru = yes } }
@@ -138,8 +138,8 @@ impl SearcherBuilder {
         self
     }
 
-    /// How many bytes a search may hold of its input at most; no limit by default. A limit of 0 refuses each search. The
-    /// bytes of a slice, and those of a reader that are read whole, don't count.
+    /// How many bytes a search may hold of its input at most; no limit by default. A limit of 0 refuses each search.
+    /// The bytes of a slice, and those of a reader that are read whole, don't count.
     pub fn heap_limit(&mut self, bytes: Option<usize>) -> &mut SearcherBuilder
         ensures reference { result.ghost_name ≡ self.entry.ghost_name }
         ensures set { result.now ≡ record self.old { heap_limit = bytes } }
@@ -157,7 +157,7 @@ impl SearcherBuilder {
         self
     }
 
-    /// Whether the first line that isn't selected, behind one that is, ends the search; not by default.
+    /// Whether the first line that isn't selected, after one that is, ends the search; not by default.
     pub fn stop_on_nonmatch(&mut self, yes: bool) -> &mut SearcherBuilder
         ensures reference { result.ghost_name ≡ self.entry.ghost_name }
         ensures set { result.now ≡ record self.old { stop_on_nonmatch = yes } }
@@ -166,7 +166,8 @@ impl SearcherBuilder {
         self
     }
 
-    /// How many lines are selected at most; no limit by default. At 0 nothing is, and without `passthru` nothing is told.
+    /// How many lines are selected at most; no limit by default. At 0 none is, and without `passthru`
+    /// nothing is reported.
     pub fn max_matches(&mut self, limit: Option<u64>) -> &mut SearcherBuilder
         ensures reference { result.ghost_name ≡ self.entry.ghost_name }
         ensures set { result.now ≡ record self.old { max_matches = limit } }

@@ -29,7 +29,7 @@ impl<A: Allocator + Copy> Searcher<A> {
         self.config.line_number
     }
 
-    /// How many lines are told after a match; 0 under `passthru`.
+    /// How many lines are reported after a match; 0 under `passthru`.
     pub fn after_context(&self) -> usize
         ensures value { result ≡ self.now.after_context }
         ensures bare { self.now.passthru ≡ true → result ≡ 0 }
@@ -37,7 +37,7 @@ impl<A: Allocator + Copy> Searcher<A> {
         self.config.after_context
     }
 
-    /// How many lines are told before a match; 0 under `passthru`.
+    /// How many lines are reported before a match; 0 under `passthru`.
     pub fn before_context(&self) -> usize
         ensures value { result ≡ self.now.before_context }
         ensures bare { self.now.passthru ≡ true → result ≡ 0 }
@@ -45,10 +45,11 @@ impl<A: Allocator + Copy> Searcher<A> {
         self.config.before_context
     }
 
-    /// Whether each line is told, up to the last that has a turn.
+    /// Whether every line is reported, up to the last that has a turn.
     pub fn passthru(&self) -> bool
         ensures value { result ≡ self.now.passthru }
-        ensures bare { self.now.passthru ≡ true → (self.now.after_context ≡ 0) × (self.now.before_context ≡ 0) }
+        ensures bare { self.now.passthru ≡ true
+            → (self.now.after_context ≡ 0) × (self.now.before_context ≡ 0) }
     {
         self.config.passthru
     }
@@ -67,7 +68,7 @@ impl<A: Allocator + Copy> Searcher<A> {
         self.config.memory_map
     }
 
-    /// Whether the first line that isn't selected, behind one that is, ends the search.
+    /// Whether the first line that isn't selected, after one that is, ends the search.
     pub fn stop_on_nonmatch(&self) -> bool
         ensures { result ≡ self.now.stop_on_nonmatch }
     {

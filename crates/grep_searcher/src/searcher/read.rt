@@ -1,8 +1,8 @@
 //! A reader, read to its end.
 ghost use Rattle.std.specs.Prelude.{◌≡◌, ◌≤◌, ◌<◌, ◌+◌, length, take, drop, vec_len, IfOk, IfErr, OnOk};
 ghost use Rattle.std.specs.Io.KnownBytes.{Consumes, IsAtEnd};
-ghost use Rattle.grep_decode.specs.Source.{answer_of};
-ghost use Rattle.grep_searcher.specs.Readers.{IsRead, IsUnread};
+ghost use Rattle.grep_decode.specs.Source.{read_result};
+ghost use Rattle.grep_definitions.specs.ReaderSearches.{IsRead, IsUnread};
 
 use grep_decode::Source;
 use std::alloc::{AllocError, Allocator};
@@ -16,8 +16,9 @@ pub(crate) fn read_to_end<A: Allocator, R: Source>(
     alloc: A,
     reader: &mut R,
 ) -> io::Result<Vec<u8, A>>
-    ensures read { IfOk result (λ bytes. IsRead R.told R.step reader.old bytes.items reader.new) }
-    ensures unread { IfErr result (λ e. IsUnread R.told R.step reader.old e reader.new) }
+    ensures read { IfOk result (λ bytes.
+        IsRead R.remaining R.step reader.old bytes.items reader.new) }
+    ensures unread { IfErr result (λ e. IsUnread R.remaining R.step reader.old e reader.new) }
 {
     let mut bytes = Vec::new(alloc);
     let mut filled = 0;
@@ -25,7 +26,7 @@ pub(crate) fn read_to_end<A: Allocator, R: Source>(
         if make_room(&mut bytes, filled).is_err() {
             return Err(io::Error::from(io::ErrorKind::OutOfMemory));
         }
-        let count = match read_behind(reader, &mut bytes, filled) {
+        let count = match read_after(reader, &mut bytes, filled) {
             Ok(count) => count,
             Err(e) => return Err(e),
         };
@@ -37,19 +38,21 @@ pub(crate) fn read_to_end<A: Allocator, R: Source>(
     }
 }
 
-// One read into the bytes behind the filled ones.
-fn read_behind<R: Source>(reader: &mut R, bytes: &mut [u8], filled: usize) -> io::Result<usize>
+// One read into the bytes after the filled ones.
+fn read_after<R: Source>(reader: &mut R, bytes: &mut [u8], filled: usize) -> io::Result<usize>
     requires { filled < length bytes.old }
     ensures bound { IfOk result (λ count. filled + count ≤ length bytes.new) }
     ensures front { take filled bytes.new ≡ take filled bytes.old }
-    ensures takes { IfOk result (λ count. Consumes (R.told reader.old) (R.told reader.new) (take count (drop filled bytes.new))) }
-    ensures end { IfOk result (λ count. count ≡ 0 → IsAtEnd (R.told reader.new)) }
-    ensures step { R.step reader.old (answer_of result (drop filled bytes.new)) reader.new }
+    ensures takes { IfOk result (λ count.
+        Consumes (R.remaining reader.old) (R.remaining reader.new)
+        (take count (drop filled bytes.new))) }
+    ensures end { IfOk result (λ count. count ≡ 0 → IsAtEnd (R.remaining reader.new)) }
+    ensures step { R.step reader.old (read_result result (drop filled bytes.new)) reader.new }
 {
     reader.pull(&mut bytes[filled..])
 }
 
-// Makes room behind the filled bytes, where there is too little, by doubling.
+// Makes room after the filled bytes, if there is too little, by doubling.
 fn make_room<A: Allocator>(bytes: &mut Vec<u8, A>, filled: usize) -> Result<(), AllocError>
     requires { filled ≤ vec_len bytes.old }
     ensures kept { take filled bytes.new.items ≡ take filled bytes.old.items }

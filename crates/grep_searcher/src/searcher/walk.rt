@@ -1,13 +1,17 @@
-//! The walk over the lines of some bytes: which line comes next, whether it is chosen, and when no more is to come.
-ghost use Rattle.std.specs.Prelude.{◌≡◌, ◌≤◌, ◌<◌, ◌+◌, ◌^◌, ◌&&◌, ℕ, not, length, slice_index, IfOk, IfErr, IfSome, IfNone, true, false};
+//! The walk over the lines of some bytes: which line comes next, whether it is chosen, and whether more lines have a
+//! turn.
+ghost use Rattle.std.specs.Prelude.{◌≡◌, ◌≤◌, ◌<◌, ◌+◌, ◌^◌, ◌&&◌, ℕ, not, true, false, length};
+ghost use Rattle.std.specs.Prelude.{IfOk, IfErr, IfSome, IfNone, IsOk};
 ghost use Rattle.grep_matcher.specs.Terminators.{byte_of};
-ghost use Rattle.grep_matcher.specs.Lines.{lines};
-ghost use Rattle.grep_lines.specs.Places.{IsLine, IsLineStart};
-ghost use Rattle.grep_searcher.specs.Numbers.{is_at};
-ghost use Rattle.grep_searcher.specs.Reports.{turns, byte_count, differ};
-ghost use Rattle.grep_searcher.specs.Runs.{NeverFails};
-ghost use Rattle.grep_searcher.specs.Searches.{IsFault};
-ghost use Rattle.grep_searcher.specs.Walks.{number_of, matches_line, next_walk, is_over, Counted};
+ghost use Rattle.grep_matcher.specs.Lines.{lines, strip};
+ghost use Rattle.grep_matcher.specs.Matching.{IsInfallible};
+ghost use Rattle.grep_lines.specs.Positions.{IsLine, IsLineStart};
+ghost use Rattle.grep_definitions.specs.Below.{is_at};
+ghost use Rattle.grep_definitions.specs.LineSearch.{turns, byte_count, differ};
+ghost use Rattle.grep_definitions.specs.LineTurns.{number_of, matches_line};
+ghost use Rattle.grep_definitions.specs.Searches.{IsFault};
+ghost use Rattle.grep_definitions.specs.SinkRuns.{NeverFails};
+ghost use Rattle.grep_searcher.specs.Walks.{next_walk, is_over, Counted};
 
 use crate::searcher::Searcher;
 use crate::sink::Sink;
@@ -16,47 +20,61 @@ use grep_matcher::Matcher;
 use grep_report::SinkError;
 use std::alloc::Allocator;
 
-/// How far a walk over lines has come, in absolute places: where the next line begins, and how many lines stand before
-/// it; how many lines stand before the one behind the last told one; how many lines are owed after a match; and how
-/// many lines were chosen.
+/// How far a walk over lines has come. Offsets and counts of lines are those of the whole input.
 #[derive(Clone, Copy)]
 pub(crate) struct Walk {
-    pub(crate) position: usize,
+    /// Where the next line begins, in bytes.
+    pub(crate) offset: u64,
+    /// How many lines are before it.
     pub(crate) line: u64,
-    pub(crate) told_lines: u64,
-    pub(crate) owed: usize,
-    pub(crate) chosen: u64,
+    /// How many lines there are up to the last reported one, and with it.
+    pub(crate) reported_through: u64,
+    /// How many lines are still to be reported after a match.
+    pub(crate) after_context_left: usize,
+    /// How many lines were chosen.
+    pub(crate) match_count: u64,
 }
 
 // Before the first line.
 const START: Walk = Walk {
-    position: 0,
+    offset: 0,
     line: 0,
-    told_lines: 0,
-    owed: 0,
-    chosen: 0,
+    reported_through: 0,
+    after_context_left: 0,
+    match_count: 0,
 };
 
 impl<A: Allocator + Copy> Searcher<A> {
-    // Makes each call but `finish`, and answers the byte count.
-    pub(crate) fn tell_all<M: Matcher, S: Sink>(
+    // Makes each call but `finish`, and returns the byte count.
+    pub(crate) fn match_by_line<M: Matcher, S: Sink>(
         &self,
         matcher: &M,
         bytes: &[u8],
         sink: &mut S,
-    ) -> Result<usize, S::Error>
+    ) -> Result<u64, S::Error>
     where
         S::Error: SinkError<A>,
         requires { S.may_call sink.old }
-        ensures told { IfOk result (λ count. Counted S.step self.now sink.old (turns self.now (M.meaning matcher.now) bytes.now)
-            (byte_count self.now (M.meaning matcher.now) bytes.now) count sink.new) }
-        ensures caused { IfErr result (λ e. NeverFails S.step → M.never_fails matcher.now → ⊥) }
-        ensures fault { IfErr result (λ e. IsFault S.step S.Error.is_message S.Error.is_config M.Error.output (M.never_fails matcher.now)
-            self.now (M.meaning matcher.now) bytes.now sink.old e sink.new) }
+        ensures reported { IfOk result (λ count. Counted S.step self.now sink.old
+            (turns self.now (M.meaning matcher.now) bytes.now)
+            (byte_count self.now (M.meaning matcher.now) bytes.now)
+            count sink.new) }
+        ensures fault { IfErr result (λ e. IsFault S.step
+            (record {
+              is_message = S.Error.is_message;
+              is_io = S.Error.is_io;
+              is_config = S.Error.is_config;
+            })
+            (record {
+              meaning = M.meaning matcher.now;
+              fails = M.fails matcher.now;
+              text_of = M.Error.output;
+            })
+            self.now bytes.now sink.old e sink.new) }
+        ensures succeeds { NeverFails S.step S.may_call → IsInfallible (M.fails matcher.now)
+            → IsOk result }
         ensures may_call { S.may_call sink.new }
     {
-        // Under `passthru` there are no contexts, as the call tells.
-        let _ = self.passthru();
         if !sink.begin(self)? {
             return Ok(0);
         }
@@ -64,26 +82,31 @@ impl<A: Allocator + Copy> Searcher<A> {
             return Ok(0);
         }
         let mut walk = START;
-        while let Some(end) = self.next_line(bytes, walk.position) {
-            let chosen = self.is_chosen::<M, S::Error>(matcher, &bytes[walk.position..end], &walk)?;
-            if !self.tell_line(bytes, &walk, end, chosen, sink)? {
-                return Ok(end);
+        let mut start = 0;
+        while let Some(end) = self.next_line(bytes, start) {
+            let line = &bytes[start..end];
+            let chosen = self.is_chosen::<M, S::Error>(matcher, line, &walk)?;
+            if !self.sink_line(bytes, start, end, &walk, chosen, sink)? {
+                return Ok(end as u64);
             }
-            walk = self.past(&walk, end, chosen);
+            walk = self.advance(&walk, line, chosen);
             if self.is_over(&walk, chosen) {
-                return Ok(end);
+                return Ok(walk.offset);
             }
+            start = end;
         }
-        Ok(walk.position)
+        Ok(walk.offset)
     }
 
-    // Where the line ends that begins at a place; none at the end of the bytes.
+    // Where the line ends that begins at a position; none at the end of the bytes.
     pub(crate) fn next_line(&self, bytes: &[u8], start: usize) -> Option<usize>
         requires { start ≤ length bytes.now }
         ensures within { IfSome result (λ end. (start < end) × (end ≤ length bytes.now)) }
-        ensures line { IfSome result (λ end. (i : ℕ) → IsLineStart (byte_of self.now.line_terminator) bytes.now start i
+        ensures line { IfSome result (λ end. (i : ℕ)
+            → IsLineStart (byte_of self.now.line_terminator) bytes.now start i
             → IsLine (byte_of self.now.line_terminator) bytes.now i start end) }
-        ensures last { IfNone result ((i : ℕ) → IsLineStart (byte_of self.now.line_terminator) bytes.now start i
+        ensures last { IfNone result ((i : ℕ)
+            → IsLineStart (byte_of self.now.line_terminator) bytes.now start i
             → i ≡ length (lines (byte_of self.now.line_terminator) bytes.now)) }
     {
         let terminator = self.config.line_terminator.as_byte();
@@ -91,13 +114,13 @@ impl<A: Allocator + Copy> Searcher<A> {
         Some(end)
     }
 
-    // The number of a line, if lines have one.
-    pub(crate) fn number(&self, line: u64) -> Option<u64>
-        requires { line + 1 < 2 ^ 64 }
-        ensures { result ≡ number_of self.now line }
+    // The number of the line with this index, if lines have one.
+    pub(crate) fn number(&self, index: u64) -> Option<u64>
+        requires { index + 1 < 2 ^ 64 }
+        ensures { result ≡ number_of self.now index }
     {
         if self.config.line_number {
-            Some(line + 1)
+            Some(index + 1)
         } else {
             None
         }
@@ -105,17 +128,19 @@ impl<A: Allocator + Copy> Searcher<A> {
 
     // Whether the limit is reached.
     fn is_full(&self, walk: &Walk) -> bool
-        ensures { result ≡ is_at walk.now.chosen self.now.max_matches }
+        ensures { result ≡ is_at walk.now.match_count self.now.max_matches }
     {
         match self.config.max_matches {
-            Some(limit) => walk.chosen == limit,
+            Some(limit) => walk.match_count == limit,
             None => false,
         }
     }
 
     // Whether no line has a turn.
     fn is_idle(&self) -> bool
-        ensures { result ≡ (not self.now.passthru && is_at 0 self.now.max_matches) }
+        ensures value { result ≡ (not self.now.passthru && is_at 0 self.now.max_matches) }
+        ensures bare { self.now.passthru ≡ true
+            → (self.now.after_context ≡ 0) × (self.now.before_context ≡ 0) }
     {
         match self.config.max_matches {
             Some(limit) => !self.config.passthru && limit == 0,
@@ -123,51 +148,62 @@ impl<A: Allocator + Copy> Searcher<A> {
         }
     }
 
-    // Whether no line behind has a turn.
+    // Whether no later line has a turn.
     fn is_over(&self, walk: &Walk, chosen: bool) -> bool
         ensures { result ≡ is_over self.now walk.now chosen }
     {
-        self.config.stop_on_nonmatch && walk.chosen > 0 && !chosen
-            || !self.config.passthru && self.is_full(walk) && walk.owed == 0
+        self.config.stop_on_nonmatch && walk.match_count > 0 && !chosen
+            || !self.config.passthru && self.is_full(walk) && walk.after_context_left == 0
     }
 
-    // The walk past a line.
-    fn past(&self, walk: &Walk, end: usize, chosen: bool) -> Walk
-        requires fits { walk.now.line + 1 < 2 ^ 64 }
-        requires few { walk.now.chosen ≤ walk.now.line }
-        ensures { result ≡ next_walk self.now walk.now end chosen }
+    // The walk after a line.
+    fn advance(&self, walk: &Walk, line: &[u8], chosen: bool) -> Walk
+        requires fits { walk.now.offset + length line.now < 2 ^ 64 }
+        requires number { walk.now.line + 1 < 2 ^ 64 }
+        requires few { walk.now.match_count ≤ walk.now.line }
+        ensures { result ≡ next_walk self.now walk.now line.now chosen }
     {
-        let told = chosen || walk.owed > 0 || self.config.passthru;
+        let is_reported = chosen || walk.after_context_left > 0 || self.config.passthru;
         Walk {
-            position: end,
+            offset: walk.offset + line.len() as u64,
             line: walk.line + 1,
-            told_lines: if told { walk.line + 1 } else { walk.told_lines },
-            owed: if chosen {
+            reported_through: if is_reported {
+                walk.line + 1
+            } else {
+                walk.reported_through
+            },
+            after_context_left: if chosen {
                 self.config.after_context
             } else {
-                walk.owed.saturating_sub(1)
+                walk.after_context_left.saturating_sub(1)
             },
-            chosen: if chosen { walk.chosen + 1 } else { walk.chosen },
+            match_count: if chosen {
+                walk.match_count + 1
+            } else {
+                walk.match_count
+            },
         }
     }
 
-    // Whether the line that a walk stands at is chosen. The matcher isn't asked once the limit is reached.
+    // Whether the line that a walk is at is chosen. The matcher isn't asked once the limit is reached.
     fn is_chosen<M: Matcher, E: SinkError<A>>(
         &self,
         matcher: &M,
         line: &[u8],
         walk: &Walk,
     ) -> Result<bool, E>
-        ensures value { IfOk result (λ chosen. chosen ≡ (not (is_at walk.now.chosen self.now.max_matches)
+        ensures value { IfOk result (λ chosen. chosen
+            ≡ (not (is_at walk.now.match_count self.now.max_matches)
             && differ (matches_line self.now (M.meaning matcher.now) line.now) self.now.invert_match)) }
-        ensures fault { IfErr result (λ e. (is_at walk.now.chosen self.now.max_matches ≡ false) × (M.never_fails matcher.now → ⊥)
-            × ((error : M.Error) × E.is_message (M.Error.output error) e)) }
+        ensures open { IfErr result (λ e. is_at walk.now.match_count self.now.max_matches ≡ false) }
+        ensures fault { IfErr result (λ e. (error : M.Error) × E.is_message (M.Error.output error) e
+            × M.fails matcher.now (strip self.now.line_terminator line.now) error) }
     {
         if self.is_full(walk) {
             return Ok(false);
         }
         match matcher.shortest_match(without_terminator(line, self.config.line_terminator)) {
-            Ok(place) => Ok(place.is_some() != self.config.invert_match),
+            Ok(position) => Ok(position.is_some() != self.config.invert_match),
             Err(e) => Err(E::error_message(self.alloc, e)),
         }
     }

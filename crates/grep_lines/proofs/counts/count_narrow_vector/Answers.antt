@@ -5,4 +5,5 @@ use Rattle.grep_lines.proofs.counts.count_narrow_vector.Goals as goal
 
 pub returns : goal.returns
 returns c =
-    ap count_ones (bitmask_splat w8 eqb c.args.bytes 16 c.args.terminator c.fits-bytes.0 (omega arith)) ∙ ones-mask_l (λ (x : ℕ). eqb x c.args.terminator) c.args.bytes
+    ap count_ones (bitmask_splat w8 eqb c.args.bytes 16 c.args.terminator c.fits-bytes.0 (omega arith))
+    ∙ ones-mask_l (λ (x : ℕ). eqb x c.args.terminator) c.args.bytes

@@ -2,4 +2,5 @@ use Rattle.std.proofs.Common.{◌==◌, ℕ, count_by, ap, ◌∙◌, arith, tak
 use Rattle.grep_lines.proofs.counts.count_wide.Goals as goal
 
 pub returns : goal.returns
-returns c = c.count_wide_vector.ensures ∙ ap (count_by (λ (b : ℕ). b == c.args.terminator)) (take_all 64 c.args.part.now (omega (arith, c.requires)))
+returns c = c.count_wide_vector.ensures
+    ∙ ap (count_by (λ (b : ℕ). b == c.args.terminator)) (take_all 64 c.args.part.now (omega (arith, c.requires)))

@@ -1,17 +1,34 @@
-use Rattle.lgrep_cli.proofs.SearchLemmas.{IsAnswered, search-answered}
+use Rattle.std.proofs.lemmas.Result.{err_from_is_err_and}
+use Rattle.lgrep_cli.proofs.SearchLemmas.{IsSearched, out_of_memory, reader-searched}
 use Rattle.lgrep_cli.proofs.search.print.Given.{Over}
 use Rattle.lgrep_cli.proofs.search.print.Goals as goal
 use Rattle.lgrep_cli.proofs.search.print.Goals.{After-search_reader}
 
-answered : (g : Over) (c : After-search_reader g) → IsAnswered g.R.Source.told g.R.Source.step g.W.Write.contents c.args.options.now c.args.reader.now c.search_reader.new.reader c.args.printer.now c.search_reader.new.sink c.search_reader.result
-answered g c = search-answered g.R.Source.told g.R.Source.step g.W.Write.contents c.args.options.now c.args.reader.now c.search_reader.new.reader c.args.printer.now c.search_reader.new.sink _ _ _ c.in_ok-searcher.searcher c.in_ok-matcher.matcher c.search_reader.result
+searched : (g : Over) (c : After-search_reader g)
+    → IsSearched g.R.Source.remaining g.R.Source.step g.W.Write.contents c.args.options.now c.args.reader.now c.search_reader.new.reader
+    c.args.printer.now c.search_reader.new.sink c.search_reader.result
+searched g c = reader-searched g.R.Source.remaining g.R.Source.step g.W.Write.contents c.args.options.now c.args.reader.now
+    c.search_reader.new.reader c.args.printer.now c.search_reader.new.sink _ _ _ c.in_ok-searcher.searcher c.in_ok-matcher.matcher
+    c.search_reader.result
     c.in_ok-searcher.ensures.settings c.in_ok-matcher.ensures.literal c.requires c.search_reader.ensures.searched
 
 pub returns-clause-same_writer : goal.returns-clause-same_writer
-returns-clause-same_writer g c = (answered g c).same_writer
+returns-clause-same_writer g c = (searched g c).same_writer
 
 pub returns-clause-printed : goal.returns-clause-printed
-returns-clause-printed g c = (answered g c).printed
+returns-clause-printed g c = (searched g c).printed
 
 pub returns-clause-failed : goal.returns-clause-failed
-returns-clause-failed g c = (answered g c).failed
+returns-clause-failed g c = (searched g c).failed
+
+pub returns-in_err-searcher-clause-failed : goal.returns-in_err-searcher-clause-failed
+returns-in_err-searcher-clause-failed g c =
+    let error = err_from_is_err_and c.from_residual.result c.from_residual.ensures.1 in
+    rw (error.1, error.2) (out_of_memory g.R.Source.remaining g.R.Source.step g.W.Write.contents c.args.options.now c.args.reader.now
+    c.args.reader.now c.args.printer.now c.args.printer.now c.in_err-searcher.field-0.0 c.in_err-searcher.ensures.memory)
+
+pub returns-in_err-matcher-clause-failed : goal.returns-in_err-matcher-clause-failed
+returns-in_err-matcher-clause-failed g c =
+    let error = err_from_is_err_and c.from_residual-in_err-matcher.result c.from_residual-in_err-matcher.ensures.1 in
+    rw (error.1, error.2) (out_of_memory g.R.Source.remaining g.R.Source.step g.W.Write.contents c.args.options.now c.args.reader.now
+    c.args.reader.now c.args.printer.now c.args.printer.now c.in_err-matcher.field-0.0 c.in_err-matcher.ensures.memory)

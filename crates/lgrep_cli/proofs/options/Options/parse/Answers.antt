@@ -1,40 +1,138 @@
-use Rattle.std.proofs.Common.{Some}
-use Rattle.lgrep_cli.proofs.WordLemmas.{last-next, literal-last}
+use Rattle.std.proofs.Common.{◌∙◌, ap, sym, codes, string_bytes, Ok, Err}
+use Rattle.std.proofs.lemmas.Result.{IfOk-weaker, err_from_is_err_and}
+use Rattle.lgrep_cli.proofs.CommandLemmas as command
+use Rattle.lgrep_cli.proofs.CommandLemmas.{IsNoOption, IsEnd, after-needs, before-needs, max-needs}
+use Rattle.lgrep_cli.specs.CommandLine.{AskFor, with_after, with_before, with_max}
 use Rattle.lgrep_cli.proofs.options.Options.parse.Goals as goal
+use Rattle.lgrep_cli.proofs.options.Options.parse.Goals.{After-with_last, After-with_last-in_default-2}
 
-pub loop-word-preserved-then-str_eq : goal.loop-word-preserved-then-str_eq
-loop-word-preserved-then-str_eq c = last-next _ c.loop-word.later c.next.new.self (Some c.in-Some.word) c.in-Some.ensures.steps c.loop-word.invariant
+pub loop-argument-init : goal.loop-argument-init
+loop-argument-init c = rw c.iter-later.ensures.rest
+    (command.read-none c.args.arguments.now c.without_literal-options.result c.without_literal-options.ensures)
 
-pub loop-word-preserved-then-str_eq-2 : goal.loop-word-preserved-then-str_eq-2
-loop-word-preserved-then-str_eq-2 c = last-next _ c.loop-word.later c.next.new.self (Some c.in-Some.word) c.in-Some.ensures.steps c.loop-word.invariant
+pub loop-argument-preserved-then-str_eq : goal.loop-argument-preserved-then-str_eq
+loop-argument-preserved-then-str_eq c =
+    command.invert-read c.args.arguments.now c.loop-argument.later.rest.now c.next.new.self.rest.now c.in-Some.argument.now
+    c.loop-argument.options c.in-Some.ensures.steps (sym c.as_str.ensures.value ∙ c.in-text.is) c.loop-argument.invariant
 
-pub loop-word-preserved-then-str_eq-3 : goal.loop-word-preserved-then-str_eq-3
-loop-word-preserved-then-str_eq-3 c =
-    last-next _ c.next.new.self c.next-in-text-3.new.self c.next-in-text-3.result c.next-in-text-3.ensures.steps
-    (last-next _ c.loop-word.later c.next.new.self (Some c.in-Some.word) c.in-Some.ensures.steps c.loop-word.invariant)
+pub loop-argument-preserved-then-str_eq-2 : goal.loop-argument-preserved-then-str_eq-2
+loop-argument-preserved-then-str_eq-2 c =
+    command.passthru-read c.args.arguments.now c.loop-argument.later.rest.now c.next.new.self.rest.now c.in-Some.argument.now
+    c.loop-argument.options c.in-Some.ensures.steps (sym c.as_str.ensures.value ∙ c.in-text-2.is) c.loop-argument.invariant
 
-pub loop-word-preserved-then-str_eq-4 : goal.loop-word-preserved-then-str_eq-4
-loop-word-preserved-then-str_eq-4 c =
-    last-next _ c.next.new.self c.next-in-text-4.new.self c.next-in-text-4.result c.next-in-text-4.ensures.steps
-    (last-next _ c.loop-word.later c.next.new.self (Some c.in-Some.word) c.in-Some.ensures.steps c.loop-word.invariant)
+pub loop-argument-preserved-then-str_eq-3 : goal.loop-argument-preserved-then-str_eq-3
+loop-argument-preserved-then-str_eq-3 c =
+    command.after-read c.args.arguments.now c.loop-argument.later.rest.now c.in-Some.argument.now c.next.new.self
+    c.next-in-text-3.new.self c.next-in-text-3.result c.loop-argument.options c.in_ok-options-in-text-3.field-0
+    c.in-Some.ensures.steps (sym c.as_str.ensures.value ∙ c.in-text-3.is)
+    c.next-in-text-3.ensures.steps (sym c.number_in.ensures ∙ c.in_ok-options-in-text-3.was) c.loop-argument.invariant
 
-pub loop-word-preserved : goal.loop-word-preserved
-loop-word-preserved c =
-    last-next _ c.next.new.self c.next-in-text-5.new.self c.next-in-text-5.result c.next-in-text-5.ensures.steps
-    (last-next _ c.loop-word.later c.next.new.self (Some c.in-Some.word) c.in-Some.ensures.steps c.loop-word.invariant)
+pub loop-argument-preserved-then-str_eq-4 : goal.loop-argument-preserved-then-str_eq-4
+loop-argument-preserved-then-str_eq-4 c =
+    command.before-read c.args.arguments.now c.loop-argument.later.rest.now c.in-Some.argument.now c.next.new.self
+    c.next-in-text-4.new.self c.next-in-text-4.result c.loop-argument.options c.in_ok-options-in-text-4.field-0
+    c.in-Some.ensures.steps (sym c.as_str.ensures.value ∙ c.in-text-4.is)
+    c.next-in-text-4.ensures.steps (sym c.number_in-in-text-4.ensures ∙ c.in_ok-options-in-text-4.was) c.loop-argument.invariant
 
-pub returns-in-text-6 : goal.returns-in-text-6
-returns-in-text-6 c =
-    let last = last-next c.args.words.now c.loop-word.later c.next.new.self (Some c.in-Some.word) c.in-Some.ensures.steps c.loop-word.invariant in
-    record {
-      literal = literal-last c.args.words.now c.next.new.self c.next-in-text-6.new.self c.next-in-text-6-2.new.self c.next-in-text-6.result c.next-in-text-6-2.result c.with_literal.result last
-          c.next-in-text-6.ensures.steps c.next-in-text-6-2.ensures.steps c.with_literal.ensures.literal c.with_literal.ensures.last;
-    }
+pub loop-argument-preserved : goal.loop-argument-preserved
+loop-argument-preserved c =
+    command.max-read c.args.arguments.now c.loop-argument.later.rest.now c.in-Some.argument.now c.next.new.self
+    c.next-in-text-5.new.self c.next-in-text-5.result c.loop-argument.options c.from.result c.in-Some.ensures.steps
+    (sym c.as_str.ensures.value ∙ c.in-text-5.is)
+    c.next-in-text-5.ensures.steps (sym c.number_in-in-text-5.ensures ∙ (c.in_ok-number_in-in-text-5.was ∙ ap Ok (sym c.from.ensures)))
+    c.loop-argument.invariant
 
-pub returns-in_default-2 : goal.returns-in_default-2
-returns-in_default-2 c =
-    let call = c.with_literal-in_default-2 in
-    record {
-      literal = literal-last c.args.words.now c.loop-word.later c.next.new.self c.next-in_default-2.new.self (Some c.in-Some.word) c.next-in_default-2.result call.result c.loop-word.invariant
-          c.in-Some.ensures.steps c.next-in_default-2.ensures.steps call.ensures.literal call.ensures.last;
-    }
+pub returns-in_err-options-in-text-3-clause-usage : goal.returns-in_err-options-in-text-3-clause-usage
+returns-in_err-options-in-text-3-clause-usage c =
+    let error = err_from_is_err_and c.from_residual.result c.from_residual.ensures.1 in
+    command.number-usage c.args.arguments.now c.loop-argument.later.rest.now c.in-Some.argument.now c.next.new.self
+    c.next-in-text-3.new.self c.next-in-text-3.result c.loop-argument.options
+    (codes "-A") with_after error.0 c.from_residual.result after-needs
+    c.in-Some.ensures.steps (sym c.as_str.ensures.value ∙ c.in-text-3.is) c.next-in-text-3.ensures.steps (sym c.number_in.ensures
+    ∙ (c.in_err-options-in-text-3.was ∙ ap Err (sym error.2))) error.1 c.loop-argument.invariant
+
+pub returns-in_err-options-in-text-4-clause-usage : goal.returns-in_err-options-in-text-4-clause-usage
+returns-in_err-options-in-text-4-clause-usage c =
+    let error = err_from_is_err_and c.from_residual-in_err-options-in-text-4.result c.from_residual-in_err-options-in-text-4.ensures.1 in
+    command.number-usage c.args.arguments.now c.loop-argument.later.rest.now c.in-Some.argument.now c.next.new.self
+    c.next-in-text-4.new.self c.next-in-text-4.result c.loop-argument.options (codes "-B") with_before error.0
+    c.from_residual-in_err-options-in-text-4.result before-needs
+    c.in-Some.ensures.steps (sym c.as_str.ensures.value ∙ c.in-text-4.is) c.next-in-text-4.ensures.steps
+    (sym c.number_in-in-text-4.ensures ∙ (c.in_err-options-in-text-4.was ∙ ap Err (sym error.2))) error.1 c.loop-argument.invariant
+
+pub returns-in_err-number_in-in-text-5-clause-usage : goal.returns-in_err-number_in-in-text-5-clause-usage
+returns-in_err-number_in-in-text-5-clause-usage c =
+    let error = err_from_is_err_and c.from_residual-in_err-number_in-in-text-5.result
+    c.from_residual-in_err-number_in-in-text-5.ensures.1 in
+    command.number-usage c.args.arguments.now c.loop-argument.later.rest.now c.in-Some.argument.now c.next.new.self
+    c.next-in-text-5.new.self c.next-in-text-5.result c.loop-argument.options
+    (codes "-m") with_max error.0 c.from_residual-in_err-number_in-in-text-5.result max-needs
+    c.in-Some.ensures.steps (sym c.as_str.ensures.value ∙ c.in-text-5.is) c.next-in-text-5.ensures.steps
+    (sym c.number_in-in-text-5.ensures ∙ (c.in_err-number_in-in-text-5.was ∙ ap Err (sym error.2))) error.1 c.loop-argument.invariant
+
+marked : (c : After-with_last) → IsEnd c.args.arguments.now c.with_last.result
+marked c =
+    command.marked-end c.args.arguments.now c.loop-argument.later.rest.now c.in-Some.argument.now c.next.new.self
+    c.next-in-text-6.new.self c.next-in-text-6-2.new.self c.next-in-text-6.result c.next-in-text-6-2.result c.loop-argument.options
+    c.with_last.result
+    c.in-Some.ensures.steps (sym c.as_str.ensures.value ∙ c.in-text-6.is) c.loop-argument.invariant c.next-in-text-6.ensures.steps
+    c.next-in-text-6-2.ensures.steps
+    (record { same = c.with_last.ensures.options; is = c.with_last.ensures.literal; usage = c.with_last.ensures.usage })
+
+pub returns-in-text-6-clause-options : goal.returns-in-text-6-clause-options
+returns-in-text-6-clause-options c = (marked c).options
+
+pub returns-in-text-6-clause-literal : goal.returns-in-text-6-clause-literal
+returns-in-text-6-clause-literal c =
+    IfOk-weaker c.with_last.result (AskFor c.args.arguments.now) _ (command.asked-last c.args.arguments.now) (marked c).options
+
+pub returns-in-text-6-clause-usage : goal.returns-in-text-6-clause-usage
+returns-in-text-6-clause-usage c = (marked c).usage
+
+pub returns-in_default-as_str-clause-usage : goal.returns-in_default-as_str-clause-usage
+returns-in_default-as_str-clause-usage c =
+    let is = c.in_default-as_str in
+    let otherwise : IsNoOption (string_bytes c.in-Some.argument.now) = record {
+      invert = λ h. is.not-text (c.as_str.ensures.value ∙ h);
+      passthru = λ h. is.not-text-2 (c.as_str.ensures.value ∙ h);
+      after = λ h. is.not-text-3 (c.as_str.ensures.value ∙ h);
+      before = λ h. is.not-text-4 (c.as_str.ensures.value ∙ h);
+      max = λ h. is.not-text-5 (c.as_str.ensures.value ∙ h);
+      end = λ h. is.not-text-6 (c.as_str.ensures.value ∙ h);
+    } in
+    command.dashed-usage c.args.arguments.now c.loop-argument.later.rest.now c.next.new.self.rest.now c.in-Some.argument.now
+    c.loop-argument.options c.in-Some.ensures.steps
+    (rw c.as_str.ensures.value at (sym c.is_dashed.ensures ∙ c.if-is_dashed.true)) otherwise c.loop-argument.invariant
+
+undashed : (c : After-with_last-in_default-2) → IsEnd c.args.arguments.now c.with_last-in_default-2.result
+undashed c =
+    let is = c.in_default-as_str in
+    let otherwise : IsNoOption (string_bytes c.in-Some.argument.now) = record {
+      invert = λ h. is.not-text (c.as_str.ensures.value ∙ h);
+      passthru = λ h. is.not-text-2 (c.as_str.ensures.value ∙ h);
+      after = λ h. is.not-text-3 (c.as_str.ensures.value ∙ h);
+      before = λ h. is.not-text-4 (c.as_str.ensures.value ∙ h);
+      max = λ h. is.not-text-5 (c.as_str.ensures.value ∙ h);
+      end = λ h. is.not-text-6 (c.as_str.ensures.value ∙ h);
+    } in
+    let call = c.with_last-in_default-2 in
+    command.undashed-end c.args.arguments.now c.loop-argument.later.rest.now c.in-Some.argument c.next.new.self
+    c.next-in_default-2.new.self c.next-in_default-2.result c.loop-argument.options call.result c.in-Some.ensures.steps
+    (rw c.as_str.ensures.value at (sym c.is_dashed.ensures ∙ c.if-is_dashed.false)) otherwise c.loop-argument.invariant
+    c.next-in_default-2.ensures.steps
+    (record { same = call.ensures.options; is = call.ensures.literal; usage = call.ensures.usage })
+
+pub returns-in_default-2-clause-options : goal.returns-in_default-2-clause-options
+returns-in_default-2-clause-options c = (undashed c).options
+
+pub returns-in_default-2-clause-literal : goal.returns-in_default-2-clause-literal
+returns-in_default-2-clause-literal c =
+    IfOk-weaker c.with_last-in_default-2.result (AskFor c.args.arguments.now) _ (command.asked-last c.args.arguments.now)
+    (undashed c).options
+
+pub returns-in_default-2-clause-usage : goal.returns-in_default-2-clause-usage
+returns-in_default-2-clause-usage c = (undashed c).usage
+
+pub returns-clause-usage : goal.returns-clause-usage
+returns-clause-usage c = command.ended-usage c.args.arguments.now c.loop-argument.later c.next.new.self c.loop-argument.options
+    c.loop-argument.invariant (rw c.in_default.is at c.next.ensures.steps)

@@ -1,5 +1,5 @@
-use Rattle.lgrep_cli.proofs.WordLemmas.{AreLast}
+use Rattle.lgrep_cli.proofs.CommandLemmas.{IsRead}
 use Rattle.lgrep_cli.proofs.options.Options.parse.Given as goal
 
-abbrev pub invariant-loop-word : goal.invariant-loop-word
-invariant-loop-word l = AreLast l.words l.later.rest.now
+abbrev pub invariant-loop-argument : goal.invariant-loop-argument
+invariant-loop-argument l = IsRead l.arguments l.later.rest.now l.options

@@ -1,0 +1,161 @@
+-- Numbers below a bound that pass a test, bounds that may be missing, and lists joined over numbers.
+use Rattle.std.proofs.Common.{◌≡◌, ℕ, zero, suc, ◌+◌, ◌<◌, ◌≤◌, Bool, true, false, not, refl, sym, ◌∙◌, ap, arith, ⊎_elim, Option, Some, None, if◌then◌else◌}
+use Rattle.std.proofs.lemmas.Bool.{lt-ltb, le-ltb, ltb-true, eq-eqb, ne_eqb, cases_lt, cases_Bool}
+use Rattle.std.proofs.Math.Bool.{or-false, or-true}
+use Rattle.std.specs.Prelude.{IfSome, List, [], ◌++◌}
+use Rattle.std.proofs.Common.{append_assoc}
+use Rattle.std.proofs.lemmas.List.{append-nil}
+use Rattle.grep_definitions.specs.Below.{some_below, count_below, first_below, is_below, is_at, at_most, joined_from}
+use Rattle.grep_definitions.proofs.BoolLemmas.{clash}
+
+pub some_below-none : (p : ℕ → Bool) (n : ℕ) → ((j : ℕ) → j < n → p j ≡ false) → some_below p n ≡ false
+some_below-none p zero none = refl
+some_below-none p (suc n) none = rw (some_below-none p n (λ j below. none j (omega arith)), none n (omega arith)) refl
+
+pub some_below-some : (p : ℕ → Bool) (n j : ℕ) → j < n → p j ≡ true → some_below p n ≡ true
+some_below-some p zero j below passes = absurd (omega arith)
+some_below-some p (suc n) j below passes =
+    ⊎_elim (λ less. rw (some_below-some p n j less passes) refl)
+    (λ over. let same : n ≡ j = omega arith in rw (same, passes) (or-true (some_below p j))) (cases_lt j n)
+
+pub some_below-false : (p : ℕ → Bool) (n j : ℕ) → some_below p n ≡ false → j < n → p j ≡ false
+some_below-false p n j none below = ⊎_elim (λ yes. absurd (clash (some_below-some p n j below yes) none)) (λ no. no) (cases_Bool (p j))
+
+pub first_below-here : (p : ℕ → Bool) (m q : ℕ) → q < m → p q ≡ true → some_below p q ≡ false → first_below p m ≡ Some q
+first_below-here p zero q below passes none = absurd (omega arith)
+first_below-here p (suc m) q below passes none = ⊎_elim
+    (λ less. let some = some_below-some p m q less passes in rw (some, first_below-here p m q less passes none) refl)
+    (λ over. let same : q ≡ m = omega arith in let silent : some_below p m ≡ false = ap (some_below p) (sym same) ∙ none in
+    let here : p m ≡ true = ap p (sym same) ∙ passes in rw (silent, here, same) refl)
+    (cases_lt q m)
+
+pub first_below-of : (p : ℕ → Bool) (n q : ℕ) → first_below p n ≡ Some q → (q < n) × (p q ≡ true)
+first_below-of p zero q is = absurd (cc)
+first_below-of p (suc n) q is = go (some_below p n) (p n) refl is (λ found. first_below-of p n q found)
+  where
+    go : (s h : Bool) → p n ≡ h → (if s then first_below p n else (if h then Some n else None)) ≡ Some q
+        → (first_below p n ≡ Some q → (q < n) × (p q ≡ true)) → (q < suc n) × (p q ≡ true)
+    go true h is_h found before = let below = before found in (omega (arith, below.0), below.1)
+    go false true is_h found before = let same : n ≡ q = cc in (omega arith, ap p (sym same) ∙ is_h)
+    go false false is_h found before = absurd (cc)
+
+pub first_below-more : (p : ℕ → Bool) (i n m : ℕ) → i ≤ n → first_below p i ≡ Some m → first_below p n ≡ Some m
+first_below-more p i zero m le is = let same : i ≡ zero = omega arith in ap (first_below p) (sym same) ∙ is
+first_below-more p i (suc n) m le is = ⊎_elim
+    (λ less.
+    let before = first_below-more p i n m (omega arith) is in
+    let found = first_below-of p n m before in
+    let some = some_below-some p n m found.0 found.1 in
+    rw (some, before) refl)
+    (λ over. let same : i ≡ suc n = omega arith in ap (first_below p) (sym same) ∙ is)
+    (cases_lt i (suc n))
+
+pub first_below-late : (p : ℕ → Bool) (i n m : ℕ) → some_below p i ≡ false → first_below p n ≡ Some m → i ≤ m
+first_below-late p i n m none is = ⊎_elim
+    (λ less. let found = first_below-of p n m is in absurd (clash found.1 (some_below-false p i m none less))) (λ over. over)
+    (cases_lt m i)
+
+pub count_below-le : (p : ℕ → Bool) (i q : ℕ) → i ≤ q → count_below p i ≤ count_below p q
+count_below-le p i zero le = let same : i ≡ zero = omega arith in let e = ap (count_below p) same in omega (arith, e)
+count_below-le p i (suc q) le = ⊎_elim
+    (λ less. let before = count_below-le p i q (omega arith) in go (p q) before)
+    (λ over. let same : i ≡ suc q = omega arith in let e = ap (count_below p) same in omega (arith, e))
+    (cases_lt i (suc q))
+  where
+    go : (h : Bool) → count_below p i ≤ count_below p q → count_below p i ≤ (if h then count_below p q + 1 else count_below p q)
+    go true before = omega arith
+    go false before = before
+
+pub is_below-le : (o : Option ℕ) (n m : ℕ) → n ≤ m → is_below n o ≡ false → is_below m o ≡ false
+is_below-le None n m le is = is
+is_below-le (Some x) n m le is = ⊎_elim (λ less. let yes = lt-ltb n x (omega arith) in absurd (clash yes is)) (λ over. le-ltb m x over)
+    (cases_lt m x)
+
+pub below_next : (o : Option ℕ) (c : ℕ) → is_below c o ≡ true → is_below (c + 1) o ≡ not (is_at (c + 1) o)
+below_next None c is = refl
+below_next (Some x) c is =
+    let less = ltb-true c x is in
+    ⊎_elim (λ yes. let a = lt-ltb (c + 1) x yes in let b = ne_eqb (c + 1) x (λ e. omega arith) in rw (a, b) refl)
+    (λ no. let a = le-ltb (c + 1) x no in let b = eq-eqb (c + 1) x (omega arith) in rw (a, b) refl) (cases_lt (c + 1) x)
+
+pub below_none : (o : Option ℕ) → is_below 0 o ≡ not (is_at 0 o)
+below_none None = refl
+below_none (Some x) = ⊎_elim (λ yes. let a = lt-ltb 0 x yes in let b = ne_eqb 0 x (λ e. omega arith) in rw (a, b) refl)
+    (λ no. let a = le-ltb 0 x no in let b = eq-eqb 0 x (omega arith) in rw (a, b) refl) (cases_lt 0 x)
+
+pub at_most-over : (o : Option ℕ) (n : ℕ) → IfSome o (λ b. n < b) → at_most o n ≡ n
+at_most-over None n above = refl
+at_most-over (Some b) n above = omega arith
+
+pub at_most-above : (o : Option ℕ) (i n : ℕ) → IfSome o (λ b. i < b) → i < n → i < at_most o n
+at_most-above None i n above less = less
+at_most-above (Some b) i n above less = omega arith
+
+pub at_most-next : (o : Option ℕ) (i : ℕ) → IfSome o (λ b. i < b) → at_most o (i + 1) ≡ i + 1
+at_most-next None i above = refl
+at_most-next (Some b) i above = omega arith
+
+pub at_most-some : (o : Option ℕ) (i n : ℕ) → o ≡ Some (suc i) → i < n → at_most o n ≡ i + 1
+at_most-some None i n is less = absurd (cc)
+at_most-some (Some b) i n is less = let same : b ≡ suc i = cc in omega arith
+
+-- what is joined up to a number, and from it on
+pub joined_from-add : {X : Type 0} (f : ℕ → List X) (i n m : ℕ) → joined_from f i (n + m) ≡ joined_from f i n ++ joined_from f (i + n) m
+joined_from-add f i zero m = rw (zero-add-is m, add-zero-is i) refl
+  where
+    zero-add-is : (m : ℕ) → zero + m ≡ m
+    zero-add-is m = omega arith
+
+    add-zero-is : (i : ℕ) → i + zero ≡ i
+    add-zero-is i = omega arith
+joined_from-add f i (suc n) m =
+    let sum : suc n + m ≡ suc (n + m) = omega arith in
+    let shift : (i + 1) + n ≡ i + suc n = omega arith in
+    rw (sum) (ap (λ rest. f i ++ rest) (joined_from-add f (i + 1) n m) ∙ (rw shift (sym (append_assoc (f i) _ _))))
+
+-- one more of what is joined
+pub joined_from-more : {X : Type 0} (f : ℕ → List X) (i n : ℕ) → joined_from f i (n + 1) ≡ joined_from f i n ++ f (i + n)
+joined_from-more f i n = joined_from-add f i n 1 ∙ ap (λ xs. joined_from f i n ++ xs) (append-nil (f (i + n)))
+
+-- joined lists are equal if their parts are
+pub joined_from-equal : {X : Type 0} (f h : ℕ → List X) (i n : ℕ) → ((j : ℕ) → i ≤ j → j < i + n → f j ≡ h j) → joined_from f i n
+    ≡ joined_from h i n
+joined_from-equal f h i zero same = refl
+joined_from-equal f h i (suc n) same = rw
+    (same i (omega arith) (omega arith), joined_from-equal f h (i + 1) n (λ j low high. same j (omega arith) (omega arith))) refl
+
+pub joined_from-none : {X : Type 0} (f : ℕ → List X) (i n : ℕ) → ((j : ℕ) → i ≤ j → j < i + n → f j ≡ []) → joined_from f i n ≡ []
+joined_from-none f i zero none = refl
+joined_from-none f i (suc n) none = rw
+    (none i (omega arith) (omega arith), joined_from-none f (i + 1) n (λ j low high. none j (omega arith) (omega arith))) refl
+
+-- if some number passes, there is one
+pub some_below-find : (p : ℕ → Bool) (n : ℕ) → some_below p n ≡ true → (j : ℕ) × (j < n) × (p j ≡ true)
+some_below-find p zero is = absurd (cc)
+some_below-find p (suc n) is = go (p n) refl (λ h. some_below-find p n h)
+  where
+    go : (b : Bool) → p n ≡ b → (some_below p n ≡ true → (j : ℕ) × (j < n) × (p j ≡ true)) → (j : ℕ) × (j < suc n) × (p j ≡ true)
+    go true here later = (n, omega arith, here)
+    go false here later =
+        let found = later (sym (or-false (some_below p n)) ∙ rw here at is) in
+        (found.0, omega (arith, found.1), found.2)
+
+-- if no number passes, there is no first
+pub first_below-nowhere : (p : ℕ → Bool) (n : ℕ) → some_below p n ≡ false → first_below p n ≡ None
+first_below-nowhere p zero none = refl
+first_below-nowhere p (suc n) none = go (some_below p n) (p n) refl refl (first_below-nowhere p n)
+  where
+    go : (a b : Bool) → some_below p n ≡ a → p n ≡ b → (some_below p n ≡ false → first_below p n ≡ None) → first_below p (suc n) ≡ None
+    go true b e f later = absurd (let at = rw e at none in cc)
+    go false true e f later = absurd (let at = rw (e, f) at none in cc)
+    go false false e f later = rw (e, f) refl
+
+-- and if there is no first, none passes
+pub first_below-none : (p : ℕ → Bool) (n : ℕ) → first_below p n ≡ None → some_below p n ≡ false
+first_below-none p zero none = refl
+first_below-none p (suc n) none = go (some_below p n) (p n) refl refl (first_below-none p n)
+  where
+    go : (a b : Bool) → some_below p n ≡ a → p n ≡ b → (first_below p n ≡ None → some_below p n ≡ false) → some_below p (suc n) ≡ false
+    go true b e f earlier = absurd (clash e (earlier (let at = rw e at none in at)))
+    go false true e f earlier = absurd (let at = rw (e, f) at none in cc)
+    go false false e f earlier = rw (e, f) refl

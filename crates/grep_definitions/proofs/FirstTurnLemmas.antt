@@ -1,0 +1,486 @@
+-- The calls of the first lines begin the calls of all.
+use Rattle.std.proofs.Common.{◌≡◌, ℕ, zero, suc, ◌+◌, ◌-◌, ◌<◌, ◌≤◌, min, Bool, true, false, ◌&&◌, not, List, [], ◌∷◌, ◌++◌, length, refl, sym, ap, subst, ◌∙◌, arith, inl, inr, ◌⊎◌, ⊎_elim, Option, Some, None, is_some, length-append, append-nil, if◌then◌else◌}
+use Rattle.std.proofs.Math.Bool.{and-false}
+use Rattle.std.proofs.lemmas.Bool.{lt-ltb, ltb-true, leb-true, le-leb, cases_lt, cases_Bool}
+use Rattle.std.specs.Prelude.{nat_lt, nat_le}
+use Rattle.std.specs.Option.{option_map}
+use Rattle.grep_matcher.specs.Terminators.{byte_of}
+use Rattle.grep_matcher.specs.Lines.{lines}
+use Rattle.grep_matcher.specs.Matching.{Meaning}
+use Rattle.grep_lines.specs.LineLaws.{LinesJoin, LinesAppend}
+use Rattle.grep_report.specs.declared.sink_context.SinkContextKind.TheVariants.{Before, After, Other}
+use Rattle.grep_definitions.specs.Settings.{Settings}
+use Rattle.grep_definitions.specs.SinkCalls.{Turn, begins, breaks, matches, context}
+use Rattle.grep_definitions.specs.Below.{some_below, first_below, at_most, joined_from}
+use Rattle.grep_definitions.specs.LineSearch
+use Rattle.grep_definitions.specs.LineSearch.{can_break, Kind, matched, in_context}
+use Rattle.grep_definitions.proofs.BelowLemmas.{some_below-find, first_below-nowhere, some_below-some, first_below-of, first_below-late, joined_from-add, joined_from-equal, joined_from-none}
+use Rattle.grep_definitions.proofs.FirstLineLemmas as prefix
+use Rattle.grep_definitions.proofs.FirstLineLemmas.{IsClosed, some_below-same, first_below-same}
+use Rattle.grep_definitions.proofs.BoolLemmas.{and-both, both_true}
+
+-- a first number that passes stays the first, however far one looks
+first_below-far : (p : ℕ → Bool) (n m : ℕ) → some_below p n ≡ true → first_below p (n + m) ≡ first_below p n
+first_below-far p n zero is = let none : n + zero ≡ n = omega arith in rw none refl
+first_below-far p n (suc m) is =
+    let found = some_below-find p n is in
+    let there : some_below p (n + m) ≡ true = some_below-some p (n + m) found.0 (omega (arith, found.1)) found.2 in
+    let sum : n + suc m ≡ suc (n + m) = omega arith in
+    rw (sum, there) (first_below-far p n m is)
+
+module _ (join : LinesJoin) (append : LinesAppend) (k : Settings) (meaning : Meaning) (front back : List ℕ)
+    (closed : IsClosed (byte_of k.line_terminator) front) where
+  -- all bytes, and how many lines the front and they have
+  abbrev whole : List ℕ
+  whole = front ++ back
+
+  abbrev n : ℕ
+  n = LineSearch.line_count k meaning front
+
+  abbrev all : ℕ
+  all = LineSearch.line_count k meaning whole
+
+  -- the whole has the lines of the front and those of the back
+  more_lines : all ≡ n + length (lines (byte_of k.line_terminator) back)
+  more_lines = ap length (prefix.all_lines join append k meaning front back closed)
+      ∙ length-append (lines (byte_of k.line_terminator) front) (lines (byte_of k.line_terminator) back)
+
+  -- whether a line of the front is selected
+  abbrev selected : ℕ → Bool
+  selected i = LineSearch.is_selected k meaning front i
+
+  -- the whole selects the same lines there
+  same_selected : (i : ℕ) → i < n → LineSearch.is_selected k meaning whole i ≡ selected i
+  same_selected i below = prefix.is_selected-same join append k meaning front back closed i below
+
+  -- a selected line that has line i in the reach before it
+  abbrev near_before : List ℕ → ℕ → ℕ → Bool
+  near_before bytes i j = nat_lt i j && nat_le (j - i) k.before_context && LineSearch.is_selected k meaning bytes j
+
+  -- what that says of the two lines
+  pub record IsNearMatch (bytes : List ℕ) (i j : ℕ) : Type 0 where
+    pub beyond : i < j
+    pub within : j - i ≤ k.before_context
+    pub chosen : LineSearch.is_selected k meaning bytes j ≡ true
+
+  -- what the test says
+  near-from : (bytes : List ℕ) (i j : ℕ) → near_before bytes i j ≡ true → IsNearMatch bytes i j
+  near-from bytes i j is =
+      let both = both_true (nat_lt i j && nat_le (j - i) k.before_context) (LineSearch.is_selected k meaning bytes j) is in
+      let near = both_true (nat_lt i j) (nat_le (j - i) k.before_context) both.0 in
+      record {
+        beyond = ltb-true i j near.0;
+        within = leb-true (j - i) k.before_context near.1;
+        chosen = both.1;
+      }
+
+  -- the test, if that holds
+  near-to : (bytes : List ℕ) (i j : ℕ) → IsNearMatch bytes i j → near_before bytes i j ≡ true
+  near-to bytes i j h = and-both (nat_lt i j && nat_le (j - i) k.before_context) (LineSearch.is_selected k meaning bytes j)
+      (and-both (nat_lt i j) (nat_le (j - i) k.before_context) (lt-ltb i j h.beyond) (le-leb (j - i) k.before_context h.within)) h.chosen
+
+  -- a line before a match in the front is so in the whole
+  precedes-more : (i : ℕ) → LineSearch.precedes_selected k meaning front i ≡ true → LineSearch.precedes_selected k meaning whole i ≡ true
+  precedes-more i is =
+      let found = some_below-find (near_before front i) n is in
+      let near = near-from front i found.0 found.2 in
+      some_below-some (near_before whole i) all found.0 (omega (arith, found.1, more_lines))
+      (near-to whole i found.0
+      (record { beyond = near.beyond; within = near.within; chosen = same_selected found.0 found.1 ∙ near.chosen }))
+
+  -- a line that only a match after the front makes a line before a match
+  pub record IsLate (i : ℕ) : Type 0 where
+    pub inside : i < n
+    pub unselected : selected i ≡ false
+    pub unfollowed : LineSearch.follows_selected k meaning front i ≡ false
+    pub precedes : LineSearch.precedes_selected k meaning whole i ≡ true
+    pub unpreceded : LineSearch.precedes_selected k meaning front i ≡ false
+
+  -- a line of the front is reported the same way in the whole, or is late
+  pub kind-same : (i : ℕ) → i < n → (LineSearch.kind k meaning whole i ≡ LineSearch.kind k meaning front i) ⊎ IsLate i
+  kind-same i below = go (selected i) (LineSearch.follows_selected k meaning front i) (LineSearch.precedes_selected k meaning front i)
+      (LineSearch.precedes_selected k meaning whole i) refl refl refl refl
+    where
+      s : LineSearch.is_selected k meaning whole i ≡ selected i
+      s = same_selected i below
+
+      f : LineSearch.follows_selected k meaning whole i ≡ LineSearch.follows_selected k meaning front i
+      f = prefix.follows-same join append k meaning front back closed i below
+
+      go : (a b c d : Bool) → selected i ≡ a → LineSearch.follows_selected k meaning front i ≡ b
+          → LineSearch.precedes_selected k meaning front i ≡ c → LineSearch.precedes_selected k meaning whole i ≡ d
+          → (LineSearch.kind k meaning whole i ≡ LineSearch.kind k meaning front i) ⊎ IsLate i
+      go true b c d is_a is_b is_c is_d = inl (rw (s, is_a) refl)
+      go false true c d is_a is_b is_c is_d = inl (rw (s, is_a, f, is_b) refl)
+      go false false true true is_a is_b is_c is_d = inl (rw (s, is_a, f, is_b, is_c, is_d) refl)
+      go false false true false is_a is_b is_c is_d = absurd (let up = precedes-more i is_c in cc)
+      go false false false false is_a is_b is_c is_d = inl (rw (s, is_a, f, is_b, is_c, is_d) refl)
+      go false false false true is_a is_b is_c is_d = inr
+          (record { inside = below; unselected = is_a; unfollowed = is_b; precedes = is_d; unpreceded = is_c })
+
+  -- after a late line no line of the front is selected
+  late-unselected : (i j : ℕ) → IsLate i → i ≤ j → j < n → selected j ≡ false
+  late-unselected i j late low below = ⊎_elim (λ holds. absurd (found holds)) (λ no. no) (cases_Bool (selected j))
+    where
+      found : selected j ≡ true → ⊥
+      found holds =
+          let beyond = some_below-find (near_before whole i) all late.precedes in
+          let near = near-from whole i beyond.0 beyond.2 in
+          let after_i : i < j = ⊎_elim (λ less. less)
+          (λ out. absurd (let same : i ≡ j = omega arith in let no = ap selected (sym same) ∙ late.unselected in cc))
+          (cases_lt i j) in
+          let far : n ≤ beyond.0 = ⊎_elim
+          (λ less. absurd (let here = some_below-some (near_before front i) n beyond.0 less
+          (near-to front i beyond.0
+          (record { beyond = near.beyond; within = near.within; chosen = sym (same_selected beyond.0 less) ∙ near.chosen })) in
+          let no = late.unpreceded in cc)) (λ out. out) (cases_lt beyond.0 n) in
+          let here = some_below-some (near_before front i) n j below
+          (near-to front i j (record { beyond = after_i; within = omega (arith, near.within, far); chosen = holds })) in
+          let no = late.unpreceded in
+          cc
+
+  -- a selected line of the front that has line i in its reach
+  abbrev near_after : ℕ → ℕ → Bool
+  near_after i j = nat_le (i - j) k.after_context && selected j
+
+  -- after a late line no line of the front follows a selected one
+  late-unfollowed : (i j : ℕ) → IsLate i → i ≤ j → j < n → LineSearch.follows_selected k meaning front j ≡ false
+  late-unfollowed i j late low below = ⊎_elim (λ holds. absurd (found holds)) (λ no. no)
+      (cases_Bool (LineSearch.follows_selected k meaning front j))
+    where
+      found : LineSearch.follows_selected k meaning front j ≡ true → ⊥
+      found holds =
+          let match = some_below-find (near_after j) j holds in
+          let both = both_true (nat_le (j - match.0) k.after_context) (selected match.0) match.2 in
+          let within = leb-true (j - match.0) k.after_context both.0 in
+          let chosen = both.1 in
+          let earlier : match.0 < i = ⊎_elim (λ less. less)
+          (λ out. absurd (let no = late-unselected i match.0 late out (omega (arith, match.1)) in cc)) (cases_lt match.0 i) in
+          let here = some_below-some (near_after i) i match.0 earlier
+          (and-both (nat_le (i - match.0) k.after_context) (selected match.0)
+          (le-leb (i - match.0) k.after_context (omega (arith, within))) chosen) in
+          let no = late.unfollowed in
+          cc
+
+  -- after a late line no line of the front is before a selected one
+  late-unpreceded : (i j : ℕ) → IsLate i → i ≤ j → j < n → LineSearch.precedes_selected k meaning front j ≡ false
+  late-unpreceded i j late low below = ⊎_elim (λ holds. absurd (found holds)) (λ no. no)
+      (cases_Bool (LineSearch.precedes_selected k meaning front j))
+    where
+      found : LineSearch.precedes_selected k meaning front j ≡ true → ⊥
+      found holds =
+          let match = some_below-find (near_before front j) n holds in
+          let near = near-from front j match.0 match.2 in
+          let no = late-unselected i match.0 late (omega (arith, near.beyond)) match.1 in
+          let chosen = near.chosen in
+          cc
+
+  module _ (built : k.passthru ≡ true → k.before_context ≡ 0) where
+    -- after a late line no line of the front is reported
+    late-kind : (i j : ℕ) → IsLate i → i ≤ j → j < n → LineSearch.kind k meaning front j ≡ None
+    late-kind i j late low below =
+        let near = near-from whole i _ (some_below-find (near_before whole i) all late.precedes).2 in
+        let plain : k.passthru
+        ≡ false = ⊎_elim (λ holds. absurd (let none = built holds in omega (arith, none, near.within, near.beyond))) (λ no. no)
+        (cases_Bool k.passthru) in
+        rw (late-unselected i j late low below, late-unfollowed i j late low below, late-unpreceded i j late low below, plain) refl
+
+    -- after a late line no line of the front has a call
+    late-turns : (i j : ℕ) → IsLate i → i ≤ j → j < n → LineSearch.turns_at k meaning front j ≡ []
+    late-turns i j late low below =
+        let none = late-kind i j late low below in
+        rw (none, and-false (nat_lt 0 (k.after_context + k.before_context))) refl
+
+  -- a selected line after line i
+  abbrev later_in : List ℕ → ℕ → ℕ → Bool
+  later_in bytes i j = nat_lt i j && LineSearch.is_selected k meaning bytes j
+
+  -- a line before a match in the front has the same next match in the whole
+  next-same : (i : ℕ) → LineSearch.precedes_selected k meaning front i ≡ true → first_below (later_in whole i) all
+      ≡ first_below (later_in front i) n
+  next-same i precedes =
+      let found = some_below-find (near_before front i) n precedes in
+      let near = near-from front i found.0 found.2 in
+      let same : (j : ℕ) → j < n → later_in whole i j ≡ later_in front i j = λ j below. ap (λ b. nat_lt i j && b)
+      (same_selected j below) in
+      let there = some_below-some (later_in whole i) n found.0 found.1
+      (and-both (nat_lt i found.0) (LineSearch.is_selected k meaning whole found.0) (lt-ltb i found.0 near.beyond)
+      (same_selected found.0 found.1 ∙ near.chosen)) in
+      ap (first_below (later_in whole i)) more_lines ∙ first_below-far (later_in whole i) n _ there
+      ∙ first_below-same (later_in whole i) (later_in front i) n same
+
+  -- a line before a match ends its turn with that match
+  through-same : (i : ℕ) → i < n → LineSearch.precedes_selected k meaning front i ≡ true
+      → (LineSearch.lines_through_next k meaning whole i ≡ LineSearch.lines_through_next k meaning front i)
+      × (LineSearch.lines_through_next k meaning front i ≤ n)
+  through-same i below precedes = go (first_below (later_in front i) n) refl
+    where
+      go : (o : Option ℕ) → first_below (later_in front i) n ≡ o
+          → (LineSearch.lines_through_next k meaning whole i ≡ LineSearch.lines_through_next k meaning front i)
+          × (LineSearch.lines_through_next k meaning front i ≤ n)
+      go None is = let next = next-same i precedes in (rw (next, is) refl, rw is (omega arith))
+      go (Some u) is = let next = next-same i precedes in let inside = (first_below-of (later_in front i) n u is).0 in
+          (rw (next, is) refl, rw is (omega arith))
+
+  -- a line that is reported as one before a match is before one
+  kind-before : (i : ℕ) → LineSearch.kind k meaning front i ≡ Some (in_context Before) → LineSearch.precedes_selected k meaning front i
+      ≡ true
+  kind-before i is = go (selected i) (LineSearch.follows_selected k meaning front i)
+      (LineSearch.precedes_selected k meaning front i) k.passthru refl refl refl refl
+    where
+      go : (a b c d : Bool) → selected i ≡ a → LineSearch.follows_selected k meaning front i ≡ b
+          → LineSearch.precedes_selected k meaning front i ≡ c → k.passthru ≡ d → LineSearch.precedes_selected k meaning front i ≡ true
+      go true b c d p q r t = absurd (let at = rw p at is in cc)
+      go false true c d p q r t = absurd (let at = rw (p, q) at is in cc)
+      go false false true d p q r t = r
+      go false false false true p q r t = absurd (let at = rw (p, q, r, t) at is in cc)
+      go false false false false p q r t = absurd (let at = rw (p, q, r, t) at is in cc)
+
+  -- the turn of a line of the front ends at the same offset in the whole
+  end-same : (i : ℕ) → i < n → (kd : Option Kind) → LineSearch.kind k meaning front i ≡ kd → LineSearch.turn_end k meaning whole i kd
+      ≡ LineSearch.turn_end k meaning front i kd
+  end-same i below None is = prefix.start-same join append k meaning front back closed (i + 1) (omega arith)
+  end-same i below (Some matched) is = prefix.start-same join append k meaning front back closed (i + 1) (omega arith)
+  end-same i below (Some (in_context Before)) is =
+      let through = through-same i below (kind-before i is) in
+      ap (LineSearch.start k meaning whole) through.0 ∙ prefix.start-same join append k meaning front back closed
+      (LineSearch.lines_through_next k meaning front i) through.1
+  end-same i below (Some (in_context After)) is = prefix.start-same join append k meaning front back closed (i + 1) (omega arith)
+  end-same i below (Some (in_context Other)) is = prefix.start-same join append k meaning front back closed (i + 1) (omega arith)
+
+  -- a line of the front has the same report in the whole
+  report-same : (i : ℕ) → i < n → (kd : Option Kind) → LineSearch.kind k meaning front i ≡ kd → LineSearch.report k meaning whole i kd
+      ≡ LineSearch.report k meaning front i kd
+  report-same i below None is = refl
+  report-same i below (Some matched) is =
+      let number = prefix.number-same join append k meaning front back closed i (omega arith) in
+      let start = prefix.start-same join append k meaning front back closed i (omega arith) in
+      let line = prefix.line-same join append k meaning front back closed i below in
+      let end = end-same i below (Some matched) is in
+      ap (λ x. record {
+        call = matches x (LineSearch.start k meaning whole i)
+            (LineSearch.line k meaning whole i);
+        end = LineSearch.turn_end k meaning whole i (Some matched);
+      } ∷ []) number
+      ∙ ap (λ x. record {
+        call = matches (LineSearch.number k meaning front i) x
+            (LineSearch.line k meaning whole i);
+        end = LineSearch.turn_end k meaning whole i (Some matched);
+      } ∷ []) start
+      ∙ ap (λ x. record {
+        call = matches (LineSearch.number k meaning front i)
+            (LineSearch.start k meaning front i) x;
+        end = LineSearch.turn_end k meaning whole i (Some matched);
+      } ∷ []) line
+      ∙ ap (λ x. record {
+        call = matches (LineSearch.number k meaning front i) (LineSearch.start k meaning front i)
+            (LineSearch.line k meaning front i);
+        end = x;
+      } ∷ []) end
+  report-same i below (Some (in_context c)) is =
+      let number = prefix.number-same join append k meaning front back closed i (omega arith) in
+      let start = prefix.start-same join append k meaning front back closed i (omega arith) in
+      let line = prefix.line-same join append k meaning front back closed i below in
+      let end = end-same i below (Some (in_context c)) is in
+      ap (λ x. record {
+        call = context c x (LineSearch.start k meaning whole i)
+            (LineSearch.line k meaning whole i);
+        end = LineSearch.turn_end k meaning whole i (Some (in_context c));
+      } ∷ []) number
+      ∙ ap (λ x. record {
+        call = context c (LineSearch.number k meaning front i) x
+            (LineSearch.line k meaning whole i);
+        end = LineSearch.turn_end k meaning whole i (Some (in_context c));
+      } ∷ []) start
+      ∙ ap (λ x. record {
+        call = context c (LineSearch.number k meaning front i)
+            (LineSearch.start k meaning front i) x;
+        end = LineSearch.turn_end k meaning whole i (Some (in_context c));
+      } ∷ []) line
+      ∙ ap (λ x. record {
+        call = context c (LineSearch.number k meaning front i) (LineSearch.start k meaning front i)
+            (LineSearch.line k meaning front i);
+        end = x;
+      } ∷ []) end
+
+  -- how many lines have a turn, in the front and in the whole
+  abbrev count_front : ℕ
+  count_front = LineSearch.turn_count k meaning front
+
+  abbrev count_whole : ℕ
+  count_whole = LineSearch.turn_count k meaning whole
+
+  -- a bound is the same, or there is none in the front and a far one in the whole
+  abbrev Bounds : Option ℕ → Option ℕ → Type 0
+  Bounds far near = (far ≡ near) ⊎ ((near ≡ None) × (u : ℕ) × (far ≡ Some u) × (n ≤ u))
+
+  -- such bounds give as many lines of the front
+  bounded : (far near : Option ℕ) → Bounds far near → (x : ℕ) → min (at_most far x) n ≡ at_most near (min x n)
+  bounded far near (inl same) x = rw same (go near)
+    where
+      go : (o : Option ℕ) → min (at_most o x) n ≡ at_most o (min x n)
+      go None = refl
+      go (Some u) = omega arith
+  bounded far near (inr (none, u, is, past)) x = rw (none, is) (omega arith)
+
+  -- a bound by the first line that passes is such a bound
+  first-bounds : (f : ℕ → ℕ) → ((u : ℕ) → u ≤ f u) → (p q : ℕ → Bool) → ((j : ℕ) → j < n → p j ≡ q j)
+      → Bounds (option_map f (first_below p all)) (option_map f (first_below q n))
+  first-bounds f grows p q same = go (some_below p n) refl (first_below p (n + length (lines (byte_of k.line_terminator) back))) refl
+    where
+      sum : first_below p all ≡ first_below p (n + length (lines (byte_of k.line_terminator) back))
+      sum = ap (first_below p) more_lines
+
+      go : (b : Bool) → some_below p n ≡ b → (o : Option ℕ) → first_below p (n + length (lines (byte_of k.line_terminator) back)) ≡ o
+          → Bounds (option_map f (first_below p all)) (option_map f (first_below q n))
+      go true is o at = inl (ap (option_map f) (sum ∙ first_below-far p n _ is ∙ first_below-same p q n same))
+      go false is None at =
+          let none : first_below q n ≡ None = first_below-nowhere q n (sym (some_below-same p q n same) ∙ is) in
+          inl (ap (option_map f) (sum ∙ at ∙ sym none))
+      go false is (Some u) at =
+          let none : first_below q n ≡ None = first_below-nowhere q n (sym (some_below-same p q n same) ∙ is) in
+          let far = first_below-late p n (n + length (lines (byte_of k.line_terminator) back)) u is at in
+          let more = grows u in
+          inr (ap (option_map f) none, f u, ap (option_map f) (sum ∙ at), omega (arith, far, more))
+
+  -- so is the bound by the stop
+  stop-bounds : Bounds (LineSearch.turns_by_stop k meaning whole) (LineSearch.turns_by_stop k meaning front)
+  stop-bounds = go k.stop_on_nonmatch refl
+    where
+      go : (b : Bool) → k.stop_on_nonmatch ≡ b
+          → Bounds (LineSearch.turns_by_stop k meaning whole) (LineSearch.turns_by_stop k meaning front)
+      go false is = inl (rw is refl)
+      go true is = rw is (first-bounds suc (λ u. omega arith) (LineSearch.ends_chosen k meaning whole)
+          (LineSearch.ends_chosen k meaning front) (λ j below. prefix.ends_chosen-same join append k meaning front back closed j below))
+
+  -- so is the bound by the limit
+  limit-bounds : (limit : Option ℕ)
+      → Bounds (LineSearch.turns_by_limit k meaning whole limit) (LineSearch.turns_by_limit k meaning front limit)
+  limit-bounds None = inl refl
+  limit-bounds (Some zero) = inl refl
+  limit-bounds (Some (suc l)) = first-bounds (λ m. suc (m + k.after_context)) (λ u. omega arith) (LineSearch.fills_limit k meaning whole)
+      (LineSearch.fills_limit k meaning front) (λ j below. prefix.fills_limit-same join append k meaning front back closed j below)
+
+  -- so is that bound if passthru lifts it
+  passthru-bounds : Bounds (if k.passthru then None else LineSearch.turns_by_limit k meaning whole k.max_matches)
+      (if k.passthru then None else LineSearch.turns_by_limit k meaning front k.max_matches)
+  passthru-bounds = go k.passthru refl
+    where
+      go : (b : Bool) → k.passthru ≡ b → Bounds (if k.passthru then None else LineSearch.turns_by_limit k meaning whole k.max_matches)
+          (if k.passthru then None else LineSearch.turns_by_limit k meaning front k.max_matches)
+      go true is = inl (rw is refl)
+      go false is = rw is (limit-bounds k.max_matches)
+
+  -- the lines of the front that have a turn are the same
+  pub count-same : min count_whole n ≡ count_front
+  count-same =
+      let all_in : min all n ≡ n = omega (arith, more_lines) in
+      bounded _ _ passthru-bounds (at_most (LineSearch.turns_by_stop k meaning whole) all)
+      ∙ ap (at_most (if k.passthru then None else LineSearch.turns_by_limit k meaning front k.max_matches))
+      (bounded _ _ stop-bounds all ∙ ap (at_most (LineSearch.turns_by_stop k meaning front)) all_in)
+
+  -- up to line i the kinds are the same
+  abbrev Same : ℕ → Type 0
+  Same i = (j : ℕ) → j < i → LineSearch.kind k meaning whole j ≡ LineSearch.kind k meaning front j
+
+  -- a line up to there is reported in both or in neither
+  reported-same : (i j : ℕ) → Same (i + 1) → i < count_front → j ≤ i → LineSearch.is_reported k meaning whole j
+      ≡ LineSearch.is_reported k meaning front j
+  reported-same i j same below inside =
+      let near : nat_lt j count_front ≡ true = lt-ltb j count_front (omega arith) in
+      let far : nat_lt j count_whole ≡ true = lt-ltb j count_whole (omega (arith, count-same)) in
+      let kinds = same j (omega arith) in
+      ap (λ b. b && is_some (LineSearch.kind k meaning whole j)) (far ∙ sym near) ∙ ap (λ o. nat_lt j count_front && is_some o) kinds
+
+  -- a break may come before the same kinds
+  breaks-same : (o : Option Kind) → can_break k meaning whole o ≡ can_break k meaning front o
+  breaks-same None = refl
+  breaks-same (Some matched) = refl
+  breaks-same (Some (in_context Before)) = refl
+  breaks-same (Some (in_context After)) = refl
+  breaks-same (Some (in_context Other)) = refl
+
+  -- a line up to there has the same calls
+  turns_at-same : (i : ℕ) → Same (i + 1) → i < count_front → LineSearch.turns_at k meaning whole i ≡ LineSearch.turns_at k meaning front i
+  turns_at-same i same below =
+      let inside : i < n = omega (arith, count-same) in
+      let kinds = same i (omega arith) in
+      let last = reported-same i (i - 1) same below (omega arith) in
+      let some = some_below-same (LineSearch.is_reported k meaning whole) (LineSearch.is_reported k meaning front) i
+      (λ j less. reported-same i j same below (omega arith)) in
+      let end = end-same i inside (LineSearch.kind k meaning front i) refl in
+      let report = report-same i inside (LineSearch.kind k meaning front i) refl in
+      let breaks_same : LineSearch.breaks_before k meaning whole i ≡ LineSearch.breaks_before k meaning front i =
+      ap (λ o. nat_lt 0 (k.after_context + k.before_context) && can_break k meaning whole o
+      && not (LineSearch.is_reported k meaning whole (i - 1)) && some_below (LineSearch.is_reported k meaning whole) i) kinds
+      ∙ ap (λ b. nat_lt 0 (k.after_context + k.before_context) && can_break k meaning whole (LineSearch.kind k meaning front i) && not b
+      && some_below (LineSearch.is_reported k meaning whole) i) last
+      ∙ ap (λ b. nat_lt 0 (k.after_context + k.before_context) && can_break k meaning whole (LineSearch.kind k meaning front i)
+      && not (LineSearch.is_reported k meaning front (i - 1)) && b) some
+      ∙ ap (λ b. nat_lt 0 (k.after_context + k.before_context) && b && not (LineSearch.is_reported k meaning front (i - 1))
+      && some_below (LineSearch.is_reported k meaning front) i) (breaks-same (LineSearch.kind k meaning front i)) in
+      let F : Bool → ℕ → List Turn → List Turn = λ b e ts. if b then record { call = breaks; end = e } ∷ ts else ts in
+      ap (λ b. F b (LineSearch.turn_end k meaning whole i (LineSearch.kind k meaning whole i))
+      (LineSearch.report k meaning whole i (LineSearch.kind k meaning whole i))) breaks_same
+      ∙ ap (λ o. F (LineSearch.breaks_before k meaning front i) (LineSearch.turn_end k meaning whole i o)
+      (LineSearch.report k meaning whole i o)) kinds
+      ∙ ap (λ e. F (LineSearch.breaks_before k meaning front i) e
+      (LineSearch.report k meaning whole i (LineSearch.kind k meaning front i))) end
+      ∙ ap (λ ts. F (LineSearch.breaks_before k meaning front i)
+      (LineSearch.turn_end k meaning front i (LineSearch.kind k meaning front i)) ts) report
+
+  -- the kinds are the same, or up to a first late line
+  split : (t : ℕ) → t ≤ n → Same t ⊎ ((i : ℕ) × (i < t) × IsLate i × Same i)
+  split zero inside = inl (λ j below. absurd (omega arith))
+  split (suc t) inside = elim (split t (omega arith)) [
+    | inr late ↦ inr (late.0, omega (arith, late.1), late.2, late.3)
+    | inl same ↦ elim (kind-same t (omega arith)) [
+      | inr late ↦ inr (t, omega arith, late, same)
+      | inl here ↦ inl (λ j below. ⊎_elim (λ less. same j less) (λ out. at_last j t here below out) (cases_lt j t))
+    ]
+  ]
+    where
+      at_last : (j t : ℕ) → LineSearch.kind k meaning whole t ≡ LineSearch.kind k meaning front t → j < suc t → t ≤ j
+          → LineSearch.kind k meaning whole j ≡ LineSearch.kind k meaning front j
+      at_last j t here below out =
+          let is : t ≡ j = omega arith in
+          subst (λ j. LineSearch.kind k meaning whole j ≡ LineSearch.kind k meaning front j) is here
+
+  -- up to a line before which the kinds are the same, the calls are the same
+  joined-same : (m : ℕ) → Same m → m ≤ count_front → joined_from (LineSearch.turns_at k meaning whole) 0 m
+      ≡ joined_from (LineSearch.turns_at k meaning front) 0 m
+  joined-same m same inside =
+      joined_from-equal (LineSearch.turns_at k meaning whole) (LineSearch.turns_at k meaning front) 0 m
+      (λ j low high. turns_at-same j (λ q less. same q (omega arith)) (omega arith))
+
+  module _ (built : k.passthru ≡ true → k.before_context ≡ 0) where
+    -- the calls over the front begin those over the whole
+    pub turns-begin : (later : List Turn) × (LineSearch.turns k meaning whole ≡ LineSearch.turns k meaning front ++ later)
+    turns-begin = elim (split count_front (omega (arith, count-same))) [
+      | inl same ↦
+          let sum : count_whole ≡ count_front + (count_whole - count_front) = omega (arith, count-same) in (
+            joined_from (LineSearch.turns_at k meaning whole) (0 + count_front) (count_whole - count_front),
+            ap (λ m. record { call = begins; end = 0 } ∷ joined_from (LineSearch.turns_at k meaning whole) 0 m) sum
+                ∙ ap (λ ts. record { call = begins; end = 0 } ∷ ts)
+                (joined_from-add (LineSearch.turns_at k meaning whole) 0 count_front (count_whole - count_front)
+                ∙ ap (λ ts. ts ++ joined_from (LineSearch.turns_at k meaning whole) (0 + count_front) (count_whole - count_front))
+                (joined-same count_front same (omega arith))),
+          )
+      | inr late ↦
+          let i = late.0 in
+          let below = late.1 in
+          let sum : count_whole ≡ i + (count_whole - i) = omega (arith, count-same, late.1) in
+          let part : count_front ≡ i + (count_front - i) = omega (arith, late.1) in
+          let here = joined-same i late.3 (omega (arith, late.1)) in
+          let empty = joined_from-none (LineSearch.turns_at k meaning front) (0 + i) (count_front - i)
+          (λ j low high. late-turns built i j late.2 (omega arith) (omega (arith, count-same, late.1))) in (
+            joined_from (LineSearch.turns_at k meaning whole) (0 + i) (count_whole - i),
+            ap (λ m. record { call = begins; end = 0 } ∷ joined_from (LineSearch.turns_at k meaning whole) 0 m) sum
+                ∙ ap (λ ts. record { call = begins; end = 0 } ∷ ts)
+                (joined_from-add (LineSearch.turns_at k meaning whole) 0 i (count_whole - i)
+                ∙ ap (λ ts. ts ++ joined_from (LineSearch.turns_at k meaning whole) (0 + i) (count_whole - i))
+                (here ∙ sym (append-nil _) ∙ ap (λ ts. joined_from (LineSearch.turns_at k meaning front) 0 i ++ ts) (sym empty)
+                ∙ sym (joined_from-add (LineSearch.turns_at k meaning front) 0 i (count_front - i))
+                ∙ ap (joined_from (LineSearch.turns_at k meaning front) 0) (sym part))),
+          )
+    ]

@@ -1,0 +1,14 @@
+pub mod BoolLemmas
+pub mod ListLemmas
+pub mod BelowLemmas
+pub mod SinkRunLemmas
+pub mod SinkFoldLemmas
+pub mod LimitLemmas
+pub mod ContextLemmas
+pub mod LineStartLemmas
+pub mod TurnEndLemmas
+pub mod FirstLineLemmas
+pub mod FirstTurnLemmas
+pub mod SearchLawLemmas
+pub mod MatchCallLemmas
+pub mod WorkedExamples

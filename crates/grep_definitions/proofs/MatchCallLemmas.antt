@@ -1,0 +1,249 @@
+-- The matches that are reported, and the selected lines.
+use Rattle.std.proofs.Common.{◌≡◌, ℕ, zero, suc, ◌+◌, ◌-◌, ◌<◌, ◌≤◌, Bool, true, false, not, ◌&&◌, List, [], ◌∷◌, ◌++◌, length, refl, sym}
+use Rattle.std.proofs.Common.{◌∙◌, ap, arith, ⊎_elim, Option, Some, None, if◌then◌else◌}
+use Rattle.std.proofs.lemmas.Bool.{ltb-true, eqb-true, cases_Bool, cases_lt}
+use Rattle.std.proofs.lemmas.List.{map-append, length-append, length-map}
+use Rattle.std.proofs.lemmas.List.Elements.{filter-append}
+use Rattle.std.proofs.lemmas.Option.{slice_get-map}
+use Rattle.std.specs.Prelude.{IfSome, map, nat_lt, slice_get}
+use Rattle.std.specs.Option.{option_map}
+use Rattle.grep_matcher.specs.Terminators.{byte_of}
+use Rattle.grep_matcher.specs.Matching.{Meaning}
+use Rattle.grep_lines.specs.LineLaws.{LinesAreNumbered}
+use Rattle.grep_definitions.specs.LineTurns.{number_of}
+use Rattle.grep_report.specs.declared.sink_context.SinkContextKind.TheVariants.{Before, After, Other}
+use Rattle.grep_definitions.specs.Settings.{Settings}
+use Rattle.grep_definitions.specs.SinkCalls.{Call, Turn, breaks, matches}
+use Rattle.grep_definitions.specs.SearchLaws.{is_match, match_calls, match_of, selected_lines}
+use Rattle.grep_definitions.specs.Below.{some_below, count_below, first_below, is_below, is_at, joined_from}
+use Rattle.grep_definitions.specs.LineSearch
+use Rattle.grep_definitions.specs.LineSearch.{Kind, matched, in_context}
+use Rattle.grep_definitions.proofs.BoolLemmas.{both_true, not_false}
+use Rattle.grep_definitions.proofs.BelowLemmas.{first_below-of, first_below-late, first_below-none, first_below-more}
+use Rattle.grep_definitions.proofs.BelowLemmas.{count_below-le, at_most-above, joined_from-add, joined_from-more, joined_from-none}
+use Rattle.grep_definitions.proofs.BelowLemmas.{joined_from-equal}
+use Rattle.grep_definitions.proofs.SearchLawLemmas.{turn_count-le}
+
+-- the numbers below n that pass, each as a list of one
+abbrev pub passing : (ℕ → Bool) → ℕ → List ℕ
+passing p i = if p i then i ∷ [] else []
+
+-- as many numbers pass as are listed
+pub length-passing : (p : ℕ → Bool) (n : ℕ) → length (joined_from (passing p) 0 n) ≡ count_below p n
+length-passing p zero = refl
+length-passing p (suc n) =
+    let next : suc n ≡ n + 1 = omega arith in
+    let sum : 0 + n ≡ n = omega arith in
+    ap (λ m. length (joined_from (passing p) 0 m)) next ∙ ap length (joined_from-more (passing p) 0 n)
+    ∙ length-append (joined_from (passing p) 0 n) (passing p (0 + n))
+    ∙ (rw (sum, length-passing p n) (go (p n)))
+  where
+    go : (b : Bool) → count_below p n + length (if b then n ∷ [] else []) ≡ (if b then count_below p n + 1 else count_below p n)
+    go true = refl
+    go false = omega arith
+
+-- the first that is listed is the first that passes
+slice_get-front : (xs ys : List ℕ) (x : ℕ) → slice_get xs 0 ≡ Some x → slice_get (xs ++ ys) 0 ≡ Some x
+slice_get-front [] ys x is = absurd (cc)
+slice_get-front (y ∷ xs) ys x is = is
+
+slice_get-back : (xs ys : List ℕ) → slice_get xs 0 ≡ None → slice_get (xs ++ ys) 0 ≡ slice_get ys 0
+slice_get-back [] ys is = refl
+slice_get-back (y ∷ xs) ys is = absurd (cc)
+
+pub first-passing : (p : ℕ → Bool) (n : ℕ) → slice_get (joined_from (passing p) 0 n) 0 ≡ first_below p n
+first-passing p zero = refl
+first-passing p (suc n) =
+    let next : suc n ≡ n + 1 = omega arith in
+    let sum : 0 + n ≡ n = omega arith in
+    ap (λ m. slice_get (joined_from (passing p) 0 m) 0) next ∙ ap (λ xs. slice_get xs 0) (joined_from-more (passing p) 0 n)
+    ∙ (rw sum (go (first_below p n) refl (first-passing p n)))
+  where
+    last : (b : Bool) → slice_get (if b then n ∷ [] else []) 0 ≡ (if b then Some n else None)
+    last true = refl
+    last false = refl
+
+    go : (found : Option ℕ) → first_below p n ≡ found → slice_get (joined_from (passing p) 0 n) 0 ≡ first_below p n
+        → slice_get (joined_from (passing p) 0 n ++ passing p n) 0 ≡ first_below p (suc n)
+    go None is before =
+        let none : some_below p n ≡ false = first_below-none p n is in
+        slice_get-back (joined_from (passing p) 0 n) (passing p n) (before ∙ is) ∙ (rw none (last (p n)))
+    go (Some q) is before =
+        slice_get-front (joined_from (passing p) 0 n) (passing p n) q (before ∙ is)
+        ∙ sym (first_below-more p n (suc n) q (omega arith) is)
+
+-- what is made of each number that passes
+map-passing : {X : Type 0} (f : ℕ → X) (p : ℕ → Bool) (i n : ℕ)
+    → map f (joined_from (passing p) i n) ≡ joined_from (λ j. if p j then f j ∷ [] else []) i n
+map-passing f p i zero = refl
+map-passing f p i (suc n) =
+    map-append f (passing p i) (joined_from (passing p) (i + 1) n) ∙ (rw (map-passing f p (i + 1) n) (go (p i)))
+  where
+    go : (b : Bool) → map f (if b then i ∷ [] else []) ++ joined_from (λ j. if p j then f j ∷ [] else []) (i + 1) n
+        ≡ (if b then f i ∷ [] else []) ++ joined_from (λ j. if p j then f j ∷ [] else []) (i + 1) n
+    go true = refl
+    go false = refl
+
+-- the matches of joined calls
+match_calls-append : (front back : List Turn) → match_calls (front ++ back) ≡ match_calls front ++ match_calls back
+match_calls-append front back =
+    rw (map-append (λ turn. turn.call) front back) (filter-append is_match (map (λ turn. turn.call) front) (map (λ turn. turn.call) back))
+
+match_calls-joined : (f : ℕ → List Turn) (i n : ℕ) → match_calls (joined_from f i n) ≡ joined_from (λ j. match_calls (f j)) i n
+match_calls-joined f i zero = refl
+match_calls-joined f i (suc n) =
+    match_calls-append (f i) (joined_from f (i + 1) n) ∙ ap (λ xs. match_calls (f i) ++ xs) (match_calls-joined f (i + 1) n)
+
+module _ (numbered : LinesAreNumbered) (k : Settings) (meaning : Meaning) (bytes : List ℕ) where
+  abbrev n : ℕ
+  n = LineSearch.line_count k meaning bytes
+
+  abbrev hits : ℕ → Bool
+  hits = LineSearch.hits k meaning bytes
+
+  abbrev selected : ℕ → Bool
+  selected = LineSearch.is_selected k meaning bytes
+
+  abbrev fills : ℕ → Bool
+  fills = LineSearch.fills_limit k meaning bytes
+
+  abbrev ends : ℕ → Bool
+  ends = LineSearch.ends_chosen k meaning bytes
+
+  -- a selected line comes before each bound of the turns
+  stop-bound : (i : ℕ) → selected i ≡ true → IfSome (LineSearch.turns_by_stop k meaning bytes) (λ b. i < b)
+  stop-bound i taken = go k.stop_on_nonmatch (both_true (LineSearch.is_chosen k meaning bytes i) _ taken).1
+    where
+      inner : (found : Option ℕ) → first_below ends n ≡ found → some_below ends i ≡ false → IfSome (option_map suc found) (λ b. i < b)
+      inner None is none = tt
+      inner (Some u) is none = let late = first_below-late ends i n u none is in omega arith
+
+      go : (s : Bool) → not (s && some_below ends i) ≡ true → IfSome (if s then option_map suc (first_below ends n) else None)
+          (λ b. i < b)
+      go false is = tt
+      go true is = inner (first_below ends n) refl (not_false (some_below ends i) is)
+
+  limit-bound : (i : ℕ) → LineSearch.is_chosen k meaning bytes i ≡ true
+      → IfSome (if k.passthru then None else LineSearch.turns_by_limit k meaning bytes k.max_matches) (λ b. i < b)
+  limit-bound i taken = go k.passthru
+    where
+      room : is_below (count_below hits i) k.max_matches ≡ true
+      room = (both_true (hits i) _ taken).1
+
+      late : (limit m : ℕ) → k.max_matches ≡ Some limit → fills m ≡ true → i ≤ m
+      late limit m is full =
+          let parts = both_true (LineSearch.is_chosen k meaning bytes m) _ full in
+          let at : is_at (count_below hits m + 1) (Some limit) ≡ true = rw is at parts.1 in
+          let below : is_below (count_below hits i) (Some limit) ≡ true = rw is at room in
+          let same = eqb-true _ _ at in
+          let less = ltb-true _ _ below in
+          let hit : hits m ≡ true = (both_true (hits m) _ parts.0).0 in
+          let next : count_below hits (suc m) ≡ count_below hits m + 1 = rw hit refl in
+          ⊎_elim (λ before. let more = count_below-le hits (suc m) i (omega arith) in absurd (omega arith)) (λ over. over) (cases_lt m i)
+
+      inner : (limit : ℕ) (found : Option ℕ) → k.max_matches ≡ Some limit → first_below fills n ≡ found
+          → IfSome (option_map (λ m. suc (m + k.after_context)) found) (λ b. i < b)
+      inner limit None is none = tt
+      inner limit (Some m) is found = let bound = late limit m is (first_below-of fills n m found).1 in omega arith
+
+      by : (o : Option ℕ) → k.max_matches ≡ o → IfSome (LineSearch.turns_by_limit k meaning bytes o) (λ b. i < b)
+      by None is = tt
+      by (Some zero) is =
+          let below : is_below (count_below hits i) (Some zero) ≡ true = rw is at room in
+          let less = ltb-true _ _ below in absurd (omega arith)
+      by (Some (suc x)) is = inner (suc x) (first_below fills n) is refl
+
+      go : (s : Bool) → IfSome (if s then None else LineSearch.turns_by_limit k meaning bytes k.max_matches) (λ b. i < b)
+      go true = tt
+      go false = by k.max_matches refl
+
+  -- it is one of the lines
+  selected-inside : (i : ℕ) → selected i ≡ true → i < n
+  selected-inside i taken =
+      let hit = both_true (hits i) _ (both_true (LineSearch.is_chosen k meaning bytes i) _ taken).0 in
+      ltb-true i n (both_true (nat_lt i n) _ hit.0).0
+
+  -- so it has a turn
+  pub selected-turned : (i : ℕ) → selected i ≡ true → i < LineSearch.turn_count k meaning bytes
+  selected-turned i taken =
+      let chosen = both_true (LineSearch.is_chosen k meaning bytes i) _ taken in
+      at_most-above (if k.passthru then None else LineSearch.turns_by_limit k meaning bytes k.max_matches) i _ (limit-bound i chosen.0)
+      (at_most-above (LineSearch.turns_by_stop k meaning bytes) i n (stop-bound i taken) (selected-inside i taken))
+
+  -- the match of a line, if it is selected
+  abbrev match_at : ℕ → List Call
+  match_at i = if selected i then match_of k meaning bytes i ∷ [] else []
+
+  -- and the number i + 1
+  number-is : (i : ℕ) → selected i ≡ true → LineSearch.number k meaning bytes i ≡ number_of k i
+  number-is i taken = rw (numbered (byte_of k.line_terminator) bytes i (selected-inside i taken)) refl
+
+  match_calls-kind : (i : ℕ) → match_calls (LineSearch.report k meaning bytes i (LineSearch.kind k meaning bytes i)) ≡ match_at i
+  match_calls-kind i =
+      go (selected i) (LineSearch.follows_selected k meaning bytes i) (LineSearch.precedes_selected k meaning bytes i) k.passthru
+      (number-is i)
+    where
+      go : (a b c d : Bool) → (a ≡ true → LineSearch.number k meaning bytes i ≡ number_of k i)
+          → match_calls (LineSearch.report k meaning bytes i (if a then Some matched
+          else (if b then Some (in_context After)
+          else (if c then Some (in_context Before) else (if d then Some (in_context Other) else None)))))
+          ≡ (if a then match_of k meaning bytes i ∷ [] else [])
+      go true b c d same =
+          ap (λ number. matches number (LineSearch.start k meaning bytes i) (LineSearch.line k meaning bytes i) ∷ []) (same refl)
+      go false true c d same = refl
+      go false false true d same = refl
+      go false false false true same = refl
+      go false false false false same = refl
+
+  abbrev report : ℕ → List Turn
+  report i = LineSearch.report k meaning bytes i (LineSearch.kind k meaning bytes i)
+
+  match_calls-line : (i : ℕ) → match_calls (LineSearch.turns_at k meaning bytes i) ≡ match_at i
+  match_calls-line i =
+      go (LineSearch.breaks_before k meaning bytes i) (LineSearch.turn_end k meaning bytes i (LineSearch.kind k meaning bytes i))
+    where
+      go : (b : Bool) (end : ℕ) → match_calls (if b then record { call = breaks; end = end } ∷ report i else report i) ≡ match_at i
+      go true end = match_calls-kind i
+      go false end = match_calls-kind i
+
+  -- the matches are those of the selected lines, also past the last turn
+  pub match_calls-turns : match_calls (LineSearch.turns k meaning bytes) ≡ map (match_of k meaning bytes) (selected_lines k meaning bytes)
+  match_calls-turns =
+      let t : ℕ = LineSearch.turn_count k meaning bytes in
+      let all : t + (n - t) ≡ n = omega (arith, turn_count-le k meaning bytes) in
+      let sum : 0 + t ≡ t = omega arith in
+      match_calls-joined (LineSearch.turns_at k meaning bytes) 0 t
+      ∙ joined_from-equal _ match_at 0 t (λ j low high. match_calls-line j)
+      ∙ sym (sym (ap (joined_from match_at 0) all) ∙ joined_from-add match_at 0 t (n - t)
+      ∙ ap (λ xs. joined_from match_at 0 t ++ xs) (joined_from-none match_at (0 + t) (n - t) (λ j low high. silent j (omega arith)))
+      ∙ append-none (joined_from match_at 0 t))
+      ∙ sym (map-passing (match_of k meaning bytes) selected 0 n)
+    where
+      silent : (j : ℕ) → LineSearch.turn_count k meaning bytes ≤ j → match_at j ≡ []
+      silent j over = ⊎_elim
+          (λ taken. let less = selected-turned j taken in absurd (omega arith))
+          (λ no. rw no refl)
+          (cases_Bool (selected j))
+
+      append-none : (xs : List Call) → xs ++ [] ≡ xs
+      append-none [] = refl
+      append-none (x ∷ xs) = ap (λ ys. x ∷ ys) (append-none xs)
+
+  pub length-match_calls : length (match_calls (LineSearch.turns k meaning bytes)) ≡ count_below selected n
+  length-match_calls =
+      ap length match_calls-turns ∙ length-map (selected_lines k meaning bytes) (match_of k meaning bytes) ∙ length-passing selected n
+
+  pub first-match_calls : slice_get (match_calls (LineSearch.turns k meaning bytes)) 0
+      ≡ option_map (match_of k meaning bytes) (first_below selected n)
+  first-match_calls =
+      ap (λ xs. slice_get xs 0) match_calls-turns ∙ slice_get-map (match_of k meaning bytes) (selected_lines k meaning bytes) 0
+      ∙ ap (option_map (match_of k meaning bytes)) (first-passing selected n)
+
+-- no more numbers pass than there are
+pub count_below-few : (p : ℕ → Bool) (n : ℕ) → count_below p n ≤ n
+count_below-few p zero = omega arith
+count_below-few p (suc n) = go (p n) (count_below-few p n)
+  where
+    go : (b : Bool) → count_below p n ≤ n → (if b then count_below p n + 1 else count_below p n) ≤ suc n
+    go true before = omega arith
+    go false before = omega arith

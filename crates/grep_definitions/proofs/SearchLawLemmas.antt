@@ -1,0 +1,204 @@
+-- What the calls of a line, and of the lines together, tell.
+use Rattle.std.proofs.Common.{◌≡◌, ℕ, zero, suc, ◌+◌, ◌-◌, ◌<◌, ◌≤◌, Bool, true, false, List, [], ◌∷◌, ◌++◌, length, slice_index, refl, sym, ap, subst, ◌∙◌, arith, ◌⊎◌, ⊎_elim, inl, inr, Option, Some, None, append_assoc, if◌then◌else◌}
+use Rattle.std.proofs.Math.Bool.{and-false}
+use Rattle.std.proofs.lemmas.Bool.{le-leb, ltb-true}
+use Rattle.std.proofs.lemmas.List.Sums.{sum_by-append}
+use Rattle.std.specs.Prelude.{nat_lt, count_by, cond}
+use Rattle.std.specs.List.Sorted.{IsStrictlyIncreasing}
+use Rattle.grep_matcher.specs.Terminators.{byte_of}
+use Rattle.grep_matcher.specs.Matching.{Meaning}
+use Rattle.grep_lines.specs.LineLaws.{LinesJoin}
+use Rattle.grep_report.specs.declared.sink_context.SinkContextKind.TheVariants.{Before, After, Other}
+use Rattle.grep_definitions.specs.Settings.{Settings}
+use Rattle.grep_definitions.specs.SinkCalls.{Turn, context, breaks}
+use Rattle.grep_definitions.specs.SearchLaws.{report_offsets, is_match, offset_of}
+use Rattle.grep_definitions.specs.Below.{count_below, at_most, joined_from}
+use Rattle.grep_definitions.specs.LineSearch
+use Rattle.grep_definitions.specs.LineSearch.{turns_at, Kind, matched, in_context}
+use Rattle.grep_definitions.proofs.BelowLemmas.{some_below-some, joined_from-more}
+use Rattle.grep_definitions.proofs.LineStartLemmas.{line_start-ascends}
+use Rattle.grep_definitions.proofs.BoolLemmas.{both_true}
+
+-- a bound never gives more
+pub at_most-le : (o : Option ℕ) (n : ℕ) → at_most o n ≤ n
+at_most-le None n = omega arith
+at_most-le (Some m) n = omega arith
+
+-- as many numbers pass as pass the weaker test, or fewer
+pub count_below-weaker : (p q : ℕ → Bool) (n : ℕ) → ((j : ℕ) → p j ≡ true → q j ≡ true) → count_below p n ≤ count_below q n
+count_below-weaker p q zero weaker = omega arith
+count_below-weaker p q (suc n) weaker = go (p n) (q n) (weaker n) (count_below-weaker p q n weaker)
+  where
+    go : (a b : Bool) → (a ≡ true → b ≡ true) → count_below p n ≤ count_below q n
+        → (if a then count_below p n + 1 else count_below p n) ≤ (if b then count_below q n + 1 else count_below q n)
+    go true true both before = omega arith
+    go true false both before = absurd (let never = both refl in cc)
+    go false true both before = omega arith
+    go false false both before = before
+
+-- a number in front of larger ones
+pub IsStrictlyIncreasing-cons : (x : ℕ) (xs : List ℕ) → IsStrictlyIncreasing xs → (0 < length xs → x < slice_index xs 0)
+    → IsStrictlyIncreasing (x ∷ xs)
+IsStrictlyIncreasing-cons x xs rises above zero below = above (omega arith)
+IsStrictlyIncreasing-cons x xs rises above (suc i) below = let next : suc i + 1 ≡ suc (i + 1) = omega arith in
+    rw next (rises i (omega arith))
+
+-- the offsets of some calls, and then those of the later calls
+pub report_offsets-append : (front back : List Turn) → report_offsets (front ++ back) ≡ report_offsets front ++ report_offsets back
+report_offsets-append [] back = refl
+report_offsets-append (turn ∷ front) back =
+    ap (λ rest. offset_of turn.call ++ rest) (report_offsets-append front back)
+    ∙ sym (append_assoc (offset_of turn.call) (report_offsets front) (report_offsets back))
+
+module _ (k : Settings) (meaning : Meaning) (bytes : List ℕ) where
+  -- how many lines there are, where each starts, whether it is chosen, and its calls
+  abbrev n : ℕ
+  n = LineSearch.line_count k meaning bytes
+
+  abbrev start : ℕ → ℕ
+  start = LineSearch.start k meaning bytes
+
+  abbrev chosen : ℕ → Bool
+  chosen = LineSearch.is_chosen k meaning bytes
+
+  abbrev T : ℕ → List Turn
+  T = turns_at k meaning bytes
+
+  -- no more lines have a turn than there are
+  pub turn_count-le : LineSearch.turn_count k meaning bytes ≤ n
+  turn_count-le =
+      omega (
+        arith,
+        at_most-le (if k.passthru then None else LineSearch.turns_by_limit k meaning bytes k.max_matches)
+            (at_most (LineSearch.turns_by_stop k meaning bytes) n),
+        at_most-le (LineSearch.turns_by_stop k meaning bytes) n,
+      )
+
+  -- a line after a selected one that isn't selected itself, is reported as the line after it
+  pub turns_at-follows : (i j : ℕ) → LineSearch.is_selected k meaning bytes i ≡ false → LineSearch.is_selected k meaning bytes j ≡ true
+      → j < i → i - j ≤ k.after_context → T i
+      ≡ record {
+        call = context After (LineSearch.number k meaning bytes i) (start i) (LineSearch.line k meaning bytes i);
+        end = start
+            (i + 1);
+      } ∷ []
+  turns_at-follows i j misses hit less close =
+      let near = le-leb (i - j) k.after_context close in
+      let follows : LineSearch.follows_selected k meaning bytes i ≡ true = some_below-some _ i j less (rw (near, hit) refl) in
+      let kind : LineSearch.kind k meaning bytes i ≡ Some (in_context After) = rw (misses, follows) refl in
+      rw (kind, and-false (nat_lt 0 (k.after_context + k.before_context))) refl
+
+  -- the offset of a line's report is its start
+  offsets-report : (i : ℕ) (kind : Option Kind) → (report_offsets (LineSearch.report k meaning bytes i kind) ≡ [])
+      ⊎ (report_offsets (LineSearch.report k meaning bytes i kind) ≡ start i ∷ [])
+  offsets-report i None = inl refl
+  offsets-report i (Some matched) = inr refl
+  offsets-report i (Some (in_context c)) = inr refl
+
+  -- a line has one report at most, at its start
+  pub offsets-line : (i : ℕ) → (report_offsets (T i) ≡ []) ⊎ (report_offsets (T i) ≡ start i ∷ [])
+  offsets-line i = go (LineSearch.breaks_before k meaning bytes i)
+    where
+      go : (b : Bool) → (report_offsets
+          (if b then record { call = breaks; end = LineSearch.turn_end k meaning bytes i (LineSearch.kind k meaning bytes i) }
+          ∷ LineSearch.report k meaning bytes i (LineSearch.kind k meaning bytes i) else LineSearch.report k meaning bytes i
+          (LineSearch.kind k meaning bytes i)) ≡ [])
+          ⊎ (report_offsets (if b then record
+          { call = breaks; end = LineSearch.turn_end k meaning bytes i (LineSearch.kind k meaning bytes i) } ∷ LineSearch.report k meaning
+          bytes i (LineSearch.kind k meaning bytes i) else LineSearch.report k meaning bytes i (LineSearch.kind k meaning bytes i))
+          ≡ start i ∷ [])
+      go true = offsets-report i (LineSearch.kind k meaning bytes i)
+      go false = offsets-report i (LineSearch.kind k meaning bytes i)
+
+  -- offsets that ascend, from a bound on
+  abbrev AscendFrom : ℕ → List ℕ → Type 0
+  AscendFrom low offsets = IsStrictlyIncreasing offsets × (0 < length offsets → low ≤ slice_index offsets 0)
+
+  -- the reports of some lines ascend
+  pub offsets-ascend : LinesJoin → (i m : ℕ) → i + m ≤ n → AscendFrom (start i) (report_offsets (joined_from T i m))
+  offsets-ascend join i zero inside = (λ j below. absurd (omega arith), λ some. absurd (omega arith))
+  offsets-ascend join i (suc m) inside =
+      let P : List ℕ → Type 0 = AscendFrom (start i) in
+      let later = offsets-ascend join (i + 1) m (omega arith) in
+      let rises : start i < start (i + 1) = line_start-ascends join (byte_of k.line_terminator) bytes i (omega arith) in
+      rw (report_offsets-append (T i) (joined_from T (i + 1) m))
+      (⊎_elim
+      (λ none. rw none (later.0, λ some. let low = later.1 some in omega arith))
+      (λ one. rw one (IsStrictlyIncreasing-cons (start i) _ later.0 (λ some. let low = later.1 some in omega arith), λ some. omega arith))
+      (offsets-line i))
+
+  -- how many matches some calls tell
+  abbrev matches_in : List Turn → ℕ
+  matches_in = count_by (λ turn. is_match turn.call)
+
+  -- a line reported as a match is selected
+  kind-matched : (i : ℕ) → LineSearch.kind k meaning bytes i ≡ Some matched → LineSearch.is_selected k meaning bytes i ≡ true
+  kind-matched i is = go (LineSearch.is_selected k meaning bytes i) (LineSearch.follows_selected k meaning bytes i)
+      (LineSearch.precedes_selected k meaning bytes i) k.passthru is
+    where
+      go : (a b c d : Bool)
+          → (if a then Some matched
+          else (if b then Some (in_context After)
+          else (if c then Some (in_context Before) else (if d then Some (in_context Other) else None)))) ≡ Some matched → a ≡ true
+      go true b c d is = refl
+      go false true c d is = absurd (cc)
+      go false false true d is = absurd (cc)
+      go false false false true is = absurd (cc)
+      go false false false false is = absurd (cc)
+
+  -- a report tells one match at most, and only where its line is chosen
+  matches-report : (i : ℕ) (kind : Option Kind) → LineSearch.kind k meaning bytes i ≡ kind
+      → matches_in (LineSearch.report k meaning bytes i kind) ≤ (if chosen i then 1 else 0)
+  matches-report i None is = omega arith
+  matches-report i (Some matched) is =
+      let here : chosen i ≡ true = (both_true (chosen i) _ (kind-matched i is)).0 in
+      rw here (omega arith)
+  matches-report i (Some (in_context c)) is = omega arith
+
+  -- only a chosen line is reported as a match, and once
+  matches-line : (i : ℕ) → matches_in (T i) ≤ (if chosen i then 1 else 0)
+  matches-line i = go (LineSearch.breaks_before k meaning bytes i)
+    where
+      go : (b : Bool) → matches_in
+          (if b then record { call = breaks; end = LineSearch.turn_end k meaning bytes i (LineSearch.kind k meaning bytes i) }
+          ∷ LineSearch.report k meaning bytes i (LineSearch.kind k meaning bytes i) else LineSearch.report k meaning bytes i
+          (LineSearch.kind k meaning bytes i)) ≤ (if chosen i then 1 else 0)
+      go true = matches-report i (LineSearch.kind k meaning bytes i) refl
+      go false = matches-report i (LineSearch.kind k meaning bytes i) refl
+
+  -- some first lines tell no more matches than lines are chosen there
+  matches-lines : (m : ℕ) → matches_in (joined_from T 0 m) ≤ count_below chosen m
+  matches-lines zero = omega arith
+  matches-lines (suc m) =
+      let next : suc m ≡ m + 1 = omega arith in
+      let sum : 0 + m ≡ m = omega arith in
+      let more : matches_in (joined_from T 0 (suc m)) ≡ matches_in (joined_from T 0 m) + matches_in (T m) =
+      ap (λ x. matches_in (joined_from T 0 x)) next ∙ ap matches_in (joined_from-more T 0 m)
+      ∙ sum_by-append (λ turn. cond (is_match turn.call) 1 0) (joined_from T 0 m) (T (0 + m))
+      ∙ ap (λ x. matches_in (joined_from T 0 m) + matches_in (T x)) sum in
+      let P : ℕ → Type 0 = λ x. x ≤ count_below chosen (suc m) in
+      subst P (sym more) (go (chosen m) (matches-line m) (matches-lines m))
+    where
+      go : (b : Bool) → matches_in (T m) ≤ (if b then 1 else 0) → matches_in (joined_from T 0 m) ≤ count_below chosen m
+          → matches_in (joined_from T 0 m) + matches_in (T m) ≤ (if b then count_below chosen m + 1 else count_below chosen m)
+      go true here before = omega arith
+      go false here before = omega arith
+
+  -- no more lines are chosen than the limit has
+  chosen-few : (limit m : ℕ) → k.max_matches ≡ Some limit → count_below chosen m ≤ limit
+  chosen-few limit zero is = omega arith
+  chosen-few limit (suc m) is = go (chosen m) refl (chosen-few limit m is)
+    where
+      go : (b : Bool) → chosen m ≡ b → count_below chosen m ≤ limit
+          → (if b then count_below chosen m + 1 else count_below chosen m) ≤ limit
+      go true here before =
+          let room = (both_true (LineSearch.hits k meaning bytes m) _ here).1 in
+          let less : nat_lt (count_below (LineSearch.hits k meaning bytes) m) limit ≡ true = rw is at room in
+          let fewer = count_below-weaker chosen (LineSearch.hits k meaning bytes) m
+          (λ j yes. (both_true (LineSearch.hits k meaning bytes j) _ yes).0) in
+          omega (arith, ltb-true _ _ less)
+      go false here before = before
+
+  -- the calls tell no more matches than the limit has
+  pub matches-few : (limit m : ℕ) → k.max_matches ≡ Some limit → matches_in (joined_from T 0 m) ≤ limit
+  matches-few limit m is = omega (arith, matches-lines m, chosen-few limit m is)

@@ -1,0 +1,179 @@
+-- Where the turns of calls end, against where lines start.
+use Rattle.std.proofs.Common.{◌≡◌, ℕ, zero, suc, ◌+◌, ◌-◌, ◌<◌, ◌≤◌, Bool, true, false, ◌&&◌, List, [], ◌∷◌}
+use Rattle.std.proofs.Common.{refl, sym, ◌∙◌, arith, ⊎_elim, Option, Some, None, if◌then◌else◌}
+use Rattle.std.proofs.Math.Bool.{and-false}
+use Rattle.std.proofs.lemmas.Bool.{ltb-true, le-ltb, cases_lt, cases_Bool}
+use Rattle.std.proofs.lemmas.List.Elements.{All-nil, All-cons}
+use Rattle.std.specs.Prelude.{nat_le, nat_lt, All, slice_index_or}
+use Rattle.grep_matcher.specs.Terminators.{byte_of}
+use Rattle.grep_matcher.specs.Lines.{lines, line_start}
+use Rattle.grep_matcher.specs.Matching.{Meaning}
+use Rattle.grep_report.specs.declared.sink_context.SinkContextKind.TheVariants.{Before, After, Other}
+use Rattle.grep_definitions.specs.Settings.{Settings}
+use Rattle.grep_definitions.specs.SinkCalls.{Call, Turn, matches, context, breaks}
+use Rattle.grep_definitions.specs.Below.{first_below}
+use Rattle.grep_definitions.specs.LineSearch
+use Rattle.grep_definitions.specs.LineSearch.{turns_at, Kind, matched, in_context}
+use Rattle.grep_definitions.specs.LineTurns.{one_turn, broken_turns, pending_turns, match_turns, listed_turns, listed_number, number_of, is_gap}
+use Rattle.grep_definitions.proofs.BelowLemmas.{some_below-some, some_below-find, first_below-of, first_below-none}
+use Rattle.grep_definitions.proofs.LineStartLemmas.{line_start-next}
+use Rattle.grep_definitions.proofs.ContextLemmas.{IsNear}
+use Rattle.grep_definitions.proofs.BoolLemmas.{both_true, clash}
+use Rattle.grep_definitions.proofs.ListLemmas.{All-joined_from}
+
+-- a later line starts no earlier
+pub line_start-le : (t : ℕ) (bytes : List ℕ) (i j : ℕ) → i ≤ j → line_start t bytes i ≤ line_start t bytes j
+line_start-le t bytes i j low = at (j - i) j (omega arith)
+  where
+    at : (d m : ℕ) → m ≡ i + d → line_start t bytes i ≤ line_start t bytes m
+    at zero m is = let same : m ≡ i = omega arith in rw same (omega arith)
+    at (suc d) m is =
+        let next : m ≡ (i + d) + 1 = omega arith in
+        rw next (omega (arith, at d (i + d) refl, line_start-next t bytes (i + d)))
+
+-- a call and the break before it end alike
+pub ends-one : (call : Call) (end : ℕ) → All (λ turn. turn.end ≡ end) (one_turn call end)
+ends-one call end =
+    All-cons (λ x. x.end ≡ end) (record { call = call; end = end }) [] refl (All-nil (λ x. x.end ≡ end))
+
+ends-broken : (gap : Bool) (call : Call) (end : ℕ) → All (λ turn. turn.end ≡ end) (broken_turns gap call end)
+ends-broken true call end =
+    All-cons (λ x. x.end ≡ end) (record { call = breaks; end = end }) (one_turn call end) refl (ends-one call end)
+ends-broken false call end = ends-one call end
+
+module _ (k : Settings) (bytes : List ℕ) (v i end : ℕ) where
+  abbrev EndThere : List Turn → Type 0
+  EndThere = All (λ turn. turn.end ≡ end)
+
+  -- the calls of a chosen line and of those before it end with that line
+  ends-listed : (q : ℕ) → EndThere (listed_turns k bytes v i end q)
+  ends-listed q =
+      go (nat_le (i - q) k.before_context)
+      (context Before (listed_number k bytes q) (line_start (byte_of k.line_terminator) bytes q)
+      (slice_index_or (lines (byte_of k.line_terminator) bytes) q []))
+    where
+      go : (near : Bool) (call : Call) → EndThere (if near then broken_turns (is_gap k v q i) call end else [])
+      go true call = ends-broken (is_gap k v q i) call end
+      go false call = All-nil (λ x. x.end ≡ end)
+
+  pub ends-pending : (j n : ℕ) → EndThere (pending_turns k bytes v i end j n)
+  ends-pending j n = All-joined_from (λ x. x.end ≡ end) (listed_turns k bytes v i end) j n (λ q low high. ends-listed q)
+
+  pub ends-match : (offset : ℕ) (line : List ℕ) → EndThere (match_turns k v i offset end line)
+  ends-match offset line = ends-broken (nat_lt 0 k.after_context && is_gap k v i i) (matches (number_of k i) offset line) end
+
+module _ (k : Settings) (meaning : Meaning) (bytes : List ℕ) where
+  abbrev start : ℕ → ℕ
+  start = LineSearch.start k meaning bytes
+
+  -- a line's turn ends no earlier than the line
+  turn_end-late : (q : ℕ) (kind : Option Kind) → start (q + 1) ≤ LineSearch.turn_end k meaning bytes q kind
+  turn_end-late q None = omega arith
+  turn_end-late q (Some matched) = omega arith
+  turn_end-late q (Some (in_context After)) = omega arith
+  turn_end-late q (Some (in_context Other)) = omega arith
+  turn_end-late q (Some (in_context Before)) = go (first_below later (LineSearch.line_count k meaning bytes)) refl
+    where
+      later : ℕ → Bool
+      later j = nat_lt q j && LineSearch.is_selected k meaning bytes j
+
+      go : (found : Option ℕ) → first_below later (LineSearch.line_count k meaning bytes) ≡ found
+          → start (q + 1) ≤ start (LineSearch.lines_through_next k meaning bytes q)
+      go None is = rw is (omega arith)
+      go (Some j) is =
+          let found = first_below-of later (LineSearch.line_count k meaning bytes) j is in
+          let above = ltb-true q j (both_true (nat_lt q j) (LineSearch.is_selected k meaning bytes j) found.1).0 in
+          rw is (line_start-le (byte_of k.line_terminator) bytes (q + 1) (j + 1) (omega (arith, above)))
+
+  -- if the turn of a line ends no earlier than some offset, each of its calls does so
+  ends-turns_at : (bound j : ℕ)
+      → ((kind : Kind) → LineSearch.kind k meaning bytes j ≡ Some kind → bound ≤ LineSearch.turn_end k meaning bytes j (Some kind))
+      → All (λ turn. bound ≤ turn.end) (turns_at k meaning bytes j)
+  ends-turns_at bound j late = go (LineSearch.kind k meaning bytes j) refl
+    where
+      P : Turn → Type 0
+      P turn = bound ≤ turn.end
+
+      end : Kind → ℕ
+      end kind = LineSearch.turn_end k meaning bytes j (Some kind)
+
+      report : (kind : Kind) → bound ≤ end kind → All P (LineSearch.report k meaning bytes j (Some kind))
+      report matched low = All-cons P _ [] low (All-nil P)
+      report (in_context c) low = All-cons P _ [] low (All-nil P)
+
+      choose : (b : Bool) (turn : Turn) (rest : List Turn) → P turn → All P rest → All P (if b then turn ∷ rest else rest)
+      choose true turn rest low all = All-cons P turn rest low all
+      choose false turn rest low all = all
+
+      go : (kind : Option Kind) → LineSearch.kind k meaning bytes j ≡ kind → All P (turns_at k meaning bytes j)
+      go None is = rw (is, and-false (nat_lt 0 (k.after_context + k.before_context))) (All-nil P)
+      go (Some kind) is =
+          let low = late kind is in
+          rw is (choose _ (record { call = breaks; end = end kind }) (LineSearch.report k meaning bytes j (Some kind)) low
+          (report kind low))
+
+  -- the calls of a line end no earlier than the line
+  pub ends-late : (i q : ℕ) → i ≤ q → All (λ turn. start (i + 1) ≤ turn.end) (turns_at k meaning bytes q)
+  ends-late i q low = ends-turns_at (start (i + 1)) q
+      (λ kind is. omega (
+        arith,
+        turn_end-late q (Some kind),
+        line_start-le (byte_of k.line_terminator) bytes (i + 1) (q + 1)
+            (omega arith),
+      ))
+
+  -- those of a line that was passed unreported can only belong to a later match
+  pub ends-passed : (v i left : ℕ) → IsNear k meaning bytes v i left → (j : ℕ) → v ≤ j → j < i
+      → All (λ turn. start (i + 1) ≤ turn.end) (turns_at k meaning bytes j)
+  ends-passed v i left near j low high = ends-turns_at (start (i + 1)) j late
+    where
+      n : ℕ
+      n = LineSearch.line_count k meaning bytes
+
+      later : ℕ → Bool
+      later q = nat_lt j q && LineSearch.is_selected k meaning bytes q
+
+      nearer : ℕ → Bool
+      nearer q = nat_lt j q && nat_le (q - j) k.before_context && LineSearch.is_selected k meaning bytes q
+
+      missed : (q : ℕ) → q < i → later q ≡ false
+      missed q less = ⊎_elim
+          (λ above. let unselected = (near.passed q (omega arith) less).0 in rw unselected (and-false (nat_lt j q)))
+          (λ below. let no = le-ltb j q below in rw no refl)
+          (cases_lt j q)
+
+      nearer-later : (q : ℕ) → nearer q ≡ true → later q ≡ true
+      nearer-later q is =
+          let both = both_true (nat_lt j q && nat_le (q - j) k.before_context) (LineSearch.is_selected k meaning bytes q) is in
+          let above = (both_true (nat_lt j q) (nat_le (q - j) k.before_context) both.0).0 in
+          let chosen = both.1 in
+          rw (above, chosen) refl
+
+      next : (first : Option ℕ) → first_below later n ≡ first → LineSearch.precedes_selected k meaning bytes j ≡ true
+          → start (i + 1) ≤ start (LineSearch.lines_through_next k meaning bytes j)
+      next None is precedes =
+          let found = some_below-find nearer n precedes in
+          absurd (clash (some_below-some later n found.0 found.1 (nearer-later found.0 found.2)) (first_below-none later n is))
+      next (Some q) is precedes =
+          let passes = (first_below-of later n q is).1 in
+          let far : i ≤ q = ⊎_elim (λ less. absurd (clash passes (missed q less))) (λ le. le) (cases_lt q i) in
+          rw is (line_start-le (byte_of k.line_terminator) bytes (i + 1) (q + 1) (omega arith))
+
+      out : (LineSearch.is_selected k meaning bytes j ≡ false) × (LineSearch.follows_selected k meaning bytes j ≡ false)
+      out = near.passed j low high
+
+      plain : k.passthru ≡ false
+      plain = ⊎_elim (λ yes. absurd (omega (arith, near.bare yes))) (λ no. no) (cases_Bool k.passthru)
+
+      late : (kind : Kind) → LineSearch.kind k meaning bytes j ≡ Some kind
+          → start (i + 1) ≤ LineSearch.turn_end k meaning bytes j (Some kind)
+      late kind is = go (LineSearch.precedes_selected k meaning bytes j) refl
+        where
+          go : (b : Bool) → LineSearch.precedes_selected k meaning bytes j ≡ b
+              → start (i + 1) ≤ LineSearch.turn_end k meaning bytes j (Some kind)
+          go false alone = absurd
+              (let none : LineSearch.kind k meaning bytes j ≡ None = rw (out.0, out.1, alone, plain) refl in let e = sym none ∙ is in cc)
+          go true precedes =
+              let before : LineSearch.kind k meaning bytes j ≡ Some (in_context Before) = rw (out.0, out.1, precedes) refl in
+              let same : kind ≡ in_context Before = cc in
+              rw same (next (first_below later n) refl precedes)

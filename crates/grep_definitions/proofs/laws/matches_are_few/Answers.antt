@@ -1,0 +1,14 @@
+use Rattle.std.proofs.Common.{arith}
+use Rattle.grep_matcher.specs.Terminators.{byte_of}
+use Rattle.grep_definitions.specs.LineSearch.{is_selected, line_count}
+use Rattle.grep_definitions.proofs.MatchCallLemmas.{length-match_calls, count_below-few}
+use Rattle.grep_definitions.proofs.laws.matches_are_few.Goals as goal
+
+pub returns : goal.returns
+returns c = λ k meaning bytes.
+    omega (
+      arith,
+      length-match_calls c.lines_are_numbered.ensures k meaning bytes,
+      count_below-few (is_selected k meaning bytes) (line_count k meaning bytes),
+      c.lines_are_few.ensures (byte_of k.line_terminator) bytes,
+    )

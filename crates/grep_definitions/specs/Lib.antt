@@ -1,0 +1,11 @@
+pub mod Settings
+pub mod SinkCalls
+pub mod LineTurns
+pub mod Below
+pub mod LineSearch
+pub mod SinkRuns
+pub mod Refusals
+pub mod Searches
+pub mod ReaderSearches
+pub mod SearchLaws
+pub mod SinkFolds

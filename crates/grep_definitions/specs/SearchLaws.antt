@@ -1,0 +1,133 @@
+-- Laws of the defined calls.
+use Rattle.std.specs.Prelude.{◌≡◌, ℕ, ◌+◌, ◌-◌, ◌<◌, ◌≤◌, Bool, true, false, not, if◌then◌else◌}
+use Rattle.std.specs.Prelude.{List, [], ◌∷◌, ◌++◌, length, slice_index, count_by, filter, map, slice_get, Some, None}
+use Rattle.std.specs.Option.{option_map}
+use Rattle.std.specs.List.Sorted.{IsStrictlyIncreasing}
+use Rattle.grep_matcher.specs.Terminators.{byte_of}
+use Rattle.grep_matcher.specs.Matching.{Meaning}
+use Rattle.grep_report.specs.declared.sink_context.SinkContextKind.TheVariants.{After}
+use Rattle.grep_definitions.specs.Settings.{Settings}
+use Rattle.grep_definitions.specs.SinkCalls.{Call, Turn, begins, matches, context, breaks, binary_data, finishes}
+use Rattle.grep_definitions.specs.Below.{count_below, first_below, joined_from}
+use Rattle.grep_definitions.specs.LineTurns.{number_of}
+use Rattle.grep_definitions.specs.LineSearch.{turns, turns_at, turn_count, line_count, byte_count}
+use Rattle.grep_definitions.specs.LineSearch.{number, start, line, is_selected}
+
+-- where the line of a report begins; the other calls have no offset
+abbrev pub offset_of : Call → List ℕ
+offset_of begins = []
+offset_of (matches number offset line) = offset ∷ []
+offset_of (context kind number offset line) = offset ∷ []
+offset_of breaks = []
+offset_of (binary_data offset) = []
+offset_of (finishes count binary) = []
+
+abbrev pub report_offsets : List Turn → List ℕ
+report_offsets [] = []
+report_offsets (turn ∷ later) = offset_of turn.call ++ report_offsets later
+
+abbrev pub is_match : Call → Bool
+is_match begins = false
+is_match (matches number offset line) = true
+is_match (context kind number offset line) = false
+is_match breaks = false
+is_match (binary_data offset) = false
+is_match (finishes count binary) = false
+
+-- the calls that report a match, in order
+abbrev pub match_calls : List Turn → List Call
+match_calls turns = filter is_match (map (λ turn. turn.call) turns)
+
+-- the reports ascend, and no line is reported twice
+abbrev pub ReportsAscend : Type 0
+ReportsAscend =
+    (settings : Settings) (meaning : Meaning) (bytes : List ℕ)
+    → IsStrictlyIncreasing (report_offsets (turns settings meaning bytes))
+
+-- a line that has a turn, isn't selected and is in reach of an earlier selected line is reported as the line
+-- after it, even if it is also before a later one
+abbrev pub AfterWins : Type 0
+AfterWins =
+    (settings : Settings) (meaning : Meaning) (bytes : List ℕ) (i j : ℕ) → i < turn_count settings meaning bytes
+    → is_selected settings meaning bytes i ≡ false → is_selected settings meaning bytes j ≡ true
+    → j < i → i - j ≤ settings.after_context
+    → turns_at settings meaning bytes i
+    ≡ record {
+      call = context After (number settings meaning bytes i) (start settings meaning bytes i)
+          (line settings meaning bytes i);
+      end = start settings meaning bytes (i + 1);
+    } ∷ []
+
+-- without limit and stop, a search and its inversion select complementary lines
+abbrev pub InversionComplements : Type 0
+InversionComplements =
+    (settings : Settings) (meaning : Meaning) (bytes : List ℕ) (i : ℕ)
+    → settings.max_matches ≡ None → settings.stop_on_nonmatch ≡ false → i < line_count settings meaning bytes
+    → is_selected (record settings { invert_match = not settings.invert_match }) meaning bytes i
+    ≡ not (is_selected settings meaning bytes i)
+
+-- the calls over some first lines begin the calls over all lines, under settings as built
+abbrev pub FirstLinesBegin : Type 0
+FirstLinesBegin =
+    (settings : Settings) (meaning : Meaning) (front back : List ℕ)
+    → (0 < length front → slice_index front (length front - 1) ≡ byte_of settings.line_terminator)
+    → (settings.passthru ≡ true → settings.before_context ≡ 0)
+    → (later : List Turn) × (turns settings meaning (front ++ back) ≡ turns settings meaning front ++ later)
+
+-- no more matches are reported than the limit has
+abbrev pub AtMostLimit : Type 0
+AtMostLimit =
+    (settings : Settings) (meaning : Meaning) (bytes : List ℕ) (limit : ℕ) → settings.max_matches ≡ Some limit
+    → count_by (λ turn. is_match turn.call) (turns settings meaning bytes) ≤ limit
+
+-- if each line has a turn, the byte count is the length
+abbrev pub WholeCount : Type 0
+WholeCount =
+    (settings : Settings) (meaning : Meaning) (bytes : List ℕ)
+    → turn_count settings meaning bytes ≡ line_count settings meaning bytes
+    → byte_count settings meaning bytes ≡ length bytes
+
+-- line i has the number i + 1, if lines are numbered
+abbrev pub LinesAreNumbered : Type 0
+LinesAreNumbered =
+    (settings : Settings) (meaning : Meaning) (bytes : List ℕ) (i : ℕ) → i < line_count settings meaning bytes
+    → number settings meaning bytes i ≡ number_of settings i
+
+-- the call that reports line i as a match: with the number i + 1, if lines are numbered
+abbrev pub match_of : Settings → Meaning → List ℕ → ℕ → Call
+match_of settings meaning bytes i =
+    matches (number_of settings i) (start settings meaning bytes i) (line settings meaning bytes i)
+
+-- the selected lines, in order
+abbrev pub selected_lines : Settings → Meaning → List ℕ → List ℕ
+selected_lines settings meaning bytes =
+    joined_from (λ i. if is_selected settings meaning bytes i then i ∷ [] else []) 0
+    (line_count settings meaning bytes)
+
+-- the matches that are reported are the selected lines, in order
+abbrev pub MatchesAreSelected : Type 0
+MatchesAreSelected =
+    (settings : Settings) (meaning : Meaning) (bytes : List ℕ)
+    → match_calls (turns settings meaning bytes)
+    ≡ map (match_of settings meaning bytes) (selected_lines settings meaning bytes)
+
+-- as many as there are selected lines
+abbrev pub MatchesAreCounted : Type 0
+MatchesAreCounted =
+    (settings : Settings) (meaning : Meaning) (bytes : List ℕ)
+    → length (match_calls (turns settings meaning bytes))
+    ≡ count_below (is_selected settings meaning bytes) (line_count settings meaning bytes)
+
+-- the first of them is the first selected line
+abbrev pub FirstMatchIsFirst : Type 0
+FirstMatchIsFirst =
+    (settings : Settings) (meaning : Meaning) (bytes : List ℕ)
+    → slice_get (match_calls (turns settings meaning bytes)) 0
+    ≡ option_map (match_of settings meaning bytes)
+    (first_below (is_selected settings meaning bytes) (line_count settings meaning bytes))
+
+-- there are at most as many as bytes
+abbrev pub MatchesAreFew : Type 0
+MatchesAreFew =
+    (settings : Settings) (meaning : Meaning) (bytes : List ℕ)
+    → length (match_calls (turns settings meaning bytes)) ≤ length bytes

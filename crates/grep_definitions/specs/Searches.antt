@@ -1,0 +1,66 @@
+-- What a search does to its sink, and what it returns.
+use Rattle.std.specs.Prelude.{◌≡◌, ℕ, ◌<◌, true, List, Option, Some, None, Result, Ok, Err}
+use Rattle.std.specs.declared.io.Error.{Error}
+use Rattle.grep_matcher.specs.Lines.{strip}
+use Rattle.grep_matcher.specs.Matching.{Meaning}
+use Rattle.grep_report.specs.declared.config_error.ConfigError.{ConfigError}
+use Rattle.grep_definitions.specs.Settings.{Settings}
+use Rattle.grep_definitions.specs.LineSearch.{turns, turns_through, turn_count, byte_count, line, start, is_open_at}
+use Rattle.grep_definitions.specs.Refusals.{refusal_of}
+use Rattle.grep_definitions.specs.SinkRuns.{Steps, all_true, AreReported, IsRun}
+
+-- how a sink's errors are made: of a message, by its text if that is known, of an io error, of a fault of the
+-- configuration
+pub record ErrorMakers (E : Type 0) : Type 1 where
+  pub is_message : Option (List ℕ) → E → Type 0
+  pub is_io : Error → E → Type 0
+  pub is_config : ConfigError → E → Type 0
+
+-- what is known of a matcher: what it means, which errors a haystack may get, and the text of an error if that is
+-- known
+pub record MatcherFacts (F : Type 0) : Type 1 where
+  pub meaning : Meaning
+  pub fails : List ℕ → F → Type 0
+  pub text_of : F → Option (List ℕ)
+
+module _ {S E F : Type 0} (step : Steps S E) (errors : ErrorMakers E) (matcher : MatcherFacts F) where
+  -- how a search ends in an error e, by its cause, and which calls the sink had
+  pub data IsFault (settings : Settings) (bytes : List ℕ) (old : S) : E → S → Type 0 where
+    -- the sink's own error: that of the run's last step
+    of_sink : {e : E} {new : S}
+        → IsRun step settings old (turns settings matcher.meaning bytes)
+        (byte_count settings matcher.meaning bytes) None
+        (Err e) new
+        → IsFault settings bytes old e new
+    -- the matcher's error, at line i: one that its stripped bytes may get. The line has a turn, and fewer lines before
+    -- it hit than the limit has. Just those calls were made whose turn ends at or before the start of that line
+    of_matcher : {e : E} {new : S} (i : ℕ) (error : F)
+        → i < turn_count settings matcher.meaning bytes
+        → is_open_at settings matcher.meaning bytes i ≡ true
+        → matcher.fails (strip settings.line_terminator (line settings matcher.meaning bytes i)) error
+        → errors.is_message (matcher.text_of error) e
+        → AreReported step settings old
+        (turns_through settings matcher.meaning bytes (start settings matcher.meaning bytes i)) all_true new
+        → IsFault settings bytes old e new
+
+  -- along the calls: `begin`, the reports with their breaks, and `finish`; or it ends in a fault
+  abbrev pub IsSearchedAlong : Settings → List ℕ → S → Result (Unit {0}) E → S → Type 0
+  IsSearchedAlong settings bytes old (Ok u) new =
+      IsRun step settings old (turns settings matcher.meaning bytes)
+      (byte_count settings matcher.meaning bytes) None
+      (Ok u) new
+  IsSearchedAlong settings bytes old (Err e) new = IsFault settings bytes old e new
+
+  -- an error: that of the refusal, which leaves the sink as it was, or a fault
+  abbrev pub IsFaultUnless : Option ConfigError → Settings → List ℕ → S → E → S → Type 0
+  IsFaultUnless (Some refusal) settings bytes old e new = errors.is_config refusal e × (new ≡ old)
+  IsFaultUnless None settings bytes old e new = IsFault settings bytes old e new
+
+  -- a search of some bytes: it isn't refused and runs along the calls, or it ends in an error
+  abbrev pub IsSearched : Settings → List ℕ → S → Result (Unit {0}) E → S → Type 0
+  IsSearched settings bytes old (Ok u) new =
+      (refusal_of settings matcher.meaning ≡ None)
+      × IsRun step settings old (turns settings matcher.meaning bytes)
+      (byte_count settings matcher.meaning bytes) None (Ok u) new
+  IsSearched settings bytes old (Err e) new =
+      IsFaultUnless (refusal_of settings matcher.meaning) settings bytes old e new

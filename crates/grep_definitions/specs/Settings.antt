@@ -1,0 +1,62 @@
+-- The settings of a search, as a sink sees them: all that there will ever be. `multi_line`, `binary_detection`,
+-- `encoding` and `bom_sniffing` have no setter yet: they are always at their defaults.
+use Rattle.std.specs.Prelude.{ℕ, Bool, true, false, Option, None, if◌then◌else◌}
+use Rattle.grep_matcher.specs.declared.line_terminator.LineTerminator.{LineTerminator}
+use Rattle.grep_matcher.specs.declared.line_terminator.LineTerminator.TheVariants.{Byte}
+use Rattle.grep_report.specs.declared.mmap_choice.MmapChoice.{MmapChoice}
+use Rattle.grep_report.specs.declared.mmap_choice.MmapChoice.TheVariants.{Never}
+
+-- what a search does about a binary byte: nothing, stop at it, or take it for the terminator; for now always nothing
+pub data Detection : Type 0 where
+  none : Detection
+  quit : ℕ → Detection
+  convert : ℕ → Detection
+
+-- how the input is encoded; for now no setting says it
+pub data Encoding : Type 0 where
+  utf8 : Encoding
+  utf16_little_endian : Encoding
+  utf16_big_endian : Encoding
+
+-- the settings, as a builder has them or as a searcher was built, where both contexts are 0 under passthru
+pub record Settings : Type 0 where
+  pub line_terminator : LineTerminator
+  pub invert_match : Bool
+  pub line_number : Bool
+  pub multi_line : Bool
+  pub after_context : ℕ
+  pub before_context : ℕ
+  pub passthru : Bool
+  pub heap_limit : Option ℕ
+  pub memory_map : MmapChoice
+  pub binary_detection : Detection
+  pub encoding : Option Encoding
+  pub bom_sniffing : Bool
+  pub stop_on_nonmatch : Bool
+  pub max_matches : Option ℕ
+
+-- as they are if nothing is set
+abbrev pub default_settings : Settings
+default_settings = record {
+  line_terminator = Byte 10;
+  invert_match = false;
+  line_number = true;
+  multi_line = false;
+  after_context = 0;
+  before_context = 0;
+  passthru = false;
+  heap_limit = None;
+  memory_map = Never;
+  binary_detection = none;
+  encoding = None;
+  bom_sniffing = true;
+  stop_on_nonmatch = false;
+  max_matches = None;
+}
+
+-- as a searcher is built with them: both contexts are 0 under passthru
+abbrev pub built : Settings → Settings
+built settings = record settings {
+  after_context = if settings.passthru then 0 else settings.after_context;
+  before_context = if settings.passthru then 0 else settings.before_context;
+}

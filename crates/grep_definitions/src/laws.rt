@@ -1,0 +1,82 @@
+//! Laws of the calls that a search makes, over their definition alone: each is the contract of a function that does
+//! nothing.
+ghost use Rattle.grep_definitions.specs.SearchLaws.{ReportsAscend, AfterWins, InversionComplements, FirstLinesBegin, AtMostLimit, WholeCount};
+ghost use Rattle.grep_definitions.specs.SearchLaws.{LinesAreNumbered, MatchesAreSelected};
+ghost use Rattle.grep_definitions.specs.SearchLaws.{MatchesAreCounted, FirstMatchIsFirst, MatchesAreFew};
+
+use grep_lines::laws::{lines_append, lines_are_few, lines_join};
+
+/// The reports ascend, and no line is reported twice.
+pub fn reports_ascend()
+    ensures { ReportsAscend }
+{
+    lines_join();
+}
+
+/// A line in reach of an earlier selected line is reported as the line after it, even if it is also before a later one.
+pub fn after_wins()
+    ensures { AfterWins }
+{}
+
+/// Without limit and stop, a search and its inversion select complementary lines.
+pub fn inversion_complements()
+    ensures { InversionComplements }
+{}
+
+/// The calls over some first lines, but `finish`, begin those over all lines, under settings as they are built.
+pub fn first_lines_begin()
+    ensures { FirstLinesBegin }
+{
+    lines_join();
+    lines_append();
+}
+
+/// No more matches are reported than the limit has.
+pub fn at_most_limit()
+    ensures { AtMostLimit }
+{}
+
+/// If every line has a turn, the byte count is the length: that of a search in which every call returns true.
+pub fn whole_count()
+    ensures { WholeCount }
+{
+    lines_join();
+}
+
+/// Line `i`, counted from 0, has the number `i + 1` if lines are numbered, and none if not.
+pub fn lines_are_numbered()
+    ensures { LinesAreNumbered }
+{
+    grep_lines::laws::lines_are_numbered();
+}
+
+/// The matches that are reported are the selected lines, in order: each with its number, its offset
+/// and its bytes.
+pub fn matches_are_selected()
+    ensures { MatchesAreSelected }
+{
+    grep_lines::laws::lines_are_numbered();
+}
+
+/// As many matches are reported as lines are selected.
+pub fn matches_are_counted()
+    ensures { MatchesAreCounted }
+{
+    grep_lines::laws::lines_are_numbered();
+}
+
+/// The first match that is reported is the first selected line; if no line is selected, there is
+/// none.
+pub fn first_match_is_first()
+    ensures { FirstMatchIsFirst }
+{
+    grep_lines::laws::lines_are_numbered();
+}
+
+/// At most as many matches are reported as there are bytes.
+pub fn matches_are_few()
+    ensures { MatchesAreFew }
+{
+    grep_lines::laws::lines_are_numbered();
+    lines_are_few();
+}

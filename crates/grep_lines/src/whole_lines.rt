@@ -1,0 +1,54 @@
+//! The whole lines that a match extends over.
+ghost use Rattle.std.specs.Prelude.{◌≡◌, ◌≤◌, ◌+◌, ◌-◌, length};
+ghost use Rattle.grep_matcher.specs.Lines.{line_start};
+ghost use Rattle.grep_lines.specs.Blocks.{block_start, block_end, lines_before};
+ghost use Rattle.grep_lines.specs.FirstLine.{IsLastStart};
+
+use grep_matcher::Match;
+use memchr::{memchr, memrchr};
+
+/// The whole lines that a match extends over. The caller ensures that the match lies within the bytes.
+///
+/// They start right after the last terminator before the match, or at 0. They end at the match's end if the match
+/// isn't empty and its last byte is the terminator; otherwise right after the first terminator at the match's end or
+/// later, or at the end of the bytes.
+pub fn locate(bytes: &[u8], terminator: u8, found: Match) -> Match
+    requires { found.1 ≤ length bytes.now }
+    ensures value { result
+        ≡ (block_start terminator bytes.now found, block_end terminator bytes.now found) }
+    ensures starts { result.0 ≤ found.0 }
+    ensures ends { found.1 ≤ result.1 }
+    ensures within { result.1 ≤ length bytes.now }
+{
+    let start = last_start(bytes, found.start(), terminator);
+    let end = found.end();
+    if !found.is_empty() && bytes[end - 1] == terminator {
+        return Match::new(start, end);
+    }
+    Match::new(start, line_end(bytes, end, terminator))
+}
+
+// The last line start up to a position.
+pub(crate) fn last_start(bytes: &[u8], position: usize, terminator: u8) -> usize
+    requires { position ≤ length bytes.now }
+    ensures { IsLastStart terminator bytes.now position result }
+{
+    match memrchr(terminator, &bytes[..position]) {
+        Some(at) => at + 1,
+        None => 0,
+    }
+}
+
+// The end of the line of a position: right after the first terminator from there on, or the end of the bytes.
+fn line_end(bytes: &[u8], position: usize, terminator: u8) -> usize
+    requires { position ≤ length bytes.now }
+    ensures above { position ≤ result }
+    ensures within { result ≤ length bytes.now }
+    ensures end { result
+        ≡ line_start terminator bytes.now (lines_before terminator bytes.now position + 1) }
+{
+    match memchr(terminator, &bytes[position..]) {
+        Some(at) => position + at + 1,
+        None => bytes.len(),
+    }
+}

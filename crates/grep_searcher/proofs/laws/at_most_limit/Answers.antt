@@ -1,6 +1,0 @@
-use Rattle.grep_searcher.specs.Reports.{turn_count}
-use Rattle.grep_searcher.proofs.LawLemmas.{matches-few}
-use Rattle.grep_searcher.proofs.laws.at_most_limit.Goals as goal
-
-pub returns : goal.returns
-returns c = λ k meaning bytes limit is. matches-few k meaning bytes limit (turn_count k meaning bytes) is

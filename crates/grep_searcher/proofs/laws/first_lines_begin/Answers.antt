@@ -1,5 +1,0 @@
-use Rattle.grep_searcher.proofs.BeginLemmas.{turns-begin}
-use Rattle.grep_searcher.proofs.laws.first_lines_begin.Goals as goal
-
-pub returns : goal.returns
-returns c = turns-begin c.lines_join.ensures c.lines_append.ensures

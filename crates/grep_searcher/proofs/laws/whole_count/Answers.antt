@@ -1,9 +1,0 @@
-use Rattle.std.proofs.Common.{ap, ◌∙◌}
-use Rattle.grep_matcher.specs.Terminators.{byte_of}
-use Rattle.grep_matcher.specs.Lines.{line_start}
-use Rattle.grep_searcher.proofs.LineStartLemmas.{line_start-last}
-use Rattle.grep_searcher.proofs.laws.whole_count.Goals as goal
-
-pub returns : goal.returns
-returns c = λ k meaning bytes same.
-    ap (line_start (byte_of k.line_terminator) bytes) same ∙ line_start-last c.lines_join.ensures (byte_of k.line_terminator) bytes

@@ -1,0 +1,4 @@
+pub mod CallTexts
+pub mod Counts
+pub mod Matchers
+pub mod Supplies

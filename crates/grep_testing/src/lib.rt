@@ -1,0 +1,13 @@
+//! What tests of searches share: a reader that gives its bytes in pieces, a sink that writes its calls as text, and
+//! matchers that do what no literal matcher does.
+#![tactic(auto)]
+
+mod counting;
+mod matchers;
+mod pieces;
+mod recorder;
+
+pub use counting::Counting;
+pub use matchers::{Either, Empty, FAILING_MESSAGE, Failing, Naming, Plain};
+pub use pieces::Pieces;
+pub use recorder::{RECORDER_MESSAGE, Recorder};

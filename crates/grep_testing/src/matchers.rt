@@ -1,0 +1,159 @@
+//! Matchers for tests, each with one thing that the literal matcher doesn't do.
+use grep_matcher::{ByteSet, LineTerminator, LiteralMatcher, Match, Matcher};
+use std::io;
+
+/// The matches of a matcher, with no terminator and no byte set. `shortest_match` and `is_match` are the defaults.
+#[derive(Drop)]
+pub struct Plain<M>(pub M);
+
+impl<M: Matcher> Matcher for Plain<M> {
+    type Error = M::Error;
+
+    ghost use Rattle.grep_testing.specs.Matchers.{plain};
+
+    ghost meaning = { λ m. plain (M.meaning m.0).first };
+
+    ghost fails = { λ m. M.fails m.0 };
+
+    fn find(&self, haystack: &[u8]) -> Result<Option<Match>, M::Error> {
+        self.0.find(haystack)
+    }
+
+    fn line_terminator(&self) -> Option<LineTerminator> {
+        None
+    }
+
+    fn non_matching_bytes(&self) -> Option<&ByteSet> {
+        None
+    }
+}
+
+/// The matches of a matcher, with a terminator that it names and no byte set.
+#[derive(Drop)]
+pub struct Naming<M> {
+    /// Whose matches these are.
+    pub matcher: M,
+    /// The terminator that is named.
+    pub terminator: LineTerminator,
+}
+
+impl<M: Matcher> Matcher for Naming<M> {
+    type Error = M::Error;
+
+    ghost use Rattle.grep_testing.specs.Matchers.{naming};
+
+    ghost meaning = { λ m. naming m.terminator (M.meaning m.matcher).first };
+
+    ghost fails = { λ m. M.fails m.matcher };
+
+    fn find(&self, haystack: &[u8]) -> Result<Option<Match>, M::Error> {
+        self.matcher.find(haystack)
+    }
+
+    fn line_terminator(&self) -> Option<LineTerminator> {
+        Some(self.terminator)
+    }
+
+    fn non_matching_bytes(&self) -> Option<&ByteSet> {
+        None
+    }
+}
+
+/// The pattern that the empty haystack alone matches. It never fails.
+#[derive(Drop)]
+pub struct Empty;
+
+impl Matcher for Empty {
+    type Error = io::Error;
+
+    ghost use Rattle.grep_testing.specs.Matchers.{plain, empty_match};
+
+    ghost meaning = { λ _. plain empty_match };
+
+    ghost fails = { λ _ _ _. ⊥ };
+
+    fn find(&self, haystack: &[u8]) -> Result<Option<Match>, io::Error> {
+        if haystack.is_empty() {
+            Ok(Some(Match::zero(0)))
+        } else {
+            Ok(None)
+        }
+    }
+
+    fn line_terminator(&self) -> Option<LineTerminator> {
+        None
+    }
+
+    fn non_matching_bytes(&self) -> Option<&ByteSet> {
+        None
+    }
+}
+
+/// Either of two literals. The match is that of the first literal, or that of the second if the first has none. It
+/// never fails.
+#[derive(Drop)]
+pub struct Either {
+    /// The literal that is looked for first.
+    pub first: LiteralMatcher<'static>,
+    /// The other literal.
+    pub second: LiteralMatcher<'static>,
+}
+
+impl Matcher for Either {
+    type Error = io::Error;
+
+    ghost use Rattle.grep_testing.specs.Matchers.{plain, either_match};
+
+    ghost meaning = { λ m. plain (either_match m.first m.second) };
+
+    ghost fails = { λ _ _ _. ⊥ };
+
+    fn find(&self, haystack: &[u8]) -> Result<Option<Match>, io::Error> {
+        match self.first.find(haystack)? {
+            Some(found) => Ok(Some(found)),
+            None => self.second.find(haystack),
+        }
+    }
+
+    fn line_terminator(&self) -> Option<LineTerminator> {
+        None
+    }
+
+    fn non_matching_bytes(&self) -> Option<&ByteSet> {
+        None
+    }
+}
+
+/// The error of `Failing`.
+pub const FAILING_MESSAGE: &str = "an exclamation mark";
+
+/// Fails at a haystack that holds `!`, with `FAILING_MESSAGE`, and matches any other at its start.
+#[derive(Drop)]
+pub struct Failing;
+
+impl Matcher for Failing {
+    type Error = &'static str;
+
+    ghost use Rattle.std.specs.Prelude.{Some, Contains};
+    ghost use Rattle.grep_testing.specs.Matchers.{plain};
+
+    ghost meaning = { λ _. plain (λ _. Some (0, 0)) };
+
+    ghost fails = { λ _ haystack _. Contains haystack 33 };
+
+    fn find(&self, haystack: &[u8]) -> Result<Option<Match>, &'static str> {
+        if haystack.contains(&b'!') {
+            Err(FAILING_MESSAGE)
+        } else {
+            Ok(Some(Match::zero(0)))
+        }
+    }
+
+    fn line_terminator(&self) -> Option<LineTerminator> {
+        None
+    }
+
+    fn non_matching_bytes(&self) -> Option<&ByteSet> {
+        None
+    }
+}

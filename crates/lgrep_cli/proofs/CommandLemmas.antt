@@ -1,0 +1,444 @@
+-- Arguments that are read one after another.
+use Rattle.std.proofs.Common.{◌≡◌, ℕ, List, [], ◌∷◌, length, refl, sym, ap, subst, ◌∙◌, inl, inr, Iter}
+use Rattle.std.specs.Prelude.{Bool, true, false, ◌||◌, ◌⊎◌, ◌↔◌, codes, String, Option, Some, None, Result, Ok, Err, IfOk, if◌then◌else◌, IsNone, IsSome, MatchOption, string_bytes}
+use Rattle.std.specs.Bool.{Decides}
+use Rattle.std.specs.Borrow.{Bor}
+use Rattle.std.specs.Global.{Global}
+use Rattle.std.specs.Option.{ok_or, option_and_then, option_map, option_or, unwrap_or}
+use Rattle.std.specs.Str.{bytes_eq}
+use Rattle.std.proofs.Math.Bool.{or-false}
+use Rattle.std.proofs.lemmas.Slice.Eq.{bytes_eq-Decides}
+use Rattle.lgrep_cli.specs.declared.options.Options.{Options}
+use Rattle.lgrep_cli.specs.declared.options.OptionsFault.{OptionsFault}
+use Rattle.lgrep_cli.specs.declared.options.OptionsFault.TheVariants.{Usage, Memory}
+use Rattle.lgrep_cli.specs.CommandLine.{Request, AreOptionsOf, AskFor, IsLast, bare, is_dashed, literal_only, with_number, request_of, text_of, texts, with_invert, with_passthru, with_after, with_before, with_max}
+use Rattle.lgrep_cli.specs.Numerals.{number_of}
+
+-- what a request comes to
+pub record Values : Type 0 where
+  pub invert : Bool
+  pub after : ℕ
+  pub before : ℕ
+  pub passthru : Bool
+  pub max : Option ℕ
+  pub literal : List ℕ
+
+abbrev pub settled : Request → Values
+settled request = record {
+  invert = request.invert;
+  after = unwrap_or request.after 0;
+  before = unwrap_or request.before 0;
+  passthru = request.passthru;
+  max = request.max;
+  literal = request.literal;
+}
+
+-- what it comes to over options that come before it
+abbrev pub over : Options → Request → Values
+over options request = record {
+  invert = request.invert || options.invert;
+  after = unwrap_or request.after options.after;
+  before = unwrap_or request.before options.before;
+  passthru = request.passthru || options.passthru;
+  max = option_or request.max options.max;
+  literal = request.literal;
+}
+
+-- what all arguments ask for is what the later ones ask for, over these options
+pub record IsRead (all later : List (String Global)) (options : Options) : Type 0 where
+  pub same : option_map settled (request_of (texts all)) ≡ option_map (over options) (request_of (texts later))
+
+option_map-same : {A B : Type 0} → (f g : A → B) → ((x : A) → f x ≡ g x) → (o : Option A) → option_map f o ≡ option_map g o
+option_map-same f g same None = refl
+option_map-same f g same (Some x) = ap Some (same x)
+
+option_map-map : {A B C : Type 0} → (f : B → C) (g : A → B) (o : Option A) → option_map f (option_map g o) ≡ option_map (λ x. f (g x)) o
+option_map-map f g None = refl
+option_map-map f g (Some x) = refl
+
+or-true : (b : Bool) → (b || true) ≡ true
+or-true true = refl
+or-true false = refl
+
+option_or-none : {A : Type 0} → (o : Option A) → option_or o None ≡ o
+option_or-none None = refl
+option_or-none (Some x) = refl
+
+option_or-some : (o : Option ℕ) (n : ℕ) → Some (unwrap_or o n) ≡ option_or o (Some n)
+option_or-some None n = refl
+option_or-some (Some x) n = refl
+
+-- nothing is read yet
+pub read-none : (all : List (String Global)) (options : Options) → AreOptionsOf (bare []) options → IsRead all all options
+read-none all options none = record { same = option_map-same settled (over options) unset (request_of (texts all)) }
+  where
+    unset : (request : Request) → settled request ≡ over options request
+    unset request = rw (
+      none.invert,
+      none.after,
+      none.before,
+      none.passthru,
+      none.max,
+      or-false request.invert,
+      or-false request.passthru,
+      option_or-none request.max,
+    ) refl
+
+-- one more option
+read-option : (all before later : List (String Global)) (options new : Options) (set : Request → Request)
+    → request_of (texts before) ≡ option_map set (request_of (texts later))
+    → ((request : Request) → over options (set request) ≡ over new request) → IsRead all before options → IsRead all later new
+read-option all before later options new set is same read = record {
+  same =
+      read.same ∙ (ap (λ r. option_map (over options) r) is ∙ (option_map-map (over options) set (request_of (texts later))
+      ∙ option_map-same (λ r. over options (set r)) (over new) same (request_of (texts later))));
+}
+
+-- the next argument is read, if there is one
+abbrev pub IsNext : Iter (String Global) → Option (Bor (String Global)) → Iter (String Global) → Type 0
+IsNext before read after = MatchOption read ((length before.rest.now ≡ 0) × (after ≡ before))
+    (λ argument. before.rest.now ≡ argument.now ∷ after.rest.now)
+
+-- a flag sets this
+abbrev pub IsFlag : List ℕ → (Request → Request) → Type 0
+IsFlag flag set = (later : List (List ℕ)) → request_of (flag ∷ later) ≡ option_map set (request_of later)
+
+flag-read : (all before later : List (String Global)) (argument : String Global) (options new : Options) (flag : List ℕ)
+    (set : Request → Request) → IsFlag flag set → ((request : Request) → over options (set request) ≡ over new request)
+    → before ≡ argument ∷ later → string_bytes argument ≡ flag → IsRead all before options → IsRead all later new
+flag-read all before later argument options new flag set is same split flagged read =
+    read-option all before later options new set (ap (λ xs. request_of (texts xs)) split
+    ∙ (ap (λ a. request_of (a ∷ texts later)) flagged ∙ is (texts later))) same read
+
+invert-flag : IsFlag (codes "-v") with_invert
+invert-flag [] = refl
+invert-flag (next ∷ later) = refl
+
+passthru-flag : IsFlag (codes "--passthru") with_passthru
+passthru-flag [] = refl
+passthru-flag (next ∷ later) = refl
+
+pub invert-read : (all before later : List (String Global)) (argument : String Global) (options : Options) → before ≡ argument ∷ later
+    → string_bytes argument ≡ codes "-v" → IsRead all before options → IsRead all later (record options { invert = true })
+invert-read all before later argument options = flag-read all before later argument options (record options { invert = true })
+    (codes "-v") with_invert invert-flag (λ request. rw (or-true request.invert) refl)
+
+pub passthru-read : (all before later : List (String Global)) (argument : String Global) (options : Options)
+    → before ≡ argument ∷ later → string_bytes argument ≡ codes "--passthru" → IsRead all before options
+    → IsRead all later (record options { passthru = true })
+passthru-read all before later argument options = flag-read all before later argument options (record options { passthru = true })
+    (codes "--passthru") with_passthru passthru-flag (λ request. rw (or-true request.passthru) refl)
+
+-- an option needs a number
+pub record NeedsNumber (flag : List ℕ) (set : ℕ → Request → Request) : Type 0 where
+  pub alone : request_of (flag ∷ []) ≡ None
+  pub more : (next : List ℕ) (later : List (List ℕ)) → request_of (flag ∷ next ∷ later)
+      ≡ with_number set (number_of next) (request_of later)
+
+pub after-needs : NeedsNumber (codes "-A") with_after
+after-needs = record { alone = refl; more = λ next later. refl }
+
+pub before-needs : NeedsNumber (codes "-B") with_before
+before-needs = record { alone = refl; more = λ next later. refl }
+
+pub max-needs : NeedsNumber (codes "-m") with_max
+max-needs = record { alone = refl; more = λ next later. refl }
+
+-- the number after an option, as it is read
+abbrev pub number_read : Option (Bor (String Global)) → Result ℕ OptionsFault
+number_read read = ok_or (option_and_then number_of (text_of read)) Usage
+
+ok-some : (o : Option ℕ) (n : ℕ) → ok_or o Usage ≡ Ok n → o ≡ Some n
+ok-some None n is = absurd (cc)
+ok-some (Some m) n is = let same : m ≡ n = cc in ap Some same
+
+err-none : (o : Option ℕ) (e : OptionsFault) → ok_or o Usage ≡ Err e → (o ≡ None) × (e ≡ Usage)
+err-none None e is = let same : e ≡ Usage = cc in (refl, same)
+err-none (Some m) e is = absurd (cc)
+
+empty : (arguments : List (String Global)) → length arguments ≡ 0 → arguments ≡ []
+empty [] none = refl
+empty (argument ∷ arguments) none = absurd (cc)
+
+number-option : (before : List (String Global)) (argument : String Global) (mid after : Iter (String Global))
+    (read : Option (Bor (String Global))) (flag : List ℕ) (set : ℕ → Request → Request) (n : ℕ) → NeedsNumber flag set
+    → before ≡ argument ∷ mid.rest.now → string_bytes argument ≡ flag → IsNext mid read after → number_read read ≡ Ok n
+    → request_of (texts before) ≡ option_map (set n) (request_of (texts after.rest.now))
+number-option before argument mid after None flag set n needs split flagged next is = absurd (cc)
+number-option before argument mid after (Some text) flag set n needs split flagged next is =
+    ap (λ xs. request_of (texts xs)) (split ∙ ap (λ xs. argument ∷ xs) next)
+    ∙ (ap (λ a. request_of (a ∷ string_bytes text.now ∷ texts after.rest.now)) flagged
+    ∙ (needs.more (string_bytes text.now) (texts after.rest.now) ∙ ap (λ o. with_number set o (request_of (texts after.rest.now)))
+    (ok-some (number_of (string_bytes text.now)) n is)))
+
+pub after-read : (all before : List (String Global)) (argument : String Global) (mid after : Iter (String Global))
+    (read : Option (Bor (String Global))) (options : Options) (n : ℕ)
+    → before ≡ argument ∷ mid.rest.now → string_bytes argument ≡ codes "-A" → IsNext mid read after → number_read read ≡ Ok n
+    → IsRead all before options → IsRead all after.rest.now (record options { after = n })
+after-read all before argument mid after read options n split flagged next is =
+    read-option all before after.rest.now options (record options { after = n }) (with_after n)
+    (number-option before argument mid after read (codes "-A") with_after n after-needs split flagged next is) (λ request. refl)
+
+pub before-read : (all before : List (String Global)) (argument : String Global) (mid after : Iter (String Global))
+    (read : Option (Bor (String Global))) (options : Options) (n : ℕ)
+    → before ≡ argument ∷ mid.rest.now → string_bytes argument ≡ codes "-B" → IsNext mid read after → number_read read ≡ Ok n
+    → IsRead all before options → IsRead all after.rest.now (record options { before = n })
+before-read all before argument mid after read options n split flagged next is =
+    read-option all before after.rest.now options (record options { before = n }) (with_before n)
+    (number-option before argument mid after read (codes "-B") with_before n before-needs split flagged next is) (λ request. refl)
+
+pub max-read : (all before : List (String Global)) (argument : String Global) (mid after : Iter (String Global))
+    (read : Option (Bor (String Global))) (options : Options) (n : ℕ)
+    → before ≡ argument ∷ mid.rest.now → string_bytes argument ≡ codes "-m" → IsNext mid read after → number_read read ≡ Ok n
+    → IsRead all before options → IsRead all after.rest.now (record options { max = Some n })
+max-read all before argument mid after read options n split flagged next is =
+    read-option all before after.rest.now options (record options { max = Some n }) (with_max n)
+    (number-option before argument mid after read (codes "-m") with_max n max-needs split flagged next is)
+    (λ request. rw (option_or-some request.max n) refl)
+
+-- what a usage error is known by
+abbrev pub IsUsage : List (String Global) → Result Options OptionsFault → Type 0
+IsUsage all result = (result ≡ Err Usage) ↔ (request_of (texts all) ≡ None)
+
+map-none : {A B : Type 0} → (f : A → B) (o : Option A) → option_map f o ≡ None → o ≡ None
+map-none f None is = refl
+map-none f (Some x) is = absurd (cc)
+
+-- the later arguments ask for nothing
+pub read-usage : (all later : List (String Global)) (options : Options) (result : Result Options OptionsFault)
+    → IsRead all later options → request_of (texts later) ≡ None → result ≡ Err Usage → IsUsage all result
+read-usage all later options result read none is =
+    let nothing = map-none settled (request_of (texts all)) (read.same ∙ ap (λ r. option_map (over options) r) none) in
+    (λ _. nothing, λ _. is)
+
+pub ended-usage : (all : List (String Global)) (before after : Iter (String Global)) (options : Options)
+    → IsRead all before.rest.now options → IsNext before None after → IsUsage all (Err Usage)
+ended-usage all before after options read ended = read-usage all before.rest.now options (Err Usage) read
+    (ap (λ xs. request_of (texts xs)) (empty before.rest.now ended.0)) refl
+
+-- an option without its number
+pub number-usage : (all before : List (String Global)) (argument : String Global) (mid after : Iter (String Global))
+    (read : Option (Bor (String Global))) (options : Options) (flag : List ℕ) (set : ℕ → Request → Request) (error : OptionsFault)
+    (result : Result Options OptionsFault)
+    → NeedsNumber flag set → before ≡ argument ∷ mid.rest.now → string_bytes argument ≡ flag → IsNext mid read after
+    → number_read read ≡ Err error → result ≡ Err error → IsRead all before options → IsUsage all result
+number-usage all before argument mid after None options flag set error result needs split flagged next is same reading =
+    let error_is : error ≡ Usage = cc in
+    read-usage all before options result reading
+    (ap (λ xs. request_of (texts xs)) (split ∙ ap (λ xs. argument ∷ xs) (empty mid.rest.now next.0))
+    ∙ (ap (λ a. request_of (a ∷ [])) flagged ∙ needs.alone)) (same ∙ ap Err error_is)
+number-usage all before argument mid after (Some text) options flag set error result needs split flagged next is same reading =
+    let none = err-none (number_of (string_bytes text.now)) error is in
+    read-usage all before options result reading
+    (ap (λ xs. request_of (texts xs)) (split ∙ ap (λ xs. argument ∷ xs) next)
+    ∙ (ap (λ a. request_of (a ∷ string_bytes text.now ∷ texts after.rest.now)) flagged
+    ∙ (needs.more (string_bytes text.now) (texts after.rest.now)
+    ∙ ap (λ o. with_number set o (request_of (texts after.rest.now))) none.0)))
+    (same ∙ ap Err none.1)
+
+-- an argument that isn't an option
+other : (argument flag : List ℕ) → (argument ≡ flag → ⊥) → bytes_eq argument flag ≡ false
+other argument flag differs = go (bytes_eq argument flag) (bytes_eq-Decides argument flag)
+  where
+    go : (b : Bool) → Decides b (argument ≡ flag) → b ≡ false
+    go true same = absurd (differs (same.0 refl))
+    go false h = refl
+
+-- none of the options
+pub record IsNoOption (argument : List ℕ) : Type 0 where
+  pub invert : argument ≡ codes "-v" → ⊥
+  pub passthru : argument ≡ codes "--passthru" → ⊥
+  pub after : argument ≡ codes "-A" → ⊥
+  pub before : argument ≡ codes "-B" → ⊥
+  pub max : argument ≡ codes "-m" → ⊥
+  pub end : argument ≡ codes "--" → ⊥
+
+other-more : (argument next : List ℕ) (later : List (List ℕ)) → IsNoOption argument → request_of (argument ∷ next ∷ later) ≡ None
+other-more argument next later otherwise =
+    rw (
+      other argument (codes "-v") otherwise.invert,
+      other argument (codes "--passthru") otherwise.passthru,
+      other argument
+          (codes "-A") otherwise.after,
+      other argument (codes "-B") otherwise.before,
+      other argument (codes "-m") otherwise.max,
+      other argument (codes "--") otherwise.end,
+    ) refl
+
+dashed-none : (argument : List ℕ) (later : List (List ℕ)) → is_dashed argument ≡ true → IsNoOption argument
+    → request_of (argument ∷ later) ≡ None
+dashed-none argument [] dashed otherwise = rw dashed refl
+dashed-none argument (next ∷ later) dashed otherwise = other-more argument next later otherwise
+
+pub dashed-usage : (all before later : List (String Global)) (argument : String Global) (options : Options) → before ≡ argument ∷ later
+    → is_dashed (string_bytes argument) ≡ true → IsNoOption (string_bytes argument) → IsRead all before options → IsUsage all (Err Usage)
+dashed-usage all before later argument options split dashed otherwise reading =
+    read-usage all before options (Err Usage) reading (ap (λ xs. request_of (texts xs)) split ∙ dashed-none (string_bytes argument)
+    (texts later) dashed otherwise) refl
+
+undashed-only : (argument : List ℕ) (later : List (List ℕ)) → is_dashed argument ≡ false → IsNoOption argument
+    → request_of (argument ∷ later) ≡ literal_only (argument ∷ later)
+undashed-only argument [] undashed otherwise = rw undashed refl
+undashed-only argument (next ∷ later) undashed otherwise = other-more argument next later otherwise
+
+end-only : (later : List (List ℕ)) → request_of (codes "--" ∷ later) ≡ literal_only later
+end-only [] = refl
+end-only (next ∷ []) = refl
+end-only (next ∷ other ∷ later) = refl
+
+-- what the end of a command line gives
+pub record IsEnd (all : List (String Global)) (result : Result Options OptionsFault) : Type 0 where
+  pub options : IfOk result (AskFor all)
+  pub usage : IsUsage all result
+
+-- what `with_last` ensures
+pub record IsWithLast (options : Options) (literal later : Option (Bor (String Global))) (result : Result Options OptionsFault) : Type
+    0 where
+  pub same : IfOk result (λ new. new ≡ record options { literal = new.literal })
+  pub is : IfOk result (λ new. text_of literal ≡ Some (string_bytes new.literal))
+  pub usage : (result ≡ Err Usage) ↔ (IsNone literal ⊎ IsSome later)
+
+none-end : (all : List (String Global)) (literal later : Option (Bor (String Global))) (options : Options)
+    (result : Result Options OptionsFault) → request_of (texts all) ≡ None → (IsNone literal ⊎ IsSome later)
+    → IsWithLast options literal later result → IsEnd all result
+none-end all literal later options result none bad ends = let is = ends.usage.1 bad in
+    record { options = rw is tt; usage = (λ _. none, λ _. is) }
+
+unended : (literal : Bor (String Global)) → (IsNone (Some literal) ⊎ IsSome {T = Bor (String Global)} None) → ⊥
+unended literal (inl h) = cc
+unended literal (inr h) = cc
+
+some-end : (all : List (String Global)) (literal : Bor (String Global)) (options : Options) (asked : Option Request)
+    (result : Result Options OptionsFault) → request_of (texts all) ≡ asked → option_map settled asked ≡ Some
+    (over options (bare (string_bytes literal.now)))
+    → IsWithLast options (Some literal) None result → IsEnd all result
+some-end all literal options None result asks is ends = absurd (cc)
+some-end all literal options (Some request) (Err Usage) asks is ends = absurd (unended literal (ends.usage.0 refl))
+some-end all literal options (Some request) (Err Memory) asks is ends = record {
+  options = tt;
+  usage = (λ e. absurd (cc), λ none. absurd (cc));
+}
+some-end all literal options (Some request) (Ok new) asks is ends =
+    let values : settled request ≡ over options (bare (string_bytes literal.now)) = cc in
+    let texts_are : string_bytes literal.now ≡ string_bytes new.literal = let h = ends.is in cc in
+    record {
+      options = (
+        request,
+        asks,
+        record {
+          invert = ap (λ (o : Options). o.invert) ends.same ∙ sym (ap (λ (v : Values). v.invert) values);
+          after = ap (λ (o : Options). o.after) ends.same ∙ sym (ap (λ (v : Values). v.after) values);
+          before = ap (λ (o : Options). o.before) ends.same ∙ sym (ap (λ (v : Values). v.before) values);
+          passthru = ap (λ (o : Options). o.passthru) ends.same ∙ sym (ap (λ (v : Values). v.passthru) values);
+          max = ap (λ (o : Options). o.max) ends.same ∙ sym (ap (λ (v : Values). v.max) values);
+          literal = sym texts_are ∙ sym (ap (λ (v : Values). v.literal) values);
+        },
+      );
+      usage = (λ e. absurd (cc), λ none. absurd (cc));
+    }
+
+-- the literal, and what is after it
+literal-end : (all : List (String Global)) (literal : Bor (String Global)) (mid after : Iter (String Global))
+    (later : Option (Bor (String Global))) (options : Options) (result : Result Options OptionsFault)
+    → option_map settled (request_of (texts all)) ≡ option_map (over options) (literal_only (texts (literal.now ∷ mid.rest.now)))
+    → IsNext mid later after → IsWithLast options (Some literal) later result → IsEnd all result
+literal-end all literal mid after None options result same next ends =
+    some-end all literal options (request_of (texts all)) result refl
+    (same ∙ ap (λ xs. option_map (over options) (literal_only (texts (literal.now ∷ xs)))) (empty mid.rest.now next.0)) ends
+literal-end all literal mid after (Some text) options result same next ends =
+    none-end all (Some literal) (Some text) options result
+    (map-none settled (request_of (texts all))
+    (same ∙ ap (λ xs. option_map (over options) (literal_only (texts (literal.now ∷ xs)))) next)) (inr refl) ends
+
+pub undashed-end : (all before : List (String Global)) (argument : Bor (String Global)) (mid after : Iter (String Global))
+    (later : Option (Bor (String Global))) (options : Options) (result : Result Options OptionsFault)
+    → before ≡ argument.now ∷ mid.rest.now → is_dashed (string_bytes argument.now) ≡ false → IsNoOption (string_bytes argument.now)
+    → IsRead all before options → IsNext mid later after → IsWithLast options (Some argument) later result → IsEnd all result
+undashed-end all before argument mid after later options result split undashed otherwise reading next ends =
+    literal-end all argument mid after later options result
+    (reading.same ∙ ap (λ r. option_map (over options) r) (ap (λ xs. request_of (texts xs)) split
+    ∙ undashed-only (string_bytes argument.now) (texts mid.rest.now) undashed otherwise)) next ends
+
+pub marked-end : (all before : List (String Global)) (argument : String Global) (first second third : Iter (String Global))
+    (literal later : Option (Bor (String Global))) (options : Options) (result : Result Options OptionsFault)
+    → before ≡ argument ∷ first.rest.now → string_bytes argument ≡ codes "--" → IsRead all before options → IsNext first literal second
+    → IsNext second later third → IsWithLast options literal later result → IsEnd all result
+marked-end all before argument first second third None later options result split marked reading next next_later ends =
+    none-end all None later options result
+    (map-none settled (request_of (texts all)) (reading.same ∙ ap (λ r. option_map (over options) r) none)) (inl refl) ends
+  where
+    none : request_of (texts before) ≡ None
+    none = ap (λ xs. request_of (texts xs)) (split ∙ ap (λ xs. argument ∷ xs) (empty first.rest.now next.0))
+        ∙ ap (λ a. request_of (a ∷ [])) marked
+marked-end all before argument first second third (Some literal) later options result split marked reading next next_later ends =
+    literal-end all literal second third later options result (reading.same ∙ ap (λ r. option_map (over options) r) only) next_later ends
+  where
+    only : request_of (texts before) ≡ literal_only (texts (literal.now ∷ second.rest.now))
+    only = ap (λ xs. request_of (texts xs)) (split ∙ ap (λ xs. argument ∷ xs) next)
+        ∙ (ap (λ a. request_of (a ∷ texts (literal.now ∷ second.rest.now))) marked ∙ end-only (texts (literal.now ∷ second.rest.now)))
+
+-- the literal is the last argument
+either : (b : Bool) (x y : Option Request) (request : Request) → (if b then x else y) ≡ Some request
+    → (x ≡ Some request) ⊎ (y ≡ Some request)
+either true x y request is = inl is
+either false x y request is = inr is
+
+last-more : (argument literal : List ℕ) (later : List (List ℕ)) → IsLast literal later → IsLast literal (argument ∷ later)
+last-more argument literal later last = record { front = argument ∷ last.front; split = ap (λ xs. argument ∷ xs) last.split }
+
+last-set : (set : Request → Request) (arguments : List (List ℕ)) → ((request : Request) → (set request).literal ≡ request.literal)
+    → (asked : Option Request) → ((request : Request) → asked ≡ Some request → IsLast request.literal arguments)
+    → (request : Request) → option_map set asked ≡ Some request → IsLast request.literal arguments
+last-set set arguments keeps None last request is = absurd (cc)
+last-set set arguments keeps (Some later) last request is =
+    let same : set later ≡ request = cc in
+    subst (λ literal. IsLast literal arguments) (sym (keeps later) ∙ ap (λ (r : Request). r.literal) same) (last later refl)
+
+last-numbered : (set : ℕ → Request → Request) (arguments : List (List ℕ))
+    → ((n : ℕ) (request : Request) → (set n request).literal ≡ request.literal) → (number : Option ℕ) (asked : Option Request)
+    → ((request : Request) → asked ≡ Some request → IsLast request.literal arguments) → (request : Request)
+    → with_number set number asked ≡ Some request → IsLast request.literal arguments
+last-numbered set arguments keeps None asked last request is = absurd (cc)
+last-numbered set arguments keeps (Some n) asked last request is = last-set (set n) arguments (keeps n) asked last request is
+
+last-only : (arguments : List (List ℕ)) (request : Request) → literal_only arguments ≡ Some request → IsLast request.literal arguments
+last-only [] request is = absurd (cc)
+last-only (literal ∷ []) request is =
+    let same : bare literal ≡ request = cc in record { front = []; split = ap (λ (r : Request). r.literal ∷ []) same }
+last-only (literal ∷ next ∷ later) request is = absurd (cc)
+
+request-last : (arguments : List (List ℕ)) (request : Request) → request_of arguments ≡ Some request → IsLast request.literal arguments
+request-last [] request is = absurd (cc)
+request-last (argument ∷ []) request is = elim (either (is_dashed argument) None (Some (bare argument)) request is) [
+  | inl never ↦ absurd (cc)
+  | inr is ↦ last-only (argument ∷ []) request is
+]
+request-last (argument ∷ next ∷ later) request is =
+    last-more argument request.literal (next ∷ later) (elim (either (bytes_eq argument (codes "-v")) _ _ request is) [
+      | inl is ↦ last-set with_invert (next ∷ later) (λ r. refl) (request_of (next ∷ later)) (request-last (next ∷ later)) request is
+      | inr is ↦ elim (either (bytes_eq argument (codes "--passthru")) _ _ request is) [
+        | inl is ↦ last-set with_passthru (next ∷ later) (λ r. refl) (request_of (next ∷ later)) (request-last (next ∷ later)) request is
+        | inr is ↦ elim (either (bytes_eq argument (codes "-A")) _ _ request is) [
+          | inl is ↦ last-more next request.literal later (last-numbered with_after later (λ n r. refl) (number_of next)
+              (request_of later) (request-last later) request is)
+          | inr is ↦ elim (either (bytes_eq argument (codes "-B")) _ _ request is) [
+            | inl is ↦ last-more next request.literal later (last-numbered with_before later (λ n r. refl) (number_of next)
+                (request_of later) (request-last later) request is)
+            | inr is ↦ elim (either (bytes_eq argument (codes "-m")) _ _ request is) [
+              | inl is ↦ last-more next request.literal later (last-numbered with_max later (λ n r. refl) (number_of next)
+                  (request_of later) (request-last later) request is)
+              | inr is ↦ elim (either (bytes_eq argument (codes "--")) _ _ request is) [
+                | inl is ↦ last-only (next ∷ later) request is
+                | inr never ↦ absurd (cc)
+              ]
+            ]
+          ]
+        ]
+      ]
+    ])
+
+-- the literal of what is asked for is the last argument
+pub asked-last : (arguments : List (String Global)) (options : Options) → AskFor arguments options
+    → IsLast (string_bytes options.literal) (texts arguments)
+asked-last arguments options (request, is, are) = subst (λ literal. IsLast literal (texts arguments)) (sym are.literal)
+    (request-last (texts arguments) request is)

@@ -1,0 +1,59 @@
+-- Command lines whose requests the checker computes.
+use Rattle.std.proofs.Common.{◌≡◌, [], ◌∷◌, refl}
+use Rattle.std.specs.Prelude.{true, codes, None, Some}
+use Rattle.lgrep_cli.specs.CommandLine.{bare, request_of}
+
+-- lgrep a
+pub literal : request_of (codes "a" ∷ []) ≡ Some (bare (codes "a"))
+literal = refl
+
+-- lgrep ''
+pub empty_literal : request_of ([] ∷ []) ≡ Some (bare [])
+empty_literal = refl
+
+-- lgrep -
+pub dash : request_of (codes "-" ∷ []) ≡ Some (bare (codes "-"))
+dash = refl
+
+-- lgrep -v -v a
+pub twice : request_of (codes "-v" ∷ codes "-v" ∷ codes "a" ∷ []) ≡ Some (record (bare (codes "a")) { invert = true })
+twice = refl
+
+-- lgrep -m 1 -m 2 a
+pub last_counts : request_of (codes "-m" ∷ codes "1" ∷ codes "-m" ∷ codes "2" ∷ codes "a" ∷ []) ≡ Some
+    (record (bare (codes "a")) { max = Some 2 })
+last_counts = refl
+
+-- lgrep -m 1 --passthru a
+pub limit_passthru : request_of (codes "-m" ∷ codes "1" ∷ codes "--passthru" ∷ codes "a" ∷ []) ≡ Some
+    (record (bare (codes "a")) { passthru = true; max = Some 1 })
+limit_passthru = refl
+
+-- lgrep -A 1 -B 4294967295 a
+pub contexts : request_of (codes "-A" ∷ codes "1" ∷ codes "-B" ∷ codes "4294967295" ∷ codes "a" ∷ []) ≡ Some
+    (record (bare (codes "a")) { after = Some 1; before = Some 4294967295 })
+contexts = refl
+
+-- lgrep -- -v
+pub end_of_options : request_of (codes "--" ∷ codes "-v" ∷ []) ≡ Some (bare (codes "-v"))
+end_of_options = refl
+
+-- lgrep -m a
+pub missing_number : request_of (codes "-m" ∷ codes "a" ∷ []) ≡ None
+missing_number = refl
+
+-- lgrep -B 4294967296 a
+pub large_number : request_of (codes "-B" ∷ codes "4294967296" ∷ codes "a" ∷ []) ≡ None
+large_number = refl
+
+-- lgrep -x
+pub unknown_option : request_of (codes "-x" ∷ []) ≡ None
+unknown_option = refl
+
+-- lgrep a -v
+pub late_option : request_of (codes "a" ∷ codes "-v" ∷ []) ≡ None
+late_option = refl
+
+-- lgrep
+pub nothing : request_of [] ≡ None
+nothing = refl

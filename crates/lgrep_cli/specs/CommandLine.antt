@@ -1,0 +1,98 @@
+-- What the arguments of a program ask for.
+use Rattle.std.specs.Prelude.{◌≡◌, ℕ, Bool, true, false, ◌&&◌, ◌==◌, codes, if◌then◌else◌, List, [], ◌∷◌, ◌++◌, map, length, nat_lt, slice_index, Option, Some, None, String, string_bytes}
+use Rattle.std.specs.Borrow.{Bor}
+use Rattle.std.specs.Global.{Global}
+use Rattle.std.specs.Option.{option_map, unwrap_or}
+use Rattle.std.specs.Str.{bytes_eq}
+use Rattle.lgrep_cli.specs.Numerals.{number_of}
+use Rattle.lgrep_cli.specs.declared.options.Options.{Options}
+
+-- what a command line asks for; `None` is a number that it leaves open
+pub record Request : Type 0 where
+  pub invert : Bool
+  pub after : Option ℕ
+  pub before : Option ℕ
+  pub passthru : Bool
+  pub max : Option ℕ
+  pub literal : List ℕ
+
+-- a literal without options
+abbrev pub bare : List ℕ → Request
+bare literal =
+    record { invert = false; after = None; before = None; passthru = false; max = None; literal = literal }
+
+-- an option in front of a command line, which sets what the rest of the line leaves open
+abbrev pub with_invert : Request → Request
+with_invert later = record later { invert = true }
+
+abbrev pub with_passthru : Request → Request
+with_passthru later = record later { passthru = true }
+
+abbrev pub with_after : ℕ → Request → Request
+with_after number later = record later { after = Some (unwrap_or later.after number) }
+
+abbrev pub with_before : ℕ → Request → Request
+with_before number later = record later { before = Some (unwrap_or later.before number) }
+
+abbrev pub with_max : ℕ → Request → Request
+with_max number later = record later { max = Some (unwrap_or later.max number) }
+
+-- an option that needs a number in front of a command line: without one there is no command line
+abbrev pub with_number : (ℕ → Request → Request) → Option ℕ → Option Request → Option Request
+with_number set None later = None
+with_number set (Some number) later = option_map (set number) later
+
+-- a dash and more
+abbrev pub is_dashed : List ℕ → Bool
+is_dashed argument = (slice_index argument 0 == 45) && nat_lt 1 (length argument)
+
+-- the literal, and nothing after it
+abbrev pub literal_only : List (List ℕ) → Option Request
+literal_only [] = None
+literal_only (literal ∷ []) = Some (bare literal)
+literal_only (literal ∷ next ∷ later) = None
+
+-- what some arguments ask for; `None` is a usage error. The last argument is the literal, and each one before
+-- it is an option, the number of one, or the `--` that ends the options
+abbrev pub request_of : List (List ℕ) → Option Request
+request_of [] = None
+request_of (argument ∷ []) = if is_dashed argument then None else Some (bare argument)
+request_of (argument ∷ next ∷ later) =
+    if bytes_eq argument (codes "-v") then option_map with_invert (request_of (next ∷ later))
+    else if bytes_eq argument (codes "--passthru") then option_map with_passthru (request_of (next ∷ later))
+    else if bytes_eq argument (codes "-A") then with_number with_after (number_of next) (request_of later)
+    else if bytes_eq argument (codes "-B") then with_number with_before (number_of next) (request_of later)
+    else if bytes_eq argument (codes "-m") then with_number with_max (number_of next) (request_of later)
+    else if bytes_eq argument (codes "--") then literal_only (next ∷ later)
+    else None
+
+-- the text of an argument, if there is one
+abbrev pub text_of : Option (Bor (String Global)) → Option (List ℕ)
+text_of argument = option_map (λ text. string_bytes text.now) argument
+
+-- the texts of some arguments
+abbrev pub texts : List (String Global) → List (List ℕ)
+texts arguments = map string_bytes arguments
+
+-- the literal is the last argument
+pub record IsLast (literal : List ℕ) (arguments : List (List ℕ)) : Type 0 where
+  pub front : List (List ℕ)
+  pub split : arguments ≡ front ++ literal ∷ []
+
+-- these options are what is asked for; a context that is left open is 0
+pub record AreOptionsOf (request : Request) (options : Options) : Type 0 where
+  pub invert : options.invert ≡ request.invert
+  pub after : options.after ≡ unwrap_or request.after 0
+  pub before : options.before ≡ unwrap_or request.before 0
+  pub passthru : options.passthru ≡ request.passthru
+  pub max : options.max ≡ request.max
+  pub literal : string_bytes options.literal ≡ request.literal
+
+-- the arguments ask for these options
+abbrev pub AskFor : List (String Global) → Options → Type 0
+AskFor arguments options = (request : Request) × (request_of (texts arguments) ≡ Some request)
+    × AreOptionsOf request options
+
+-- the arguments are a usage error
+abbrev pub AskForNothing : List (String Global) → Type 0
+AskForNothing arguments = request_of (texts arguments) ≡ None

@@ -1,0 +1,64 @@
+//! Long messages of matchers.
+use grep_matcher::{ByteSet, LineTerminator, Match, Matcher};
+use grep_searcher::{SearchError, Searcher};
+use grep_testing::Recorder;
+use std::fmt;
+use std::test::Fail;
+
+// How often `PART` is in a message of 100 KB.
+const PARTS: usize = 10_000;
+
+const PART: &str = "0123456789";
+
+// A message of 100 KB.
+#[derive(Clone, Copy)]
+struct Message;
+
+impl fmt::Display for Message {
+    fn fmt<W: fmt::Write>(&self, f: &mut fmt::Formatter<W>) -> fmt::Result {
+        for _ in 0..PARTS {
+            f.write_str(PART)?;
+        }
+        Ok(())
+    }
+}
+
+// Fails at each haystack with a message of 100 KB.
+#[derive(Drop)]
+struct Verbose;
+
+impl Matcher for Verbose {
+    type Error = Message;
+
+    ghost use Rattle.std.specs.Prelude.{None, false};
+
+    ghost meaning = { λ _. record { first = λ _. None; terminator = None; absent = λ _. false } };
+
+    ghost fails = { λ _ _ _. Unit {0} };
+
+    fn find(&self, _haystack: &[u8]) -> Result<Option<Match>, Message> {
+        Err(Message)
+    }
+
+    fn line_terminator(&self) -> Option<LineTerminator> {
+        None
+    }
+
+    fn non_matching_bytes(&self) -> Option<&ByteSet> {
+        None
+    }
+}
+
+#[test]
+fn a_long_message_is_kept(rt: HostRuntime) -> Result<(), Fail> {
+    let mut recorder = Recorder::new(rt.alloc(), None, None);
+    let ended = Searcher::new(rt.alloc())?.search_slice(Verbose, b"a", &mut recorder);
+    let Err(SearchError::Message(text)) = ended else {
+        panic!(rt; "the matcher's error is lost");
+    };
+    assert_eq!(rt; text.len(), PARTS * PART.len());
+    for part in text.as_bytes().chunks(PART.len()) {
+        assert_eq!(rt; part, PART.as_bytes());
+    }
+    Ok(())
+}

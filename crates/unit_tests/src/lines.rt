@@ -1,0 +1,192 @@
+//! Lines of some bytes. Lines end at a line feed if a row says no more.
+use grep_lines::{
+    LineIter, LineStep, count, locate, preceding, preceding_by_pos, without_terminator,
+};
+use grep_matcher::{LineTerminator, Match};
+use std::process::Abort;
+use std::test::Fail;
+
+const LF: u8 = b'\n';
+
+// Some bytes, and their lines.
+const LINE_ROWS: &[(&[u8], &[&[u8]])] = &[
+    (b"", &[]),
+    (b"\n", &[b"\n"]),
+    (b"abc", &[b"abc"]),
+    (b"abc\nxyz", &[b"abc\n", b"xyz"]),
+    (b"abc\n\nxyz\n", &[b"abc\n", b"\n", b"xyz\n"]),
+    (b"abc\nxyz\n\n", &[b"abc\n", b"xyz\n", b"\n"]),
+];
+
+// Asserts that the iterator gives these lines.
+fn check_lines(rt: &impl Abort, bytes: &[u8], lines: &[&[u8]]) {
+    let mut iter = LineIter::new(LF, bytes);
+    for line in lines {
+        assert_eq!(rt; iter.next(), Some(*line), "a line of {bytes:?}");
+    }
+    assert_eq!(rt; iter.next(), None, "after the lines of {bytes:?}");
+}
+
+// Asserts that the steps give these lines, each from where the one before ends.
+fn check_steps(rt: &impl Abort, bytes: &[u8], lines: &[&[u8]]) {
+    let mut step = LineStep::new(LF, 0, bytes.len());
+    let mut position = 0;
+    for line in lines {
+        let Some((start, end)) = step.next(bytes) else {
+            panic!(rt; "no step of {bytes:?} at {position}");
+        };
+        assert_eq!(rt; (start, bytes.get(start..end)), (position, Some(*line)));
+        position = end;
+    }
+    assert_eq!(rt; step.next(bytes), None, "after the steps of {bytes:?}");
+}
+
+#[test]
+fn lines(rt: HostRuntime) {
+    for (bytes, lines) in LINE_ROWS {
+        check_lines(&rt, bytes, lines);
+        check_steps(&rt, bytes, lines);
+    }
+}
+
+#[test]
+fn steps_within(rt: HostRuntime) {
+    let none = LineStep::new(LF, 0, 0).next(b"abc");
+    assert_eq!(rt; none, None, "a step up to 0");
+    let some = LineStep::new(LF, 1, 3).next(b"abc\n");
+    assert_eq!(rt; some, Some((1, 3)), "a step up to 3");
+}
+
+#[test]
+fn counts(rt: HostRuntime) {
+    for (bytes, number) in [
+        (b"".as_slice(), 0),
+        (b"\n".as_slice(), 1),
+        (b"\n\n".as_slice(), 2),
+        (b"a\nb\nc".as_slice(), 2),
+    ] {
+        assert_eq!(rt; count(bytes, LF), number, "in {bytes:?}");
+    }
+}
+
+// How many line feeds so many bytes have of which each seventh is one.
+const LONG_ROWS: &[(usize, u64)] = &[
+    (15, 2),
+    (16, 2),
+    (17, 2),
+    (63, 9),
+    (64, 9),
+    (65, 9),
+    (80, 11),
+    (1000, 142),
+];
+
+#[test]
+fn counts_in_many_bytes(rt: HostRuntime) -> Result<(), Fail> {
+    let mut bytes = Vec::new(rt.alloc());
+    for index in 0..1000 {
+        bytes.push(if index % 7 == 6 { LF } else { b'x' })?;
+    }
+    for (length, number) in LONG_ROWS {
+        let first = bytes.as_slice().get(..*length).unwrap_or_default();
+        assert_eq!(rt; count(first, LF), *number, "in {length} bytes");
+    }
+    Ok(())
+}
+
+// Some bytes, where a match in them starts and ends, and where the whole lines that it reaches into start and end.
+const LOCATE_ROWS: &[(&[u8], usize, usize, usize, usize)] = &[
+    (b"", 0, 0, 0, 0),
+    (b"\n", 0, 1, 0, 1),
+    (b"\n", 1, 1, 1, 1),
+    (b"\n\n", 0, 0, 0, 1),
+    (b"\n\n", 1, 1, 1, 2),
+    (b"\n\n", 1, 2, 1, 2),
+    (b"\n\n", 2, 2, 2, 2),
+    (b"a\nb\nc", 0, 1, 0, 2),
+    (b"a\nb\nc", 1, 2, 0, 2),
+    (b"a\nb\nc", 2, 3, 2, 4),
+    (b"a\nb\nc", 3, 4, 2, 4),
+    (b"a\nb\nc", 4, 5, 4, 5),
+    (b"a\nb\nc", 5, 5, 4, 5),
+    (b"a\nb\nc", 0, 3, 0, 4),
+];
+
+#[test]
+fn located(rt: HostRuntime) {
+    for (bytes, start, end, first, last) in LOCATE_ROWS {
+        assert!(rt; *start <= *end && *end <= bytes.len());
+        let lines = locate(bytes, LF, Match::new(*start, *end));
+        assert_eq!(rt;
+            (lines.start(), lines.end()),
+            (*first, *last),
+            "{bytes:?} from {start}"
+        );
+    }
+}
+
+// Some bytes, a position in them, a count of lines, and where the line that many lines before starts.
+const PRECEDING_ROWS: &[(&[u8], usize, usize, usize)] = &[
+    (b"abc\nxyz\n", 7, 0, 4),
+    (b"abc\nxyz\n", 8, 0, 4),
+    (b"abc\nxyz\n", 7, 1, 0),
+    (b"abc\nxyz\n", 8, 1, 0),
+    (b"a\nb\nc\nd\ne\nf\n", 12, 0, 10),
+    (b"a\nb\nc\nd\ne\nf\n", 12, 1, 8),
+    (b"a\nb\nc\nd\ne\nf\n", 12, 2, 6),
+    (b"a\nb\nc\nd\ne\nf\n", 12, 5, 0),
+    (b"a\nb\nc\nd\ne\nf\n", 12, 6, 0),
+    (b"a\nb\nc\nd\ne\nf\n", 10, 0, 8),
+    (b"a\nb\nc\nd\ne\nf\n", 10, 1, 6),
+    (b"\n\n\nd\n", 1, 0, 0),
+    (b"\n\n\nd\n", 1, 1, 0),
+    (b"\n\n\nd\n", 2, 0, 1),
+    (b"\n\n\nd\n", 2, 1, 0),
+    (b"a\nb\n", 0, 3, 0),
+    (b"a\nb\n", 4, usize::MAX, 0),
+    (b"", 0, 0, 0),
+];
+
+#[test]
+fn lines_before(rt: HostRuntime) {
+    for (bytes, position, count, start) in PRECEDING_ROWS {
+        assert!(rt; *position <= bytes.len());
+        let by_position = preceding_by_pos(bytes, *position, LF, *count);
+        assert_eq!(rt;
+            by_position,
+            *start,
+            "{count} before {position} of {bytes:?}"
+        );
+        let at_the_end = preceding(&bytes[..*position], LF, *count);
+        assert_eq!(rt;
+            at_the_end,
+            *start,
+            "{count} before the end of {position} of {bytes:?}"
+        );
+    }
+}
+
+// Some bytes, a terminator, and the bytes without it.
+const STRIPPED_ROWS: &[(&[u8], LineTerminator, &[u8])] = &[
+    (b"", LineTerminator::Byte(LF), b""),
+    (b"\n", LineTerminator::Byte(LF), b""),
+    (b"a\n", LineTerminator::Byte(LF), b"a"),
+    (b"a\n\n", LineTerminator::Byte(LF), b"a\n"),
+    (b"a\r\n", LineTerminator::Byte(LF), b"a\r"),
+    (b"a", LineTerminator::Byte(LF), b"a"),
+    (b"a\0", LineTerminator::Byte(0), b"a"),
+    (b"", LineTerminator::Crlf, b""),
+    (b"a\r\n", LineTerminator::Crlf, b"a"),
+    (b"\r\n", LineTerminator::Crlf, b""),
+    (b"a\n", LineTerminator::Crlf, b"a\n"),
+    (b"a\r", LineTerminator::Crlf, b"a\r"),
+    (b"\n", LineTerminator::Crlf, b"\n"),
+];
+
+#[test]
+fn stripped(rt: HostRuntime) {
+    for (bytes, terminator, line) in STRIPPED_ROWS {
+        let stripped = without_terminator(bytes, *terminator);
+        assert_eq!(rt; stripped, *line, "{bytes:?} without {terminator:?}");
+    }
+}

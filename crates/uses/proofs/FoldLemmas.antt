@@ -1,0 +1,51 @@
+-- What the sinks of these callers make of some matches.
+use Rattle.std.proofs.Common.{◌≡◌, ℕ, ◌+◌, ◌<◌, ◌^◌, true, false, List, [], ◌∷◌, ◌++◌, length, refl, sym, ◌∙◌, arith, append_assoc}
+use Rattle.std.proofs.lemmas.List.{append-nil}
+use Rattle.std.specs.Prelude.{Option, None, Some, map, slice_get}
+use Rattle.std.specs.List.{concat, fold}
+use Rattle.std.specs.Option.{option_map, option_and_then}
+use Rattle.grep_searcher.specs.LineSearch.{line, start}
+use Rattle.grep_searcher.specs.Matching.{Meaning}
+use Rattle.grep_searcher.specs.SearchLaws.{match_of}
+use Rattle.grep_searcher.specs.Settings.{Settings}
+use Rattle.grep_searcher.specs.SinkCalls.{Call, Turn}
+use Rattle.grep_searcher.specs.SinkFolds.{fold_while}
+use Rattle.uses.specs.declared.count.MatchCount.{MatchCount}
+use Rattle.uses.specs.MatchSinks.{counted, kept, joined, marked, position_of, report_of, reported}
+
+-- how many matches there are
+pub fold_while-counted : (sink : MatchCount) (calls : List Call) → sink.count + length calls < 2 ^ 64
+    → (fold_while (λ _ _. true) counted sink calls).count ≡ sink.count + length calls
+fold_while-counted sink [] fits = omega arith
+fold_while-counted sink (call ∷ later) fits = omega (arith, fold_while-counted (counted sink call) later (omega arith))
+
+-- the first of some matches, and where it is
+pub fold_while-kept : (calls : List Call)
+    → (fold_while (λ _ _. false) kept (record { position = None }) calls).position ≡ option_and_then position_of (slice_get calls 0)
+fold_while-kept [] = refl
+fold_while-kept (call ∷ later) = refl
+
+pub position_of-match : (settings : Settings) (meaning : Meaning) (bytes : List ℕ) → settings.line_number ≡ true → (found : Option ℕ)
+    → option_and_then position_of (option_map (match_of settings meaning bytes) found)
+    ≡ option_map (λ i. (i + 1, start settings meaning bytes i)) found
+position_of-match settings meaning bytes numbered None = refl
+position_of-match settings meaning bytes numbered (Some i) = rw numbered refl
+
+-- the lines of some matches, joined
+pub fold_while-joined : (settings : Settings) (meaning : Meaning) (bytes text : List ℕ) (selected : List ℕ)
+    → fold_while (λ _ _. true) joined text (map (match_of settings meaning bytes) selected)
+    ≡ text ++ concat (map (line settings meaning bytes) selected)
+fold_while-joined settings meaning bytes text [] = sym (append-nil text)
+fold_while-joined settings meaning bytes text (i ∷ later) =
+    fold_while-joined settings meaning bytes (text ++ line settings meaning bytes i) later
+    ∙ append_assoc text (line settings meaning bytes i) (concat (map (line settings meaning bytes) later))
+
+-- what a report has of some calls
+pub fold-reported : (text : List ℕ) (turns : List Turn) → fold reported text (map (λ turn. turn.call) turns) ≡ text ++ report_of turns
+fold-reported text [] = sym (append-nil text)
+fold-reported text (turn ∷ later) = fold-reported (reported text turn.call) later ∙ append_assoc text (marked turn.call) (report_of later)
+
+-- what a report has of a whole run, of which `finish` adds nothing
+pub reported-run : (old : List ℕ) (turns : List Turn) → old ≡ []
+    → fold reported old (map (λ turn. turn.call) turns) ++ [] ≡ report_of turns
+reported-run old turns empty = rw (empty, fold-reported [] turns) (append-nil (report_of turns))

@@ -1,0 +1,18 @@
+use Rattle.std.proofs.Common.{true, []}
+use Rattle.grep_searcher.specs.SearchLaws.{selected_lines}
+use Rattle.uses.specs.MatchSinks.{joined}
+use Rattle.uses.proofs.FoldLemmas.{fold_while-joined}
+use Rattle.uses.proofs.collect.matching_lines.Goals as goal
+
+pub returns-clause-lines : goal.returns-clause-lines
+returns-clause-lines g c =
+    let settings = c.args.searcher.now in
+    let meaning = g.M.Matcher.meaning c.args.matcher in
+    let bytes = c.args.bytes.now in
+    let folded = c.runs_fold_matches.ensures (λ _ _. true) joined (λ _ _ _ _ _ h. h) _ _ _ _ _ _ c.in_ok-search_slice.ensures.searched.1
+    in
+    cc (
+      folded,
+      c.matches_are_selected.ensures settings meaning bytes,
+      fold_while-joined settings meaning bytes [] (selected_lines settings meaning bytes),
+    )

@@ -1,0 +1,2 @@
+pub mod SelectedLines
+pub mod MatchSinks

@@ -1,0 +1,25 @@
+-- What these callers return, said of the selected lines.
+use Rattle.std.specs.Prelude.{ℕ, ◌+◌, List, map, Option}
+use Rattle.std.specs.List.{concat}
+use Rattle.std.specs.Option.{option_map}
+use Rattle.grep_searcher.specs.Below.{count_below, first_below}
+use Rattle.grep_searcher.specs.LineSearch.{is_selected, line_count, line, start}
+use Rattle.grep_searcher.specs.Matching.{Meaning}
+use Rattle.grep_searcher.specs.SearchLaws.{selected_lines}
+use Rattle.grep_searcher.specs.Settings.{Settings}
+
+-- how many lines are selected
+abbrev pub selected_count : Settings → Meaning → List ℕ → ℕ
+selected_count settings meaning bytes =
+    count_below (is_selected settings meaning bytes) (line_count settings meaning bytes)
+
+-- the number of the first selected line, counted from 1, and its offset
+abbrev pub first_selected : Settings → Meaning → List ℕ → Option (ℕ × ℕ)
+first_selected settings meaning bytes =
+    option_map (λ i. (i + 1, start settings meaning bytes i))
+    (first_below (is_selected settings meaning bytes) (line_count settings meaning bytes))
+
+-- the bytes of the selected lines, joined
+abbrev pub selected_bytes : Settings → Meaning → List ℕ → List ℕ
+selected_bytes settings meaning bytes =
+    concat (map (line settings meaning bytes) (selected_lines settings meaning bytes))

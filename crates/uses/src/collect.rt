@@ -1,0 +1,106 @@
+//! The lines of all matches.
+ghost use Rattle.std.specs.Prelude.{◌≡◌, None, IfOk, IfErr};
+ghost use Rattle.grep_searcher.specs.Matching.{IsInfallible};
+ghost use Rattle.grep_searcher.specs.Refusals.{refusal_of};
+ghost use Rattle.grep_searcher.specs.SearchErrors.{IsOutOfMemory};
+ghost use Rattle.uses.specs.SelectedLines.{selected_bytes};
+
+use grep_searcher::laws::{matches_are_selected, runs_fold_matches, searches_fail};
+use grep_searcher::{Matcher, SearchError, Searcher, Sink, SinkContext, SinkFinish, SinkMatch};
+use std::alloc::{Allocator, Global};
+use std::marker::Model;
+
+/// Returns the selected lines of `bytes`, joined: each with its terminator, in order.
+///
+/// An error is made of the matcher's, of a configuration that the searcher refuses, or of being out
+/// of memory.
+pub fn matching_lines<M: Matcher + Drop>(
+    alloc: Global,
+    searcher: &mut Searcher,
+    matcher: M,
+    bytes: &[u8],
+) -> Result<Vec<u8>, SearchError>
+    ensures lines { IfOk result (λ text.
+        text.items ≡ selected_bytes searcher.old (M.meaning matcher) bytes.now) }
+    ensures settings { searcher.new ≡ searcher.old }
+    ensures error { IsInfallible (M.fails matcher)
+        → refusal_of searcher.old (M.meaning matcher) ≡ None → IfErr result IsOutOfMemory }
+{
+    let mut matches = MatchText {
+        text: Vec::new(alloc),
+    };
+    searches_fail::<Global, M, MatchText>();
+    searcher.search_slice(matcher, bytes, &mut matches)?;
+    runs_fold_matches::<MatchText>();
+    matches_are_selected();
+    Ok(matches.into_text())
+}
+
+// A sink that keeps the lines of all matches.
+#[derive(Drop)]
+struct MatchText {
+    text: Vec<u8>,
+}
+
+impl Model for MatchText {
+    ghost use Rattle.std.specs.Prelude.{ℕ, List};
+
+    ghost Value = { List ℕ };
+
+    ghost view = { λ s. s.text.items };
+}
+
+impl MatchText {
+    // What it kept.
+    fn into_text(self) -> Vec<u8>
+        ensures { result.items ≡ self }
+    {
+        let MatchText { text } = self;
+        text
+    }
+}
+
+impl Sink for MatchText {
+    ghost use Rattle.std.specs.Prelude.{true};
+    ghost use Rattle.grep_searcher.specs.SinkFolds.{IsMatchStep};
+    ghost use Rattle.uses.specs.MatchSinks.{joined};
+
+    type Error = SearchError;
+
+    ghost step = { IsMatchStep (λ _ _. true) joined IsOutOfMemory };
+
+    ghost may_call = { λ _. Unit {0} };
+
+    fn begin<A: Allocator + Copy>(&mut self, _: &Searcher<A>) -> Result<bool, SearchError> {
+        Ok(true)
+    }
+
+    fn matched<A: Allocator + Copy>(
+        &mut self,
+        _: &Searcher<A>,
+        found: &SinkMatch<'_>,
+    ) -> Result<bool, SearchError> {
+        self.text.extend_from_slice(found.bytes())?;
+        Ok(true)
+    }
+
+    fn context<A: Allocator + Copy>(
+        &mut self,
+        _: &Searcher<A>,
+        _: &SinkContext<'_>,
+    ) -> Result<bool, SearchError> {
+        Ok(true)
+    }
+
+    fn context_break<A: Allocator + Copy>(&mut self, _: &Searcher<A>) -> Result<bool, SearchError> {
+        Ok(true)
+    }
+
+    fn finish<A: Allocator + Copy>(
+        &mut self,
+        _: &Searcher<A>,
+        _: &SinkFinish,
+    ) -> Result<(), SearchError> {
+        Ok(())
+    }
+}

@@ -1,0 +1,82 @@
+//! How many lines match.
+ghost use Rattle.std.specs.Prelude.{◌≡◌, None, IfOk, IsOk};
+ghost use Rattle.grep_searcher.specs.Matching.{IsInfallible};
+ghost use Rattle.grep_searcher.specs.Refusals.{refusal_of};
+ghost use Rattle.uses.specs.SelectedLines.{selected_count};
+
+use grep_searcher::laws::{matches_are_counted, matches_are_few, runs_fold_matches};
+use grep_searcher::{Matcher, SearchError, Searcher, Sink, SinkContext, SinkFinish, SinkMatch};
+use std::alloc::{Allocator, Global};
+
+/// Returns how many lines of `bytes` are selected.
+///
+/// An error is made of the matcher's, or of a configuration that the searcher refuses.
+pub fn count_matching_lines<M: Matcher + Drop>(
+    searcher: &mut Searcher,
+    matcher: M,
+    bytes: &[u8],
+) -> Result<u64, SearchError>
+    ensures count { IfOk result (λ count.
+        count ≡ selected_count searcher.old (M.meaning matcher) bytes.now) }
+    ensures settings { searcher.new ≡ searcher.old }
+    ensures succeeds { IsInfallible (M.fails matcher)
+        → refusal_of searcher.old (M.meaning matcher) ≡ None → IsOk result }
+{
+    let mut matches = MatchCount { count: 0 };
+    searcher.search_slice(matcher, bytes, &mut matches)?;
+    runs_fold_matches::<MatchCount>();
+    matches_are_counted();
+    matches_are_few();
+    Ok(matches.count)
+}
+
+// A sink that counts the matches.
+#[derive(Drop)]
+struct MatchCount {
+    count: u64,
+}
+
+impl Sink for MatchCount {
+    ghost use Rattle.std.specs.Prelude.{true};
+    ghost use Rattle.grep_searcher.specs.SinkFolds.{IsMatchStep};
+    ghost use Rattle.uses.specs.MatchSinks.{counted};
+
+    type Error = SearchError;
+
+    ghost step = { IsMatchStep (λ _ _. true) counted (λ _. ⊥) };
+
+    ghost may_call = { λ _. Unit {0} };
+
+    fn begin<A: Allocator + Copy>(&mut self, _: &Searcher<A>) -> Result<bool, SearchError> {
+        Ok(true)
+    }
+
+    fn matched<A: Allocator + Copy>(
+        &mut self,
+        _: &Searcher<A>,
+        _: &SinkMatch<'_>,
+    ) -> Result<bool, SearchError> {
+        self.count = self.count.saturating_add(1);
+        Ok(true)
+    }
+
+    fn context<A: Allocator + Copy>(
+        &mut self,
+        _: &Searcher<A>,
+        _: &SinkContext<'_>,
+    ) -> Result<bool, SearchError> {
+        Ok(true)
+    }
+
+    fn context_break<A: Allocator + Copy>(&mut self, _: &Searcher<A>) -> Result<bool, SearchError> {
+        Ok(true)
+    }
+
+    fn finish<A: Allocator + Copy>(
+        &mut self,
+        _: &Searcher<A>,
+        _: &SinkFinish,
+    ) -> Result<(), SearchError> {
+        Ok(())
+    }
+}

@@ -1,0 +1,93 @@
+//! The first match of a reader.
+ghost use Rattle.std.specs.Prelude.{◌≡◌, ℕ, true, None, List, IfOk, IfErr};
+ghost use Rattle.std.specs.declared.io.Error.{Error};
+ghost use Rattle.grep_searcher.specs.Matching.{IsInfallible};
+ghost use Rattle.grep_searcher.specs.ReaderSearches.{IsRead, IsUnread};
+ghost use Rattle.grep_searcher.specs.Refusals.{refusal_of};
+ghost use Rattle.uses.specs.SelectedLines.{first_selected};
+
+use grep_searcher::laws::{first_match_is_first, lines_are_numbered, runs_fold_matches};
+use grep_searcher::{
+    Matcher, SearchError, Searcher, Sink, SinkContext, SinkFinish, SinkMatch, Source,
+};
+use std::alloc::{Allocator, Global};
+
+/// Returns the number of the first selected line of what a reader gives, counted from 1, and its
+/// offset in bytes; `None` if no line is selected. The caller ensures that the searcher numbers
+/// lines.
+///
+/// An error is made of the reader's, of the matcher's, of a configuration that the searcher refuses,
+/// or of being out of memory.
+pub fn first_match<M: Matcher + Drop, R: Source>(
+    searcher: &mut Searcher,
+    matcher: M,
+    reader: &mut R,
+) -> Result<Option<(u64, u64)>, SearchError>
+    requires { searcher.old.line_number ≡ true }
+    ensures first { IfOk result (λ found. (bytes : List ℕ)
+        × IsRead R.remaining R.step reader.old bytes reader.new
+        × (found ≡ first_selected searcher.old (M.meaning matcher) bytes)) }
+    ensures settings { searcher.new ≡ searcher.old }
+    ensures error { IsInfallible (M.fails matcher)
+        → refusal_of searcher.old (M.meaning matcher) ≡ None → IfErr result (λ e. (error : Error)
+        × IsUnread R.remaining R.step reader.old error reader.new × (e ≡ SearchError.Io error)) }
+{
+    let mut first = FirstMatch { position: None };
+    searcher.search_reader(matcher, reader, &mut first)?;
+    runs_fold_matches::<FirstMatch>();
+    first_match_is_first();
+    lines_are_numbered();
+    Ok(first.position)
+}
+
+// A sink that keeps the number and the offset of the first match, and stops there.
+#[derive(Drop)]
+struct FirstMatch {
+    position: Option<(u64, u64)>,
+}
+
+impl Sink for FirstMatch {
+    ghost use Rattle.std.specs.Prelude.{false};
+    ghost use Rattle.grep_searcher.specs.SinkFolds.{IsMatchStep};
+    ghost use Rattle.uses.specs.MatchSinks.{kept};
+
+    type Error = SearchError;
+
+    ghost step = { IsMatchStep (λ _ _. false) kept (λ _. ⊥) };
+
+    ghost may_call = { λ _. Unit {0} };
+
+    fn begin<A: Allocator + Copy>(&mut self, _: &Searcher<A>) -> Result<bool, SearchError> {
+        Ok(true)
+    }
+
+    fn matched<A: Allocator + Copy>(
+        &mut self,
+        _: &Searcher<A>,
+        found: &SinkMatch<'_>,
+    ) -> Result<bool, SearchError> {
+        let offset = found.absolute_byte_offset();
+        self.position = found.line_number().map(|number| (number, offset));
+        Ok(false)
+    }
+
+    fn context<A: Allocator + Copy>(
+        &mut self,
+        _: &Searcher<A>,
+        _: &SinkContext<'_>,
+    ) -> Result<bool, SearchError> {
+        Ok(true)
+    }
+
+    fn context_break<A: Allocator + Copy>(&mut self, _: &Searcher<A>) -> Result<bool, SearchError> {
+        Ok(true)
+    }
+
+    fn finish<A: Allocator + Copy>(
+        &mut self,
+        _: &Searcher<A>,
+        _: &SinkFinish,
+    ) -> Result<(), SearchError> {
+        Ok(())
+    }
+}

@@ -1,0 +1,19 @@
+//! Small callers of grep_searcher, each proved from its public contracts: copy the one that is closest
+//! to what you need.
+//!
+//! `count_matching_lines` counts, `first_match` stops at the first match of a reader, and
+//! `matching_lines` keeps the lines of all matches. `in_context` builds its searcher, and writes a
+//! report with a sink of its own. `CALLING.md` says which laws they use.
+#![tactic(auto)]
+
+mod collect;
+mod count;
+mod first;
+mod report;
+#[cfg(test)]
+mod tests;
+
+pub use collect::matching_lines;
+pub use count::count_matching_lines;
+pub use first::first_match;
+pub use report::in_context;
