@@ -1,2 +1,9 @@
+pub mod Blocks
+pub mod Decoded
+pub mod DecoderStates
+pub mod Labels
+pub mod Marks
 pub mod Reading
 pub mod Source
+pub mod UndecodedBytes
+pub mod Utf8

@@ -11,6 +11,7 @@ use Rattle.grep_definitions.specs.Settings.{Settings}
 use Rattle.grep_definitions.specs.Below.{some_below}
 use Rattle.grep_definitions.specs.LineSearch
 use Rattle.grep_definitions.specs.LineSearch.{turns_at, matched, in_context}
+use Rattle.grep_definitions.specs.LineWalks.{IsNear}
 use Rattle.grep_definitions.specs.LineTurns.{before_turns, match_turns, context_turns, is_gap, number_of}
 use Rattle.grep_definitions.proofs.BelowLemmas.{some_below-none, some_below-some, first_below-here}
 use Rattle.grep_definitions.proofs.BoolLemmas.{clash}
@@ -43,17 +44,7 @@ module _ (k : Settings) (meaning : Meaning) (bytes : List ℕ) where
   abbrev precedes : ℕ → Bool
   precedes = LineSearch.precedes_selected k meaning bytes
 
-  -- what a walk knows of the lines up to i: those up to v are done with, the others aren't selected and follow no selected line
-  pub record IsNear (v i left : ℕ) : Type 0 where
-    pub low : v ≤ i
-    pub few : left ≤ A
-    pub close : 0 < left → v ≡ i
-    pub window : (x : ℕ) → i ≤ x → some_below (λ j. nat_le (x - j) A && is_selected j) i ≡ nat_lt (x - i) left
-    pub passed : (j : ℕ) → v ≤ j → j < i → (is_selected j ≡ false) × (follows j ≡ false)
-    pub shown : 0 < v → is_reported (v - 1) ≡ true
-    pub bare : k.passthru ≡ true → v ≡ i
-
-  pub IsNear-none : IsNear 0 0 0
+  pub IsNear-none : IsNear k meaning bytes 0 0 0
   IsNear-none = record {
     low = omega arith;
     few = omega arith;
@@ -65,7 +56,7 @@ module _ (k : Settings) (meaning : Meaning) (bytes : List ℕ) where
   }
 
   -- if no line from the i-th on is selected, the lines that were passed have no calls
-  pub turns_at-done : (v i left : ℕ) → IsNear v i left → ((q : ℕ) → i ≤ q → q < n → is_selected q ≡ false)
+  pub turns_at-done : (v i left : ℕ) → IsNear k meaning bytes v i left → ((q : ℕ) → i ≤ q → q < n → is_selected q ≡ false)
       → (j : ℕ) → v ≤ j → j < i → turns_at k meaning bytes j ≡ []
   turns_at-done v i left near silent j low high =
       let out = near.passed j low high in
@@ -86,7 +77,7 @@ module _ (k : Settings) (meaning : Meaning) (bytes : List ℕ) where
           go false is = rw is refl
           go true is = let out = miss q below is in rw out (and-false _)
 
-  module _ (v i left : ℕ) (near : IsNear v i left) (inside : i < n) (has : i < turned) where
+  module _ (v i left : ℕ) (near : IsNear k meaning bytes v i left) (inside : i < n) (has : i < turned) where
     -- line i follows a selected line just if some of the window is left
     follows-here : follows i ≡ nat_lt 0 left
     follows-here = let zero_off : i - i ≡ 0 = omega arith in near.window i (omega arith) ∙ ap (λ d. nat_lt d left) zero_off
@@ -101,7 +92,7 @@ module _ (k : Settings) (meaning : Meaning) (bytes : List ℕ) where
         unfolded m is = rw (is, near.window x (omega arith)) (goes x low)
 
     -- a line that is not selected and follows none stays unreported so far
-    pub IsNear-pass : is_selected i ≡ false → left ≡ 0 → k.passthru ≡ false → IsNear v (i + 1) 0
+    pub IsNear-pass : is_selected i ≡ false → left ≡ 0 → k.passthru ≡ false → IsNear k meaning bytes v (i + 1) 0
     IsNear-pass misses empty shut = record {
       low = omega (arith, near.low);
       few = omega arith;
@@ -130,7 +121,7 @@ module _ (k : Settings) (meaning : Meaning) (bytes : List ℕ) where
     reported-after : is_selected i ≡ false → 0 < left → is_reported i ≡ true
     reported-after misses some = let kind = kind-after misses some in let test = lt-ltb i turned has in rw (kind, test) refl
 
-    pub IsNear-after : (rest : ℕ) → is_selected i ≡ false → left ≡ rest + 1 → IsNear (i + 1) (i + 1) rest
+    pub IsNear-after : (rest : ℕ) → is_selected i ≡ false → left ≡ rest + 1 → IsNear k meaning bytes (i + 1) (i + 1) rest
     IsNear-after rest misses is = record {
       low = omega arith;
       few = omega (arith, near.few);
@@ -165,7 +156,7 @@ module _ (k : Settings) (meaning : Meaning) (bytes : List ℕ) where
         let kind = kind-other misses empty bare none in
         rw (kind, and-false (nat_lt 0 (A + B)), is_number, is_end, is_start, is_line) refl
 
-    pub IsNear-other : is_selected i ≡ false → left ≡ 0 → k.passthru ≡ true → k.before_context ≡ 0 → IsNear (i + 1) (i + 1) 0
+    pub IsNear-other : is_selected i ≡ false → left ≡ 0 → k.passthru ≡ true → k.before_context ≡ 0 → IsNear k meaning bytes (i + 1) (i + 1) 0
     IsNear-other misses empty bare none = record {
       low = omega arith;
       few = omega arith;
@@ -183,7 +174,7 @@ module _ (k : Settings) (meaning : Meaning) (bytes : List ℕ) where
       reported-here : is_reported i ≡ true
       reported-here = let test = lt-ltb i turned has in rw (hit, test) refl
 
-      pub IsNear-hit : IsNear (i + 1) (i + 1) A
+      pub IsNear-hit : IsNear k meaning bytes (i + 1) (i + 1) A
       IsNear-hit = record {
         low = omega arith;
         few = omega arith;

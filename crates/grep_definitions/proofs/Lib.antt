@@ -11,4 +11,5 @@ pub mod FirstLineLemmas
 pub mod FirstTurnLemmas
 pub mod SearchLawLemmas
 pub mod MatchCallLemmas
+pub mod DecodedLemmas
 pub mod WorkedExamples

@@ -10,6 +10,7 @@ use Rattle.grep_matcher.specs.Matching.{Meaning}
 use Rattle.grep_definitions.specs.Settings.{Settings}
 use Rattle.grep_definitions.specs.Below.{some_below, count_below, first_below, is_below, is_at, at_most}
 use Rattle.grep_definitions.specs.LineSearch
+use Rattle.grep_definitions.specs.LineWalks.{IsOpen}
 use Rattle.grep_definitions.proofs.BelowLemmas.{some_below-some, first_below-here, first_below-of, first_below-more, first_below-late, count_below-le, is_below-le, below_next, below_none, at_most-over, at_most-above, at_most-next, at_most-some}
 use Rattle.grep_definitions.proofs.BoolLemmas.{both_true, clash}
 
@@ -47,17 +48,7 @@ module _ (k : Settings) (meaning : Meaning) (bytes : List ℕ) where
   selected-none : (q : ℕ) → is_chosen q ≡ false → LineSearch.is_selected k meaning bytes q ≡ false
   selected-none q unchosen = ap (λ b. b && not (k.stop_on_nonmatch && some_below ends q)) unchosen
 
-  -- what a walk that goes on at line i knows of limit and stop, if c lines were chosen and `left` lines are still reported
-  pub record IsOpen (i left c : ℕ) : Type 0 where
-    pub below : is_below (count_below hits i) k.max_matches ≡ not (is_at c k.max_matches)
-    pub counted : is_at c k.max_matches ≡ false → count_below hits i ≡ c
-    pub any : some_below is_chosen i ≡ nat_lt 0 c
-    pub unended : k.stop_on_nonmatch ≡ true → some_below ends i ≡ false
-    pub unfilled : is_at c k.max_matches ≡ false → some_below fills i ≡ false
-    pub filled : k.passthru ≡ false → is_at c k.max_matches ≡ true → (m : ℕ) × (first_below fills i ≡ Some m)
-        × (m + k.after_context + 1 ≡ i + left) × (0 < left)
-
-  pub IsOpen-none : (k.passthru ≡ false → is_at 0 k.max_matches ≡ true → ⊥) → IsOpen 0 0 0
+  pub IsOpen-none : (k.passthru ≡ false → is_at 0 k.max_matches ≡ true → ⊥) → IsOpen k meaning bytes 0 0 0
   IsOpen-none starts = record {
     below = below_none k.max_matches;
     counted = λ _. refl;
@@ -82,7 +73,7 @@ module _ (k : Settings) (meaning : Meaning) (bytes : List ℕ) where
       ap (λ b. if b then None else LineSearch.turns_by_limit k meaning bytes k.max_matches) plain
       ∙ (ap (λ o. LineSearch.turns_by_limit k meaning bytes o) limit.1 ∙ ap (option_map (λ m. suc (m + k.after_context))) is)
 
-  stop_bound : (i left c : ℕ) → IsOpen i left c → IfSome by_stop (λ b. i < b)
+  stop_bound : (i left c : ℕ) → IsOpen k meaning bytes i left c → IfSome by_stop (λ b. i < b)
   stop_bound i left c opened = go k.stop_on_nonmatch refl
     where
       inner : (found : Option ℕ) → first_below ends n ≡ found → k.stop_on_nonmatch ≡ true → IfSome (option_map suc found) (λ b. i < b)
@@ -93,7 +84,7 @@ module _ (k : Settings) (meaning : Meaning) (bytes : List ℕ) where
       go false is = tt
       go true is = inner (first_below ends n) refl is
 
-  limit_bound : (i left c : ℕ) → i ≤ n → IsOpen i left c → IfSome by_limit (λ b. i < b)
+  limit_bound : (i left c : ℕ) → i ≤ n → IsOpen k meaning bytes i left c → IfSome by_limit (λ b. i < b)
   limit_bound i left c inside opened = go k.passthru refl
     where
       inner : (found : Option ℕ) → first_below fills n ≡ found → k.passthru ≡ false
@@ -127,27 +118,27 @@ module _ (k : Settings) (meaning : Meaning) (bytes : List ℕ) where
       go false is = by k.max_matches refl is
 
   -- the line that the walk is at has a turn
-  pub turn_above : (i left c : ℕ) → IsOpen i left c → i < n → i < turned
+  pub turn_above : (i left c : ℕ) → IsOpen k meaning bytes i left c → i < n → i < turned
   turn_above i left c opened inside = at_most-above by_limit i (at_most by_stop n) (limit_bound i left c (omega arith) opened)
       (at_most-above by_stop i n (stop_bound i left c opened) inside)
 
   -- at the end each line has one
-  pub turn_all : (left c : ℕ) → IsOpen n left c → turned ≡ n
+  pub turn_all : (left c : ℕ) → IsOpen k meaning bytes n left c → turned ≡ n
   turn_all left c opened =
       let s = at_most-over by_stop n (stop_bound n left c opened) in
       ap (λ m. at_most by_limit m) s ∙ at_most-over by_limit n (limit_bound n left c (omega arith) opened)
 
-  pub selected-is : (i left c : ℕ) → IsOpen i left c → LineSearch.is_selected k meaning bytes i ≡ is_chosen i
+  pub selected-is : (i left c : ℕ) → IsOpen k meaning bytes i left c → LineSearch.is_selected k meaning bytes i ≡ is_chosen i
   selected-is i left c opened = go k.stop_on_nonmatch refl
     where
       go : (s : Bool) → k.stop_on_nonmatch ≡ s → (is_chosen i && not (s && some_below ends i)) ≡ is_chosen i
       go false is = and-true _
       go true is = rw (opened.unended is) (and-true _)
 
-  pub chosen-is : (i left c : ℕ) → IsOpen i left c → is_chosen i ≡ (hits i && not (is_at c k.max_matches))
+  pub chosen-is : (i left c : ℕ) → IsOpen k meaning bytes i left c → is_chosen i ≡ (hits i && not (is_at c k.max_matches))
   chosen-is i left c opened = ap (λ b. hits i && b) opened.below
 
-  module _ (i left c : ℕ) (opened : IsOpen i left c) (inside : i < n) where
+  module _ (i left c : ℕ) (opened : IsOpen k meaning bytes i left c) (inside : i < n) where
     module _ (yes : is_chosen i ≡ true) where
       abbrev parts : (hits i ≡ true) × (is_below (count_below hits i) k.max_matches ≡ true)
       parts = both_true _ _ yes
@@ -169,10 +160,10 @@ module _ (k : Settings) (meaning : Meaning) (bytes : List ℕ) where
       fills-is = rw (yes, opened.counted free) refl
 
       pub IsOpen-chosen : (k.passthru ≡ false → is_at (c + 1) k.max_matches ≡ true → 0 < k.after_context)
-          → IsOpen (i + 1) k.after_context (c + 1)
+          → IsOpen k meaning bytes (i + 1) k.after_context (c + 1)
       IsOpen-chosen goes = at (i + 1) (omega arith)
         where
-          at : (j : ℕ) → j ≡ suc i → IsOpen j k.after_context (c + 1)
+          at : (j : ℕ) → j ≡ suc i → IsOpen k meaning bytes j k.after_context (c + 1)
           at j is = record {
             below = ap (λ m. is_below m k.max_matches) (count_next j is) ∙ below_one;
             counted = λ _. count_next j is;
@@ -219,10 +210,10 @@ module _ (k : Settings) (meaning : Meaning) (bytes : List ℕ) where
           (cases_Bool (is_at c k.max_matches))
 
       pub IsOpen-missed : (k.stop_on_nonmatch ≡ true → c ≡ 0) → (k.passthru ≡ false → is_at c k.max_matches ≡ true → 1 < left)
-          → IsOpen (i + 1) (left - 1) c
+          → IsOpen k meaning bytes (i + 1) (left - 1) c
       IsOpen-missed first_of goes = at (i + 1) (omega arith)
         where
-          at : (j : ℕ) → j ≡ suc i → IsOpen j (left - 1) c
+          at : (j : ℕ) → j ≡ suc i → IsOpen k meaning bytes j (left - 1) c
           at j is = record {
             below = below-more j is;
             counted = λ free. count_keep free j is;

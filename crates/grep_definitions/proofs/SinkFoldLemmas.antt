@@ -8,7 +8,7 @@ use Rattle.grep_definitions.specs.SinkCalls.{Call, Turn, begins, matches, contex
 use Rattle.grep_definitions.specs.SinkRuns.{Steps, Outcome, AreReported, IsFinished}
 use Rattle.grep_definitions.specs.SearchLaws.{is_match, match_calls}
 use Rattle.grep_definitions.specs.LineSearch.{turns, byte_count}
-use Rattle.grep_definitions.specs.Searches.{ErrorMakers, MatcherFacts, IsFault, of_sink, of_matcher, IsFaultUnless}
+use Rattle.grep_definitions.specs.Searches.{ErrorMakers, MatcherFacts, IsFault, of_sink, of_matcher, IsFaultUnless, searched_bytes}
 use Rattle.grep_definitions.specs.SinkFolds.{fold_while, run_fold, IsMatchOk, StepsBy, TakesMatches}
 use Rattle.grep_definitions.specs.SinkFolds.{RunsFold, RunsFoldAll, RunsFoldMatches, SearchesFail, ReaderSearchesFail}
 use Rattle.grep_definitions.specs.ReaderSearches.{IsReaderFaultUnless}
@@ -133,9 +133,11 @@ module _ {S E F : Type 0} (step : Steps S E) (errors : ErrorMakers E) (matcher :
       absurd (infallible _ error fails)
 
   pub searches-fail : SearchesFail step errors matcher
-  searches-fail settings bytes old e new infallible allowed searched =
-      fault-fails settings bytes old e new infallible
-      (subst (λ refusal. IsFaultUnless step errors matcher refusal settings bytes old e new) allowed searched)
+  searches-fail settings input old e new infallible allowed searched =
+      ⊎_elim
+      (λ fault. inl (fault-fails settings (searched_bytes settings input) old e new infallible fault))
+      inr
+      (subst (λ refusal. IsFaultUnless step errors matcher refusal settings input old e new) allowed searched)
 
   pub reader_searches-fail : {R : Type 0} (remaining : R → Option (List ℕ)) (read_step : R → ReadResult → R → Type 0)
       → ReaderSearchesFail step errors matcher remaining read_step

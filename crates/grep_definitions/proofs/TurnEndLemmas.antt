@@ -17,7 +17,7 @@ use Rattle.grep_definitions.specs.LineSearch.{turns_at, Kind, matched, in_contex
 use Rattle.grep_definitions.specs.LineTurns.{one_turn, broken_turns, pending_turns, match_turns, listed_turns, listed_number, number_of, is_gap}
 use Rattle.grep_definitions.proofs.BelowLemmas.{some_below-some, some_below-find, first_below-of, first_below-none}
 use Rattle.grep_definitions.proofs.LineStartLemmas.{line_start-next}
-use Rattle.grep_definitions.proofs.ContextLemmas.{IsNear}
+use Rattle.grep_definitions.specs.LineWalks.{IsNear}
 use Rattle.grep_definitions.proofs.BoolLemmas.{both_true, clash}
 use Rattle.grep_definitions.proofs.ListLemmas.{All-joined_from}
 

@@ -3,6 +3,7 @@ pub mod SinkCalls
 pub mod LineTurns
 pub mod Below
 pub mod LineSearch
+pub mod LineWalks
 pub mod SinkRuns
 pub mod Refusals
 pub mod Searches

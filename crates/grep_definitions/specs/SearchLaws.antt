@@ -3,6 +3,7 @@ use Rattle.std.specs.Prelude.{◌≡◌, ℕ, ◌+◌, ◌-◌, ◌<◌, ◌≤�
 use Rattle.std.specs.Prelude.{List, [], ◌∷◌, ◌++◌, length, slice_index, count_by, filter, map, slice_get, Some, None}
 use Rattle.std.specs.Option.{option_map}
 use Rattle.std.specs.List.Sorted.{IsStrictlyIncreasing}
+use Rattle.grep_decode.specs.Marks.{marked}
 use Rattle.grep_matcher.specs.Terminators.{byte_of}
 use Rattle.grep_matcher.specs.Matching.{Meaning}
 use Rattle.grep_report.specs.declared.sink_context.SinkContextKind.TheVariants.{After}
@@ -12,6 +13,24 @@ use Rattle.grep_definitions.specs.Below.{count_below, first_below, joined_from}
 use Rattle.grep_definitions.specs.LineTurns.{number_of}
 use Rattle.grep_definitions.specs.LineSearch.{turns, turns_at, turn_count, line_count, byte_count}
 use Rattle.grep_definitions.specs.LineSearch.{number, start, line, is_selected}
+use Rattle.grep_definitions.specs.Searches.{searched_bytes, is_searched_unchanged}
+
+-- without a label and a mark that is found, what is searched is the input
+abbrev pub UnchangedIsInput : Type 0
+UnchangedIsInput =
+    (settings : Settings) (input : List ℕ) → is_searched_unchanged settings input ≡ true
+    → searched_bytes settings input ≡ input
+
+-- without a label, an input is searched as it is if no mark is looked for, or if it begins with none
+abbrev pub UnsniffedIsUnchanged : Type 0
+UnsniffedIsUnchanged =
+    (settings : Settings) (input : List ℕ) → settings.encoding ≡ None → settings.bom_sniffing ≡ false
+    → is_searched_unchanged settings input ≡ true
+
+abbrev pub UnmarkedIsUnchanged : Type 0
+UnmarkedIsUnchanged =
+    (settings : Settings) (input : List ℕ) → settings.encoding ≡ None → marked input ≡ None
+    → is_searched_unchanged settings input ≡ true
 
 -- where the line of a report begins; the other calls have no offset
 abbrev pub offset_of : Call → List ℕ

@@ -1,6 +1,7 @@
--- The settings of a search, as a sink sees them: all that there will ever be. `multi_line`, `binary_detection`,
--- `encoding` and `bom_sniffing` have no setter yet: they are always at their defaults.
+-- The settings of a search, as a sink sees them: all that there will ever be. `multi_line` and `binary_detection` have no
+-- setter yet: they are always at their defaults.
 use Rattle.std.specs.Prelude.{ℕ, Bool, true, false, Option, None, if◌then◌else◌}
+use Rattle.grep_decode.specs.declared.label.Label.{Label}
 use Rattle.grep_matcher.specs.declared.line_terminator.LineTerminator.{LineTerminator}
 use Rattle.grep_matcher.specs.declared.line_terminator.LineTerminator.TheVariants.{Byte}
 use Rattle.grep_report.specs.declared.mmap_choice.MmapChoice.{MmapChoice}
@@ -11,12 +12,6 @@ pub data Detection : Type 0 where
   none : Detection
   quit : ℕ → Detection
   convert : ℕ → Detection
-
--- how the input is encoded; for now no setting says it
-pub data Encoding : Type 0 where
-  utf8 : Encoding
-  utf16_little_endian : Encoding
-  utf16_big_endian : Encoding
 
 -- the settings, as a builder has them or as a searcher was built, where both contexts are 0 under passthru
 pub record Settings : Type 0 where
@@ -30,7 +25,7 @@ pub record Settings : Type 0 where
   pub heap_limit : Option ℕ
   pub memory_map : MmapChoice
   pub binary_detection : Detection
-  pub encoding : Option Encoding
+  pub encoding : Option Label
   pub bom_sniffing : Bool
   pub stop_on_nonmatch : Bool
   pub max_matches : Option ℕ

@@ -6,7 +6,7 @@ use Rattle.grep_definitions.specs.SinkCalls.{Call, Turn, begins, matches, contex
 use Rattle.grep_definitions.specs.SinkRuns.{Steps, IsRun}
 use Rattle.grep_matcher.specs.Matching.{IsInfallible}
 use Rattle.grep_definitions.specs.Refusals.{refusal_of}
-use Rattle.grep_definitions.specs.Searches.{ErrorMakers, MatcherFacts, IsSearched}
+use Rattle.grep_definitions.specs.Searches.{ErrorMakers, MatcherFacts, IsSearched, IsUndecoded}
 use Rattle.grep_definitions.specs.ReaderSearches.{IsReaderSearched, IsUnread}
 use Rattle.grep_decode.specs.Source.{ReadResult}
 use Rattle.std.specs.declared.io.Error.{Error}
@@ -85,13 +85,15 @@ module _ {S E : Type 0} (step : Steps S E) where
       → new ≡ fold_while goes next old (match_calls turns)
 
 module _ {S E F : Type 0} (step : Steps S E) (errors : ErrorMakers E) (matcher : MatcherFacts F) where
-  -- if the matcher never fails and the search isn't refused, an error is that of a step of the sink
+  -- if the matcher never fails and the search isn't refused, an error is that of a step of the sink, or there was no
+  -- memory to decode the input
   abbrev pub SearchesFail : Type 0
   SearchesFail =
-      (settings : Settings) (bytes : List ℕ) (old : S) (e : E) (new : S)
+      (settings : Settings) (input : List ℕ) (old : S) (e : E) (new : S)
       → IsInfallible matcher.fails → refusal_of settings matcher.meaning ≡ None
-      → IsSearched step errors matcher settings bytes old (Err e) new
-      → (mid : S) × (call : Call) × step mid settings call (Err e) new
+      → IsSearched step errors matcher settings input old (Err e) new
+      → ((mid : S) × (call : Call) × step mid settings call (Err e) new)
+      ⊎ IsUndecoded errors settings input old e new
 
 module _ {S E F : Type 0} (step : Steps S E) (errors : ErrorMakers E) (matcher : MatcherFacts F)
     {R : Type 0} (remaining : R → Option (List ℕ)) (read_step : R → ReadResult → R → Type 0) where

@@ -1,10 +1,21 @@
 //! Laws of the calls that a search makes, over their definition alone: each is the contract of a function that does
 //! nothing.
+ghost use Rattle.grep_definitions.specs.SearchLaws.{UnchangedIsInput, UnsniffedIsUnchanged, UnmarkedIsUnchanged};
 ghost use Rattle.grep_definitions.specs.SearchLaws.{ReportsAscend, AfterWins, InversionComplements, FirstLinesBegin, AtMostLimit, WholeCount};
 ghost use Rattle.grep_definitions.specs.SearchLaws.{LinesAreNumbered, MatchesAreSelected};
 ghost use Rattle.grep_definitions.specs.SearchLaws.{MatchesAreCounted, FirstMatchIsFirst, MatchesAreFew};
 
+use grep_decode::laws::unchanged_is_decoded;
 use grep_lines::laws::{lines_append, lines_are_few, lines_join};
+
+/// An input without a label, and without a mark that is looked for and found, is searched as it is.
+pub fn unchanged_is_searched()
+    ensures input { UnchangedIsInput }
+    ensures unsniffed { UnsniffedIsUnchanged }
+    ensures unmarked { UnmarkedIsUnchanged }
+{
+    unchanged_is_decoded();
+}
 
 /// The reports ascend, and no line is reported twice.
 pub fn reports_ascend()

@@ -1,5 +1,5 @@
 //! The lines before a position.
-ghost use Rattle.std.specs.Prelude.{◌≡◌, ◌≤◌, ◌<◌, ◌+◌, ◌-◌, ℕ, length};
+ghost use Rattle.std.specs.Prelude.{◌≡◌, ◌≤◌, ◌<◌, ◌+◌, ◌-◌, ℕ, length, slice_index};
 ghost use Rattle.grep_matcher.specs.Lines.{lines, line_start};
 ghost use Rattle.grep_lines.specs.FirstLine.{IsLastStart};
 ghost use Rattle.grep_lines.specs.Positions.{IsLineStart};
@@ -19,7 +19,8 @@ pub fn preceding(bytes: &[u8], terminator: u8, count: usize) -> usize
 /// The start of the line `count` lines before the line with `start < pos <= end`; 0 if there are fewer lines, or
 /// `pos` is 0. The caller ensures that `pos` lies within the bytes.
 ///
-/// If line i starts at `pos`, or `pos` is the end of the bytes and they have i lines, that is line `i - 1 - count`.
+/// If line i starts at `pos`, or `pos` is the end of the bytes and they have i lines, that is line `i - 1 - count`. Unless
+/// the result is 0, a terminator is right before it.
 pub fn preceding_by_pos(bytes: &[u8], pos: usize, terminator: u8, count: usize) -> usize
     requires { pos ≤ length bytes.now }
     ensures line { (i : ℕ) → i < length (lines terminator bytes.now)
@@ -29,6 +30,7 @@ pub fn preceding_by_pos(bytes: &[u8], pos: usize, terminator: u8, count: usize) 
     ensures zero { pos ≡ 0 → result ≡ 0 }
     ensures from_start { (i : ℕ) → IsLineStart terminator bytes.now pos i
         → IsLineStart terminator bytes.now result (i - 1 - count) }
+    ensures closed { 0 < result → slice_index bytes.now (result - 1) ≡ terminator }
     ensures within { result ≤ pos }
 {
     let mut start = start_before(bytes, pos, terminator);

@@ -1,2 +1,3 @@
+pub mod ConfigErrors
 pub mod SinkReports
 pub mod SearchErrors

@@ -1,4 +1,5 @@
 //! Why a search can't run with its configuration.
+use bstr::BStr;
 use grep_matcher::LineTerminator;
 use thiserror::Error;
 
@@ -17,7 +18,13 @@ pub enum ConfigError {
         /// The searcher's line terminator.
         searcher: LineTerminator,
     },
-    /// There was no memory for the searcher's buffers.
+    /// The label isn't one of an encoding that is known here.
+    #[error("unknown encoding: {}", BStr::new(label))]
+    UnknownEncoding {
+        /// The bytes of the label, as given. They are in the global allocator.
+        label: Vec<u8>,
+    },
+    /// There was no memory for the searcher's buffers, or for an unknown label.
     #[error("out of memory")]
     Memory,
 }

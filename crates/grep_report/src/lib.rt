@@ -2,6 +2,7 @@
 #![tactic(auto)]
 
 mod config_error;
+mod encoding;
 mod mmap_choice;
 mod sink_context;
 mod sink_error;
@@ -9,6 +10,8 @@ mod sink_finish;
 mod sink_match;
 
 pub use config_error::ConfigError;
+pub use encoding::Encoding;
+pub use grep_decode::Label;
 pub use mmap_choice::MmapChoice;
 pub use sink_context::{SinkContext, SinkContextKind};
 pub use sink_error::{SearchError, SinkError};

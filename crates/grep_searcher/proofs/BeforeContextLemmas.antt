@@ -1,11 +1,11 @@
 -- The lines before a chosen one, reported one after another.
-use Rattle.std.proofs.Common.{◌≡◌, ℕ, ◌+◌, ◌-◌, ◌<◌, ◌≤◌, min, List, [], ◌++◌, take, refl, sym, ◌∙◌, ap, subst, arith}
+use Rattle.std.proofs.Common.{length, ◌≡◌, ℕ, ◌+◌, ◌-◌, ◌<◌, ◌≤◌, min, List, [], ◌++◌, take, refl, sym, ◌∙◌, ap, subst, arith}
 use Rattle.std.proofs.Common.{if◌then◌else◌, Some, None}
 use Rattle.std.proofs.lemmas.Bool.{lt-leb}
 use Rattle.std.specs.Prelude.{count_by, ◌==◌}
 use Rattle.grep_matcher.specs.Terminators.{byte_of}
-use Rattle.grep_matcher.specs.Lines.{line_start}
-use Rattle.grep_lines.specs.Positions.{slice, IsLine}
+use Rattle.grep_matcher.specs.Lines.{lines, line_start}
+use Rattle.grep_lines.specs.Positions.{slice, IsLine, IsLineStart}
 use Rattle.grep_definitions.specs.Settings.{Settings}
 use Rattle.grep_definitions.specs.SinkCalls.{Turn}
 use Rattle.grep_definitions.specs.Below.{joined_from}
@@ -13,6 +13,9 @@ use Rattle.grep_definitions.specs.LineTurns.{before_turns, listed_turns, pending
 use Rattle.grep_definitions.specs.SinkRuns.{Steps, Outcome, all_true, AreReported}
 use Rattle.grep_definitions.proofs.BelowLemmas.{joined_from-add, joined_from-more, joined_from-none}
 use Rattle.grep_definitions.proofs.SinkRunLemmas.{AreReported-append, AreReported-ended}
+use Rattle.grep_searcher.specs.declared.searcher.walk.Walk.{Walk}
+use Rattle.grep_searcher.specs.Windows.{IsInWindow, IsLineIn}
+use Rattle.grep_searcher.proofs.WindowLemmas as windows
 
 module _ (k : Settings) (bytes : List ℕ) (v i end : ℕ) where
   abbrev pub t : ℕ
@@ -59,18 +62,20 @@ module _ (k : Settings) (bytes : List ℕ) (v i end : ℕ) where
       subst (λ turns. AreReported step k old turns all_true old) (sym (pending-none low none)) (refl, refl)
 
   module _ {S E : Type 0} (step : Steps S E) (old mid new : S) (first q start next offset : ℕ)
-      (line : IsLine t bytes q start next) (same : offset ≡ start) (low : first ≤ q)
+      (line : IsLine t bytes q start next) (own : List ℕ) (bytes_same : slice bytes start next ≡ own)
+      (same : offset ≡ start) (low : first ≤ q)
       (before : AreReported step k old (pending_turns k bytes v i end first (q - first)) all_true mid)
       (outcome : Outcome E)
-      (here : AreReported step k mid (before_turns k v q i (number_of k q) offset end (slice bytes start next)) outcome new) where
+      (here : AreReported step k mid (before_turns k v q i (number_of k q) offset end own) outcome new) where
     through : AreReported step k old (pending_turns k bytes v i end first ((q - first) + 1)) outcome new
     through =
         let at : first + (q - first) ≡ q = omega arith in
-        let own : at_line q ≡ at_line (first + (q - first)) = ap at_line (sym at) in
+        let there : at_line q ≡ at_line (first + (q - first)) = ap at_line (sym at) in
         subst (λ turns. AreReported step k old turns outcome new) (sym (joined_from-more at_line first (q - first)))
         (AreReported-append step k (joined_from at_line first (q - first)) (at_line (first + (q - first))) old mid outcome new before
         (subst (λ turns. AreReported step k mid turns outcome new)
-        (ap (λ o. before_turns k v q i (number_of k q) o end (slice bytes start next)) same ∙ (here-is q start next line ∙ own)) here))
+        (ap (λ o. before_turns k v q i (number_of k q) o end own) same
+        ∙ (ap (before_turns k v q i (number_of k q) start end) (sym bytes_same) ∙ (here-is q start next line ∙ there))) here))
 
     -- one more line
     pub reported-more : AreReported step k old (pending_turns k bytes v i end first ((q + 1) - first)) outcome new
@@ -87,3 +92,41 @@ module _ (k : Settings) (bytes : List ℕ) (v i end : ℕ) where
         subst (λ turns. AreReported step k old turns outcome new) (sym split)
         (AreReported-ended step k (joined_from at_line first ((q - first) + 1))
         (joined_from at_line (first + ((q - first) + 1)) (i - (q + 1))) old outcome new over through)
+
+-- the same of a line of a window, for the walk at `start`
+module _ (k : Settings) (gone window input : List ℕ) (w : Walk) (start : ℕ) (inside : IsInWindow k gone window input start w)
+    (end : ℕ) {S E : Type 0} (step : Steps S E) (old mid new : S) (first q p next offset : ℕ)
+    (at : IsLineIn k gone window p q)
+    (line : (j : ℕ) → IsLineStart (byte_of k.line_terminator) window p j → IsLine (byte_of k.line_terminator) window j p next)
+    (same : offset + start ≡ w.offset + p) (low : first ≤ q)
+    (before : AreReported step k old (pending_turns k input w.reported_through w.line end first (q - first)) all_true mid)
+    (outcome : Outcome E)
+    (here : AreReported step k mid
+    (before_turns k w.reported_through q w.line (number_of k q) offset end (slice window p next)) outcome new) where
+  own_line : IsLine (byte_of k.line_terminator) window (q - length (lines (byte_of k.line_terminator) gone)) p next
+  own_line = line (q - length (lines (byte_of k.line_terminator) gone)) at.begins
+
+  shown_line : IsLine (byte_of k.line_terminator) input q (length gone + p) (length gone + next)
+  shown_line = windows.input-line k gone window input q p next at line inside.shown
+
+  shown_bytes : slice input (length gone + p) (length gone + next) ≡ slice window p next
+  shown_bytes = windows.slice-in gone window inside.shown.after input inside.shown.whole p next
+      (omega (arith, own_line.above)) own_line.within
+
+  pub window-more : AreReported step k old (pending_turns k input w.reported_through w.line end first ((q + 1) - first)) outcome new
+  window-more = reported-more k input w.reported_through w.line end step old mid new first q (length gone + p) (length gone + next) offset
+      shown_line (slice window p next) shown_bytes (omega (arith, same, inside.at)) low before outcome here
+
+  pub window-ended : q < w.line → (outcome ≡ all_true → ⊥)
+      → AreReported step k old (pending_turns k input w.reported_through w.line end first (w.line - first)) outcome new
+  window-ended = reported-ended k input w.reported_through w.line end step old mid new first q (length gone + p) (length gone + next) offset
+      shown_line (slice window p next) shown_bytes (omega (arith, same, inside.at)) low before outcome here
+
+-- a window that has the lines before a walk does not end among them
+pub window-short : (k : Settings) (gone window input : List ℕ) (w : Walk) (start : ℕ) → IsInWindow k gone window input start w
+    → {S E : Type 0} (step : Steps S E) (old new : S) (turns : List Turn) (outcome : Outcome E) (q p : ℕ) → IsLineIn k gone window p q
+    → ((i : ℕ) → IsLineStart (byte_of k.line_terminator) window p i → i ≡ length (lines (byte_of k.line_terminator) window))
+    → q < w.line → AreReported step k old turns outcome new
+window-short k gone window input w start inside step old new turns outcome q p at last below = absurd
+    (let all = last (q - length (lines (byte_of k.line_terminator) gone)) at.begins in
+    omega (arith, at.low, all, inside.line.low, inside.line.begins.listed, below))

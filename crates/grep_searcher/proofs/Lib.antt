@@ -1,4 +1,7 @@
 pub mod BeforeContextLemmas
 pub mod WalkLemmas
+pub mod WindowLemmas
+pub mod WindowSearchLemmas
 pub mod FinishLemmas
-pub mod ReaderLemmas
+pub mod DecodedLemmas
+pub mod ReadLemmas

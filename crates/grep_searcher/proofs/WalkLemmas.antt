@@ -19,15 +19,16 @@ use Rattle.grep_definitions.specs.LineSearch.{differ, turns_at, turns, turns_thr
 use Rattle.grep_definitions.specs.LineTurns.{context_turns, match_turns, pending_turns, matches_line, number_of}
 use Rattle.grep_definitions.specs.SinkRuns.{Steps, Outcome, all_true, stopped, failed, AreReported}
 use Rattle.grep_definitions.specs.Searches.{ErrorMakers, MatcherFacts, IsFault, of_sink, of_matcher}
+use Rattle.grep_definitions.specs.LineWalks.{IsNear, IsOpen}
 use Rattle.grep_definitions.proofs.SinkRunLemmas.{AreReported-append, AreReported-ended}
 use Rattle.grep_definitions.proofs.BelowLemmas.{joined_from-add, joined_from-more, joined_from-equal, joined_from-none}
-use Rattle.grep_definitions.proofs.LimitLemmas.{IsOpen, IsOpen-none, IsOpen-chosen, IsOpen-missed, turn_above, turn_all}
+use Rattle.grep_definitions.proofs.LimitLemmas.{IsOpen-none, IsOpen-chosen, IsOpen-missed, turn_above, turn_all}
 use Rattle.grep_definitions.proofs.LimitLemmas.{IsDone, IsDone-chosen, IsDone-limit, IsDone-stop, IsDone-none, selected-is, chosen-is}
-use Rattle.grep_definitions.proofs.ContextLemmas.{IsNear, IsNear-none, IsNear-hit, IsNear-after, IsNear-other, IsNear-pass, turns_at-done}
+use Rattle.grep_definitions.proofs.ContextLemmas.{IsNear-none, IsNear-hit, IsNear-after, IsNear-other, IsNear-pass, turns_at-done}
 use Rattle.grep_definitions.proofs.ContextLemmas.{turns_at-passed, turns_at-hit, turns_at-after, turns_at-other}
 use Rattle.grep_definitions.proofs.TurnEndLemmas.{ends-one, ends-pending, ends-match, ends-late, ends-passed}
 use Rattle.grep_searcher.specs.declared.searcher.walk.Walk.{Walk}
-use Rattle.grep_searcher.specs.Walks.{line_end, line_turns, next_walk, is_over, reports_line, Counted}
+use Rattle.grep_searcher.specs.Walks.{IsPlaced, IsWalk, HasReported, line_end, line_turns, next_walk, is_over, reports_line, Counted}
 use Rattle.grep_definitions.proofs.BoolLemmas.{above_zero, both_true, clash, neither, not_false, or-cases}
 use Rattle.grep_definitions.proofs.ListLemmas.{All-joined_from, filter-all, filter-none}
 
@@ -54,24 +55,10 @@ module _ (k : Settings) (meaning : Meaning) (bytes : List ℕ) where
   abbrev pub front : ℕ → List Turn
   front i = record { call = begins; end = 0 } ∷ joined_from T 0 i
 
-  -- where a walk is, whatever the matcher returns
-  pub record IsPlaced (w : Walk) : Type 0 where
-    pub at : IsLineStart t bytes w.offset w.line
-    pub inside : w.offset ≤ length bytes
-    pub low : w.reported_through ≤ w.line
-    pub few : w.match_count ≤ w.line
-
-  -- a walk that goes on: which lines were reported, what is known of limit and stop, and that the turns so far have ended
-  pub record IsWalk (w : Walk) : Type 0 where
-    pub placed : IsPlaced w
-    pub near : IsNear k meaning bytes w.reported_through w.line w.after_context_left
-    pub opened : IsOpen k meaning bytes w.line w.after_context_left w.match_count
-    pub ended : All (λ turn. turn.end ≤ w.offset) (front w.reported_through)
-
   abbrev pub start_walk : Walk
   start_walk = record { offset = 0; line = 0; reported_through = 0; after_context_left = 0; match_count = 0 }
 
-  pub placed-start : IsPlaced start_walk
+  pub placed-start : IsPlaced k meaning bytes start_walk
   placed-start = record {
     at = record { listed = omega arith; begins = refl };
     inside = omega arith;
@@ -79,7 +66,7 @@ module _ (k : Settings) (meaning : Meaning) (bytes : List ℕ) where
     few = omega arith;
   }
 
-  walk-start : (k.passthru ≡ false → is_at 0 k.max_matches ≡ true → ⊥) → IsWalk start_walk
+  walk-start : (k.passthru ≡ false → is_at 0 k.max_matches ≡ true → ⊥) → IsWalk k meaning bytes start_walk
   walk-start busy = record {
     placed = placed-start;
     near = IsNear-none k meaning bytes;
@@ -111,11 +98,6 @@ module _ (k : Settings) (meaning : Meaning) (bytes : List ℕ) where
       ∙ ap (λ xs. front v ++ xs)
       (ap (λ m. joined_from T v m) sum ∙ (joined_from-more T v (i - v) ∙ ap (λ m. joined_from T v (i - v) ++ T m) last))
 
-  -- the line that begins where a walk is
-  pub line-at : (w : Walk) (start end : ℕ) → w.offset ≡ start → IsPlaced w
-      → ((i : ℕ) → IsLineStart t bytes start i → IsLine t bytes i start end) → IsLine t bytes w.line start end
-  line-at w start end same placed each = each w.line (record { listed = placed.at.listed; begins = placed.at.begins ∙ same })
-
   -- the line that a walk is at
   module _ (w : Walk) (start end : ℕ) (same : w.offset ≡ start) (line : IsLine t bytes w.line start end) where
     abbrev pub here : List ℕ
@@ -138,7 +120,7 @@ module _ (k : Settings) (meaning : Meaning) (bytes : List ℕ) where
     within = omega (arith, end-is, line.within)
 
     -- where the walk is after the line
-    pub placed-next : IsPlaced w → (chosen : Bool) → IsPlaced (next_walk k w here chosen)
+    pub placed-next : IsPlaced k meaning bytes w → (chosen : Bool) → IsPlaced k meaning bytes (next_walk k w here chosen)
     placed-next placed chosen = record { at = after; inside = within; low = low (reports_line k w chosen); few = few chosen }
       where
         low : (b : Bool) → (if b then w.line + 1 else w.reported_through) ≤ w.line + 1
@@ -170,7 +152,7 @@ module _ (k : Settings) (meaning : Meaning) (bytes : List ℕ) where
         go false false false = All-nil E
 
     -- what is known of the line, by whether it is chosen
-    module _ (bare : Bare) (walk : IsWalk w) where
+    module _ (bare : Bare) (walk : IsWalk k meaning bytes w) where
       has : w.line < turned
       has = turn_above k meaning bytes w.line w.after_context_left w.match_count walk.opened line.listed
 
@@ -292,7 +274,7 @@ module _ (k : Settings) (meaning : Meaning) (bytes : List ℕ) where
 
       pub walk-next : (chosen : Bool) → LineSearch.is_chosen k meaning bytes w.line ≡ chosen
           → is_over k (next_walk k w here chosen) chosen ≡ false
-          → IsWalk (next_walk k w here chosen)
+          → IsWalk k meaning bytes (next_walk k w here chosen)
       walk-next chosen is goes = record {
         placed = placed-next walk.placed chosen;
         near = near-next chosen is;
@@ -353,7 +335,7 @@ module _ (k : Settings) (meaning : Meaning) (bytes : List ℕ) where
               (λ above. ends-late k meaning bytes w.line j above) (cases_lt j w.line))
 
   -- after the last line
-  done-end : (w : Walk) → IsWalk w → w.line ≡ n → IsDone k meaning bytes w.line
+  done-end : (w : Walk) → IsWalk k meaning bytes w → w.line ≡ n → IsDone k meaning bytes w.line
   done-end w walk all = record {
     last = turn_all k meaning bytes w.after_context_left w.match_count
         (subst (λ i. IsOpen k meaning bytes i w.after_context_left w.match_count) all walk.opened) ∙ sym all;
@@ -375,11 +357,6 @@ module _ (k : Settings) (meaning : Meaning) (bytes : List ℕ) where
         subst (λ ts. AreReported step k old ts outcome new) (sym (front-through i turned inside))
         (AreReported-ended step k (front i) (joined_from T i (turned - i)) old outcome new ended reported)
 
-    -- the calls so far were made, and all returned true
-    pub record HasReported (w : Walk) (now : S) : Type 0 where
-      pub walk : IsWalk w
-      pub reported : AreReported step k old (front w.reported_through) all_true now
-
     abbrev IsCounted : ℕ → S → Type 0
     IsCounted count new = Counted step k old (turns k meaning bytes) (byte_count k meaning bytes) count new
 
@@ -398,7 +375,7 @@ module _ (k : Settings) (meaning : Meaning) (bytes : List ℕ) where
       is_count = sym at.begins ∙ ap starts (sym done.last);
     }
 
-    pub counted-end : (w : Walk) (new : S) → HasReported w new → w.line ≡ n → IsCounted w.offset new
+    pub counted-end : (w : Walk) (new : S) → HasReported k meaning bytes step old w new → w.line ≡ n → IsCounted w.offset new
     counted-end w new so_far all = counted-done w new so_far.walk.placed.at so_far.walk.near (done-end w so_far.walk all) so_far.reported
 
     pub counted-unbegun : (new : S) → step old k begins (Ok false) new → IsCounted 0 new
@@ -414,7 +391,7 @@ module _ (k : Settings) (meaning : Meaning) (bytes : List ℕ) where
         (IsDone-none k meaning bytes (not_false k.passthru parts.0) parts.1) (reported-begin new goes)
 
     pub reported-start : (new : S) → (not k.passthru && is_at 0 k.max_matches) ≡ false → step old k begins (Ok true) new
-        → HasReported start_walk new
+        → HasReported k meaning bytes step old start_walk new
     reported-start new busy goes = record {
       walk = walk-start (λ plain full. clash
           (let all : (not k.passthru && is_at 0 k.max_matches) ≡ true = ap (λ p. not p && is_at 0 k.max_matches) plain ∙ full in all)
@@ -423,7 +400,7 @@ module _ (k : Settings) (meaning : Meaning) (bytes : List ℕ) where
     }
 
     -- one line
-    module _ (bare : Bare) (w : Walk) (mid : S) (so_far : HasReported w mid)
+    module _ (bare : Bare) (w : Walk) (mid : S) (so_far : HasReported k meaning bytes step old w mid)
         (start end : ℕ) (same : w.offset ≡ start) (line : IsLine t bytes w.line start end) (chosen : Bool)
         (value : chosen ≡ (not (is_at w.match_count k.max_matches)
         && differ (matches_line k meaning (here w start end same line)) k.invert_match)) where
@@ -464,7 +441,7 @@ module _ (k : Settings) (meaning : Meaning) (bytes : List ℕ) where
           (done-next w start end same line bare so_far.walk chosen is over)
           (reported-line all_true new reported)
 
-      pub reported-next : (new : S) → AreReported step k mid own all_true new → is_over k next chosen ≡ false → HasReported next new
+      pub reported-next : (new : S) → AreReported step k mid own all_true new → is_over k next chosen ≡ false → HasReported k meaning bytes step old next new
       reported-next new reported goes_on = record {
         walk = walk-next w start end same line bare so_far.walk chosen is goes_on;
         reported = reported-line all_true new reported;

@@ -1,5 +1,5 @@
 -- The settings that a configuration holds.
-use Rattle.std.specs.Prelude.{true, false, None}
+use Rattle.std.specs.Prelude.{false}
 use Rattle.grep_searcher.specs.declared.config.Config.{Config}
 use Rattle.grep_definitions.specs.Settings.{Settings, none}
 
@@ -16,8 +16,8 @@ settings_of c = record {
   heap_limit = c.heap_limit;
   memory_map = c.memory_map;
   binary_detection = none;
-  encoding = None;
-  bom_sniffing = true;
+  encoding = c.encoding;
+  bom_sniffing = c.bom_sniffing;
   stop_on_nonmatch = c.stop_on_nonmatch;
   max_matches = c.max_matches;
 }

@@ -1,5 +1,7 @@
 pub mod Configs
+pub mod InputSearches
 pub mod Walks
+pub mod Windows
 pub use Rattle.grep_definitions.specs.Settings
 pub use Rattle.grep_definitions.specs.SinkCalls
 pub use Rattle.grep_definitions.specs.Below
@@ -10,7 +12,9 @@ pub use Rattle.grep_definitions.specs.Searches
 pub use Rattle.grep_definitions.specs.ReaderSearches
 pub use Rattle.grep_definitions.specs.SearchLaws
 pub use Rattle.grep_definitions.specs.SinkFolds
+pub use Rattle.grep_decode.specs.Labels
 pub use Rattle.grep_decode.specs.Source
 pub use Rattle.grep_matcher.specs.Literals
 pub use Rattle.grep_matcher.specs.Matching
+pub use Rattle.grep_report.specs.ConfigErrors
 pub use Rattle.grep_report.specs.SearchErrors

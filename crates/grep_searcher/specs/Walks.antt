@@ -1,10 +1,15 @@
 -- The walk over the lines of some bytes: what it reports of the line that it is at, how that line moves it on, and what
 -- it comes to. The contracts of private functions cite these definitions; no public contract does.
-use Rattle.std.specs.Prelude.{◌≡◌, ℕ, ◌+◌, ◌-◌, Bool, not, ◌&&◌, ◌||◌, ◌==◌, if◌then◌else◌, nat_lt, List, [], ◌++◌, length}
+use Rattle.std.specs.Prelude.{◌≡◌, ℕ, ◌+◌, ◌-◌, ◌≤◌, Bool, not, ◌&&◌, ◌||◌, ◌==◌, if◌then◌else◌, nat_lt, List, [], ◌++◌, length, All}
+use Rattle.grep_matcher.specs.Terminators.{byte_of}
+use Rattle.grep_matcher.specs.Matching.{Meaning}
+use Rattle.grep_lines.specs.Positions.{IsLineStart}
 use Rattle.grep_report.specs.declared.sink_context.SinkContextKind.TheVariants.{After, Other}
 use Rattle.grep_definitions.specs.Settings.{Settings}
 use Rattle.grep_definitions.specs.SinkCalls.{Turn}
 use Rattle.grep_definitions.specs.Below.{is_at}
+use Rattle.grep_definitions.specs.LineSearch.{turns_before}
+use Rattle.grep_definitions.specs.LineWalks.{IsNear, IsOpen}
 use Rattle.grep_definitions.specs.LineTurns.{number_of, pending_turns, match_turns, context_turns}
 use Rattle.grep_definitions.specs.SinkRuns.{Outcome, all_true, stopped, failed, Steps, AreReported}
 use Rattle.grep_searcher.specs.declared.searcher.walk.Walk.{Walk}
@@ -58,3 +63,29 @@ pub record Counted {S E : Type 0} (step : Steps S E) (settings : Settings) (old 
   pub outcome : Outcome E
   pub reported : AreReported step settings old turns outcome new
   pub is_count : IsCount outcome whole count
+
+-- the counts of a walk are in order
+pub record IsOrdered (w : Walk) : Type 0 where
+  pub few : w.line ≤ w.offset
+  pub low : w.reported_through ≤ w.line
+  pub chosen : w.match_count ≤ w.line
+
+module _ (settings : Settings) (meaning : Meaning) (bytes : List ℕ) where
+  -- where a walk over these bytes is, whatever the matcher returns
+  pub record IsPlaced (w : Walk) : Type 0 where
+    pub at : IsLineStart (byte_of settings.line_terminator) bytes w.offset w.line
+    pub inside : w.offset ≤ length bytes
+    pub low : w.reported_through ≤ w.line
+    pub few : w.match_count ≤ w.line
+
+  -- a walk that goes on: which lines were reported, what is known of limit and stop, and that the turns so far have ended
+  pub record IsWalk (w : Walk) : Type 0 where
+    pub placed : IsPlaced w
+    pub near : IsNear settings meaning bytes w.reported_through w.line w.after_context_left
+    pub opened : IsOpen settings meaning bytes w.line w.after_context_left w.match_count
+    pub ended : All (λ turn. turn.end ≤ w.offset) (turns_before settings meaning bytes w.reported_through)
+
+  -- the calls that are defined up to a walk were made from a first state on, and all returned true
+  pub record HasReported {S E : Type 0} (step : Steps S E) (first : S) (w : Walk) (now : S) : Type 0 where
+    pub walk : IsWalk w
+    pub reported : AreReported step settings first (turns_before settings meaning bytes w.reported_through) all_true now

@@ -1,6 +1,6 @@
 //! The settings of a searcher.
 use grep_matcher::LineTerminator;
-use grep_report::MmapChoice;
+use grep_report::{Encoding, MmapChoice};
 
 /// What a builder sets and a searcher keeps.
 #[derive(Clone, Copy, Debug)]
@@ -13,6 +13,8 @@ pub(crate) struct Config {
     pub(crate) passthru: bool,
     pub(crate) heap_limit: Option<usize>,
     pub(crate) memory_map: MmapChoice,
+    pub(crate) encoding: Option<Encoding>,
+    pub(crate) bom_sniffing: bool,
     pub(crate) stop_on_nonmatch: bool,
     pub(crate) max_matches: Option<u64>,
 }

@@ -15,8 +15,8 @@ pub use grep_decode::{Reading, Source};
 pub use grep_lines::{LineIter, LineStep};
 pub use grep_matcher::{ByteSet, LineTerminator, LiteralMatcher, Match, Matcher};
 pub use grep_report::{
-    ConfigError, MmapChoice, SearchError, SinkContext, SinkContextKind, SinkError, SinkFinish,
-    SinkMatch,
+    ConfigError, Encoding, Label, MmapChoice, SearchError, SinkContext, SinkContextKind, SinkError,
+    SinkFinish, SinkMatch,
 };
 pub use searcher::{Searcher, SearcherBuilder};
 pub use sink::Sink;

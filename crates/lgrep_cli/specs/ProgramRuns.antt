@@ -1,4 +1,4 @@
--- What a run of lgrep does: the input is searched whole, and the text of the calls is written.
+-- What a run of lgrep does: the decoded input is searched whole, and the text of the calls is written.
 use Rattle.std.specs.Prelude.{◌≡◌, ℕ, Bool, List, Option, Ok, Err, string_bytes}
 use Rattle.std.specs.Global.{Global}
 use Rattle.std.specs.IoError.{error_kind}
@@ -24,12 +24,12 @@ calls_of options bytes =
 
 module _ {R W : Type 0} (remaining : R → Option (List ℕ)) (read_step : R → ReadResult → R → Type 0)
     (contents : W → Option (List ℕ)) where
-  -- the reader gave these bytes, to its end; the text of their calls is written; and `found` is whether one
+  -- these are the decoded bytes of what the reader gave, to its end; the text of their calls is written; and `found` is whether one
   -- of the calls reports a match
   pub record IsPrinted (options : Options) (reader : R) (writer : Writer W) (found : Bool) (reader' : R)
       (writer' : Writer W) : Type 0 where
     pub bytes : List ℕ
-    pub read : IsRead remaining read_step reader bytes reader'
+    pub read : IsRead remaining read_step (settings_of_options options) reader bytes reader'
     pub written : Writes contents writer (text (calls_of options bytes)) (Ok tt) writer'
     pub is_found : found ≡ has_match (calls_of options bytes)
 
@@ -42,15 +42,15 @@ module _ {R W : Type 0} (remaining : R → Option (List ℕ)) (read_step : R →
     -- the reader failed with this error, or there was no memory for what it gives, and the writer had no call
     of_reader : {error : Error} {reader' : R} → IsUnread remaining read_step reader error reader'
         → IsFailure options reader writer (Io error) reader' writer
-    -- the reader gave these bytes, to its end, and the writer failed with this error: the text of their calls
-    -- is written as far as some first bytes
+    -- these are the decoded bytes of what the reader gave, to its end, and the writer failed with this error: the
+    -- text of their calls is written as far as some first bytes
     of_write : {error : Error} {reader' : R} {writer' : Writer W} → (bytes : List ℕ)
-        → IsRead remaining read_step reader bytes reader'
+        → IsRead remaining read_step (settings_of_options options) reader bytes reader'
         → Writes contents writer (text (calls_of options bytes)) (Err error) writer'
         → IsFailure options reader writer (Io error) reader' writer'
     -- all is written, and the flush failed with this error
     of_flush : {error : Error} {reader' : R} {writer' : Writer W} → (bytes : List ℕ)
-        → IsRead remaining read_step reader bytes reader'
+        → IsRead remaining read_step (settings_of_options options) reader bytes reader'
         → Writes contents writer (text (calls_of options bytes)) (Ok tt) writer'
         → writer'.last ≡ Flush (Err error)
         → IsFailure options reader writer (Io error) reader' writer'

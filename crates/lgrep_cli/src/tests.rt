@@ -15,16 +15,29 @@ fn arguments(alloc: Global, line: &str) -> Result<Vec<String>, AllocError> {
     Ok(arguments)
 }
 
-// Whether a search of some input reports a match, and the text that it writes.
-fn searched(alloc: Global, line: &str, input: &str) -> Result<(bool, Vec<u8>), Fail> {
-    let options = Options::parse(alloc, &arguments(alloc, line)?)?;
-    let mut writer = Writing::new(Vec::new(alloc));
-    let found = run(alloc, &options, &mut input.as_bytes(), &mut writer)?;
-    Ok((found, writer.into_inner()))
+// The options of a line.
+fn options(alloc: Global, line: &str) -> Result<Options, OptionsFault> {
+    match arguments(alloc, line) {
+        Ok(arguments) => Options::parse(alloc, &arguments),
+        Err(_) => Err(OptionsFault::Memory),
+    }
+}
+
+// Searches what a reader gives by the options of a line, and returns whether a match was reported.
+fn search<R: Source, W: Write>(
+    alloc: Global,
+    line: &str,
+    reader: &mut R,
+    writer: &mut Writing<W>,
+) -> Result<bool, SearchError> {
+    let Ok(options) = options(alloc, line) else {
+        return Err(SearchError::Io(io::Error::from(io::ErrorKind::InvalidInput)));
+    };
+    run(alloc, &options, reader, writer)
 }
 
 #[test]
-fn refuses_arguments(rt: HostRuntime) -> Result<(), Fail> {
+fn refuses_arguments(rt: HostRuntime) {
     for line in [
         "-m 4294967296 a",
         "-m 00000000001 a",
@@ -40,62 +53,100 @@ fn refuses_arguments(rt: HostRuntime) -> Result<(), Fail> {
         "--",
         "-- a b",
     ] {
-        let parsed = Options::parse(rt.alloc(), &arguments(rt.alloc(), line)?);
-        assert_eq!(rt; parsed.err(), Some(OptionsFault::Usage), "at {line}");
+        let parsed = options(rt.alloc(), line);
+        assert!(rt; matches!(parsed, Err(OptionsFault::Usage)), "at {line}");
     }
     let parsed = Options::parse(rt.alloc(), &[]);
-    assert_eq!(rt; parsed.err(), Some(OptionsFault::Usage));
-    assert_eq!(rt;
-        USAGE,
-        "usage: lgrep [-v] [-A N] [-B N] [-m N] [-U] [--passthru] [-c] LITERAL [PATH]"
+    assert!(rt; matches!(parsed, Err(OptionsFault::Usage)));
+    assert!(rt;
+        USAGE == "usage: lgrep [-v] [-A N] [-B N] [-m N] [-U] [--passthru] [-c] LITERAL [PATH]"
     );
-    Ok(())
+}
+
+// A line, and its options: `invert`, `after`, `before`, `passthru`, `max` and `literal`.
+type OptionsRow = (
+    &'static str,
+    bool,
+    usize,
+    usize,
+    bool,
+    Option<u64>,
+    &'static str,
+);
+
+const OPTIONS_ROWS: &[OptionsRow] = &[
+    ("a", false, 0, 0, false, None, "a"),
+    ("", false, 0, 0, false, None, ""),
+    ("-v -v ", true, 0, 0, false, None, ""),
+    ("-B 4294967295 a", false, 0, 4294967295, false, None, "a"),
+    ("-m 1 --passthru a", false, 0, 0, true, Some(1), "a"),
+    ("-m 1 -A 3 -m 2 -A 4 a", false, 4, 0, false, Some(2), "a"),
+    ("-v -- --", true, 0, 0, false, None, "--"),
+    ("-", false, 0, 0, false, None, "-"),
+];
+
+// Whether options are those of a row.
+fn has_options(options: &Options, row: &OptionsRow) -> bool {
+    options.invert == row.1
+        && options.after == row.2
+        && options.before == row.3
+        && options.passthru == row.4
+        && options.max == row.5
+        && options.literal.as_str() == row.6
 }
 
 #[test]
 fn reads_arguments(rt: HostRuntime) -> Result<(), Fail> {
-    for (line, invert, after, before, passthru, max, literal) in [
-        ("a", false, 0, 0, false, None, "a"),
-        ("", false, 0, 0, false, None, ""),
-        ("-v -v ", true, 0, 0, false, None, ""),
-        ("-B 4294967295 a", false, 0, 4294967295, false, None, "a"),
-        ("-m 1 --passthru a", false, 0, 0, true, Some(1), "a"),
-        ("-m 1 -A 3 -m 2 -A 4 a", false, 4, 0, false, Some(2), "a"),
-        ("-v -- --", true, 0, 0, false, None, "--"),
-        ("-", false, 0, 0, false, None, "-"),
-    ] {
-        let options = Options::parse(rt.alloc(), &arguments(rt.alloc(), line)?)?;
-        assert_eq!(rt; options.invert, invert, "at {line}");
-        assert_eq!(rt; options.after, after, "at {line}");
-        assert_eq!(rt; options.before, before, "at {line}");
-        assert_eq!(rt; options.passthru, passthru, "at {line}");
-        assert_eq!(rt; options.max, max, "at {line}");
-        assert_eq!(rt; options.literal.as_str(), literal, "at {line}");
+    for row in OPTIONS_ROWS {
+        let options = options(rt.alloc(), row.0)?;
+        assert!(rt; has_options(&options, row), "at {}", row.0);
     }
     Ok(())
 }
 
+// The arguments of a search, its input, what it writes, and whether it reports a match.
+const SEARCH_ROWS: &[(&str, &[u8], &str, bool)] = &[
+    ("-v a", b"a\nb", "2:b\n", true),
+    ("z", b"a\n", "", false),
+    ("-A 1 a", b"a\nx\nx\nx\na\n", "1:a\n2-x\n--\n5:a\n", true),
+    ("-B 1 a", b"a\nx\nx\na\nx\n", "1:a\n--\n3-x\n4:a\n", true),
+    ("--passthru z", b"a\n", "1-a\n", false),
+    (
+        "--passthru -v -m 1 a",
+        b"b\na\nb\n",
+        "1:b\n2-a\n3-b\n",
+        true,
+    ),
+    ("-m 1 -A 2 a", b"a\na\nb\na\n", "1:a\n2-a\n3-b\n", true),
+    ("a", b"", "", false),
+    ("a", b"\xFF\xFEb\0\n\0a\0\n\0", "2:a\n", true),
+    (
+        "Sherlock",
+        b"For Sherlock\nHolmeses\nof luck. Sherlock Holmes\n",
+        "1:For Sherlock\n3:of luck. Sherlock Holmes\n",
+        true,
+    ),
+];
+
+// Whether a search of a line writes this, and reports a match or not.
+fn writes(
+    alloc: Global,
+    line: &str,
+    input: &[u8],
+    text: &str,
+    found: bool,
+) -> Result<bool, SearchError> {
+    let mut reader = input;
+    let mut writer = Writing::new(Vec::new(alloc));
+    let is_found = search(alloc, line, &mut reader, &mut writer)?;
+    let written = writer.into_inner();
+    Ok(is_found == found && written.as_slice() == text.as_bytes())
+}
+
 #[test]
 fn writes_what_it_finds(rt: HostRuntime) -> Result<(), Fail> {
-    for (line, input, text, found) in [
-        ("-v a", "a\nb", "2:b\n", true),
-        ("z", "a\n", "", false),
-        ("-A 1 a", "a\nx\nx\nx\na\n", "1:a\n2-x\n--\n5:a\n", true),
-        ("-B 1 a", "a\nx\nx\na\nx\n", "1:a\n--\n3-x\n4:a\n", true),
-        ("--passthru z", "a\n", "1-a\n", false),
-        ("--passthru -v -m 1 a", "b\na\nb\n", "1:b\n2-a\n3-b\n", true),
-        ("-m 1 -A 2 a", "a\na\nb\na\n", "1:a\n2-a\n3-b\n", true),
-        ("a", "", "", false),
-        (
-            "Sherlock",
-            "For Sherlock\nHolmeses\nof luck. Sherlock Holmes\n",
-            "1:For Sherlock\n3:of luck. Sherlock Holmes\n",
-            true,
-        ),
-    ] {
-        let (is_found, written) = searched(rt.alloc(), line, input)?;
-        assert_eq!(rt; is_found, found, "at {line}");
-        assert_eq!(rt; written.as_slice(), text.as_bytes(), "at {line}");
+    for (line, input, text, found) in SEARCH_ROWS {
+        assert!(rt; writes(rt.alloc(), line, input, text, *found)?, "at {line}");
     }
     Ok(())
 }
@@ -125,18 +176,14 @@ impl Write for Slow {
 
 #[test]
 fn writes_all_in_parts(rt: HostRuntime) -> Result<(), Fail> {
-    let options = Options::parse(rt.alloc(), &arguments(rt.alloc(), "-A 1 a")?)?;
     let mut writer = Writing::new(Slow {
         is_interrupted: false,
         taken: Vec::new(rt.alloc()),
     });
-    let input = "a needle\nand a haystack";
-    assert!(rt; run(rt.alloc(), &options, &mut input.as_bytes(), &mut writer)?);
+    let mut input = b"a needle\nand a haystack".as_slice();
+    assert!(rt; search(rt.alloc(), "-A 1 a", &mut input, &mut writer)?);
     let Slow { taken, .. } = writer.into_inner();
-    assert_eq!(rt;
-        taken.as_slice(),
-        b"1:a needle\n2:and a haystack\n".as_slice()
-    );
+    assert!(rt; taken.as_slice() == b"1:a needle\n2:and a haystack\n".as_slice());
     Ok(())
 }
 
@@ -160,9 +207,16 @@ impl Write for Broken {
     }
 }
 
+// Whether a search ended in an error of a reader or a writer of this kind.
+fn is_fault(ended: Result<bool, SearchError>, kind: io::ErrorKind) -> bool {
+    match ended {
+        Err(SearchError::Io(error)) => error.kind() == kind,
+        _ => false,
+    }
+}
+
 #[test]
-fn returns_the_error_of_the_writer(rt: HostRuntime) -> Result<(), Fail> {
-    let options = Options::parse(rt.alloc(), &arguments(rt.alloc(), "-A 1 a")?)?;
+fn returns_the_error_of_the_writer(rt: HostRuntime) {
     // Two writes a line, one for the break, and one for the line feed at the end.
     for (left, kind) in [
         (0, io::ErrorKind::BrokenPipe),
@@ -172,14 +226,13 @@ fn returns_the_error_of_the_writer(rt: HostRuntime) -> Result<(), Fail> {
         (8, io::ErrorKind::StorageFull),
     ] {
         let mut writer = Writing::new(Broken { left });
-        let input = "a\nx\nx\na";
-        match run(rt.alloc(), &options, &mut input.as_bytes(), &mut writer) {
-            Err(SearchError::Io(error)) => assert_eq!(rt; error.kind(), kind, "at {left}"),
-            _ => assert!(rt; false, "at {left}"),
-        }
-        assert_eq!(rt; writer.into_inner().left, 0, "at {left}");
+        let mut input = b"a\nx\nx\na".as_slice();
+        let ended = search(rt.alloc(), "-A 1 a", &mut input, &mut writer);
+        assert!(rt;
+            is_fault(ended, kind) && writer.into_inner().left == 0,
+            "at {left}"
+        );
     }
-    Ok(())
 }
 
 // Gives a matching line, and then fails.
@@ -208,20 +261,9 @@ impl Source for Cut {
 }
 
 #[test]
-fn writes_nothing_if_a_read_fails(rt: HostRuntime) -> Result<(), Fail> {
-    let options = Options::parse(rt.alloc(), &arguments(rt.alloc(), "a")?)?;
+fn writes_nothing_if_a_read_fails(rt: HostRuntime) {
     let mut writer = Writing::new(Vec::new(rt.alloc()));
-    match run(
-        rt.alloc(),
-        &options,
-        &mut Cut { is_read: false },
-        &mut writer,
-    ) {
-        Err(SearchError::Io(error)) => {
-            assert_eq!(rt; error.kind(), io::ErrorKind::ConnectionReset);
-        }
-        _ => assert!(rt; false),
-    }
+    let ended = search(rt.alloc(), "a", &mut Cut { is_read: false }, &mut writer);
+    assert!(rt; is_fault(ended, io::ErrorKind::ConnectionReset));
     assert!(rt; writer.into_inner().is_empty());
-    Ok(())
 }

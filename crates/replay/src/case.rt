@@ -1,6 +1,6 @@
 //! A case: what is searched for, in what, and how.
 use grep_matcher::LineTerminator;
-use grep_searcher::SearcherBuilder;
+use grep_searcher::{ConfigError, Encoding, SearcherBuilder};
 use hex::{FromHex, FromHexError};
 use std::alloc::{AllocError, Global};
 use std::str;
@@ -10,12 +10,14 @@ use std::str::FromStr;
 #[derive(Clone, Copy)]
 pub(crate) enum CaseError {
     /// A field isn't known, or its value isn't one of the field's, or the input or the literal is missing. A value of
-    /// `multi`, `bom`, `bin` or `enc` is never this, but `Unsupported`.
+    /// `multi` or `bin` is never this, but `Unsupported`.
     Malformed,
-    /// `multi`, `bom`, `bin` or `enc`, for which there is no setting yet, has another value than its default,
+    /// The label of `enc` isn't one of an encoding that is known.
+    UnknownEncoding,
+    /// `multi` or `bin`, for which there is no setting yet, has another value than its default,
     /// or a reader is to be searched under a heap limit above 0, which has no effect there yet.
     Unsupported,
-    /// There was no memory for the input or a literal.
+    /// There was no memory for the input, a literal or a label.
     OutOfMemory,
 }
 
@@ -130,24 +132,55 @@ pub(crate) struct Case {
 impl Case {
     /// The case of a line: fields `key=value` with a space between.
     ///
-    /// An error is that of the first field that can't be read: `OutOfMemory` if there is none for the input or a
-    /// literal, else `Malformed`, which is also the error of a line that isn't UTF-8 or lacks the input or the literal.
+    /// An error is that of the first field that can't be read: `OutOfMemory` if there is none for the input, a literal
+    /// or a label, `UnknownEncoding` if the label isn't known, else `Malformed`, which is also the error of a line that
+    /// isn't UTF-8 or lacks the input or the literal.
     /// `Unsupported` comes after these, and `OutOfMemory` for a repeated input after that.
     pub(crate) fn parse(alloc: Global, line: &[u8]) -> Result<Case, CaseError> {
         let line = str::from_utf8(line).map_err(|_| CaseError::Malformed)?;
-        let mut input = None;
-        let mut literal = None;
-        let mut other = Vec::new(alloc);
-        let mut options = Options::new();
+        let mut fields = Fields {
+            input: None,
+            literal: None,
+            other: Vec::new(alloc),
+            options: Options::new(),
+        };
         for field in line.split(' ') {
-            let (key, value) = field.split_once('=').ok_or(CaseError::Malformed)?;
-            match key {
-                "in" => input = Some(hex::decode(alloc, value)?),
-                "lit" => literal = Some(hex::decode(alloc, value)?),
-                "or" => other = hex::decode(alloc, value)?,
-                _ => options.set(key, value)?,
-            }
+            fields.read(alloc, field)?;
         }
+        fields.into_case(alloc)
+    }
+}
+
+// The fields of a case that were read so far.
+#[derive(Drop)]
+struct Fields {
+    input: Option<Vec<u8>>,
+    literal: Option<Vec<u8>>,
+    other: Vec<u8>,
+    options: Options,
+}
+
+impl Fields {
+    // Reads one field.
+    fn read(&mut self, alloc: Global, field: &str) -> Result<(), CaseError> {
+        let (key, value) = field.split_once('=').ok_or(CaseError::Malformed)?;
+        match key {
+            "in" => self.input = Some(hex::decode(alloc, value)?),
+            "lit" => self.literal = Some(hex::decode(alloc, value)?),
+            "or" => self.other = hex::decode(alloc, value)?,
+            _ => self.options.set(alloc, key, value)?,
+        }
+        Ok(())
+    }
+
+    // The case of all fields.
+    fn into_case(self, alloc: Global) -> Result<Case, CaseError> {
+        let Fields {
+            input,
+            literal,
+            other,
+            options,
+        } = self;
         let (Some(input), Some(literal)) = (input, literal) else {
             return Err(CaseError::Malformed);
         };
@@ -193,7 +226,22 @@ impl Options {
     }
 
     // Sets the option of a field.
-    fn set(&mut self, key: &str, value: &str) -> Result<(), CaseError> {
+    fn set(&mut self, alloc: Global, key: &str, value: &str) -> Result<(), CaseError> {
+        match key {
+            "err_at" => self.error_at = ordinal(value)?,
+            "false_at" => self.false_at = ordinal(value)?,
+            "fail_at" => self.fail_at = ordinal(value)?,
+            "heap" => self.limit_heap(limit(value)?),
+            "multi" => self.support(value == "0"),
+            "bin" => self.support(value == "none"),
+            "enc" => self.encode(encoding(alloc, value)?),
+            _ => self.set_search(key, value)?,
+        }
+        Ok(())
+    }
+
+    // Sets what is searched with, and how.
+    fn set_search(&mut self, key: &str, value: &str) -> Result<(), CaseError> {
         match key {
             "matcher" => self.pattern = value.parse()?,
             "names" => self.names = Some(terminator(value)?),
@@ -201,13 +249,6 @@ impl Options {
             "debug" => self.debug = flag(value)?,
             "times" => self.times = number(value)?,
             "piece" => self.piece = number(value)?,
-            "err_at" => self.error_at = ordinal(value)?,
-            "false_at" => self.false_at = ordinal(value)?,
-            "fail_at" => self.fail_at = ordinal(value)?,
-            "heap" => self.limit_heap(limit(value)?),
-            "multi" => self.support(value == "0"),
-            "bom" => self.support(value == "1"),
-            "bin" | "enc" => self.support(value == "none"),
             _ => configure(&mut self.settings, key, value)?,
         }
         Ok(())
@@ -216,6 +257,10 @@ impl Options {
     fn limit_heap(&mut self, bytes: Option<usize>) {
         self.settings.heap_limit(bytes);
         self.has_heap = bytes.is_some_and(|bytes| bytes > 0);
+    }
+
+    fn encode(&mut self, encoding: Option<Encoding>) {
+        self.settings.encoding(encoding);
     }
 
     fn support(&mut self, is_supported: bool) {
@@ -241,11 +286,26 @@ fn configure(settings: &mut SearcherBuilder, key: &str, value: &str) -> Result<(
         "after" => settings.after_context(number(value)?),
         "before" => settings.before_context(number(value)?),
         "passthru" => settings.passthru(flag(value)?),
+        "bom" => settings.bom_sniffing(flag(value)?),
         "stop" => settings.stop_on_nonmatch(flag(value)?),
         "max" => settings.max_matches(limit(value)?),
         _ => return Err(CaseError::Malformed),
     };
     Ok(())
+}
+
+// The encoding of a label in hex, or none.
+fn encoding(alloc: Global, text: &str) -> Result<Option<Encoding>, CaseError> {
+    if text == "none" {
+        return Ok(None);
+    }
+    let label = hex::decode(alloc, text)?;
+    let label = str::from_utf8(&label).map_err(|_| CaseError::Malformed)?;
+    match Encoding::new(alloc, label) {
+        Ok(encoding) => Ok(Some(encoding)),
+        Err(ConfigError::UnknownEncoding { .. }) => Err(CaseError::UnknownEncoding),
+        Err(_) => Err(CaseError::OutOfMemory),
+    }
 }
 
 fn flag(text: &str) -> Result<bool, CaseError> {

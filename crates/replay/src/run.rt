@@ -27,10 +27,17 @@ pub(crate) fn replay<W: io::Write>(alloc: Global, line: &[u8], output: &mut W) -
 
 // Writes the debug forms of the case's searcher and of its clone.
 fn write_forms<W: io::Write>(alloc: Global, case: &Case, output: &mut W) -> io::Result<()> {
-    match build(alloc, case).and_then(|searcher| Ok((searcher.clone()?, searcher))) {
-        Ok((copy, searcher)) => writeln!(output, "{searcher:?};{copy:?};ok"),
+    match forms(alloc, case) {
+        Ok(forms) => writeln!(output, "{forms};ok"),
         Err(_) => writeln!(output, "err memory"),
     }
+}
+
+// The debug forms of the case's searcher and of its clone.
+fn forms(alloc: Global, case: &Case) -> Result<String, SearchError> {
+    let searcher = build(alloc, case)?;
+    let copy = searcher.clone()?;
+    Ok(format!(in alloc; "{searcher:?};{copy:?}")?)
 }
 
 // The searcher of a case.
@@ -42,6 +49,7 @@ fn build(alloc: Global, case: &Case) -> Result<Searcher, ConfigError> {
 fn case_fault(error: CaseError) -> &'static str {
     match error {
         CaseError::Malformed => "case",
+        CaseError::UnknownEncoding => "encoding",
         CaseError::Unsupported => "unsupported",
         CaseError::OutOfMemory => "memory",
     }

@@ -13,6 +13,8 @@ mod readers;
 #[cfg(test)]
 mod searchers;
 #[cfg(test)]
+mod searches;
+#[cfg(test)]
 mod tally;
 #[cfg(test)]
 mod windows;

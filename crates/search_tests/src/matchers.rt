@@ -1,11 +1,11 @@
 //! Which calls are made of a matcher.
+use crate::searches::{search_reader, search_slice};
 use grep_matcher::{LiteralMatcher, Matcher};
 use grep_searcher::{ConfigError, Searcher, SearcherBuilder};
 use grep_testing::{Counting, Pieces, Plain, Recorder};
 use std::alloc::Global;
 use std::io;
 use std::io::ErrorKind;
-use std::process::Abort;
 use std::test::Fail;
 
 // What is searched for the literal `a`, and its lines without their terminators.
@@ -123,39 +123,52 @@ fn fault(call: u64) -> (u64, io::Error) {
     (call, io::Error::from(ErrorKind::TimedOut))
 }
 
-// The matcher has no byte set, so that it is asked line by line. No line is asked about twice, none out of order, none
-// after the last selected one that the limit allows, and none after an error or false.
+// The matcher of a row's search. It has no byte set, so that it is asked line by line.
+type Asked<'a> = Counting<'a, Plain<LiteralMatcher<'a>>>;
+
+fn asked(row: &Row) -> Asked<'static> {
+    let literal = Plain(LiteralMatcher::borrowed(b"a"));
+    Counting::new(literal, LINES, row.fault_at.map(fault))
+}
+
+// Whether a search of a row that failed or not made the row's calls, each for the next line.
+fn has_asked(matcher: &Asked<'_>, row: &Row, has_failed: bool) -> bool {
+    has_failed == row.fault_at.is_some() && matcher.calls() == row.calls && matcher.strays() == 0
+}
+
+// Whether the search of a row over a slice makes its calls.
+fn slice_asks(alloc: Global, row: &Row) -> Result<bool, ConfigError> {
+    let mut searcher = searcher(alloc, row)?;
+    let matcher = asked(row);
+    let mut recorder = Recorder::new(alloc, row.false_at, None);
+    let ended = search_slice(&mut searcher, &matcher, INPUT, &mut recorder);
+    Ok(has_asked(&matcher, row, ended.is_err()))
+}
+
+// Whether the search of a row over a reader makes its calls.
+fn reader_asks(alloc: Global, row: &Row) -> Result<bool, ConfigError> {
+    let mut searcher = searcher(alloc, row)?;
+    let matcher = asked(row);
+    let mut recorder = Recorder::new(alloc, row.false_at, None);
+    let mut reader = Pieces::new(INPUT, 2, None);
+    let ended = search_reader(&mut searcher, &matcher, &mut reader, &mut recorder);
+    Ok(has_asked(&matcher, row, ended.is_err()))
+}
+
+// No line is asked about twice, none out of order, none after the last selected one that the limit allows, and none
+// after an error or false.
 #[test]
 fn lines_of_a_slice(rt: HostRuntime) -> Result<(), Fail> {
-    let literal = LiteralMatcher::new(rt.alloc(), b"a")?;
     for (index, row) in ROWS.iter().enumerate() {
-        let matcher = Counting::new(Plain(&literal), LINES, row.fault_at.map(fault));
-        let mut recorder = Recorder::new(rt.alloc(), row.false_at, None);
-        let ended = searcher(rt.alloc(), row)?.search_slice(&matcher, INPUT, &mut recorder);
-        assert_eq!(rt; ended.is_err(), row.fault_at.is_some(), "row {index}");
-        assert_eq!(rt;
-            (matcher.calls(), matcher.strays()),
-            (row.calls, 0),
-            "row {index}"
-        );
+        assert!(rt; slice_asks(rt.alloc(), row)?, "row {index}");
     }
     Ok(())
 }
 
 #[test]
 fn lines_of_a_reader(rt: HostRuntime) -> Result<(), Fail> {
-    let literal = LiteralMatcher::new(rt.alloc(), b"a")?;
     for (index, row) in ROWS.iter().enumerate() {
-        let matcher = Counting::new(Plain(&literal), LINES, row.fault_at.map(fault));
-        let mut recorder = Recorder::new(rt.alloc(), row.false_at, None);
-        let mut reader = Pieces::new(INPUT, 2, None);
-        let ended = searcher(rt.alloc(), row)?.search_reader(&matcher, &mut reader, &mut recorder);
-        assert_eq!(rt; ended.is_err(), row.fault_at.is_some(), "row {index}");
-        assert_eq!(rt;
-            (matcher.calls(), matcher.strays()),
-            (row.calls, 0),
-            "row {index}"
-        );
+        assert!(rt; reader_asks(rt.alloc(), row)?, "row {index}");
     }
     Ok(())
 }
@@ -165,68 +178,68 @@ const HAYSTACK: &[u8] = b"xabab";
 
 const HAYSTACKS: &[&[u8]] = &[HAYSTACK, HAYSTACK, HAYSTACK];
 
-// The results of `find`, `shortest_match` and `is_match`.
-type Results = (Option<(usize, usize)>, Option<usize>, bool);
+// The counted calls of the matcher of the literal `ab`, of which one fails, counted from 1, or none at 0.
+type Counted<'a> = Counting<'a, LiteralMatcher<'a>>;
 
-const RESULTS: Results = (Some((1, 3)), Some(3), true);
+fn counted(fails_at: u64) -> Counted<'static> {
+    let literal = LiteralMatcher::borrowed(b"ab");
+    Counting::new(literal, HAYSTACKS, Some(fault(fails_at)))
+}
 
-fn results_of<M: Matcher<Error = io::Error> + Drop>(matcher: M) -> io::Result<Results> {
-    let found = matcher.find(HAYSTACK)?.map(|m| (m.start(), m.end()));
-    Ok((
-        found,
-        matcher.shortest_match(HAYSTACK)?,
-        matcher.is_match(HAYSTACK)?,
-    ))
+// Whether there were so many calls of `find`, `shortest_match` and `is_match`, each for the haystack.
+fn has_counts(counted: &Counted<'_>, counts: (u64, u64, u64)) -> bool {
+    let (finds, shortest_matches, is_matches) = counted.counts();
+    finds == counts.0
+        && shortest_matches == counts.1
+        && is_matches == counts.2
+        && counted.strays() == 0
+}
+
+// Whether `find`, `shortest_match` and `is_match` find the literal, but for the one that fails, counted from 1.
+fn finds<M: Matcher<Error = io::Error> + Drop>(matcher: M, fails_at: u64) -> bool {
+    let found = match matcher.find(HAYSTACK) {
+        Ok(Some(found)) => fails_at != 1 && found.start() == 1 && found.end() == 3,
+        Ok(None) => false,
+        Err(error) => fails_at == 1 && error.kind() == ErrorKind::TimedOut,
+    };
+    let shortest = match matcher.shortest_match(HAYSTACK) {
+        Ok(shortest) => fails_at != 2 && shortest == Some(3),
+        Err(error) => fails_at == 2 && error.kind() == ErrorKind::TimedOut,
+    };
+    let is_match = match matcher.is_match(HAYSTACK) {
+        Ok(is_match) => fails_at != 3 && is_match,
+        Err(error) => fails_at == 3 && error.kind() == ErrorKind::TimedOut,
+    };
+    found && shortest && is_match
+}
+
+// Whether each call of a reference is passed on once as itself, and the error of one is passed on.
+fn reference_asks(fails_at: u64) -> bool {
+    let counted = counted(fails_at);
+    finds(&counted, fails_at) && has_counts(&counted, (1, 1, 1))
+}
+
+// Whether each call of the defaults is passed on once as `find`.
+fn defaults_ask(fails_at: u64) -> bool {
+    let counted = counted(fails_at);
+    finds(Plain(&counted), fails_at) && has_counts(&counted, (3, 0, 0))
 }
 
 #[test]
-fn a_reference_asks_the_same_call_once(rt: HostRuntime) -> Result<(), Fail> {
-    let literal = LiteralMatcher::new(rt.alloc(), b"ab")?;
-    let counting = Counting::new(&literal, HAYSTACKS, None);
-    assert_eq!(rt; results_of(&counting)?, RESULTS);
-    assert_eq!(rt; (counting.counts(), counting.strays()), ((1, 1, 1), 0));
-    Ok(())
+fn a_reference_asks_the_same_call_once(rt: HostRuntime) {
+    assert!(rt; reference_asks(0));
 }
 
 #[test]
-fn defaults_ask_find_once(rt: HostRuntime) -> Result<(), Fail> {
-    let literal = LiteralMatcher::new(rt.alloc(), b"ab")?;
-    let counting = Counting::new(&literal, HAYSTACKS, None);
-    assert_eq!(rt; results_of(Plain(&counting))?, RESULTS);
-    assert_eq!(rt; (counting.counts(), counting.strays()), ((3, 0, 0), 0));
-    Ok(())
-}
-
-// The kind of the error of a call.
-fn kind_of<T: Drop>(outcome: io::Result<T>) -> Option<ErrorKind> {
-    outcome.err().map(|error| error.kind())
-}
-
-// The kinds of the errors of `find`, `shortest_match` and `is_match`.
-fn faults_of<M: Matcher<Error = io::Error> + Drop>(matcher: M) -> [Option<ErrorKind>; 3] {
-    [
-        kind_of(matcher.find(HAYSTACK)),
-        kind_of(matcher.shortest_match(HAYSTACK)),
-        kind_of(matcher.is_match(HAYSTACK)),
-    ]
+fn defaults_ask_find_once(rt: HostRuntime) {
+    assert!(rt; defaults_ask(0));
 }
 
 // One of three calls fails: it is passed on from the call that asked it, and isn't asked again.
 #[test]
-fn faults_are_passed_on(rt: HostRuntime) -> Result<(), Fail> {
-    let literal = LiteralMatcher::new(rt.alloc(), b"ab")?;
-    let timed_out = Some(ErrorKind::TimedOut);
-    for (call, faults) in [
-        (1, [timed_out, None, None]),
-        (2, [None, timed_out, None]),
-        (3, [None, None, timed_out]),
-    ] {
-        let counting = Counting::new(&literal, HAYSTACKS, Some(fault(call)));
-        assert_eq!(rt; faults_of(&counting), faults, "a reference");
-        assert_eq!(rt; counting.counts(), (1, 1, 1), "a reference");
-        let counting = Counting::new(&literal, HAYSTACKS, Some(fault(call)));
-        assert_eq!(rt; faults_of(Plain(&counting)), faults, "the defaults");
-        assert_eq!(rt; counting.counts(), (3, 0, 0), "the defaults");
+fn faults_are_passed_on(rt: HostRuntime) {
+    for call in 1..=3 {
+        assert!(rt; reference_asks(call), "call {call} by a reference");
+        assert!(rt; defaults_ask(call), "call {call} by the defaults");
     }
-    Ok(())
 }

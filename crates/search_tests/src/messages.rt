@@ -1,4 +1,5 @@
 //! Long messages of matchers.
+use crate::searches::search_slice;
 use grep_matcher::{ByteSet, LineTerminator, Match, Matcher};
 use grep_searcher::{SearchError, Searcher};
 use grep_testing::Recorder;
@@ -49,16 +50,28 @@ impl Matcher for Verbose {
     }
 }
 
+// Whether a text is the message.
+fn is_message(text: &str) -> bool {
+    for part in text.as_bytes().chunks(PART.len()) {
+        if part != PART.as_bytes() {
+            return false;
+        }
+    }
+    text.len() == PARTS * PART.len()
+}
+
 #[test]
 fn a_long_message_is_kept(rt: HostRuntime) -> Result<(), Fail> {
     let mut recorder = Recorder::new(rt.alloc(), None, None);
-    let ended = Searcher::new(rt.alloc())?.search_slice(Verbose, b"a", &mut recorder);
+    let ended = search_slice(
+        &mut Searcher::new(rt.alloc())?,
+        Verbose,
+        b"a",
+        &mut recorder,
+    );
     let Err(SearchError::Message(text)) = ended else {
         panic!(rt; "the matcher's error is lost");
     };
-    assert_eq!(rt; text.len(), PARTS * PART.len());
-    for part in text.as_bytes().chunks(PART.len()) {
-        assert_eq!(rt; part, PART.as_bytes());
-    }
+    assert!(rt; is_message(&text));
     Ok(())
 }

@@ -1,9 +1,11 @@
 //! Readers: their faults, standard readers, and large inputs.
+use crate::searches::{search_reader, search_reader_for_a, search_slice_for_a};
 use crate::tally::{Tally, Totals};
 use grep_decode::{Reading, Source};
 use grep_matcher::LiteralMatcher;
-use grep_searcher::{SearchError, Searcher, SearcherBuilder};
+use grep_searcher::{ConfigError, SearchError, Searcher, SearcherBuilder};
 use grep_testing::{Empty, Pieces, Recorder};
+use std::alloc::Global;
 use std::io;
 use std::io::ErrorKind;
 use std::process::Abort;
@@ -20,50 +22,55 @@ const FAULT_ROWS: &[(usize, u64, ErrorKind)] = &[
 
 // The error of such a row.
 fn cut(kind: ErrorKind) -> io::Error {
-    io::Error::new(kind, "the line was cut")
+    io::Error::new(kind, CUT)
 }
 
-// Asserts that a search makes no call of its sink, and ends in this error of its reader.
-fn check_fault<R: Source>(
-    rt: &(impl Abort + AllocGlobal),
-    reader: &mut R,
-    error: io::Error,
-) -> Result<(), Fail> {
-    let mut recorder = Recorder::new(rt.alloc(), None, None);
-    let ended = Searcher::new(rt.alloc())?.search_reader(&Empty, reader, &mut recorder);
-    assert_eq!(rt; recorder.text(), "");
-    let Err(SearchError::Io(fault)) = ended else {
-        panic!(rt; "no fault of the reader: {error:?}");
+const CUT: &str = "the line was cut";
+
+// The error of its reader in which a search ends that makes no call of its sink.
+fn fault_of<R: Source>(alloc: Global, reader: &mut R) -> Option<io::Error> {
+    let mut searcher = Searcher::new(alloc).ok()?;
+    let mut recorder = Recorder::new(alloc, None, None);
+    let ended = search_reader(&mut searcher, &Empty, reader, &mut recorder);
+    match ended {
+        Err(SearchError::Io(fault)) if recorder.text().is_empty() => Some(fault),
+        _ => None,
+    }
+}
+
+// Whether a search makes no call of its sink, and ends in the error of a row.
+fn is_cut<R: Source>(alloc: Global, reader: &mut R, kind: ErrorKind) -> bool {
+    let Some(fault) = fault_of(alloc, reader) else {
+        return false;
     };
-    let form = format!(in rt.alloc(); "{error:?}")?;
-    assert_eq!(rt;
-        format!(in rt.alloc(); "{fault:?}")?.as_str(),
-        form.as_str()
-    );
-    Ok(())
+    match format!(in alloc; "{fault}") {
+        Ok(text) => fault.kind() == kind && text.as_str() == CUT,
+        Err(_) => false,
+    }
 }
 
 #[test]
-fn faults(rt: HostRuntime) -> Result<(), Fail> {
+fn faults(rt: HostRuntime) {
     for (piece, read, kind) in FAULT_ROWS {
         let fault = Some((*read, cut(*kind)));
         let mut reader = Pieces::new(b"a\na\n", *piece, fault);
-        check_fault(&rt, &mut reader, cut(*kind))?;
-        assert_eq!(rt; reader.reads(), *read, "{kind:?} at read {read}");
+        assert!(rt;
+            is_cut(rt.alloc(), &mut reader, *kind) && reader.reads() == *read,
+            "{kind:?} at read {read}"
+        );
     }
-    Ok(())
 }
 
 #[test]
-fn faults_of_standard_readers(rt: HostRuntime) -> Result<(), Fail> {
+fn faults_of_standard_readers(rt: HostRuntime) {
     for (piece, read, kind) in FAULT_ROWS {
         let fault = Some((*read, cut(*kind)));
         let mut reader = Reading::new(Pieces::new(b"a\na\n", *piece, fault));
-        check_fault(&rt, &mut reader, cut(*kind))?;
-        let reads = reader.into_inner().reads();
-        assert_eq!(rt; reads, *read, "{kind:?} at read {read}");
+        assert!(rt;
+            is_cut(rt.alloc(), &mut reader, *kind) && reader.into_inner().reads() == *read,
+            "{kind:?} at read {read}"
+        );
     }
-    Ok(())
 }
 
 // What the reads of `abcde` in pieces of 2 give, of which the second fails.
@@ -75,41 +82,52 @@ const READS: &[(Result<usize, ErrorKind>, [u8; 4])] = &[
     (Ok(0), *b"----"),
 ];
 
+// Whether a read has this result, and leaves these bytes in its buffer.
+fn pulls(
+    reader: &mut Reading<Pieces<'_>>,
+    expected: Result<usize, ErrorKind>,
+    bytes: &[u8; 4],
+) -> bool {
+    let mut buffer = *b"----";
+    let is_same = match (reader.pull(&mut buffer), expected) {
+        (Ok(count), Ok(length)) => count == length,
+        (Err(error), Err(kind)) => error.kind() == kind,
+        _ => false,
+    };
+    is_same && buffer == *bytes
+}
+
 #[test]
 fn a_standard_reader_is_asked_once(rt: HostRuntime) {
     let error = io::Error::from(ErrorKind::BrokenPipe);
     let mut reader = Reading::new(Pieces::new(b"abcde", 2, Some((2, error))));
     for (result, bytes) in READS {
-        let mut buffer = *b"----";
-        let got = reader.pull(&mut buffer).map_err(|error| error.kind());
-        assert_eq!(rt; (got, buffer), (*result, *bytes));
+        assert!(rt; pulls(&mut reader, *result, bytes), "{result:?}");
     }
-    assert_eq!(rt; reader.into_inner().reads(), 5);
+    assert!(rt; reader.into_inner().reads() == 5);
 }
 
-// Asserts the calls of a search for the literal `a`.
-fn check_calls<R: Source>(
-    rt: &(impl Abort + AllocGlobal),
-    reader: &mut R,
-    calls: &str,
-) -> Result<(), Fail> {
-    let matcher = LiteralMatcher::new(rt.alloc(), b"a")?;
-    let mut recorder = Recorder::new(rt.alloc(), None, None);
-    let mut searcher = SearcherBuilder::new()
-        .heap_limit(Some(1))
-        .build(rt.alloc())?;
-    searcher.search_reader(&matcher, reader, &mut recorder)?;
-    assert_eq!(rt; recorder.text(), calls);
-    Ok(())
+// A searcher with a heap limit of one byte.
+fn limited(alloc: Global) -> Result<Searcher, ConfigError> {
+    SearcherBuilder::new().heap_limit(Some(1)).build(alloc)
+}
+
+// Whether these are the calls of its search for the literal `a`.
+fn has_calls<R: Source>(alloc: Global, reader: &mut R, calls: &str) -> Result<bool, SearchError> {
+    let mut searcher = limited(alloc)?;
+    let mut recorder = Recorder::new(alloc, None, None);
+    let matcher = LiteralMatcher::borrowed(b"a");
+    search_reader(&mut searcher, matcher, reader, &mut recorder)?;
+    Ok(recorder.text() == calls)
 }
 
 #[test]
 fn standard_readers(rt: HostRuntime) -> Result<(), Fail> {
     for piece in [1, 4, 0] {
         let mut reader = Reading::new(Pieces::new(b"b\na\n", piece, None));
-        check_calls(&rt, &mut reader, "begin;match 2 2 610a;finish 4 -;")?;
         assert!(rt;
-            reader.into_inner().rest().is_empty(),
+            has_calls(rt.alloc(), &mut reader, "begin;match 2 2 610a;finish 4 -;")?
+                && reader.into_inner().rest().is_empty(),
             "in pieces of {piece}"
         );
     }
@@ -119,28 +137,38 @@ fn standard_readers(rt: HostRuntime) -> Result<(), Fail> {
 #[test]
 fn a_slice_as_a_reader(rt: HostRuntime) -> Result<(), Fail> {
     let mut slice: &[u8] = b"b\na\n";
-    check_calls(&rt, &mut slice, "begin;match 2 2 610a;finish 4 -;")?;
+    assert!(rt; has_calls(rt.alloc(), &mut slice, "begin;match 2 2 610a;finish 4 -;")?);
     assert!(rt; slice.is_empty(), "a slice that was read has no bytes");
     Ok(())
 }
 
-// Asserts the totals of a search for the literal `a`, over a slice.
-fn check_slice(rt: &(impl Abort + AllocGlobal), input: &[u8], totals: Totals) -> Result<(), Fail> {
-    let matcher = LiteralMatcher::new(rt.alloc(), b"a")?;
+// The sums of a search for the literal `a` over a slice.
+fn in_slice(alloc: Global, input: &[u8]) -> Result<Tally, SearchError> {
     let mut tally = Tally::new();
-    Searcher::new(rt.alloc())?.search_slice(&matcher, input, &mut tally)?;
-    assert_eq!(rt; tally.totals(), totals, "a slice");
-    Ok(())
+    search_slice_for_a(alloc, input, &mut tally)?;
+    Ok(tally)
 }
 
-// The same over a reader in pieces of some sizes.
-fn check_reader(rt: &(impl Abort + AllocGlobal), input: &[u8], totals: Totals) -> Result<(), Fail> {
-    let matcher = LiteralMatcher::new(rt.alloc(), b"a")?;
+// The same over a reader in pieces of some size.
+fn in_reader(alloc: Global, input: &[u8], piece: usize) -> Result<Tally, SearchError> {
+    let mut tally = Tally::new();
+    let mut reader = Pieces::new(input, piece, None);
+    search_reader_for_a(alloc, &mut reader, &mut tally)?;
+    Ok(tally)
+}
+
+// Asserts the sums of a search over a slice, and over a reader in pieces of some sizes.
+fn check_sums(
+    rt: &(impl Abort + AllocGlobal),
+    input: &[u8],
+    totals: Totals,
+) -> Result<(), SearchError> {
+    assert!(rt; in_slice(rt.alloc(), input)?.has(totals), "a slice");
     for piece in [1, 7, 0] {
-        let mut tally = Tally::new();
-        let mut reader = Pieces::new(input, piece, None);
-        Searcher::new(rt.alloc())?.search_reader(&matcher, &mut reader, &mut tally)?;
-        assert_eq!(rt; tally.totals(), totals, "in pieces of {piece}");
+        assert!(rt;
+            in_reader(rt.alloc(), input, piece)?.has(totals),
+            "in pieces of {piece}"
+        );
     }
     Ok(())
 }
@@ -153,8 +181,8 @@ fn a_long_line(rt: HostRuntime) -> Result<(), Fail> {
     let mut input = vec![in rt.alloc(); b'x'; LONG - 1]?;
     input.push(b'a')?;
     let totals = (1, 1, 0, LONG as u64, LONG as u64);
-    check_slice(&rt, &input, totals)?;
-    check_reader(&rt, &input, totals)
+    check_sums(&rt, &input, totals)?;
+    Ok(())
 }
 
 // How often ten lines are repeated, of which the fourth matches.
@@ -167,6 +195,6 @@ fn short_lines(rt: HostRuntime) -> Result<(), Fail> {
         input.extend_from_slice(b"x\nx\nx\na\nx\nx\nx\nx\nx\nx\n")?;
     }
     let totals = (TENS, 244_993_000, 489_972_000, 2 * TENS, 20 * TENS);
-    check_slice(&rt, &input, totals)?;
-    check_reader(&rt, &input, totals)
+    check_sums(&rt, &input, totals)?;
+    Ok(())
 }

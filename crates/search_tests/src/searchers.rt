@@ -1,4 +1,5 @@
 //! Settings, and searchers that are used again or copied.
+use crate::searches::{search_reader, search_slice};
 use grep_matcher::LineTerminator;
 use grep_searcher::{ConfigError, MmapChoice, SearchError, Searcher, SearcherBuilder};
 use grep_testing::{Failing, Naming, Pieces, Recorder};
@@ -23,22 +24,20 @@ fn changed() -> SearcherBuilder {
     builder
 }
 
-// Asserts the contexts of a searcher, in lines after and before.
-fn check_contexts(rt: &impl Abort, searcher: &Searcher, after: usize, before: usize) {
-    assert_eq!(rt; searcher.after_context(), after, "after");
-    assert_eq!(rt; searcher.before_context(), before, "before");
+// Whether a searcher has so many lines of context after and before.
+fn has_contexts(searcher: &Searcher, after: usize, before: usize) -> bool {
+    searcher.after_context() == after && searcher.before_context() == before
 }
 
 #[test]
 fn settings(rt: HostRuntime) -> Result<(), Fail> {
     let searcher = changed().build(rt.alloc())?;
-    assert_eq!(rt; searcher.line_terminator(), LineTerminator::Byte(0));
+    assert!(rt; searcher.line_terminator() == LineTerminator::Byte(0));
     assert!(rt; searcher.invert_match() && searcher.stop_on_nonmatch());
     assert!(rt; !searcher.line_number() && !searcher.passthru());
-    assert_eq!(rt; searcher.heap_limit(), Some(7));
-    assert_eq!(rt; searcher.memory_map(), MmapChoice::never());
-    assert_eq!(rt; searcher.max_matches(), Some(6));
-    check_contexts(&rt, &searcher, 4, 5);
+    assert!(rt; searcher.heap_limit() == Some(7) && searcher.max_matches() == Some(6));
+    assert!(rt; searcher.memory_map() == MmapChoice::never());
+    assert!(rt; has_contexts(&searcher, 4, 5));
     Ok(())
 }
 
@@ -46,10 +45,9 @@ fn settings(rt: HostRuntime) -> Result<(), Fail> {
 fn contexts_under_passthru(rt: HostRuntime) -> Result<(), Fail> {
     let mut builder = changed();
     let passing = builder.passthru(true).build(rt.alloc())?;
-    assert!(rt; passing.passthru());
-    check_contexts(&rt, &passing, 0, 0);
+    assert!(rt; passing.passthru() && has_contexts(&passing, 0, 0));
     let again = builder.passthru(false).build(rt.alloc())?;
-    check_contexts(&rt, &again, 4, 5);
+    assert!(rt; has_contexts(&again, 4, 5));
     Ok(())
 }
 
@@ -65,22 +63,31 @@ const INPUT: &[u8] = b"a\nb\nc\n";
 
 const CALLS: &str = "begin;match 1 0 610a;after 2 2 620a;finish 4 -;";
 
-// Asserts the calls of such a searcher over a slice.
-fn check_slice(rt: &(impl Abort + AllocGlobal), searcher: &mut Searcher) -> Result<(), Fail> {
-    let mut recorder = Recorder::new(rt.alloc(), None, None);
-    searcher.search_slice(&Failing, INPUT, &mut recorder)?;
-    assert_eq!(rt; recorder.text(), CALLS);
+// Whether a searcher over a slice makes these calls.
+fn slice_calls(alloc: Global, searcher: &mut Searcher) -> Result<bool, SearchError> {
+    let mut recorder = Recorder::new(alloc, None, None);
+    search_slice(searcher, &Failing, INPUT, &mut recorder)?;
+    Ok(recorder.text() == CALLS)
+}
+
+// Whether it makes them over a reader.
+fn reader_calls(alloc: Global, searcher: &mut Searcher) -> Result<bool, SearchError> {
+    let mut recorder = Recorder::new(alloc, None, None);
+    let mut reader = Pieces::new(INPUT, 1, None);
+    search_reader(searcher, &Failing, &mut reader, &mut recorder)?;
+    Ok(recorder.text() == CALLS)
+}
+
+// Asserts that a searcher makes them over a slice and over a reader.
+fn check_near(rt: &(impl Abort + AllocGlobal), searcher: &mut Searcher) -> Result<(), Fail> {
+    assert!(rt; slice_calls(rt.alloc(), searcher)?, "over a slice");
+    assert!(rt; reader_calls(rt.alloc(), searcher)?, "over a reader");
     Ok(())
 }
 
-// Asserts the calls of such a searcher over a slice and over a reader.
-fn check_near(rt: &(impl Abort + AllocGlobal), searcher: &mut Searcher) -> Result<(), Fail> {
-    check_slice(rt, searcher)?;
-    let mut recorder = Recorder::new(rt.alloc(), None, None);
-    let mut reader = Pieces::new(INPUT, 1, None);
-    searcher.search_reader(&Failing, &mut reader, &mut recorder)?;
-    assert_eq!(rt; recorder.text(), CALLS);
-    Ok(())
+// Whether a search ended in a message.
+fn is_message(ended: Result<(), SearchError>) -> bool {
+    matches!(ended, Err(SearchError::Message(_)))
 }
 
 #[test]
@@ -94,8 +101,8 @@ fn after_a_search(rt: HostRuntime) -> Result<(), Fail> {
 fn after_a_fault_of_the_matcher(rt: HostRuntime) -> Result<(), Fail> {
     let mut searcher = near(rt.alloc())?;
     let mut recorder = Recorder::new(rt.alloc(), None, None);
-    let ended = searcher.search_slice(&Failing, b"!\n", &mut recorder);
-    assert!(rt; matches!(ended, Err(SearchError::Message(_))));
+    let ended = search_slice(&mut searcher, &Failing, b"!\n", &mut recorder);
+    assert!(rt; is_message(ended));
     check_near(&rt, &mut searcher)
 }
 
@@ -105,7 +112,7 @@ fn after_a_fault_of_the_reader(rt: HostRuntime) -> Result<(), Fail> {
     let mut recorder = Recorder::new(rt.alloc(), None, None);
     let fault = Some((2, io::Error::from(io::ErrorKind::TimedOut)));
     let mut reader = Pieces::new(INPUT, 3, fault);
-    let ended = searcher.search_reader(&Failing, &mut reader, &mut recorder);
+    let ended = search_reader(&mut searcher, &Failing, &mut reader, &mut recorder);
     assert!(rt; matches!(ended, Err(SearchError::Io(_))));
     check_near(&rt, &mut searcher)
 }
@@ -114,9 +121,8 @@ fn after_a_fault_of_the_reader(rt: HostRuntime) -> Result<(), Fail> {
 fn after_a_fault_of_the_sink(rt: HostRuntime) -> Result<(), Fail> {
     let mut searcher = near(rt.alloc())?;
     let mut recorder = Recorder::new(rt.alloc(), None, Some(2));
-    let ended = searcher.search_slice(&Failing, INPUT, &mut recorder);
-    assert!(rt; matches!(ended, Err(SearchError::Message(_))));
-    assert_eq!(rt; recorder.text(), "begin;match 1 0 610a;");
+    let ended = search_slice(&mut searcher, &Failing, INPUT, &mut recorder);
+    assert!(rt; is_message(ended) && recorder.text() == "begin;match 1 0 610a;");
     check_near(&rt, &mut searcher)
 }
 
@@ -128,7 +134,7 @@ fn after_a_refusal(rt: HostRuntime) -> Result<(), Fail> {
         matcher: Failing,
         terminator: LineTerminator::Crlf,
     };
-    let ended = searcher.search_slice(matcher, INPUT, &mut recorder);
+    let ended = search_slice(&mut searcher, matcher, INPUT, &mut recorder);
     assert!(rt; matches!(ended, Err(SearchError::Config(_))));
     check_near(&rt, &mut searcher)
 }
@@ -139,23 +145,30 @@ const MISMATCHES: &[(LineTerminator, LineTerminator)] = &[
     (LineTerminator::Byte(b'z'), LineTerminator::Byte(b'\n')),
 ];
 
+// Whether a searcher of the terminator `own` refuses a matcher that names another, and says both.
+fn is_refused(
+    alloc: Global,
+    named: LineTerminator,
+    own: LineTerminator,
+) -> Result<bool, ConfigError> {
+    let mut refusing = SearcherBuilder::new().line_terminator(own).build(alloc)?;
+    let mut recorder = Recorder::new(alloc, None, None);
+    let naming = Naming {
+        matcher: Failing,
+        terminator: named,
+    };
+    match search_slice(&mut refusing, naming, INPUT, &mut recorder) {
+        Err(SearchError::Config(ConfigError::MismatchedLineTerminators { matcher, searcher })) => {
+            Ok(matcher == named && searcher == own)
+        }
+        _ => Ok(false),
+    }
+}
+
 #[test]
 fn terminators_of_a_refusal(rt: HostRuntime) -> Result<(), Fail> {
     for (named, own) in MISMATCHES {
-        let mut recorder = Recorder::new(rt.alloc(), None, None);
-        let naming = Naming {
-            matcher: Failing,
-            terminator: *named,
-        };
-        let mut builder = SearcherBuilder::new();
-        let mut refusing = builder.line_terminator(*own).build(rt.alloc())?;
-        let ended = refusing.search_slice(naming, INPUT, &mut recorder);
-        let Err(SearchError::Config(ConfigError::MismatchedLineTerminators { matcher, searcher })) =
-            ended
-        else {
-            panic!(rt; "{named:?} isn't refused");
-        };
-        assert_eq!(rt; (matcher, searcher), (*named, *own));
+        assert!(rt; is_refused(rt.alloc(), *named, *own)?, "{named:?}");
     }
     Ok(())
 }
@@ -183,7 +196,7 @@ fn copies_of_a_builder(rt: HostRuntime) -> Result<(), Fail> {
 fn a_sink_by_reference(rt: HostRuntime) -> Result<(), Fail> {
     let mut recorder = Recorder::new(rt.alloc(), None, None);
     let mut reference = &mut recorder;
-    near(rt.alloc())?.search_slice(Failing, b"b", &mut reference)?;
-    assert_eq!(rt; recorder.text(), "begin;match 1 0 62;finish 1 -;");
+    search_slice(&mut near(rt.alloc())?, Failing, b"b", &mut reference)?;
+    assert!(rt; recorder.text() == "begin;match 1 0 62;finish 1 -;");
     Ok(())
 }

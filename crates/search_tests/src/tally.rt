@@ -28,15 +28,13 @@ impl Tally {
         }
     }
 
-    /// The sums so far.
-    pub(crate) fn totals(&self) -> Totals {
-        (
-            self.matches,
-            self.numbers,
-            self.offsets,
-            self.bytes,
-            self.count,
-        )
+    /// Whether these are the sums so far.
+    pub(crate) fn has(&self, totals: Totals) -> bool {
+        self.matches == totals.0
+            && self.numbers == totals.1
+            && self.offsets == totals.2
+            && self.bytes == totals.3
+            && self.count == totals.4
     }
 }
 

@@ -1,5 +1,5 @@
 //! The window around a match.
-use grep_matcher::LiteralMatcher;
+use crate::searches::{search_reader_for_a, search_slice_for_a};
 use grep_searcher::{SearchError, Searcher, Sink, SinkContext, SinkFinish, SinkMatch};
 use grep_testing::Pieces;
 use std::alloc::Allocator;
@@ -90,19 +90,17 @@ const INPUT: &[u8] = b"x\na\nx\nab";
 
 #[test]
 fn of_a_slice(rt: HostRuntime) -> Result<(), Fail> {
-    let matcher = LiteralMatcher::new(rt.alloc(), b"a")?;
     let mut sink = Windows::new(INPUT);
-    Searcher::new(rt.alloc())?.search_slice(matcher, INPUT, &mut sink)?;
-    assert_eq!(rt; (sink.matches, sink.whole, sink.sound), (2, 2, 2));
+    search_slice_for_a(rt.alloc(), INPUT, &mut sink)?;
+    assert!(rt; sink.matches == 2 && sink.whole == 2 && sink.sound == 2);
     Ok(())
 }
 
 #[test]
 fn of_a_reader(rt: HostRuntime) -> Result<(), Fail> {
-    let matcher = LiteralMatcher::new(rt.alloc(), b"a")?;
     let mut sink = Windows::new(INPUT);
     let mut reader = Pieces::new(INPUT, 3, None);
-    Searcher::new(rt.alloc())?.search_reader(matcher, &mut reader, &mut sink)?;
-    assert_eq!(rt; (sink.matches, sink.sound), (2, 2));
+    search_reader_for_a(rt.alloc(), &mut reader, &mut sink)?;
+    assert!(rt; sink.matches == 2 && sink.sound == 2);
     Ok(())
 }

@@ -4,8 +4,12 @@
 #![tactic(auto)]
 
 #[cfg(test)]
+mod encodings;
+#[cfg(test)]
 mod lines;
 #[cfg(test)]
 mod patterns;
 #[cfg(test)]
 mod reports;
+#[cfg(test)]
+mod texts;

@@ -3,7 +3,6 @@ use grep_lines::{
     LineIter, LineStep, count, locate, preceding, preceding_by_pos, without_terminator,
 };
 use grep_matcher::{LineTerminator, Match};
-use std::process::Abort;
 use std::test::Fail;
 
 const LF: u8 = b'\n';
@@ -18,43 +17,47 @@ const LINE_ROWS: &[(&[u8], &[&[u8]])] = &[
     (b"abc\nxyz\n\n", &[b"abc\n", b"xyz\n", b"\n"]),
 ];
 
-// Asserts that the iterator gives these lines.
-fn check_lines(rt: &impl Abort, bytes: &[u8], lines: &[&[u8]]) {
+// Whether the iterator gives these lines.
+fn iterates(bytes: &[u8], lines: &[&[u8]]) -> bool {
     let mut iter = LineIter::new(LF, bytes);
     for line in lines {
-        assert_eq!(rt; iter.next(), Some(*line), "a line of {bytes:?}");
+        if iter.next() != Some(*line) {
+            return false;
+        }
     }
-    assert_eq!(rt; iter.next(), None, "after the lines of {bytes:?}");
+    iter.next().is_none()
 }
 
-// Asserts that the steps give these lines, each from where the one before ends.
-fn check_steps(rt: &impl Abort, bytes: &[u8], lines: &[&[u8]]) {
+// Whether the steps give these lines, each from where the one before ends.
+fn steps(bytes: &[u8], lines: &[&[u8]]) -> bool {
     let mut step = LineStep::new(LF, 0, bytes.len());
     let mut position = 0;
     for line in lines {
         let Some((start, end)) = step.next(bytes) else {
-            panic!(rt; "no step of {bytes:?} at {position}");
+            return false;
         };
-        assert_eq!(rt; (start, bytes.get(start..end)), (position, Some(*line)));
+        if start != position || bytes.get(start..end) != Some(*line) {
+            return false;
+        }
         position = end;
     }
-    assert_eq!(rt; step.next(bytes), None, "after the steps of {bytes:?}");
+    step.next(bytes).is_none()
 }
 
 #[test]
 fn lines(rt: HostRuntime) {
     for (bytes, lines) in LINE_ROWS {
-        check_lines(&rt, bytes, lines);
-        check_steps(&rt, bytes, lines);
+        assert!(rt; iterates(bytes, lines), "the lines of {bytes:?}");
+        assert!(rt; steps(bytes, lines), "the steps of {bytes:?}");
     }
 }
 
 #[test]
 fn steps_within(rt: HostRuntime) {
     let none = LineStep::new(LF, 0, 0).next(b"abc");
-    assert_eq!(rt; none, None, "a step up to 0");
+    assert!(rt; none.is_none(), "a step up to 0");
     let some = LineStep::new(LF, 1, 3).next(b"abc\n");
-    assert_eq!(rt; some, Some((1, 3)), "a step up to 3");
+    assert!(rt; matches!(some, Some((1, 3))), "a step up to 3");
 }
 
 #[test]
@@ -65,7 +68,7 @@ fn counts(rt: HostRuntime) {
         (b"\n\n".as_slice(), 2),
         (b"a\nb\nc".as_slice(), 2),
     ] {
-        assert_eq!(rt; count(bytes, LF), number, "in {bytes:?}");
+        assert!(rt; count(bytes, LF) == number, "in {bytes:?}");
     }
 }
 
@@ -89,7 +92,7 @@ fn counts_in_many_bytes(rt: HostRuntime) -> Result<(), Fail> {
     }
     for (length, number) in LONG_ROWS {
         let first = bytes.as_slice().get(..*length).unwrap_or_default();
-        assert_eq!(rt; count(first, LF), *number, "in {length} bytes");
+        assert!(rt; count(first, LF) == *number, "in {length} bytes");
     }
     Ok(())
 }
@@ -112,16 +115,20 @@ const LOCATE_ROWS: &[(&[u8], usize, usize, usize, usize)] = &[
     (b"a\nb\nc", 0, 3, 0, 4),
 ];
 
+// Whether a match is located so.
+fn is_located(bytes: &[u8], start: usize, end: usize, first: usize, last: usize) -> bool {
+    if start > end || end > bytes.len() {
+        return false;
+    }
+    let lines = locate(bytes, LF, Match::new(start, end));
+    lines.start() == first && lines.end() == last
+}
+
 #[test]
 fn located(rt: HostRuntime) {
-    for (bytes, start, end, first, last) in LOCATE_ROWS {
-        assert!(rt; *start <= *end && *end <= bytes.len());
-        let lines = locate(bytes, LF, Match::new(*start, *end));
-        assert_eq!(rt;
-            (lines.start(), lines.end()),
-            (*first, *last),
-            "{bytes:?} from {start}"
-        );
+    for row in LOCATE_ROWS {
+        let (bytes, start, end, first, last) = row;
+        assert!(rt; is_located(bytes, *start, *end, *first, *last), "{row:?}");
     }
 }
 
@@ -147,21 +154,23 @@ const PRECEDING_ROWS: &[(&[u8], usize, usize, usize)] = &[
     (b"", 0, 0, 0),
 ];
 
+// Whether the line that many lines before starts there, for both functions.
+fn starts(bytes: &[u8], position: usize, count: usize, start: usize) -> bool {
+    match bytes.get(..position) {
+        Some(first) => {
+            preceding_by_pos(bytes, position, LF, count) == start
+                && preceding(first, LF, count) == start
+        }
+        None => false,
+    }
+}
+
 #[test]
 fn lines_before(rt: HostRuntime) {
     for (bytes, position, count, start) in PRECEDING_ROWS {
-        assert!(rt; *position <= bytes.len());
-        let by_position = preceding_by_pos(bytes, *position, LF, *count);
-        assert_eq!(rt;
-            by_position,
-            *start,
+        assert!(rt;
+            starts(bytes, *position, *count, *start),
             "{count} before {position} of {bytes:?}"
-        );
-        let at_the_end = preceding(&bytes[..*position], LF, *count);
-        assert_eq!(rt;
-            at_the_end,
-            *start,
-            "{count} before the end of {position} of {bytes:?}"
         );
     }
 }
@@ -185,8 +194,7 @@ const STRIPPED_ROWS: &[(&[u8], LineTerminator, &[u8])] = &[
 
 #[test]
 fn stripped(rt: HostRuntime) {
-    for (bytes, terminator, line) in STRIPPED_ROWS {
-        let stripped = without_terminator(bytes, *terminator);
-        assert_eq!(rt; stripped, *line, "{bytes:?} without {terminator:?}");
+    for row in STRIPPED_ROWS {
+        assert!(rt; without_terminator(row.0, row.1) == row.2, "{row:?}");
     }
 }

@@ -1,7 +1,7 @@
 //! The literal matcher, sets of bytes, ranges and terminators.
+use crate::texts::debugs;
 use grep_matcher::{ByteSet, LineTerminator, LiteralMatcher, Match, Matcher};
-use std::process::Abort;
-use std::test::Fail;
+use std::alloc::Global;
 
 // A literal, a haystack, and where the first match starts and ends.
 const FIND_ROWS: &[(&[u8], &[u8], Option<(usize, usize)>)] = &[
@@ -17,90 +17,112 @@ const FIND_ROWS: &[(&[u8], &[u8], Option<(usize, usize)>)] = &[
     (b"a\n", b"b\na\n", Some((2, 4))),
 ];
 
-// Asserts what a literal matcher returns at a row.
-fn check_find(
-    rt: &impl Abort,
-    matcher: &LiteralMatcher<'_>,
-    haystack: &[u8],
-    range: Option<(usize, usize)>,
-) -> Result<(), Fail> {
-    let found = matcher.find(haystack)?.map(|m| (m.start(), m.end()));
-    assert_eq!(rt; found, range, "in {haystack:?}");
-    let shortest = matcher.shortest_match(haystack)?;
-    assert_eq!(rt; shortest, range.map(|range| range.1), "in {haystack:?}");
-    let matches = matcher.is_match(haystack)?;
-    assert_eq!(rt; matches, range.is_some(), "in {haystack:?}");
-    Ok(())
+// Whether a literal matcher returns what a row says.
+fn finds(matcher: &LiteralMatcher<'_>, haystack: &[u8], range: Option<(usize, usize)>) -> bool {
+    let (Ok(found), Ok(shortest), Ok(is_match)) = (
+        matcher.find(haystack),
+        matcher.shortest_match(haystack),
+        matcher.is_match(haystack),
+    ) else {
+        return false;
+    };
+    match (found, range) {
+        (Some(found), Some((start, end))) => {
+            found.start() == start && found.end() == end && shortest == Some(end) && is_match
+        }
+        (None, None) => shortest.is_none() && !is_match,
+        _ => false,
+    }
 }
 
-// Asserts which bytes the matcher of a literal says are in no match.
-fn check_absent(rt: &impl Abort, matcher: &LiteralMatcher<'_>, literal: &[u8]) {
+// Whether the byte set of a literal's matcher has each byte that the literal lacks, and no other.
+fn lacks(matcher: &LiteralMatcher<'_>, literal: &[u8]) -> bool {
     let Some(absent) = matcher.non_matching_bytes() else {
-        panic!(rt; "no byte set of {literal:?}");
+        return false;
     };
     for byte in 0..=255 {
-        let lacks = !literal.contains(&byte);
-        assert_eq!(rt; absent.contains(byte), lacks, "{byte} in {literal:?}");
-    }
-}
-
-#[test]
-fn literals(rt: HostRuntime) -> Result<(), Fail> {
-    for (literal, haystack, range) in FIND_ROWS {
-        let matcher = LiteralMatcher::new(rt.alloc(), literal)?;
-        check_find(&rt, &matcher, haystack, *range)?;
-        check_find(&rt, &LiteralMatcher::borrowed(literal), haystack, *range)?;
-        check_absent(&rt, &matcher, literal);
-        assert_eq!(rt; matcher.line_terminator(), None);
-    }
-    Ok(())
-}
-
-#[test]
-fn sets(rt: HostRuntime) -> Result<(), Fail> {
-    for byte in [0, 1, 10, 127, 128, 255] {
-        let mut set = ByteSet::empty();
-        let mut rest = ByteSet::full();
-        set.add(byte);
-        set.add(byte);
-        rest.remove(byte);
-        rest.remove(byte);
-        let copy = set.clone()?;
-        for other in 0..=255 {
-            let holds = (
-                set.contains(other),
-                copy.contains(other),
-                !rest.contains(other),
-            );
-            let is_same = other == byte;
-            assert_eq!(rt;
-                holds,
-                (is_same, is_same, is_same),
-                "{other} in sets of {byte}"
-            );
+        if absent.contains(byte) == literal.contains(&byte) {
+            return false;
         }
-        set.remove(byte);
-        rest.add(byte);
-        assert!(rt; !set.contains(byte), "{byte} removed again");
-        assert!(rt; rest.contains(byte), "{byte} added again");
     }
-    Ok(())
+    true
+}
+
+// Whether the matcher of a copy of the literal returns what a row says.
+fn copies(alloc: Global, literal: &[u8], haystack: &[u8], range: Option<(usize, usize)>) -> bool {
+    let Ok(matcher) = LiteralMatcher::new(alloc, literal) else {
+        return false;
+    };
+    finds(&matcher, haystack, range)
+        && lacks(&matcher, literal)
+        && matcher.line_terminator().is_none()
+}
+
+// Whether the matcher of the borrowed literal does.
+fn borrows(literal: &[u8], haystack: &[u8], range: Option<(usize, usize)>) -> bool {
+    finds(&LiteralMatcher::borrowed(literal), haystack, range)
 }
 
 #[test]
-fn ranges(rt: HostRuntime) -> Result<(), Fail> {
+fn literals(rt: HostRuntime) {
+    for row in FIND_ROWS {
+        assert!(rt; copies(rt.alloc(), row.0, row.1, row.2), "{row:?}");
+        assert!(rt; borrows(row.0, row.1, row.2), "{row:?}");
+    }
+}
+
+// Whether a byte alone is in a set, or if `has` is false, each byte but that one.
+fn splits(set: &ByteSet, byte: u8, has: bool) -> bool {
+    for other in 0..=255 {
+        if set.contains(other) != (has == (other == byte)) {
+            return false;
+        }
+    }
+    true
+}
+
+// Whether a byte can be added twice to a set that is copied then, and removed again.
+fn adds(byte: u8) -> bool {
+    let mut set = ByteSet::empty();
+    set.add(byte);
+    set.add(byte);
+    let Ok(copy) = set.clone() else {
+        return false;
+    };
+    let is_added = splits(&set, byte, true) && splits(&copy, byte, true);
+    set.remove(byte);
+    is_added && !set.contains(byte)
+}
+
+// Whether a byte can be removed twice from the full set, and added again.
+fn removes(byte: u8) -> bool {
+    let mut rest = ByteSet::full();
+    rest.remove(byte);
+    rest.remove(byte);
+    let is_removed = splits(&rest, byte, false);
+    rest.add(byte);
+    is_removed && rest.contains(byte)
+}
+
+#[test]
+fn sets(rt: HostRuntime) {
+    for byte in [0, 1, 10, 127, 128, 255] {
+        assert!(rt; adds(byte), "{byte}");
+        assert!(rt; removes(byte), "{byte}");
+    }
+}
+
+#[test]
+fn ranges(rt: HostRuntime) {
     let range = Match::new(2, 5);
-    assert_eq!(rt; (range.start(), range.end(), range.len()), (2, 5, 3));
+    assert!(rt; range.start() == 2 && range.end() == 5 && range.len() == 3);
     assert!(rt; !range.is_empty());
-    assert_eq!(rt; range.offset(7), Match::new(9, 12));
-    assert_eq!(rt; range.with_end(9), Match::new(2, 9));
+    assert!(rt; range.offset(7) == Match::new(9, 12));
+    assert!(rt; range.with_end(9) == Match::new(2, 9));
     let empty = Match::zero(4);
-    assert_eq!(rt; empty, Match::new(4, 4));
-    assert_eq!(rt; empty.len(), 0);
-    assert!(rt; empty.is_empty());
-    let text = format!(in rt.alloc(); "{range:?}")?;
-    assert_eq!(rt; text.as_str(), "Match { start: 2, end: 5 }");
-    Ok(())
+    assert!(rt; empty == Match::new(4, 4));
+    assert!(rt; empty.len() == 0 && empty.is_empty());
+    assert!(rt; debugs(rt.alloc(), &range, "Match { start: 2, end: 5 }"));
 }
 
 // A terminator, the byte at which lines are split, the bytes that a line is stripped of, and the debug form.
@@ -110,16 +132,20 @@ const TERMINATOR_ROWS: &[(LineTerminator, u8, &[u8], &str)] = &[
     (LineTerminator::Crlf, b'\n', b"\r\n", "Crlf"),
 ];
 
+// Whether a terminator splits lines at a byte, and they are stripped of these bytes.
+fn splits_at(terminator: &LineTerminator, byte: u8, bytes: &[u8]) -> bool {
+    terminator.as_byte() == byte
+        && terminator.as_bytes() == bytes
+        && terminator.is_crlf() == (bytes.len() == 2)
+}
+
 #[test]
-fn terminators(rt: HostRuntime) -> Result<(), Fail> {
+fn terminators(rt: HostRuntime) {
     for (terminator, byte, bytes, form) in TERMINATOR_ROWS {
-        assert_eq!(rt; terminator.as_byte(), *byte, "{form}");
-        assert_eq!(rt; terminator.as_bytes(), *bytes, "{form}");
-        assert_eq!(rt; terminator.is_crlf(), bytes.len() == 2, "{form}");
-        let text = format!(in rt.alloc(); "{terminator:?}")?;
-        assert_eq!(rt; text.as_str(), *form);
+        assert!(rt; splits_at(terminator, *byte, bytes), "{form}");
+        assert!(rt; debugs(rt.alloc(), terminator, form));
     }
-    assert_eq!(rt; LineTerminator::default(), LineTerminator::byte(b'\n'));
-    assert_ne!(rt; LineTerminator::crlf(), LineTerminator::byte(b'\n'));
-    Ok(())
+    let line_feed = LineTerminator::byte(b'\n');
+    assert!(rt; LineTerminator::default() == line_feed);
+    assert!(rt; LineTerminator::crlf() != line_feed);
 }

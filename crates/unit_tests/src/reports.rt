@@ -1,9 +1,11 @@
 //! Reports that are made by hand, and the texts of faults.
+use crate::texts::{debugs, displays};
 use grep_matcher::LineTerminator;
 use grep_report::{
     ConfigError, MmapChoice, SearchError, SinkContext, SinkContextKind, SinkError, SinkFinish,
     SinkMatch,
 };
+use std::alloc::Global;
 use std::io;
 use std::test::Fail;
 
@@ -11,15 +13,11 @@ use std::test::Fail;
 fn matches(rt: HostRuntime) -> Result<(), Fail> {
     let buffer = b"xx\nab\ncd".as_slice();
     let found = SinkMatch::new(b'\n', Some(4), 70, buffer, 3..8).clone()?;
-    assert_eq!(rt;
-        (found.line_number(), found.absolute_byte_offset()),
-        (Some(4), 70)
-    );
-    assert_eq!(rt;
-        (found.buffer(), found.bytes()),
-        (buffer, b"ab\ncd".as_slice())
-    );
-    assert_eq!(rt; found.bytes_range_in_buffer(), 3..8);
+    assert!(rt; found.line_number() == Some(4));
+    assert!(rt; found.absolute_byte_offset() == 70);
+    assert!(rt; found.buffer() == buffer);
+    assert!(rt; found.bytes() == b"ab\ncd".as_slice());
+    assert!(rt; found.bytes_range_in_buffer() == (3..8));
     Ok(())
 }
 
@@ -27,48 +25,40 @@ fn matches(rt: HostRuntime) -> Result<(), Fail> {
 fn lines_of_a_match(rt: HostRuntime) {
     let found = SinkMatch::new(b'\n', None, 0, b"xx\nab\ncd", 3..8);
     let mut lines = found.lines();
-    assert_eq!(rt; lines.next(), Some(b"ab\n".as_slice()));
-    assert_eq!(rt; lines.next(), Some(b"cd".as_slice()));
-    assert_eq!(rt; lines.next(), None);
+    assert!(rt; lines.next() == Some(b"ab\n".as_slice()));
+    assert!(rt; lines.next() == Some(b"cd".as_slice()));
+    assert!(rt; lines.next().is_none());
 }
 
 #[test]
 fn contexts(rt: HostRuntime) -> Result<(), Fail> {
     let line = SinkContext::new(SinkContextKind::After, None, 70, b"ab\n").clone()?;
-    assert_eq!(rt; *line.kind(), SinkContextKind::After);
-    assert_eq!(rt;
-        (line.line_number(), line.absolute_byte_offset()),
-        (None, 70)
-    );
-    assert_eq!(rt; line.bytes(), b"ab\n".as_slice());
+    assert!(rt; *line.kind() == SinkContextKind::After);
+    assert!(rt; line.line_number().is_none());
+    assert!(rt; line.absolute_byte_offset() == 70);
+    assert!(rt; line.bytes() == b"ab\n".as_slice());
     Ok(())
 }
 
 #[test]
-fn kinds(rt: HostRuntime) -> Result<(), Fail> {
+fn kinds(rt: HostRuntime) {
     for (kind, form) in [
         (SinkContextKind::Before, "Before"),
         (SinkContextKind::After, "After"),
         (SinkContextKind::Other, "Other"),
     ] {
-        let text = format!(in rt.alloc(); "{kind:?}")?;
-        assert_eq!(rt; text.as_str(), form);
+        assert!(rt; debugs(rt.alloc(), &kind, form), "{form}");
     }
-    Ok(())
 }
 
 #[test]
-fn ends(rt: HostRuntime) -> Result<(), Fail> {
+fn ends(rt: HostRuntime) {
     let finish = SinkFinish::new(9, Some(4));
-    assert_eq!(rt; finish.byte_count(), 9);
-    assert_eq!(rt; finish.binary_byte_offset(), Some(4));
-    let text = format!(in rt.alloc(); "{finish:?}")?;
-    assert_eq!(rt;
-        text.as_str(),
-        "SinkFinish { byte_count: 9, binary_byte_offset: Some(4) }"
-    );
-    assert_eq!(rt; MmapChoice::default(), MmapChoice::never());
-    Ok(())
+    assert!(rt; finish.byte_count() == 9);
+    assert!(rt; finish.binary_byte_offset() == Some(4));
+    let form = "SinkFinish { byte_count: 9, binary_byte_offset: Some(4) }";
+    assert!(rt; debugs(rt.alloc(), &finish, form));
+    assert!(rt; MmapChoice::default() == MmapChoice::never());
 }
 
 // A matcher that names the byte `z`, and a searcher whose lines end at both.
@@ -82,51 +72,47 @@ fn mismatch() -> ConfigError {
 const MISMATCH_TEXT: &str =
     "the matcher's line terminator is Byte(122), and the searcher's is Crlf";
 
+// Whether an error is displayed so, also a copy of it and as the error of a search.
+fn is_shown(alloc: Global, error: ConfigError, display: &str) -> bool {
+    let Ok(copy) = error.clone() else {
+        return false;
+    };
+    copy == error
+        && displays(alloc, &error, display)
+        && displays(alloc, &SearchError::error_config(alloc, copy), display)
+}
+
+const UNAVAILABLE_TEXT: &str = "search is unavailable: the heap limit is 0 bytes";
+
 #[test]
-fn config_errors(rt: HostRuntime) -> Result<(), Fail> {
-    for (error, display) in [
-        (
-            ConfigError::SearchUnavailable,
-            "search is unavailable: the heap limit is 0 bytes",
-        ),
-        (mismatch(), MISMATCH_TEXT),
-        (ConfigError::Memory, "out of memory"),
-    ] {
-        let copy = error.clone()?;
-        assert!(rt; copy == error, "{error:?}");
-        let text = format!(in rt.alloc(); "{error}")?;
-        assert_eq!(rt; text.as_str(), display);
-        let text = format!(in rt.alloc(); "{}", SearchError::error_config(rt.alloc(), copy))?;
-        assert_eq!(rt; text.as_str(), display, "as the error of a search");
-    }
-    Ok(())
+fn config_errors(rt: HostRuntime) {
+    let alloc = rt.alloc();
+    assert!(rt; is_shown(alloc, ConfigError::SearchUnavailable, UNAVAILABLE_TEXT));
+    assert!(rt; is_shown(alloc, mismatch(), MISMATCH_TEXT));
+    assert!(rt; is_shown(alloc, ConfigError::Memory, "out of memory"));
+}
+
+// Whether an error has these forms.
+fn has_forms(alloc: Global, error: SearchError, display: &str, debug: &str) -> bool {
+    displays(alloc, &error, display) && debugs(alloc, &error, debug)
 }
 
 #[test]
-fn search_errors(rt: HostRuntime) -> Result<(), Fail> {
+fn search_errors(rt: HostRuntime) {
     let alloc = rt.alloc();
+    let config = SearchError::error_config(alloc, mismatch());
+    let form = "Config(MismatchedLineTerminators { matcher: Byte(122), searcher: Crlf })";
+    assert!(rt; has_forms(alloc, config, MISMATCH_TEXT, form));
     let cut = io::Error::new(io::ErrorKind::Other, "the line was cut");
-    for (error, display, debug) in [
-        (
-            SearchError::error_config(alloc, mismatch()),
-            MISMATCH_TEXT,
-            "Config(MismatchedLineTerminators { matcher: Byte(122), searcher: Crlf })",
-        ),
-        (
+    let form = "Io(Custom { kind: Other, error: \"the line was cut\" })";
+    assert!(rt;
+        has_forms(
+            alloc,
             SearchError::error_io(alloc, cut),
             "the line was cut",
-            "Io(Custom { kind: Other, error: \"the line was cut\" })",
-        ),
-        (
-            SearchError::error_message(alloc, "no match"),
-            "no match",
-            "Message(\"no match\")",
-        ),
-    ] {
-        let text = format!(in alloc; "{error}")?;
-        assert_eq!(rt; text.as_str(), display);
-        let text = format!(in alloc; "{error:?}")?;
-        assert_eq!(rt; text.as_str(), debug);
-    }
-    Ok(())
+            form
+        )
+    );
+    let message = SearchError::error_message(alloc, "no match");
+    assert!(rt; has_forms(alloc, message, "no match", "Message(\"no match\")"));
 }

@@ -1,5 +1,5 @@
 -- What the sinks of these callers make of some matches.
-use Rattle.std.proofs.Common.{◌≡◌, ℕ, ◌+◌, ◌<◌, ◌^◌, true, false, List, [], ◌∷◌, ◌++◌, length, refl, sym, ◌∙◌, arith, append_assoc}
+use Rattle.std.proofs.Common.{◌≡◌, ℕ, ◌+◌, ◌<◌, ◌-◌, ◌^◌, min, true, false, List, [], ◌∷◌, ◌++◌, length, refl, sym, ◌∙◌, arith, append_assoc}
 use Rattle.std.proofs.lemmas.List.{append-nil}
 use Rattle.std.specs.Prelude.{Option, None, Some, map, slice_get}
 use Rattle.std.specs.List.{concat, fold}
@@ -13,11 +13,15 @@ use Rattle.grep_searcher.specs.SinkFolds.{fold_while}
 use Rattle.uses.specs.declared.count.MatchCount.{MatchCount}
 use Rattle.uses.specs.MatchSinks.{counted, kept, joined, marked, position_of, report_of, reported}
 
--- how many matches there are
-pub fold_while-counted : (sink : MatchCount) (calls : List Call) → sink.count + length calls < 2 ^ 64
-    → (fold_while (λ _ _. true) counted sink calls).count ≡ sink.count + length calls
+-- how many matches there are, up to the largest number
+fold_while-counted : (sink : MatchCount) (calls : List Call) → sink.count < 2 ^ 64
+    → (fold_while (λ _ _. true) counted sink calls).count ≡ min (sink.count + length calls) (2 ^ 64 - 1)
 fold_while-counted sink [] fits = omega arith
 fold_while-counted sink (call ∷ later) fits = omega (arith, fold_while-counted (counted sink call) later (omega arith))
+
+pub fold_while-counted_all : (calls : List Call)
+    → (fold_while (λ _ _. true) counted (record { count = 0 }) calls).count ≡ min (length calls) (2 ^ 64 - 1)
+fold_while-counted_all calls = omega (arith, fold_while-counted (record { count = 0 }) calls (omega arith))
 
 -- the first of some matches, and where it is
 pub fold_while-kept : (calls : List Call)

@@ -3,6 +3,7 @@ ghost use Rattle.std.specs.Prelude.{◌≡◌, None, IfOk, IfErr};
 ghost use Rattle.grep_searcher.specs.Matching.{IsInfallible};
 ghost use Rattle.grep_searcher.specs.Refusals.{refusal_of};
 ghost use Rattle.grep_searcher.specs.SearchErrors.{IsOutOfMemory};
+ghost use Rattle.grep_searcher.specs.Searches.{searched_bytes};
 ghost use Rattle.uses.specs.SelectedLines.{selected_bytes};
 
 use grep_searcher::laws::{matches_are_selected, runs_fold_matches, searches_fail};
@@ -10,7 +11,7 @@ use grep_searcher::{Matcher, SearchError, Searcher, Sink, SinkContext, SinkFinis
 use std::alloc::{Allocator, Global};
 use std::marker::Model;
 
-/// Returns the selected lines of `bytes`, joined: each with its terminator, in order.
+/// Returns the selected lines of `bytes`, decoded and joined: each with its terminator, in order.
 ///
 /// An error is made of the matcher's, of a configuration that the searcher refuses, or of being out
 /// of memory.
@@ -21,7 +22,8 @@ pub fn matching_lines<M: Matcher + Drop>(
     bytes: &[u8],
 ) -> Result<Vec<u8>, SearchError>
     ensures lines { IfOk result (λ text.
-        text.items ≡ selected_bytes searcher.old (M.meaning matcher) bytes.now) }
+        text.items ≡ selected_bytes searcher.old (M.meaning matcher)
+        (searched_bytes searcher.old bytes.now)) }
     ensures settings { searcher.new ≡ searcher.old }
     ensures error { IsInfallible (M.fails matcher)
         → refusal_of searcher.old (M.meaning matcher) ≡ None → IfErr result IsOutOfMemory }

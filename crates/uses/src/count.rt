@@ -1,32 +1,46 @@
 //! How many lines match.
-ghost use Rattle.std.specs.Prelude.{◌≡◌, None, IfOk, IsOk};
+ghost use Rattle.std.specs.Prelude.{◌≡◌, ◌-◌, ◌^◌, None, true, min, IfOk, IfErr, IsOk};
 ghost use Rattle.grep_searcher.specs.Matching.{IsInfallible};
 ghost use Rattle.grep_searcher.specs.Refusals.{refusal_of};
+ghost use Rattle.grep_searcher.specs.SearchErrors.{IsOutOfMemory};
+ghost use Rattle.grep_searcher.specs.Searches.{searched_bytes, is_searched_unchanged};
 ghost use Rattle.uses.specs.SelectedLines.{selected_count};
 
-use grep_searcher::laws::{matches_are_counted, matches_are_few, runs_fold_matches};
+use grep_searcher::laws::{
+    matches_are_counted, matches_are_few, runs_fold_matches, searches_fail, unchanged_is_searched,
+};
 use grep_searcher::{Matcher, SearchError, Searcher, Sink, SinkContext, SinkFinish, SinkMatch};
 use std::alloc::{Allocator, Global};
 
-/// Returns how many lines of `bytes` are selected.
+/// Returns how many lines of `bytes` are selected. If the bytes have to be decoded, it is how many of
+/// the decoded lines are, up to the largest `u64`.
 ///
-/// An error is made of the matcher's, or of a configuration that the searcher refuses.
+/// An error is made of the matcher's, of a configuration that the searcher refuses, or of being out
+/// of memory. The last one comes only if the bytes have to be decoded.
 pub fn count_matching_lines<M: Matcher + Drop>(
     searcher: &mut Searcher,
     matcher: M,
     bytes: &[u8],
 ) -> Result<u64, SearchError>
-    ensures count { IfOk result (λ count.
+    ensures count { is_searched_unchanged searcher.old bytes.now ≡ true → IfOk result (λ count.
         count ≡ selected_count searcher.old (M.meaning matcher) bytes.now) }
+    ensures decoded { IfOk result (λ count. count
+        ≡ min (selected_count searcher.old (M.meaning matcher) (searched_bytes searcher.old bytes.now))
+        (2 ^ 64 - 1)) }
     ensures settings { searcher.new ≡ searcher.old }
+    ensures error { IsInfallible (M.fails matcher)
+        → refusal_of searcher.old (M.meaning matcher) ≡ None → IfErr result IsOutOfMemory }
     ensures succeeds { IsInfallible (M.fails matcher)
-        → refusal_of searcher.old (M.meaning matcher) ≡ None → IsOk result }
+        → refusal_of searcher.old (M.meaning matcher) ≡ None
+        → is_searched_unchanged searcher.old bytes.now ≡ true → IsOk result }
 {
     let mut matches = MatchCount { count: 0 };
+    searches_fail::<Global, M, MatchCount>();
     searcher.search_slice(matcher, bytes, &mut matches)?;
     runs_fold_matches::<MatchCount>();
     matches_are_counted();
     matches_are_few();
+    unchanged_is_searched();
     Ok(matches.count)
 }
 

@@ -13,7 +13,7 @@ use grep_searcher::{
 use std::alloc::{Allocator, Global};
 
 /// Returns the number of the first selected line of what a reader gives, counted from 1, and its
-/// offset in bytes; `None` if no line is selected. The caller ensures that the searcher numbers
+/// offset in the decoded bytes; `None` if no line is selected. The caller ensures that the searcher numbers
 /// lines.
 ///
 /// An error is made of the reader's, of the matcher's, of a configuration that the searcher refuses,
@@ -25,7 +25,7 @@ pub fn first_match<M: Matcher + Drop, R: Source>(
 ) -> Result<Option<(u64, u64)>, SearchError>
     requires { searcher.old.line_number ≡ true }
     ensures first { IfOk result (λ found. (bytes : List ℕ)
-        × IsRead R.remaining R.step reader.old bytes reader.new
+        × IsRead R.remaining R.step searcher.old reader.old bytes reader.new
         × (found ≡ first_selected searcher.old (M.meaning matcher) bytes)) }
     ensures settings { searcher.new ≡ searcher.old }
     ensures error { IsInfallible (M.fails matcher)

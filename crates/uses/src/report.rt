@@ -3,6 +3,7 @@ ghost use Rattle.std.specs.Prelude.{◌≡◌, ◌⊎◌, IfOk, IfErr};
 ghost use Rattle.grep_searcher.specs.LineSearch.{turns};
 ghost use Rattle.grep_searcher.specs.Literals.{literal_meaning};
 ghost use Rattle.grep_searcher.specs.SearchErrors.{IsOutOfMemory};
+ghost use Rattle.grep_searcher.specs.Searches.{searched_bytes};
 ghost use Rattle.uses.specs.MatchSinks.{one_before, report_of};
 
 use grep_searcher::laws::{runs_fold_all, searches_fail};
@@ -19,7 +20,8 @@ use std::marker::Model;
 /// An error is one of being out of memory.
 pub fn in_context(alloc: Global, log: &[u8], literal: &[u8]) -> Result<Vec<u8>, SearchError>
     ensures report { IfOk result (λ text.
-        text.items ≡ report_of (turns one_before (literal_meaning literal.now) log.now)) }
+        text.items ≡ report_of (turns one_before (literal_meaning literal.now)
+        (searched_bytes one_before log.now))) }
     ensures error { IfErr result (λ e.
         IsOutOfMemory e ⊎ (e ≡ SearchError.Config ConfigError.Memory)) }
 {

@@ -5,7 +5,7 @@ ghost use Rattle.grep_definitions.specs.Settings.{default_settings, built};
 use crate::config::Config;
 use crate::searcher::Searcher;
 use grep_matcher::LineTerminator;
-use grep_report::{ConfigError, MmapChoice};
+use grep_report::{ConfigError, Encoding, MmapChoice};
 use std::alloc::{AllocError, Allocator};
 use std::marker::Model;
 
@@ -64,6 +64,8 @@ impl SearcherBuilder {
                 passthru: false,
                 heap_limit: None,
                 memory_map: MmapChoice::Never,
+                encoding: None,
+                bom_sniffing: true,
                 stop_on_nonmatch: false,
                 max_matches: None,
             },
@@ -81,7 +83,7 @@ impl SearcherBuilder {
             config.after_context = 0;
             config.before_context = 0;
         }
-        Ok(Searcher { config, alloc })
+        Searcher::of(alloc, config)
     }
 
     /// What ends a line; a line feed by default.
@@ -154,6 +156,24 @@ impl SearcherBuilder {
         ensures set { result.now ≡ record self.old { memory_map = choice } }
     {
         self.config.memory_map = choice;
+        self
+    }
+
+    /// The encoding that the input is said to have; none by default.
+    pub fn encoding(&mut self, encoding: Option<Encoding>) -> &mut SearcherBuilder
+        ensures reference { result.ghost_name ≡ self.entry.ghost_name }
+        ensures set { result.now ≡ record self.old { encoding = encoding } }
+    {
+        self.config.encoding = encoding;
+        self
+    }
+
+    /// Whether a mark at the start of the input says its encoding; it does by default.
+    pub fn bom_sniffing(&mut self, yes: bool) -> &mut SearcherBuilder
+        ensures reference { result.ghost_name ≡ self.entry.ghost_name }
+        ensures set { result.now ≡ record self.old { bom_sniffing = yes } }
+    {
+        self.config.bom_sniffing = yes;
         self
     }
 

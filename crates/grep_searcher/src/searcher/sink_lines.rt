@@ -1,16 +1,20 @@
 //! What a walk reports of a line: the lines before a match, the match, a line after one, or any line under `passthru`.
-ghost use Rattle.std.specs.Prelude.{◌≡◌, ◌≤◌, ◌<◌, ◌+◌, ◌-◌, ◌^◌, ◌&&◌, ℕ, nat_lt, length, min, IsOk};
+ghost use Rattle.std.specs.Prelude.{◌≡◌, ◌≤◌, ◌<◌, ◌+◌, ◌-◌, ◌^◌, ◌&&◌, ◌++◌, ℕ, List, nat_lt, length, take, drop};
+ghost use Rattle.std.specs.Prelude.{slice_index, min, IsOk};
 ghost use Rattle.grep_matcher.specs.Terminators.{byte_of};
-ghost use Rattle.grep_lines.specs.Positions.{slice, IsLine, IsLineStart};
+ghost use Rattle.grep_matcher.specs.Lines.{lines};
+ghost use Rattle.grep_lines.specs.Positions.{slice, IsLineStart};
 ghost use Rattle.grep_definitions.specs.SinkCalls.{context};
 ghost use Rattle.grep_definitions.specs.LineTurns.{number_of, is_gap, break_turns};
 ghost use Rattle.grep_definitions.specs.LineTurns.{before_turns, pending_turns, match_turns};
 ghost use Rattle.grep_definitions.specs.SinkRuns.{AreReported, outcome_of, NeverFails};
 ghost use Rattle.grep_searcher.specs.Walks.{line_turns, line_end};
+ghost use Rattle.grep_searcher.specs.Windows.{IsClosed, IsInWindow, IsLineIn};
 
 use crate::searcher::Searcher;
 use crate::searcher::walk::Walk;
 use crate::sink::Sink;
+use grep_lines::laws::{lines_append, lines_are_few, lines_are_numbered, lines_join};
 use grep_lines::preceding_by_pos;
 use grep_report::{SinkContext, SinkContextKind, SinkMatch};
 use std::alloc::Allocator;
@@ -27,13 +31,17 @@ impl<A: Allocator + Copy> Searcher<A> {
         chosen: bool,
         sink: &mut S,
     ) -> Result<bool, S::Error>
-        requires line { IsLine (byte_of self.now.line_terminator) window.now
-            walk.now.line start end }
-        requires at { walk.now.offset ≡ start }
+        requires ordered { start ≤ end }
+        requires within { end ≤ length window.now }
+        requires after { start ≤ walk.now.offset }
+        requires fits { walk.now.offset + (length window.now - start) < 2 ^ 64 }
+        requires number { walk.now.line + 1 < 2 ^ 64 }
         requires through { walk.now.reported_through ≤ walk.now.line }
         requires may_call { S.may_call sink.old }
-        ensures reported { AreReported S.step self.now sink.old
-            (line_turns self.now window.now walk.now (slice window.now start end) chosen)
+        ensures reported { (gone input : List ℕ)
+            → IsInWindow self.now gone window.now input start walk.now
+            → AreReported S.step self.now sink.old
+            (line_turns self.now input walk.now (slice window.now start end) chosen)
             (outcome_of (line_end walk.now (slice window.now start end)) result) sink.new }
         ensures succeeds { NeverFails S.step S.may_call → IsOk result }
         ensures may_call { S.may_call sink.new }
@@ -65,15 +73,16 @@ impl<A: Allocator + Copy> Searcher<A> {
         walk: &Walk,
         sink: &mut S,
     ) -> Result<bool, S::Error>
-        requires begins { IsLineStart (byte_of self.now.line_terminator) window.now
-            start walk.now.line }
         requires inside { start ≤ length window.now }
-        requires at { walk.now.offset ≡ start }
-        requires few { walk.now.line ≤ start }
+        requires after { start ≤ walk.now.offset }
+        requires fits { walk.now.offset + (length window.now - start) < 2 ^ 64 }
+        requires number { walk.now.line + 1 < 2 ^ 64 }
         requires through { walk.now.reported_through ≤ walk.now.line }
         requires may_call { S.may_call sink.old }
-        ensures reported { (end : ℕ) → AreReported S.step self.now sink.old
-            (pending_turns self.now window.now walk.now.reported_through walk.now.line end
+        ensures reported { (gone input : List ℕ)
+            → IsInWindow self.now gone window.now input start walk.now
+            → (end : ℕ) → AreReported S.step self.now sink.old
+            (pending_turns self.now input walk.now.reported_through walk.now.line end
             walk.now.reported_through (walk.now.line - walk.now.reported_through))
             (outcome_of end result) sink.new }
         ensures succeeds { NeverFails S.step S.may_call → IsOk result }
@@ -83,14 +92,59 @@ impl<A: Allocator + Copy> Searcher<A> {
         if near == 0 {
             return Ok(true);
         }
-        let terminator = self.config.line_terminator.as_byte();
-        let first = preceding_by_pos(window, start, terminator, near - 1);
+        let first = self.step_back(window, start, near);
         self.sink_before_lines(window, first, walk.line - near as u64, start, walk, sink)
+    }
+
+    // Where the last lines before a position begin, so many of them; 0 if there are fewer.
+    fn step_back(&self, window: &[u8], position: usize, lines: usize) -> usize
+        requires { position ≤ length window.now }
+        ensures within { result ≤ position }
+        ensures closed { 0 < result → result < position
+            → slice_index window.now (result - 1) ≡ byte_of self.now.line_terminator }
+        ensures start { (i : ℕ)
+            → IsLineStart (byte_of self.now.line_terminator) window.now position i
+            → IsLineStart (byte_of self.now.line_terminator) window.now result (i - lines) }
+    {
+        if lines == 0 {
+            return position;
+        }
+        let terminator = self.config.line_terminator.as_byte();
+        preceding_by_pos(window, position, terminator, lines - 1)
+    }
+
+    // The index in a window, over whose lines a walk has gone, from which on bytes are kept when the next window is shown:
+    // those of the last lines that weren't reported, as many as are reported with a match. No search has a second window
+    // yet; a reader in bounded memory will.
+    pub(crate) fn first_kept(&self, window: &[u8], walk: &Walk) -> usize
+        ensures within { result ≤ length window.now }
+        ensures few { length (lines (byte_of self.now.line_terminator) (drop result window.now))
+            ≤ self.now.before_context }
+        ensures closed { (gone : List ℕ)
+            → IsClosed (byte_of self.now.line_terminator) gone
+            → IsClosed (byte_of self.now.line_terminator) window.now
+            → IsClosed (byte_of self.now.line_terminator) (gone ++ take result window.now) }
+        ensures kept { (gone more after : List ℕ)
+            → IsClosed (byte_of self.now.line_terminator) gone
+            → IsClosed (byte_of self.now.line_terminator) window.now
+            → (0 < length after
+            → IsClosed (byte_of self.now.line_terminator) (drop result window.now ++ more))
+            → IsInWindow self.now gone window.now (gone ++ (window.now ++ (more ++ after)))
+            (length window.now) walk.now
+            → IsInWindow self.now (gone ++ take result window.now)
+            (drop result window.now ++ more) (gone ++ (window.now ++ (more ++ after)))
+            (length window.now - result) walk.now }
+    {
+        lines_join();
+        lines_append();
+        lines_are_numbered();
+        lines_are_few();
+        let near = self.lines_before(walk);
+        self.step_back(window, window.len(), near)
     }
 
     // How many lines before the one that a walk is at are reported with it, if that is chosen.
     fn lines_before(&self, walk: &Walk) -> usize
-        requires { walk.now.line < 2 ^ 63 }
         ensures { result ≡ min self.now.before_context (walk.now.line - walk.now.reported_through) }
     {
         let passed = walk.line.saturating_sub(walk.reported_through) as usize;
@@ -108,17 +162,19 @@ impl<A: Allocator + Copy> Searcher<A> {
         walk: &Walk,
         sink: &mut S,
     ) -> Result<bool, S::Error>
-        requires begins { IsLineStart (byte_of self.now.line_terminator) window.now first index }
-        requires ends { IsLineStart (byte_of self.now.line_terminator) window.now
-            start walk.now.line }
         requires before { first ≤ start }
         requires inside { start ≤ length window.now }
-        requires at { walk.now.offset ≡ start }
+        requires after { start ≤ walk.now.offset }
+        requires fits { walk.now.offset + (length window.now - start) < 2 ^ 64 }
+        requires number { walk.now.line + 1 < 2 ^ 64 }
         requires below { index ≤ walk.now.line }
         requires near { walk.now.line - index ≤ self.now.before_context }
         requires may_call { S.may_call sink.old }
-        ensures reported { (end : ℕ) → AreReported S.step self.now sink.old
-            (pending_turns self.now window.now walk.now.reported_through walk.now.line end
+        ensures reported { (gone input : List ℕ)
+            → IsInWindow self.now gone window.now input start walk.now
+            → IsLineIn self.now gone window.now first index
+            → (end : ℕ) → AreReported S.step self.now sink.old
+            (pending_turns self.now input walk.now.reported_through walk.now.line end
             index (walk.now.line - index))
             (outcome_of end result) sink.new }
         ensures succeeds { NeverFails S.step S.may_call → IsOk result }

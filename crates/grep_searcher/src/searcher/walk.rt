@@ -1,7 +1,7 @@
 //! The walk over the lines of some bytes: which line comes next, whether it is chosen, and whether more lines have a
 //! turn.
-ghost use Rattle.std.specs.Prelude.{◌≡◌, ◌≤◌, ◌<◌, ◌+◌, ◌^◌, ◌&&◌, ℕ, not, true, false, length};
-ghost use Rattle.std.specs.Prelude.{IfOk, IfErr, IfSome, IfNone, IsOk};
+ghost use Rattle.std.specs.Prelude.{◌≡◌, ◌≤◌, ◌<◌, ◌+◌, ◌-◌, ◌^◌, ◌&&◌, ℕ, not, true, false, length};
+ghost use Rattle.std.specs.Prelude.{List, IfOk, IfErr, IfSome, IfNone, IsOk};
 ghost use Rattle.grep_matcher.specs.Terminators.{byte_of};
 ghost use Rattle.grep_matcher.specs.Lines.{lines, strip};
 ghost use Rattle.grep_matcher.specs.Matching.{IsInfallible};
@@ -11,7 +11,8 @@ ghost use Rattle.grep_definitions.specs.LineSearch.{turns, byte_count, differ};
 ghost use Rattle.grep_definitions.specs.LineTurns.{number_of, matches_line};
 ghost use Rattle.grep_definitions.specs.Searches.{IsFault};
 ghost use Rattle.grep_definitions.specs.SinkRuns.{NeverFails};
-ghost use Rattle.grep_searcher.specs.Walks.{next_walk, is_over, Counted};
+ghost use Rattle.grep_searcher.specs.Walks.{next_walk, is_over, Counted, IsOrdered};
+ghost use Rattle.grep_searcher.specs.Windows.{HasSearched, HasPassed};
 
 use crate::searcher::Searcher;
 use crate::sink::Sink;
@@ -82,29 +83,92 @@ impl<A: Allocator + Copy> Searcher<A> {
             return Ok(0);
         }
         let mut walk = START;
-        let mut start = 0;
-        while let Some(end) = self.next_line(bytes, start) {
-            let line = &bytes[start..end];
-            let chosen = self.is_chosen::<M, S::Error>(matcher, line, &walk)?;
-            if !self.sink_line(bytes, start, end, &walk, chosen, sink)? {
-                return Ok(end as u64);
+        let _ = self.search_window(matcher, bytes, 0, &mut walk, sink)?;
+        Ok(walk.offset)
+    }
+
+    // Walks over the lines of a window from `start` to the window's end, and returns whether the search goes on after
+    // it; if not, the walk's offset is the byte count. A window shows some bytes of the input. The caller ensures that
+    // its lines are lines of the input, and that of the lines before `start` that weren't reported it has as many as are
+    // reported with a match.
+    pub(crate) fn search_window<M: Matcher, S: Sink>(
+        &self,
+        matcher: &M,
+        window: &[u8],
+        start: usize,
+        walk: &mut Walk,
+        sink: &mut S,
+    ) -> Result<bool, S::Error>
+    where
+        S::Error: SinkError<A>,
+        requires inside { start ≤ length window.now }
+        requires after { start ≤ walk.old.offset }
+        requires fits { walk.old.offset + (length window.now - start) < 2 ^ 64 }
+        requires ordered { IsOrdered walk.old }
+        requires may_call { S.may_call sink.old }
+        ensures ordered { IfOk result (λ goes_on. IsOrdered walk.new) }
+        ensures moved { IfOk result (λ goes_on. goes_on ≡ true
+            → walk.new.offset + start ≡ walk.old.offset + length window.now) }
+        ensures goes_on { IfOk result (λ goes_on. goes_on ≡ true
+            → (gone input : List ℕ) (first : S)
+            → HasSearched S.step self.now (M.meaning matcher.now) gone window.now input
+            first start walk.old sink.old
+            → HasPassed S.step self.now (M.meaning matcher.now) gone window.now input
+            first walk.new sink.new) }
+        ensures ends { IfOk result (λ goes_on. goes_on ≡ false
+            → (gone input : List ℕ) (first : S)
+            → HasSearched S.step self.now (M.meaning matcher.now) gone window.now input
+            first start walk.old sink.old
+            → Counted S.step self.now first
+            (turns self.now (M.meaning matcher.now) input)
+            (byte_count self.now (M.meaning matcher.now) input)
+            walk.new.offset sink.new) }
+        ensures fault { IfErr result (λ e. (gone input : List ℕ) (first : S)
+            → HasSearched S.step self.now (M.meaning matcher.now) gone window.now input
+            first start walk.old sink.old
+            → IsFault S.step
+            (record {
+              is_message = S.Error.is_message;
+              is_io = S.Error.is_io;
+              is_config = S.Error.is_config;
+            })
+            (record {
+              meaning = M.meaning matcher.now;
+              fails = M.fails matcher.now;
+              text_of = M.Error.output;
+            })
+            self.now input first e sink.new) }
+        ensures succeeds { NeverFails S.step S.may_call → IsInfallible (M.fails matcher.now)
+            → IsOk result }
+        ensures may_call { S.may_call sink.new }
+    {
+        let mut start = start;
+        while let Some(end) = self.next_line(window, start) {
+            let line = &window[start..end];
+            let chosen = self.is_chosen::<M, S::Error>(matcher, line, walk)?;
+            if !self.sink_line(window, start, end, walk, chosen, sink)? {
+                walk.offset += line.len() as u64;
+                return Ok(false);
             }
-            walk = self.advance(&walk, line, chosen);
-            if self.is_over(&walk, chosen) {
-                return Ok(walk.offset);
+            *walk = self.advance(walk, line, chosen);
+            if self.is_over(walk, chosen) {
+                return Ok(false);
             }
             start = end;
         }
-        Ok(walk.offset)
+        Ok(true)
     }
 
     // Where the line ends that begins at a position; none at the end of the bytes.
     pub(crate) fn next_line(&self, bytes: &[u8], start: usize) -> Option<usize>
         requires { start ≤ length bytes.now }
         ensures within { IfSome result (λ end. (start < end) × (end ≤ length bytes.now)) }
+        ensures bare { self.now.passthru ≡ true
+            → (self.now.after_context ≡ 0) × (self.now.before_context ≡ 0) }
         ensures line { IfSome result (λ end. (i : ℕ)
             → IsLineStart (byte_of self.now.line_terminator) bytes.now start i
             → IsLine (byte_of self.now.line_terminator) bytes.now i start end) }
+        ensures end { IfNone result (start ≡ length bytes.now) }
         ensures last { IfNone result ((i : ℕ)
             → IsLineStart (byte_of self.now.line_terminator) bytes.now start i
             → i ≡ length (lines (byte_of self.now.line_terminator) bytes.now)) }
@@ -138,9 +202,7 @@ impl<A: Allocator + Copy> Searcher<A> {
 
     // Whether no line has a turn.
     fn is_idle(&self) -> bool
-        ensures value { result ≡ (not self.now.passthru && is_at 0 self.now.max_matches) }
-        ensures bare { self.now.passthru ≡ true
-            → (self.now.after_context ≡ 0) × (self.now.before_context ≡ 0) }
+        ensures { result ≡ (not self.now.passthru && is_at 0 self.now.max_matches) }
     {
         match self.config.max_matches {
             Some(limit) => !self.config.passthru && limit == 0,

@@ -11,6 +11,8 @@ loop-left-init c =
       few = omega arith;
       within = ⊎_elim (λ some. omega (arith, start.ensures.below some)) (λ over. omega (arith, start.ensures.zero (omega arith)))
           (cases_lt 0 c.args.pos);
+      closed = λ more. ⊎_elim (λ some. (start.ensures.last some).closed more)
+          (λ over. absurd (omega (arith, more, start.ensures.zero (omega arith)))) (cases_lt 0 c.args.pos);
       back = subst (IsBack c.args.terminator c.args.bytes.now c.args.pos start.result) none
           (IsBack-first c.args.terminator c.args.bytes.now c.args.pos start.result start.ensures.zero start.ensures.last);
     }
@@ -22,6 +24,7 @@ loop-left-preserved c =
     record {
       few = omega arith;
       within = omega (arith, start.ensures.below c.if-start-gt0.true);
+      closed = (start.ensures.last c.if-start-gt0.true).closed;
       back = subst (IsBack c.args.terminator c.args.bytes.now c.args.pos start.result) one
           (IsBack-more c.args.terminator c.args.bytes.now c.args.pos c.loop-left.start start.result (c.args.count - c.loop-left.left)
           c.if-start-gt0.true (start.ensures.last c.if-start-gt0.true) c.loop-left.invariant.back);

@@ -2,9 +2,9 @@ use Rattle.std.proofs.lemmas.Result.{err_from_is_err_and}
 use Rattle.lgrep_cli.proofs.SearchLemmas.{IsSearched, out_of_memory, reader-searched}
 use Rattle.lgrep_cli.proofs.search.print.Given.{Over}
 use Rattle.lgrep_cli.proofs.search.print.Goals as goal
-use Rattle.lgrep_cli.proofs.search.print.Goals.{After-search_reader}
+use Rattle.lgrep_cli.proofs.search.print.Goals.{After-drop-searcher-inside-2}
 
-searched : (g : Over) (c : After-search_reader g)
+searched : (g : Over) (c : After-drop-searcher-inside-2 g)
     → IsSearched g.R.Source.remaining g.R.Source.step g.W.Write.contents c.args.options.now c.args.reader.now c.search_reader.new.reader
     c.args.printer.now c.search_reader.new.sink c.search_reader.result
 searched g c = reader-searched g.R.Source.remaining g.R.Source.step g.W.Write.contents c.args.options.now c.args.reader.now

@@ -1,19 +1,20 @@
-use Rattle.std.proofs.Common.{◌≡◌, ℕ, length, ◌-◌, ◌≤◌}
-use Rattle.grep_matcher.specs.Terminators.{byte_of}
-use Rattle.grep_lines.specs.Positions.{IsLineStart}
+use Rattle.std.proofs.Common.{◌≡◌, ℕ, List, length, ◌+◌, ◌-◌, ◌≤◌}
 use Rattle.grep_definitions.specs.SinkRuns.{AreReported, all_true}
 use Rattle.grep_definitions.specs.LineTurns.{pending_turns}
+use Rattle.grep_searcher.specs.Windows.{IsInWindow, IsLineIn}
 use Rattle.grep_searcher.proofs.searcher.Searcher.sink_before_lines.Given as goal
 
 abbrev pub invariant-loop-at : goal.invariant-loop-at
 invariant-loop-at g l = record {
-  begins : IsLineStart (byte_of l.self.line_terminator) l.window l.position l.at;
   inside : l.position ≤ length l.window;
-  same : l.offset ≡ l.position;
+  same : l.offset + l.start ≡ l.walk.offset + l.position;
   low : l.index ≤ l.at;
   below : l.at ≤ l.walk.line;
-  reported : (end : ℕ) → AreReported g.S.Sink.step l.self l.fn.sink
-      (pending_turns l.self l.window l.walk.reported_through l.walk.line end l.index (l.at - l.index)) all_true l.sink;
+  at : (gone : List ℕ) → IsLineIn l.self gone l.window l.first l.index → IsLineIn l.self gone l.window l.position l.at;
+  reported : (gone input : List ℕ) → IsInWindow l.self gone l.window input l.start l.walk
+      → IsLineIn l.self gone l.window l.first l.index
+      → (end : ℕ) → AreReported g.S.Sink.step l.self l.fn.sink
+      (pending_turns l.self input l.walk.reported_through l.walk.line end l.index (l.at - l.index)) all_true l.sink;
   may_call : g.S.Sink.may_call l.sink;
 }
 

@@ -13,11 +13,11 @@ returns-in_err-sink_before_context-clause-reported g c =
     let here = slice c.args.window.now c.args.start c.args.end in
     let stop = line_end w here in
     let p = err_from_is_err_and c.from_residual.result c.from_residual.ensures.1 in
-    rw (p.1, p.2, c.if-chosen.true) (AreReported-ended g.S.Sink.step c.args.self.now
-    (pending_turns c.args.self.now c.args.window.now w.reported_through w.line stop w.reported_through (w.line - w.reported_through))
+    rw (p.1, p.2, c.if-chosen.true) (λ gone input inside. AreReported-ended g.S.Sink.step c.args.self.now
+    (pending_turns c.args.self.now input w.reported_through w.line stop w.reported_through (w.line - w.reported_through))
     (match_turns c.args.self.now w.reported_through w.line w.offset stop here) c.args.sink.now
     (failed c.in_err-sink_before_context.field-0.0)
-    c.sink_before_context.new.sink (λ e. cc) (c.in_err-sink_before_context.ensures.reported stop))
+    c.sink_before_context.new.sink (λ e. cc) (c.in_err-sink_before_context.ensures.reported gone input inside stop))
 
 pub returns-then-not-branch-clause-reported : goal.returns-then-not-branch-clause-reported
 returns-then-not-branch-clause-reported g c =
@@ -26,10 +26,10 @@ returns-then-not-branch-clause-reported g c =
     let stop = line_end w here in
     let stops : c.in_ok-sink_before_context.field-0 ≡ false = search rules in
     let reported = rw stops at c.in_ok-sink_before_context.ensures.reported in
-    rw c.if-chosen.true (AreReported-ended g.S.Sink.step c.args.self.now
-    (pending_turns c.args.self.now c.args.window.now w.reported_through w.line stop w.reported_through (w.line - w.reported_through))
+    rw c.if-chosen.true (λ gone input inside. AreReported-ended g.S.Sink.step c.args.self.now
+    (pending_turns c.args.self.now input w.reported_through w.line stop w.reported_through (w.line - w.reported_through))
     (match_turns c.args.self.now w.reported_through w.line w.offset stop here) c.args.sink.now (stopped stop)
-    c.sink_before_context.new.sink (λ e. cc) (reported stop))
+    c.sink_before_context.new.sink (λ e. cc) (reported gone input inside stop))
 
 pub returns-then-chosen-clause-reported : goal.returns-then-chosen-clause-reported
 returns-then-chosen-clause-reported g c =
@@ -38,7 +38,7 @@ returns-then-chosen-clause-reported g c =
     let stop = line_end w here in
     let goes : c.in_ok-sink_before_context.field-0 ≡ true = search rules in
     let reported = rw goes at c.in_ok-sink_before_context.ensures.reported in
-    rw c.if-chosen.true (AreReported-append g.S.Sink.step c.args.self.now
-    (pending_turns c.args.self.now c.args.window.now w.reported_through w.line stop w.reported_through (w.line - w.reported_through))
+    rw c.if-chosen.true (λ gone input inside. AreReported-append g.S.Sink.step c.args.self.now
+    (pending_turns c.args.self.now input w.reported_through w.line stop w.reported_through (w.line - w.reported_through))
     (match_turns c.args.self.now w.reported_through w.line w.offset stop here) c.args.sink.now c.sink_before_context.new.sink
-    (outcome_of stop c.sink_matched.result) c.sink_matched.new.sink (reported stop) (c.sink_matched.ensures.reported stop))
+    (outcome_of stop c.sink_matched.result) c.sink_matched.new.sink (reported gone input inside stop) (c.sink_matched.ensures.reported stop))

@@ -1,6 +1,6 @@
 use Rattle.std.proofs.Common.{◌≤◌, length}
-use Rattle.unit_tests.proofs.lines.check_steps.Given as goal
+use Rattle.unit_tests.proofs.lines.steps.Given as goal
 
 -- the steps end within the bytes
 abbrev pub invariant-loop-line : goal.invariant-loop-line
-invariant-loop-line g l = l.step.end ≤ length l.bytes
+invariant-loop-line l = l.step.end ≤ length l.bytes

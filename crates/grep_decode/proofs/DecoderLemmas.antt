@@ -1,0 +1,420 @@
+-- What reads of a decoder do, one after the other.
+use Rattle.std.proofs.Common.{◌≡◌, ℕ, suc, ◌-◌, ◌<◌, ◌≤◌, ◌==◌, Bool, true, false, List, [], ◌∷◌, ◌++◌, Option, Some, None, Result, Ok, Err, IfSome, IfOk, IfErr, OnErr, take, ◌+◌, refl, sym, subst, ap, ◌∙◌, append-nil, append_assoc, arith, length, length-append, length-take, min}
+use Rattle.std.proofs.lemmas.Bool.{false≢true}
+use Rattle.std.proofs.lemmas.Bool.Decides.{nat_tests}
+use Rattle.std.proofs.lemmas.List.Folds.{concat-append}
+use Rattle.std.proofs.KnownBytes.{Consumes-nil, Consumes-trans}
+use Rattle.std.specs.List.{concat}
+use Rattle.std.specs.Io.{ReadsAtMost}
+use Rattle.std.specs.Io.KnownBytes.{Consumes, Keeps, IsAtEnd}
+use Rattle.std.specs.declared.io.Error.{Error}
+use Rattle.std.specs.Str.Lossy.{utf8_lossy}
+use Rattle.grep_decode.specs.declared.label.Label.{Label}
+use Rattle.grep_decode.specs.declared.label.Label.TheVariants.{Utf8, Utf16Le, Utf16Be}
+use Rattle.grep_decode.specs.declared.mode.Mode.{Mode}
+use Rattle.grep_decode.specs.declared.mode.Mode.TheVariants.{Fresh, Passing, Decoding}
+use Rattle.grep_decode.specs.Decoded.{decoded, units_of, has_odd_byte, scalars_of, utf16_text}
+use Rattle.grep_decode.specs.UndecodedBytes.{UndecodedBytes, Grows, holding}
+use Rattle.grep_decode.specs.Source.{ReadResult, Pulls, FailsWith}
+use Rattle.grep_decode.specs.DecoderStates.{DecoderState, Calls, Decodes, FailsToDecode, FitsMode, IsDecoded, IsDone, LooksForMark, TakesAtMost, decode_by, mode_after, still_to_give, next_mode, started, unread, yet}
+use Rattle.grep_decode.proofs.RunLemmas.{Calls-none, Calls-append, Calls-nothing, FailsWith-after}
+
+-- at most so many calls are left, until the reader has ended
+abbrev pub calls_left : Bool → ℕ → ℕ
+calls_left true missing = 0
+calls_left false missing = suc missing
+
+module _ {R : Type 0} (remaining : R → Option (List ℕ)) (step : R → ReadResult → R → Type 0) where
+  pub Decodes-none : (d : DecoderState) (r : R) → Decodes remaining step d r [] d r
+  Decodes-none d r = record {
+    pieces = [];
+    calls = Calls-none remaining step d.has_ended r;
+    takes = Consumes-nil (remaining r);
+    gives = λ more end. refl;
+    settles = λ more end. refl;
+  }
+
+  joined : (first second : List (List ℕ)) (more : List ℕ) → concat (first ++ second) ++ more ≡ concat first ++ (concat second ++ more)
+  joined first second more = ap (λ l. l ++ more) (concat-append first second) ∙ append_assoc (concat first) (concat second) more
+
+  pub Decodes-append : (d d1 d2 : DecoderState) (r r1 r2 : R) (given later : List ℕ) → Decodes remaining step d r given d1 r1
+      → Decodes remaining step d1 r1 later d2 r2 → Decodes remaining step d r (given ++ later) d2 r2
+  Decodes-append d d1 d2 r r1 r2 given later first second = record {
+    pieces = first.pieces ++ second.pieces;
+    calls = Calls-append remaining step d.has_ended d1.has_ended d2.has_ended r r1 r2 first.pieces second.pieces first.calls second.calls;
+    takes = subst (λ bytes. Consumes (remaining r) (remaining r2) bytes) (sym (concat-append first.pieces second.pieces))
+        (Consumes-trans (remaining r) (remaining r1) (remaining r2) (concat first.pieces) (concat second.pieces) first.takes second.takes);
+    gives = λ more end. ap (still_to_give d) (joined first.pieces second.pieces more)
+        ∙ (first.gives (concat second.pieces ++ more)
+        (Calls-nothing remaining step d1.has_ended d2.has_ended r1 r2 second.pieces more second.calls end)
+        ∙ (ap (λ l. given ++ l) (second.gives more end) ∙ sym (append_assoc given later (still_to_give d2 more))));
+    settles = λ more end. ap (next_mode d) (joined first.pieces second.pieces more)
+        ∙ (first.settles (concat second.pieces ++ more)
+        (Calls-nothing remaining step d1.has_ended d2.has_ended r1 r2 second.pieces more second.calls end) ∙ second.settles more end);
+  }
+
+  -- without a call of the reader
+  pub Decodes-within : (d d1 : DecoderState) (r : R) (given : List ℕ) → d1.has_ended ≡ d.has_ended
+      → ((rest : List ℕ) → still_to_give d rest ≡ given ++ still_to_give d1 rest) → ((rest : List ℕ) → next_mode d rest ≡ next_mode d1 rest)
+      → Decodes remaining step d r given d1 r
+  Decodes-within d d1 r given ended same next = record {
+    pieces = [];
+    calls = subst (λ b. Calls remaining step d.has_ended b r [] r) (sym ended) (Calls-none remaining step d.has_ended r);
+    takes = Consumes-nil (remaining r);
+    gives = λ more end. same more;
+    settles = λ more end. next more;
+  }
+
+  same-unread : (is : Bool) (more : List ℕ) → (is ≡ true → more ≡ []) → unread is more ≡ more
+  same-unread true more end = sym (end refl)
+  same-unread false more end = refl
+
+  call-by : (d d1 : DecoderState) (r r1 : R) (given piece : List ℕ) (is : Bool) → d1.has_ended ≡ is → d.has_ended ≡ false
+      → (is ≡ true → (piece ≡ []) × IsAtEnd (remaining r1)) → (is ≡ false → 0 < length piece) → step r (Ok piece) r1
+      → Consumes (remaining r) (remaining r1) piece
+      → ((more : List ℕ) → (d1.has_ended ≡ true → more ≡ []) → still_to_give d (piece ++ more) ≡ given ++ still_to_give d1 more)
+      → ((more : List ℕ) → (d1.has_ended ≡ true → more ≡ []) → next_mode d (piece ++ more) ≡ next_mode d1 more)
+      → Decodes remaining step d r given d1 r1
+  call-by d d1 r r1 given piece true ended was last some called takes gives settles =
+      let none : piece ≡ [] = (last refl).0 in
+      record {
+        pieces = [];
+        calls = rw (was, ended) (r, refl, subst (λ p. step r (Ok p) r1) none called, (last refl).1);
+        takes = subst (λ p. Consumes (remaining r) (remaining r1) p) none takes;
+        gives = λ more end. ap (λ p. still_to_give d (p ++ more)) (sym none) ∙ gives more end;
+        settles = λ more end. ap (λ p. next_mode d (p ++ more)) (sym none) ∙ settles more end;
+      }
+  call-by d d1 r r1 given piece false ended was last some called takes gives settles = record {
+    pieces = piece ∷ [];
+    calls = rw (was, ended) (some refl, (r1, called, refl));
+    takes = subst (λ p. Consumes (remaining r) (remaining r1) p) (sym (append-nil piece)) takes;
+    gives = λ more end. ap (λ p. still_to_give d (p ++ more)) (append-nil piece) ∙ gives more end;
+    settles = λ more end. ap (λ p. next_mode d (p ++ more)) (append-nil piece) ∙ settles more end;
+  }
+
+  is-zero : (count : ℕ) → (count == 0) ≡ true → count ≡ 0
+  is-zero count none = grind (arith, nat_tests)
+
+  is-none : (count : ℕ) (piece : List ℕ) → length piece ≡ count → (count == 0) ≡ true → piece ≡ []
+  is-none count [] counted none = refl
+  is-none count (x ∷ piece) counted none = absurd (omega (arith, counted, is-zero count none))
+
+  is-some : (count : ℕ) (piece : List ℕ) → length piece ≡ count → (count == 0) ≡ false → 0 < length piece
+  is-some count piece counted some = grind (arith, nat_tests)
+
+  -- a call of the reader, whose bytes are held
+  pub Decodes-hold : (mode : Mode) (old new : UndecodedBytes) (r r1 : R) (count : ℕ) → old.has_ended ≡ false
+      → Grows remaining step old r count new r1 → Decodes remaining step (holding mode old) r [] (holding mode new) r1
+  Decodes-hold mode old new r r1 count was grows =
+      let input : (more : List ℕ) → (new.has_ended ≡ true → more ≡ []) → old.bytes ++ unread old.has_ended (grows.piece ++ more)
+      ≡ new.bytes ++ unread new.has_ended more =
+      λ more end. ap (λ b. old.bytes ++ unread b (grows.piece ++ more)) was ∙ (sym (append_assoc old.bytes grows.piece more)
+      ∙ (ap (λ l. l ++ more) (sym grows.appended) ∙ ap (λ l. new.bytes ++ l) (sym (same-unread new.has_ended more end)))) in
+      call-by (holding mode old) (holding mode new) r r1 [] grows.piece (count == 0) grows.has_ended was
+      (λ none. (is-none count grows.piece grows.counted none, grows.ended (is-zero count none)))
+      (λ some. is-some count grows.piece grows.counted some) grows.called grows.takes
+      (λ more end. ap (decode_by mode) (input more end)) (λ more end. ap (mode_after mode) (input more end))
+
+  grown : (b : Bool) (old new : UndecodedBytes) (r r1 : R) (count most : ℕ) → new.has_ended ≡ b → length old.bytes < most
+      → Grows remaining step old r count new r1 → calls_left b (most - length new.bytes) < suc (most - length old.bytes)
+  grown true old new r r1 count most ended few grows = omega arith
+  grown false old new r r1 count most ended few grows =
+      let some : 0 < length grows.piece = is-some count grows.piece grows.counted (sym grows.has_ended ∙ ended) in
+      omega (arith, some, few, ap length grows.appended ∙ length-append old.bytes grows.piece)
+
+  -- each call brings bytes, or is the last
+  pub Grows-smaller : (old new : UndecodedBytes) (r r1 : R) (count most : ℕ) → old.has_ended ≡ false → length old.bytes < most
+      → Grows remaining step old r count new r1
+      → calls_left new.has_ended (most - length new.bytes) < calls_left old.has_ended (most - length old.bytes)
+  Grows-smaller old new r r1 count most was few grows =
+      subst (λ b. calls_left new.has_ended (most - length new.bytes) < calls_left b (most - length old.bytes)) (sym was)
+      (grown new.has_ended old new r r1 count most refl few grows)
+
+  -- one call more, after others
+  pub hold-more : (mode : Mode) (first old new : UndecodedBytes) (r r1 r2 : R) (count : ℕ) → old.has_ended ≡ false
+      → Decodes remaining step (holding mode first) r [] (holding mode old) r1 → Grows remaining step old r1 count new r2
+      → Decodes remaining step (holding mode first) r [] (holding mode new) r2
+  hold-more mode first old new r r1 r2 count was run grows =
+      Decodes-append (holding mode first) (holding mode old) (holding mode new) r r1 r2 [] [] run
+      (Decodes-hold mode old new r1 r2 count was grows)
+
+  -- a call of the reader, whose bytes pass unchanged
+  pub Decodes-pass : (old new : UndecodedBytes) (r r1 : R) (count : ℕ) (piece : List ℕ) → old.bytes ≡ [] → new.bytes ≡ []
+      → old.has_ended ≡ false → new.has_ended ≡ (count == 0) → length piece ≡ count → step r (Ok piece) r1
+      → Consumes (remaining r) (remaining r1) piece → (count ≡ 0 → IsAtEnd (remaining r1))
+      → Decodes remaining step (holding Passing old) r piece (holding Passing new) r1
+  Decodes-pass old new r r1 count piece empty none was ended counted called takes last =
+      let before : (rest : List ℕ) → still_to_give (holding Passing old) rest ≡ rest = λ rest. rw (empty, was) refl in
+      let after : (rest : List ℕ) → still_to_give (holding Passing new) rest ≡ unread new.has_ended rest = λ rest. rw none refl in
+      call-by (holding Passing old) (holding Passing new) r r1 piece piece (count == 0) ended was
+      (λ zero. (is-none count piece counted zero, last (is-zero count zero))) (λ some. is-some count piece counted some) called takes
+      (λ more end. before (piece ++ more) ∙ ap (λ l. piece ++ l) (sym (after more ∙ same-unread new.has_ended more end)))
+      (λ more end. refl)
+
+  -- a call of the reader failed
+  pub FailsToDecode-now : (d : DecoderState) (r r1 : R) (e : Error) → d.has_ended ≡ false → step r (Err e) r1
+      → FailsToDecode remaining step d r e d r1
+  FailsToDecode-now d r r1 e was failed = record { mid = r; decodes = Decodes-none d r; unended = was; failed = failed }
+
+  -- bytes that were ready are given
+  pub Decodes-ready : (ready given later held : List ℕ) (mode : Mode) (ended : Bool) (capacity : ℕ) (r : R) → ready ≡ given ++ later
+      → Decodes remaining step (record { ready = ready; held = held; mode = mode; has_ended = ended; capacity = capacity }) r given
+      (record { ready = later; held = held; mode = mode; has_ended = ended; capacity = capacity }) r
+  Decodes-ready ready given later held mode ended capacity r same =
+      let before : DecoderState = record { ready = ready; held = held; mode = mode; has_ended = ended; capacity = capacity } in
+      let after : DecoderState = record { ready = later; held = held; mode = mode; has_ended = ended; capacity = capacity } in
+      Decodes-within before after r given refl
+      (λ rest. let text = decode_by mode (held ++ unread ended rest) in ap (λ l. l ++ text) same ∙ append_assoc given later text)
+      (λ rest. refl)
+
+  -- the same of a decoder that has nothing ready
+  pub Decodes-held : (ready : List ℕ) (mode : Mode) (old new : UndecodedBytes) (r r1 : R) (given : List ℕ) → ready ≡ []
+      → Decodes remaining step (holding mode old) r given (holding mode new) r1
+      → Decodes remaining step
+      (record { ready = ready; held = old.bytes; mode = mode; has_ended = old.has_ended; capacity = old.capacity }) r given
+      (record { ready = ready; held = new.bytes; mode = mode; has_ended = new.has_ended; capacity = new.capacity }) r1
+  Decodes-held ready mode old new r r1 given none run =
+      subst (λ l. Decodes remaining step
+      (record { ready = l; held = old.bytes; mode = mode; has_ended = old.has_ended; capacity = old.capacity }) r given
+      (record { ready = l; held = new.bytes; mode = mode; has_ended = new.has_ended; capacity = new.capacity }) r1) (sym none) run
+
+  -- a read that failed, after others
+  pub FailsToDecode-after : (d d1 d2 : DecoderState) (r r1 r2 : R) (e : Error) → Decodes remaining step d r [] d1 r1
+      → FailsToDecode remaining step d1 r1 e d2 r2 → FailsToDecode remaining step d r e d2 r2
+  FailsToDecode-after d d1 d2 r r1 r2 e first later = record {
+    mid = later.mid;
+    decodes = Decodes-append d d1 d2 r r1 later.mid [] [] first later.decodes;
+    unended = later.unended;
+    failed = later.failed;
+  }
+
+  Calls-pulls : (was is : Bool) (old new : R) (pieces : List (List ℕ)) → Calls remaining step was is old pieces new → is ≡ false
+      → Pulls step old pieces new
+  Calls-pulls false false old new pieces calls unended = calls
+  Calls-pulls false true old new pieces calls unended = absurd (false≢true (sym unended))
+  Calls-pulls true is old new pieces calls unended = absurd (false≢true (sym unended ∙ calls.0))
+
+  pub FailsToDecode-reader : (d d1 : DecoderState) (r r1 : R) (e : Error) → FailsToDecode remaining step d r e d1 r1 → FailsWith step r e r1
+  FailsToDecode-reader d d1 r r1 e fails = (
+    fails.decodes.pieces,
+    fails.mid,
+    Calls-pulls d.has_ended d1.has_ended r fails.mid fails.decodes.pieces fails.decodes.calls fails.unended,
+    fails.failed,
+  )
+
+  Calls-unended : (was is : Bool) (old new : R) (pieces : List (List ℕ)) → Calls remaining step was is old pieces new → is ≡ false
+      → was ≡ false
+  Calls-unended false is old new pieces calls unended = refl
+  Calls-unended true is old new pieces calls unended = absurd (false≢true (sym unended ∙ calls.0))
+
+  pub reads-fail : (d d1 d2 : DecoderState) (r r1 r2 : R) (given : List ℕ) (e : Error) → Decodes remaining step d r given d1 r1
+      → FailsToDecode remaining step d1 r1 e d2 r2 → FailsWith step r e r2
+  reads-fail d d1 d2 r r1 r2 given e first fails =
+      let unended : d1.has_ended ≡ false = Calls-unended d1.has_ended d2.has_ended r1 fails.mid fails.decodes.pieces fails.decodes.calls fails.unended in
+      FailsWith-after step first.pieces r r1 r2 e (Calls-pulls d.has_ended d1.has_ended r r1 first.pieces first.calls unended)
+      (FailsToDecode-reader d1 d2 r1 r2 e fails)
+
+  -- ---- a reader that says which bytes remain
+
+  ended-gives : (d : DecoderState) (xs ys : List ℕ) → d.has_ended ≡ true → still_to_give d xs ≡ still_to_give d ys
+  ended-gives d xs ys ended = rw ended refl
+
+  yet-from : (d d1 : DecoderState) (was is : Bool) (old new : R) (before after : Option (List ℕ)) (pieces : List (List ℕ)) (given : List ℕ)
+      → d.has_ended ≡ was → d1.has_ended ≡ is
+      → Calls remaining step was is old pieces new → before ≡ remaining old → after ≡ remaining new → Consumes before after (concat pieces)
+      → ((more : List ℕ) → (d1.has_ended ≡ true → more ≡ []) → still_to_give d (concat pieces ++ more) ≡ given ++ still_to_give d1 more)
+      → Consumes (yet d before) (yet d1 after) given
+  yet-from d d1 was is old new None after pieces given wasn't isn't calls first last takes gives = tt
+  yet-from d d1 was is old new (Some xs) None pieces given wasn't isn't calls first last takes gives = absurd takes
+  yet-from d d1 false false old new (Some xs) (Some ys) pieces given wasn't isn't calls first last takes gives =
+      ap (still_to_give d) takes ∙ gives ys (λ ended. absurd (false≢true (sym isn't ∙ ended)))
+  yet-from d d1 false true old new (Some xs) (Some ys) pieces given wasn't isn't calls first last takes gives =
+      let end : IsAtEnd (Some ys) = subst IsAtEnd (sym last) calls.3 in
+      ap (still_to_give d) takes ∙ gives ys (λ ended. end)
+  yet-from d d1 true is old new (Some xs) (Some ys) pieces given wasn't isn't calls first last takes gives =
+      ended-gives d xs (concat pieces ++ []) wasn't ∙ (gives [] (λ ended. refl)
+      ∙ ap (λ l. given ++ l) (ended-gives d1 [] ys (isn't ∙ calls.0)))
+
+  pub Decodes-yet : (d d1 : DecoderState) (r r1 : R) (given : List ℕ) → Decodes remaining step d r given d1 r1
+      → Consumes (yet d (remaining r)) (yet d1 (remaining r1)) given
+  Decodes-yet d d1 r r1 given run = yet-from d d1 d.has_ended d1.has_ended r r1 (remaining r) (remaining r1) run.pieces given refl refl run.calls refl refl
+      run.takes run.gives
+
+  Keeps-from : (a b : Option (List ℕ)) → Consumes a b [] → Keeps a b
+  Keeps-from None b takes = tt
+  Keeps-from (Some xs) None takes = absurd takes
+  Keeps-from (Some xs) (Some ys) takes = sym takes
+
+  yet-kept : (d : DecoderState) (a b : Option (List ℕ)) → Keeps a b → Keeps (yet d a) (yet d b)
+  yet-kept d None b keeps = tt
+  yet-kept d (Some xs) None keeps = absurd keeps
+  yet-kept d (Some xs) (Some ys) keeps = ap (still_to_give d) keeps
+
+  keeps-then : (a b c : Option (List ℕ)) → Consumes a b [] → Keeps b c → Keeps a c
+  keeps-then None b c takes keeps = tt
+  keeps-then (Some xs) None c takes keeps = absurd takes
+  keeps-then (Some xs) (Some ys) None takes keeps = absurd keeps
+  keeps-then (Some xs) (Some ys) (Some zs) takes keeps = keeps ∙ sym takes
+
+  pub FailsToDecode-yet : (d d1 : DecoderState) (r r1 : R) (e : Error) → FailsToDecode remaining step d r e d1 r1
+      → ((old new : R) (error : Error) → step old (Err error) new → Keeps (remaining old) (remaining new))
+      → Keeps (yet d (remaining r)) (yet d1 (remaining r1))
+  FailsToDecode-yet d d1 r r1 e fails keeps =
+      keeps-then (yet d (remaining r)) (yet d1 (remaining fails.mid)) (yet d1 (remaining r1))
+      (Decodes-yet d d1 r fails.mid [] fails.decodes) (yet-kept d1 (remaining fails.mid) (remaining r1) (keeps fails.mid r1 e fails.failed))
+
+  -- ---- the end
+
+  decode-nothing : (mode : Mode) → decode_by mode [] ≡ []
+  unfolding units_of has_odd_byte scalars_of utf16_text utf8_lossy
+  decode-nothing (Fresh None true) = refl
+  decode-nothing (Fresh None false) = refl
+  decode-nothing (Fresh (Some Utf8) true) = refl
+  decode-nothing (Fresh (Some Utf16Le) true) = refl
+  decode-nothing (Fresh (Some Utf16Be) true) = refl
+  decode-nothing (Fresh (Some Utf8) false) = refl
+  decode-nothing (Fresh (Some Utf16Le) false) = refl
+  decode-nothing (Fresh (Some Utf16Be) false) = refl
+  decode-nothing Passing = refl
+  decode-nothing (Decoding Utf8) = refl
+  decode-nothing (Decoding Utf16Le) = refl
+  decode-nothing (Decoding Utf16Be) = refl
+
+  unread-none : (ended : Bool) → unread ended [] ≡ []
+  unread-none true = refl
+  unread-none false = refl
+
+  pub nothing-left : (d : DecoderState) → d.ready ≡ [] → d.held ≡ [] → still_to_give d [] ≡ []
+  nothing-left d ready held = rw (ready, held, unread-none d.has_ended) (decode-nothing d.mode)
+
+  done-gives : (d : DecoderState) (rest : List ℕ) → IsDone d → still_to_give d rest ≡ []
+  done-gives d rest done = rw (done.ended, done.ready, done.held) (decode-nothing d.mode)
+
+  pub IsDone-yet : (d : DecoderState) (known : Option (List ℕ)) → IsDone d → IsAtEnd (yet d known)
+  IsDone-yet d None done = tt
+  IsDone-yet d (Some rest) done = done-gives d rest done
+
+  whole : (a b : Option (List ℕ)) (bytes : List ℕ) → Consumes a b bytes → IsAtEnd b → IfSome a (λ all. all ≡ bytes)
+  whole None b bytes takes ended = tt
+  whole (Some all) None bytes takes ended = absurd takes
+  whole (Some all) (Some rest) bytes takes ended = takes ∙ (ap (λ xs. bytes ++ xs) ended ∙ append-nil bytes)
+
+  all-given : (label : Option Label) (sniff : Bool) (capacity : ℕ) (d : DecoderState) (is : Bool) (r r1 : R) (given : List ℕ)
+      (pieces : List (List ℕ)) → is ≡ true → Calls remaining step false is r pieces r1 → Consumes (remaining r) (remaining r1) (concat pieces)
+      → still_to_give (started capacity label sniff) (concat pieces ++ []) ≡ given ++ still_to_give d [] → IsDone d
+      → IsDecoded remaining step label sniff r given r1
+  all-given label sniff capacity d false r r1 given pieces ended calls takes gives done = absurd (false≢true ended)
+  all-given label sniff capacity d true r r1 given pieces ended (last, pulled, called, end) takes gives done = record {
+    pieces = pieces;
+    mid = last;
+    pulled = pulled;
+    ended = called;
+    text = sym (append-nil given) ∙ (ap (λ l. given ++ l) (sym (done-gives d [] done)) ∙ (sym gives
+        ∙ ap (decoded label sniff) (append-nil (concat pieces))));
+    whole = whole (remaining r) (remaining r1) (concat pieces) takes end;
+  }
+
+  pub reads-give-all : (capacity : ℕ) (label : Option Label) (sniff : Bool) (d : DecoderState) (r r1 : R) (given : List ℕ)
+      → Decodes remaining step (started capacity label sniff) r given d r1 → IsDone d → IsDecoded remaining step label sniff r given r1
+  reads-give-all capacity label sniff d r r1 given run done =
+      all-given label sniff capacity d d.has_ended r r1 given run.pieces done.ended run.calls run.takes (run.gives [] (λ ended. refl)) done
+
+-- what is held if the bytes pass unchanged
+pub fits-passing : (mode : Mode) (ready held : List ℕ) → FitsMode mode ready held → mode ≡ Passing → (length ready ≤ 3) × (held ≡ [])
+fits-passing mode ready held fits passing = subst (λ m. FitsMode m ready held) passing fits
+
+-- what is held while a mark is looked for
+pub fits-fresh : (mode : Mode) (ready held : List ℕ) (label : Option Label) (sniff : Bool) → FitsMode mode ready held → mode ≡ Fresh label sniff
+    → (ready ≡ []) × (length held ≤ 3)
+fits-fresh mode ready held label sniff fits fresh = subst (λ m. FitsMode m ready held) fresh fits
+
+module _ {R : Type 0} (remaining : R → Option (List ℕ)) (step : R → ReadResult → R → Type 0) where
+  -- ---- a read that returned a result, whichever
+
+  pub result-decodes : (d d1 d2 : DecoderState) (r r1 r2 : R) (result : Result ℕ Error) (buffer : List ℕ) → Decodes remaining step d r [] d1 r1
+      → IfOk result (λ n. Decodes remaining step d1 r1 (take n buffer) d2 r2) → IfOk result (λ n. Decodes remaining step d r (take n buffer) d2 r2)
+  result-decodes d d1 d2 r r1 r2 (Ok n) buffer first later = Decodes-append remaining step d d1 d2 r r1 r2 [] (take n buffer) first later
+  result-decodes d d1 d2 r r1 r2 (Err e) buffer first later = tt
+
+  pub result-fails : (d d1 d2 : DecoderState) (r r1 r2 : R) (result : Result ℕ Error) → Decodes remaining step d r [] d1 r1
+      → IfErr result (λ e. FailsToDecode remaining step d1 r1 e d2 r2) → IfErr result (λ e. FailsToDecode remaining step d r e d2 r2)
+  result-fails d d1 d2 r r1 r2 (Ok n) first later = tt
+  result-fails d d1 d2 r r1 r2 (Err e) first later = FailsToDecode-after remaining step d d1 d2 r r1 r2 e first later
+
+  pub result-gives : (d d1 : DecoderState) (r r1 : R) (result : Result ℕ Error) (buffer : List ℕ)
+      → IfOk result (λ n. Decodes remaining step d r (take n buffer) d1 r1)
+      → IfOk result (λ n. Consumes (yet d (remaining r)) (yet d1 (remaining r1)) (take n buffer))
+  result-gives d d1 r r1 (Ok n) buffer run = Decodes-yet remaining step d d1 r r1 (take n buffer) run
+  result-gives d d1 r r1 (Err e) buffer run = tt
+
+  pub result-ends : (d : DecoderState) (r : R) (result : Result ℕ Error) (buffer : List ℕ)
+      → IfOk result (λ n. n ≡ 0 → 0 < length buffer → IsDone d) → IfOk result (λ n. n ≡ 0 → 0 < length buffer → IsAtEnd (yet d (remaining r)))
+  result-ends d r (Ok n) buffer done = λ none room. IsDone-yet remaining step d (remaining r) (done none room)
+  result-ends d r (Err e) buffer done = tt
+
+  pub result-fault : (d d1 : DecoderState) (r r1 : R) (result : Result ℕ Error) → IfErr result (λ e. FailsToDecode remaining step d r e d1 r1)
+      → IfErr result (λ e. FailsWith step r e r1)
+  result-fault d d1 r r1 (Ok n) fails = tt
+  result-fault d d1 r r1 (Err e) fails = FailsToDecode-reader remaining step d d1 r r1 e fails
+
+  pub result-keeps : (d d1 : DecoderState) (r r1 : R) (result : Result ℕ Error)
+      → ((old new : R) (error : Error) → step old (Err error) new → Keeps (remaining old) (remaining new))
+      → IfErr result (λ e. FailsToDecode remaining step d r e d1 r1) → OnErr result (Keeps (yet d (remaining r)) (yet d1 (remaining r1)))
+  result-keeps d d1 r r1 (Ok n) keeps fails = tt
+  result-keeps d d1 r r1 (Err e) keeps fails = FailsToDecode-yet remaining step d d1 r r1 e fails keeps
+
+  none-given : (d d1 : DecoderState) (known after : Option (List ℕ)) (given : List ℕ) → d.ready ≡ [] → d.held ≡ [] → known ≡ Some []
+      → Consumes (yet d known) (yet d1 after) given → length given ≡ 0
+  none-given d d1 known None given ready held none takes = absurd (subst (λ k. Consumes (yet d k) (yet d1 None) given) none takes)
+  none-given d d1 known (Some rest) given ready held none takes =
+      let all : still_to_give d [] ≡ given ++ still_to_give d1 rest = subst (λ k. Consumes (yet d k) (yet d1 (Some rest)) given) none takes in
+      let nothing : still_to_give d [] ≡ [] = nothing-left remaining step d ready held in
+      let long : length (given ++ still_to_give d1 rest) ≡ 0 = ap length (sym all ∙ nothing) in
+      omega (arith, long, length-append given (still_to_give d1 rest))
+
+  first-count : (d d1 : DecoderState) (r r1 : R) (n : ℕ) (buffer ready : List ℕ) (known : Option (List ℕ)) (M : List ℕ → Type 0) (P S : Type 0)
+      → known ≡ remaining r → d.ready ≡ [] → d.held ≡ [] → (n ≤ length buffer) × (n ≡ length (take n buffer))
+      → Consumes (yet d known) (yet d1 (remaining r1)) (take n buffer)
+      → (0 < length ready → (n ≡ min (length ready) (length buffer)) × S) → IfSome known (λ input. M input → P → ready ≡ take 3 input)
+      → IfSome known (λ input. M input → P → n ≡ min (length buffer) (min 3 (length input)))
+  first-count d d1 r r1 n buffer ready None M P S is none empty bound takes given made = tt
+  first-count d d1 r r1 n buffer ready (Some []) M P S is none empty bound takes given made = λ m p.
+      let zero : n ≡ 0 = bound.1 ∙ none-given d d1 (Some []) (remaining r1) (take n buffer) none empty refl takes in
+      omega (arith, zero)
+  first-count d d1 r r1 n buffer ready (Some (x ∷ input)) M P S is none empty bound takes given made = λ m p.
+      let long : length ready ≡ min 3 (length (x ∷ input)) = ap length (made m p) ∙ length-take 3 (x ∷ input) in
+      let count : n ≡ min (length ready) (length buffer) = (given (omega (arith, long))).0 in
+      omega (arith, long, count)
+
+  pub result-first : (d d1 : DecoderState) (r r1 : R) (result : Result ℕ Error) (buffer ready : List ℕ) (M : List ℕ → Type 0) (P S : Type 0)
+      → d.ready ≡ [] → d.held ≡ [] → ReadsAtMost result buffer → IfOk result (λ n. Decodes remaining step d r (take n buffer) d1 r1)
+      → (0 < length ready → IfOk result (λ n. (n ≡ min (length ready) (length buffer)) × S))
+      → IfSome (remaining r) (λ input. M input → P → ready ≡ take 3 input)
+      → IfOk result (λ n. IfSome (remaining r) (λ input. M input → P → n ≡ min (length buffer) (min 3 (length input))))
+  result-first d d1 r r1 (Ok n) buffer ready M P S none empty bound run given made =
+      first-count d d1 r r1 n buffer ready (remaining r) M P S refl none empty bound
+      (Decodes-yet remaining step d d1 r r1 (take n buffer) run) given made
+  result-first d d1 r r1 (Err e) buffer ready M P S none empty bound run given made = tt
+
+-- what was taken at first, and then what was taken
+pub result-ahead : (P : Type 0) (before mid after : Option (List ℕ)) (most : ℕ) (result : Result ℕ Error) → TakesAtMost before mid most
+    → IfOk result (λ n. P → TakesAtMost mid after n) → IfOk result (λ n. P → TakesAtMost before after (n + most))
+result-ahead P before mid after most (Ok n) first later = λ p.
+    let more = later p in
+    (first.0 ++ more.0, omega (arith, first.1, more.1, length-append first.0 more.0), Consumes-trans before mid after first.0 more.0 first.2 more.2)
+result-ahead P before mid after most (Err e) first later = tt
+
+pub takes-none : (known : Option (List ℕ)) (most : ℕ) → TakesAtMost known known most
+takes-none known most = ([], omega arith, Consumes-nil known)
+
+-- the same of another state
+pub first-passes : (M : List ℕ → Type 0) (P Q : Type 0) (known : Option (List ℕ)) (ready same : List ℕ) → (P → Q) → same ≡ ready
+    → IfSome known (λ input. M input → Q → ready ≡ take 3 input) → IfSome known (λ input. M input → P → same ≡ take 3 input)
+first-passes M P Q None ready same turn is made = tt
+first-passes M P Q (Some input) ready same turn is made = λ m p. is ∙ made m (turn p)
+
+-- only a decoder that has read nothing looks for a mark
+pub looks-fresh : (mode : Mode) → LooksForMark mode → (label : Option Label) × (sniff : Bool) × (mode ≡ Fresh label sniff)
+looks-fresh (Fresh label sniff) looks = (label, sniff, refl)
+looks-fresh Passing looks = absurd looks
+looks-fresh (Decoding label) looks = absurd looks

@@ -1,0 +1,11 @@
+pub mod BlockLemmas
+pub mod DecodedLemmas
+pub mod DecoderLemmas
+pub mod EncodeLemmas
+pub mod LabelLemmas
+pub mod LossyLemmas
+pub mod MarkLemmas
+pub mod PieceLemmas
+pub mod RunLemmas
+pub mod SpellsLemmas
+pub mod UnitLemmas

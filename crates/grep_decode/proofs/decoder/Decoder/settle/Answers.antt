@@ -1,0 +1,50 @@
+use Rattle.std.proofs.Common.{◌≡◌, ◌||◌, true, [], ap, is_some, ◌∙◌, subst, sym}
+use Rattle.std.proofs.lemmas.Bool.{false≢true}
+use Rattle.grep_decode.specs.declared.mode.Mode.TheVariants.{Passing}
+use Rattle.grep_decode.specs.Decoded.{found_mark}
+use Rattle.grep_decode.specs.DecoderStates.{Decodes, LooksForMark}
+use Rattle.grep_decode.specs.UndecodedBytes.{holding}
+use Rattle.grep_decode.proofs.DecoderLemmas.{Decodes-append, Decodes-held, Decodes-none, Decodes-within, Decodes-yet, fits-fresh}
+use Rattle.grep_decode.proofs.MarkLemmas.{first-by, first-ready}
+use Rattle.grep_decode.proofs.decoder.Decoder.settle.Goals as goal
+use Rattle.grep_decode.proofs.decoder.Decoder.settle.Goals.{then-sniff+in-Ok, else-sniff+else-is_some}
+
+pub returns-clause-decodes : goal.returns-clause-decodes
+returns-clause-decodes g c =
+    let remaining = g.R.Source.remaining in
+    let step = g.R.Source.step in
+    let d = c.self.inside in
+    let fresh = ap (λ s. s.mode) c.self.view_is ∙ c.requires in
+    let fits = fits-fresh d.mode d.ready d.held.bytes c.args.label c.args.sniff c.self.invariant.1 fresh in
+    let ahead : Decodes remaining step c.args.self.now c.args.reader.now [] c.if-sniff.self c.if-sniff.reader = elim c.if-sniff.branch [
+      | then-sniff+in-Ok w ↦ rw (w.self-is, w.reader-is, ← c.self.view_is)
+          (Decodes-held remaining step d.ready d.mode d.held w.fill.new.self c.args.reader.now w.fill.new.reader [] fits.0
+          (w.in-Ok.ensures.decodes d.mode))
+      | else-sniff+else-is_some w ↦ rw (w.self-is, w.reader-is) (Decodes-none remaining step c.args.self.now c.args.reader.now)
+    ] in
+    Decodes-append remaining step c.args.self.now c.if-sniff.self c.choose.new.self c.args.reader.now c.if-sniff.reader c.if-sniff.reader [] []
+    ahead (Decodes-within remaining step c.if-sniff.self c.choose.new.self c.if-sniff.reader [] c.choose.ensures.ended c.choose.ensures.same
+    c.choose.ensures.next)
+
+pub returns-clause-first : goal.returns-clause-first
+returns-clause-first g c = λ none unended looks.
+    let remaining = g.R.Source.remaining in
+    let step = g.R.Source.step in
+    let d = c.self.inside in
+    let held = ap (λ s. s.held) c.self.view_is ∙ none in
+    let before = ap (λ s. s.has_ended) c.self.view_is ∙ unended in
+    let Passes : Type 0 = c.choose.new.self.mode ≡ Passing in
+    let looked : (c.args.sniff || is_some c.args.label) ≡ true = subst LooksForMark c.requires looks in
+    elim c.if-sniff.branch [
+      | then-sniff+in-Ok w ↦
+          let bytes : c.if-sniff.self.held ≡ w.fill.new.self.bytes = ap (λ s. s.held) w.self-is in
+          first-by c.args.self.now.mode c.args.label c.args.sniff Passes (remaining c.args.reader.now) c.choose.new.self.ready c.requires
+          (λ passing. first-ready c.args.label c.args.sniff d.held w.fill.new.self (remaining c.args.reader.now) (remaining w.fill.new.reader)
+          c.choose.new.self.ready
+          (Decodes-yet remaining step (holding Passing d.held) (holding Passing w.fill.new.self) c.args.reader.now w.fill.new.reader []
+          (w.in-Ok.ensures.decodes Passing)) held before w.in-Ok.ensures.few w.in-Ok.ensures.enough
+          (λ unmarked. c.choose.ensures.ready (ap (found_mark c.args.label c.args.sniff) bytes ∙ unmarked) passing ∙ bytes))
+      | else-sniff+else-is_some w ↦
+          let unlooked : (c.args.sniff || is_some c.args.label) ≡ is_some c.args.label = ap (λ b. b || is_some c.args.label) w.if-sniff.false in
+          absurd (false≢true (sym w.if-is_some.false ∙ (w.is_some.ensures ∙ (sym unlooked ∙ looked))))
+    ]

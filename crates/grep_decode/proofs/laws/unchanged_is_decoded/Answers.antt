@@ -1,0 +1,5 @@
+use Rattle.grep_decode.proofs.DecodedLemmas.{unchanged-decoded}
+use Rattle.grep_decode.proofs.laws.unchanged_is_decoded.Goals as goal
+
+pub returns : goal.returns
+returns c = unchanged-decoded

@@ -1,0 +1,22 @@
+use Rattle.std.proofs.Common.{[], ◌∙◌, sym, subst, arith}
+use Rattle.grep_decode.specs.declared.mode.Mode.TheVariants.{Decoding}
+use Rattle.grep_decode.specs.DecoderStates.{Decodes}
+use Rattle.grep_decode.specs.UndecodedBytes.{UndecodedBytes, holding}
+use Rattle.grep_decode.proofs.DecoderLemmas.{hold-more}
+use Rattle.grep_decode.proofs.undecoded.Undecoded.read.Goals as goal
+
+pub loop-label-preserved : goal.loop-label-preserved
+loop-label-preserved g c =
+    let mode = Decoding c.args.label in
+    let first = c.args.self.now in
+    let mid = c.decode-count.new.self in
+    let same = c.decode-count.ensures.stays (omega (arith, c.if-count-gt0.false)) in
+    let P : UndecodedBytes → Type 0 = λ u.
+    Decodes g.R.Source.remaining g.R.Source.step (holding mode first) c.args.reader.now [] (holding mode u) c.loop-label.reader in
+    let grows = c.in-Ok.ensures.grows in
+    record {
+      capacity = grows.capacity ∙ (c.decode-count.ensures.capacity ∙ c.loop-label.invariant.capacity);
+      room = omega (arith, c.decode-count.ensures.same_room, c.loop-label.invariant.room);
+      decodes = hold-more g.R.Source.remaining g.R.Source.step mode first mid c.pull.new.self c.args.reader.now c.loop-label.reader
+          c.pull.new.reader c.in-Ok.field-0 (sym c.if-has_ended.ensures) (subst P (sym same) c.loop-label.invariant.decodes) grows;
+    }

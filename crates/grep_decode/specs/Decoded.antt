@@ -1,0 +1,113 @@
+-- The decoded bytes of an input.
+use Rattle.std.specs.Prelude.{◌≡◌, ℕ, ◌+◌, ◌*◌, Bool, true, false, ◌&&◌, ◌||◌, not, List, [], ◌∷◌, drop, length, Option, None, Some, is_some, encode_utf8_all, if◌then◌else◌}
+use Rattle.std.specs.Str.Lossy.{utf8_lossy}
+use Rattle.std.specs.Char.Utf16.{is_low_surrogate, is_high_surrogate, surrogate_pair_char}
+use Rattle.grep_decode.specs.declared.byte_order.ByteOrder.{ByteOrder}
+use Rattle.grep_decode.specs.declared.byte_order.ByteOrder.TheVariants.{Little, Big}
+use Rattle.grep_decode.specs.declared.label.Label.{Label}
+use Rattle.grep_decode.specs.declared.label.Label.TheVariants.{Utf8, Utf16Le, Utf16Be}
+use Rattle.grep_decode.specs.Marks.{mark_of, marked}
+
+-- ---- UTF-16
+
+-- U+FFFD
+abbrev pub replacement : ℕ
+replacement = 0xFFFD
+
+-- the 16-bit unit of two bytes
+abbrev pub unit_of : ByteOrder → ℕ → ℕ → ℕ
+unit_of Little first second = second * 256 + first
+unit_of Big first second = first * 256 + second
+
+-- the units of the bytes, without an odd last byte
+unfoldable pub units_of : ByteOrder → List ℕ → List ℕ
+units_of order [] = []
+units_of order (first ∷ []) = []
+units_of order (first ∷ second ∷ bytes) = unit_of order first second ∷ units_of order bytes
+
+-- the last byte has no partner
+unfoldable pub has_odd_byte : List ℕ → Bool
+has_odd_byte [] = false
+has_odd_byte (first ∷ []) = true
+has_odd_byte (first ∷ second ∷ bytes) = has_odd_byte bytes
+
+-- half of a pair
+abbrev pub is_surrogate : ℕ → Bool
+is_surrogate unit = is_high_surrogate unit || is_low_surrogate unit
+
+-- These units, with an odd byte after them or none, spell these scalar values.
+pub data Spells (odd : Bool) : List ℕ → List ℕ → Type 0 where
+  -- nothing is left
+  at_end : odd ≡ false → Spells odd [] []
+  -- an odd byte, and no leading surrogate before it
+  at_odd : odd ≡ true → Spells odd [] (replacement ∷ [])
+  -- no surrogate
+  plain : (unit : ℕ) (units chars : List ℕ) → is_surrogate unit ≡ false → Spells odd units chars
+      → Spells odd (unit ∷ units) (unit ∷ chars)
+  -- a leading surrogate with a trailing one after it
+  pair : (high low : ℕ) (units chars : List ℕ) → is_high_surrogate high ≡ true → is_low_surrogate low ≡ true
+      → Spells odd units chars → Spells odd (high ∷ low ∷ units) (surrogate_pair_char high low ∷ chars)
+  -- a trailing surrogate with no leading one before it
+  low : (unit : ℕ) (units chars : List ℕ) → is_low_surrogate unit ≡ true → Spells odd units chars
+      → Spells odd (unit ∷ units) (replacement ∷ chars)
+  -- a leading surrogate with another unit after it, which is read on its own
+  high : (unit next : ℕ) (units chars : List ℕ) → is_high_surrogate unit ≡ true → is_low_surrogate next ≡ false
+      → Spells odd (next ∷ units) chars → Spells odd (unit ∷ next ∷ units) (replacement ∷ chars)
+  -- a leading surrogate as the last unit, together with the odd byte if there is one
+  waiting : (unit : ℕ) → is_high_surrogate unit ≡ true → Spells odd (unit ∷ []) (replacement ∷ [])
+
+-- the scalar value of a unit that is in no pair
+abbrev pub alone : ℕ → ℕ
+alone unit = if is_surrogate unit then replacement else unit
+
+-- the scalar value of an odd byte, if there is one
+abbrev pub odd_scalars : Bool → List ℕ
+odd_scalars odd = if odd then replacement ∷ [] else []
+
+-- the scalar values that these units spell, with an odd byte after them or none
+unfoldable pub scalars_of : Bool → List ℕ → List ℕ
+scalars_of odd [] = odd_scalars odd
+scalars_of odd (unit ∷ []) = if is_high_surrogate unit then replacement ∷ [] else alone unit ∷ odd_scalars odd
+scalars_of odd (unit ∷ next ∷ units) =
+    if is_high_surrogate unit && is_low_surrogate next then surrogate_pair_char unit next ∷ scalars_of odd units
+    else alone unit ∷ scalars_of odd (next ∷ units)
+
+-- bytes of UTF-16, spelled in UTF-8
+unfoldable pub utf16_text : ByteOrder → List ℕ → List ℕ
+utf16_text order bytes = encode_utf8_all (scalars_of (has_odd_byte bytes) (units_of order bytes))
+
+-- ---- the decoded bytes
+
+-- the text of an input in this encoding
+abbrev pub text_of : Label → List ℕ → List ℕ
+text_of Utf8 input = utf8_lossy input
+text_of Utf16Le input = utf16_text Little input
+text_of Utf16Be input = utf16_text Big input
+
+-- an input without a mark: the label decides
+abbrev pub by_label : Option Label → List ℕ → List ℕ
+by_label None input = input
+by_label (Some label) input = text_of label input
+
+-- what is after the mark of an encoding: UTF-8 passes unchanged
+abbrev pub after_mark : Label → List ℕ → List ℕ
+after_mark Utf8 rest = rest
+after_mark Utf16Le rest = utf16_text Little rest
+after_mark Utf16Be rest = utf16_text Big rest
+
+-- a mark decides, and is dropped; without one the label decides
+abbrev pub by_mark : Option Label → Option Label → List ℕ → List ℕ
+by_mark None label input = by_label label input
+by_mark (Some mark) label input = after_mark mark (drop (length (mark_of mark)) input)
+
+-- the mark that is found: one is looked for if sniffing is on or a label is set
+abbrev pub found_mark : Option Label → Bool → List ℕ → Option Label
+found_mark label sniff input = if sniff || is_some label then marked input else None
+
+-- the decoded bytes of an input
+abbrev pub decoded : Option Label → Bool → List ℕ → List ℕ
+decoded label sniff input = by_mark (found_mark label sniff input) label input
+
+-- no label is set, and no mark is found: the decoded bytes are the input
+abbrev pub is_unchanged : Option Label → Bool → List ℕ → Bool
+is_unchanged label sniff input = not (is_some label) && not (is_some (found_mark label sniff input))

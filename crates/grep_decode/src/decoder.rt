@@ -1,0 +1,320 @@
+//! A decoder over a source of bytes.
+ghost use Rattle.std.specs.Prelude.{◌≡◌, ◌⊎◌, ◌<◌, ◌≤◌, ◌+◌, ◌++◌, ℕ, Bool, true, false, List, [], None, length, take, drop, min, IsTrue, IfOk, IfErr, IfSome, OnOk, OnErr, Err};
+ghost use Rattle.std.specs.Io.{ReadsAtMost};
+ghost use Rattle.std.specs.Io.KnownBytes.{Consumes, Keeps, IsAtEnd};
+ghost use Rattle.grep_decode.specs.Source.{FailsWith, read_result};
+ghost use Rattle.grep_decode.specs.DecoderStates.{DecoderState, Decodes, FailsToDecode, FitsMode, HasNoMark, IsDone, IsSettled, LooksForMark, TakesAtMost, mode_of, next_mode, runs_ahead, started, still_to_give, yet};
+ghost use Rattle.grep_decode.specs.Decoded.{found_mark};
+ghost use Rattle.grep_decode.specs.Marks.{marked, mark_length};
+
+use crate::label::{Label, label_of_mark};
+use crate::mode::Mode;
+use crate::pending::Pending;
+use crate::source::Source;
+use crate::undecoded::Undecoded;
+use std::alloc::{AllocError, Allocator};
+use std::io;
+use std::marker::Model;
+
+/// Decodes the bytes of a reader.
+#[derive(Drop)]
+pub struct Decoder<A: Allocator> {
+    ready: Pending,
+    held: Undecoded<A>,
+    mode: Mode,
+}
+
+impl<A: Allocator> Model for Decoder<A> {
+    ghost Value = { DecoderState };
+
+    ghost view = { λ d. record {
+      ready = d.ready;
+      held = d.held.bytes;
+      mode = d.mode;
+      has_ended = d.held.has_ended;
+      capacity = d.held.capacity;
+    } };
+
+    ghost invariant = { λ d. (8 ≤ d.held.capacity) × FitsMode d.mode d.ready d.held.bytes };
+}
+
+impl<A: Allocator> Decoder<A> {
+    /// A decoder that keeps at most `capacity` bytes of its reader, which the caller ensures to be at least 8. It is as
+    /// one that was started with no label and without sniffing.
+    pub fn new(alloc: A, capacity: usize) -> Result<Decoder<A>, AllocError>
+        requires { 8 ≤ capacity }
+        ensures { IfOk result (λ d. d ≡ started capacity None false) }
+    {
+        let held = Undecoded::new(alloc, capacity)?;
+        Ok(Decoder {
+            ready: Pending::new(),
+            held,
+            mode: Mode::Fresh(None, false),
+        })
+    }
+
+    /// Begins on a new reader, of which it reads nothing: the bytes have this label, or none, and `sniff` says whether
+    /// a mark is looked for without a label too.
+    pub fn start(&mut self, label: Option<Label>, sniff: bool)
+        ensures { self.new ≡ started self.old.capacity label sniff }
+    {
+        self.ready = Pending::new();
+        self.held.restart();
+        self.mode = Mode::Fresh(label, sniff);
+    }
+
+    /// Reads decoded bytes into the front of `buffer`, and returns how many. It returns 0 to a buffer with room only if
+    /// nothing is left. After the reader has returned no bytes it isn't called.
+    ///
+    /// An error is the reader's own, also one of kind `Interrupted`. Nothing is lost then: the decoder is as if the call
+    /// that failed had not been made.
+    pub fn read<R: Source>(&mut self, reader: &mut R, buffer: &mut [u8]) -> io::Result<usize>
+        ensures bound { ReadsAtMost result buffer.new }
+        ensures capacity { self.new.capacity ≡ self.old.capacity }
+
+        // what is returned is the front of what was still to give
+        ensures decodes { IfOk result (λ count.
+            Decodes R.remaining R.step self.old reader.old (take count buffer.new) self.new reader.new) }
+        ensures gives { IfOk result (λ count. Consumes (yet self.old (R.remaining reader.old))
+            (yet self.new (R.remaining reader.new)) (take count buffer.new)) }
+        ensures done { IfOk result (λ count. count ≡ 0 → 0 < length buffer.new → IsDone self.new) }
+        ensures end { IfOk result (λ count. count ≡ 0 → 0 < length buffer.new → IsAtEnd
+            (yet self.new (R.remaining reader.new))) }
+
+        // an error is the reader's, and nothing is lost
+        ensures fault { IfErr result (λ e. FailsWith R.step reader.old e reader.new) }
+        ensures failed { IfErr result (λ e. FailsToDecode R.remaining R.step self.old reader.old e self.new reader.new) }
+        ensures kept { OnErr result (Keeps (yet self.old (R.remaining reader.old))
+            (yet self.new (R.remaining reader.new))) }
+
+        // once nothing is ready, bytes that pass unchanged are those of one call of the reader
+        ensures beneath { self.old.mode ≡ Mode.Passing → self.old.ready ≡ [] → self.old.has_ended ≡ false
+            → 0 < length buffer.new → R.step reader.old (read_result result buffer.new) reader.new }
+        ensures ready { 0 < length self.old.ready → IfOk result (λ count.
+            (count ≡ min (length self.old.ready) (length buffer.new)) × (reader.new ≡ reader.old)) }
+        ensures first { self.old.held ≡ [] → self.old.has_ended ≡ false → LooksForMark self.old.mode
+            → IfOk result (λ count. IfSome (R.remaining reader.old) (λ input. HasNoMark self.old.mode input
+            → self.new.mode ≡ Mode.Passing → count ≡ min (length buffer.new) (min 3 (length input)))) }
+
+        // how far the decoder is ahead of what it gave, if the bytes pass unchanged
+        ensures settled { OnOk result (0 < length buffer.new → IsSettled self.new.mode) }
+        ensures stays { IsSettled self.old.mode → self.new.mode ≡ self.old.mode }
+        ensures ahead { IfOk result (λ count. self.new.mode ≡ Mode.Passing
+            → TakesAtMost (R.remaining reader.old) (R.remaining reader.new) (count + runs_ahead self.old.mode)) }
+        ensures passing { self.new.mode ≡ Mode.Passing → (length self.new.ready ≤ 3) × (self.new.held ≡ []) }
+        ensures few { OnErr result (IsSettled self.new.mode ⊎ TakesAtMost (R.remaining reader.old)
+            (R.remaining reader.new) 2) }
+        ensures empty { OnErr result (self.new.ready ≡ []) }
+    {
+        let result = self.read_some(reader, buffer);
+        self.holds_few();
+        result
+    }
+
+    // What is held if the bytes pass unchanged.
+    fn holds_few(&self)
+        ensures { self.now.mode ≡ Mode.Passing → (length self.now.ready ≤ 3) × (self.now.held ≡ []) }
+    {
+        let _mode = self.mode;
+    }
+
+    // The same, by the pieces that the reader returned.
+    fn read_some<R: Source>(&mut self, reader: &mut R, buffer: &mut [u8]) -> io::Result<usize>
+        ensures bound { ReadsAtMost result buffer.new }
+        ensures capacity { self.new.capacity ≡ self.old.capacity }
+        ensures decodes { IfOk result (λ count.
+            Decodes R.remaining R.step self.old reader.old (take count buffer.new) self.new reader.new) }
+        ensures done { IfOk result (λ count. count ≡ 0 → 0 < length buffer.new → IsDone self.new) }
+        ensures failed { IfErr result (λ e. FailsToDecode R.remaining R.step self.old reader.old e self.new reader.new) }
+        ensures beneath { self.old.mode ≡ Mode.Passing → self.old.ready ≡ [] → self.old.has_ended ≡ false
+            → 0 < length buffer.new → R.step reader.old (read_result result buffer.new) reader.new }
+        ensures ready { 0 < length self.old.ready → IfOk result (λ count.
+            (count ≡ min (length self.old.ready) (length buffer.new)) × (reader.new ≡ reader.old)) }
+        ensures first { self.old.held ≡ [] → self.old.has_ended ≡ false → LooksForMark self.old.mode
+            → IfOk result (λ count. IfSome (R.remaining reader.old) (λ input. HasNoMark self.old.mode input
+            → self.new.mode ≡ Mode.Passing → count ≡ min (length buffer.new) (min 3 (length input)))) }
+        ensures settled { OnOk result (0 < length buffer.new → IsSettled self.new.mode) }
+        ensures stays { IsSettled self.old.mode → self.new.mode ≡ self.old.mode }
+        ensures ahead { IfOk result (λ count. self.new.mode ≡ Mode.Passing
+            → TakesAtMost (R.remaining reader.old) (R.remaining reader.new) (count + runs_ahead self.old.mode)) }
+        ensures few { OnErr result (IsSettled self.new.mode ⊎ TakesAtMost (R.remaining reader.old)
+            (R.remaining reader.new) 2) }
+        ensures empty { OnErr result (self.new.ready ≡ []) }
+    {
+        if buffer.is_empty() {
+            return Ok(0);
+        }
+        if let Mode::Fresh(label, sniff) = self.mode {
+            match self.settle(reader, label, sniff) {
+                Ok(()) => {}
+                Err(e) => return Err(e),
+            }
+        }
+        self.read_on(reader, buffer)
+    }
+
+    // The same after the mark.
+    fn read_on<R: Source>(&mut self, reader: &mut R, buffer: &mut [u8]) -> io::Result<usize>
+        requires settled { IsSettled self.old.mode }
+        requires room { 0 < length buffer.old }
+        ensures bound { ReadsAtMost result buffer.new }
+        ensures capacity { self.new.capacity ≡ self.old.capacity }
+        ensures mode { self.new.mode ≡ self.old.mode }
+        ensures decodes { IfOk result (λ count.
+            Decodes R.remaining R.step self.old reader.old (take count buffer.new) self.new reader.new) }
+        ensures done { IfOk result (λ count. count ≡ 0 → IsDone self.new) }
+        ensures failed { IfErr result (λ e. FailsToDecode R.remaining R.step self.old reader.old e self.new reader.new) }
+        ensures beneath { self.old.mode ≡ Mode.Passing → self.old.ready ≡ [] → self.old.has_ended ≡ false
+            → R.step reader.old (read_result result buffer.new) reader.new }
+        ensures ready { 0 < length self.old.ready → IfOk result (λ count.
+            (count ≡ min (length self.old.ready) (length buffer.new)) × (reader.new ≡ reader.old)) }
+        ensures ahead { IfOk result (λ count. self.new.mode ≡ Mode.Passing
+            → TakesAtMost (R.remaining reader.old) (R.remaining reader.new) count) }
+        ensures empty { OnErr result (self.new.ready ≡ []) }
+    {
+        if !self.ready.is_empty() {
+            return Ok(self.ready.give(buffer));
+        }
+        match self.mode {
+            Mode::Decoding(label) => self.decode(reader, label, buffer),
+            _ => self.pass(reader, buffer),
+        }
+    }
+
+    // Reads bytes that pass unchanged.
+    fn pass<R: Source>(&mut self, reader: &mut R, buffer: &mut [u8]) -> io::Result<usize>
+        requires mode { self.old.mode ≡ Mode.Passing }
+        requires empty { self.old.ready ≡ [] }
+        requires room { 0 < length buffer.old }
+        ensures bound { ReadsAtMost result buffer.new }
+        ensures capacity { self.new.capacity ≡ self.old.capacity }
+        ensures mode { self.new.mode ≡ Mode.Passing }
+        ensures empty { self.new.ready ≡ [] }
+        ensures decodes { IfOk result (λ count.
+            Decodes R.remaining R.step self.old reader.old (take count buffer.new) self.new reader.new) }
+        ensures done { IfOk result (λ count. count ≡ 0 → IsDone self.new) }
+        ensures failed { IfErr result (λ e. FailsToDecode R.remaining R.step self.old reader.old e self.new reader.new) }
+        ensures beneath { self.old.has_ended ≡ false → R.step reader.old (read_result result buffer.new) reader.new }
+        ensures ahead { IfOk result (λ count. TakesAtMost (R.remaining reader.old) (R.remaining reader.new) count) }
+    {
+        self.held.pass(reader, buffer)
+    }
+
+    // Looks for a mark if that is to be done, and settles on a mode.
+    fn settle<R: Source>(
+        &mut self,
+        reader: &mut R,
+        label: Option<Label>,
+        sniff: bool,
+    ) -> io::Result<()>
+        requires { self.old.mode ≡ Mode.Fresh label sniff }
+        ensures capacity { self.new.capacity ≡ self.old.capacity }
+        ensures decodes { OnOk result (Decodes R.remaining R.step self.old reader.old [] self.new reader.new) }
+        ensures settled { OnOk result (IsSettled self.new.mode) }
+        ensures ahead { OnOk result (TakesAtMost (R.remaining reader.old) (R.remaining reader.new)
+            (runs_ahead self.old.mode)) }
+        ensures first { self.old.held ≡ [] → self.old.has_ended ≡ false → LooksForMark self.old.mode
+            → OnOk result (IfSome (R.remaining reader.old) (λ input. HasNoMark self.old.mode input
+            → self.new.mode ≡ Mode.Passing → self.new.ready ≡ take 3 input)) }
+        ensures failed { IfErr result (λ e. FailsToDecode R.remaining R.step self.old reader.old e self.new reader.new) }
+        ensures few { OnErr result (TakesAtMost (R.remaining reader.old) (R.remaining reader.new) 2) }
+        ensures empty { OnErr result (self.new.ready ≡ []) }
+    {
+        if sniff || label.is_some() {
+            match self.held.fill(reader) {
+                Ok(()) => {}
+                Err(e) => return Err(e),
+            }
+        }
+        self.choose(label, sniff);
+        Ok(())
+    }
+
+    // Settles on a mode by the bytes that were read ahead, and drops a mark.
+    fn choose(&mut self, label: Option<Label>, sniff: bool)
+        requires mode { self.old.mode ≡ Mode.Fresh label sniff }
+        requires enough { LooksForMark self.old.mode → (3 ≤ length self.old.held) ⊎ (self.old.has_ended ≡ true) }
+        ensures capacity { self.new.capacity ≡ self.old.capacity }
+        ensures ended { self.new.has_ended ≡ self.old.has_ended }
+        ensures same { (rest : List ℕ) → still_to_give self.old rest ≡ still_to_give self.new rest }
+        ensures next { (rest : List ℕ) → next_mode self.old rest ≡ next_mode self.new rest }
+        ensures settled { IsSettled self.new.mode }
+        ensures ready { found_mark label sniff self.old.held ≡ None → self.new.mode ≡ Mode.Passing
+            → self.new.ready ≡ self.old.held }
+    {
+        let mark = find_mark(label, sniff, self.held.bytes());
+        self.held.skip(mark_len(mark));
+        self.mode = mode_for(mark, label);
+        if let Mode::Passing = self.mode {
+            self.ready = Pending::of(self.held.bytes());
+            self.held.skip(self.ready.len());
+        }
+    }
+
+    // Reads text in this encoding.
+    fn decode<R: Source>(
+        &mut self,
+        reader: &mut R,
+        label: Label,
+        buffer: &mut [u8],
+    ) -> io::Result<usize>
+        requires mode { self.old.mode ≡ Mode.Decoding label }
+        requires empty { self.old.ready ≡ [] }
+        requires room { 0 < length buffer.old }
+        ensures bound { ReadsAtMost result buffer.new }
+        ensures capacity { self.new.capacity ≡ self.old.capacity }
+        ensures mode { self.new.mode ≡ Mode.Decoding label }
+        ensures decodes { IfOk result (λ count.
+            Decodes R.remaining R.step self.old reader.old (take count buffer.new) self.new reader.new) }
+        ensures done { IfOk result (λ count. count ≡ 0 → IsDone self.new) }
+        ensures failed { IfErr result (λ e. FailsToDecode R.remaining R.step self.old reader.old e self.new reader.new) }
+        ensures empty { OnErr result (self.new.ready ≡ []) }
+    {
+        if buffer.len() >= 4 {
+            return self.held.read(reader, label, buffer);
+        }
+        let mut bytes = [0; 4];
+        match self.held.read(reader, label, &mut bytes) {
+            Ok(count) => {
+                self.ready = Pending::of(&bytes[..count]);
+                Ok(self.ready.give(buffer))
+            }
+            Err(e) => Err(e),
+        }
+    }
+}
+
+// The encoding whose mark the bytes begin with, if one is looked for.
+fn find_mark(label: Option<Label>, sniff: bool, head: &[u8]) -> Option<Label>
+    ensures found { result ≡ found_mark label sniff head.now }
+    ensures long { mark_length result ≤ length head.now }
+{
+    if sniff || label.is_some() {
+        label_of_mark(head)
+    } else {
+        None
+    }
+}
+
+// The length of a mark, and 0 for none.
+fn mark_len(mark: Option<Label>) -> usize
+    ensures { result ≡ mark_length mark }
+{
+    match mark {
+        None => 0,
+        Some(Label::Utf8) => 3,
+        Some(Label::Utf16Le | Label::Utf16Be) => 2,
+    }
+}
+
+// How an input is read on after its mark.
+fn mode_for(mark: Option<Label>, label: Option<Label>) -> Mode
+    ensures { result ≡ mode_of mark label }
+{
+    match (mark, label) {
+        (Some(Label::Utf8), _) => Mode::Passing,
+        (Some(found), _) => Mode::Decoding(found),
+        (None, Some(label)) => Mode::Decoding(label),
+        (None, None) => Mode::Passing,
+    }
+}

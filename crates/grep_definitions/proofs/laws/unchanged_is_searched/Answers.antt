@@ -1,0 +1,11 @@
+use Rattle.grep_definitions.proofs.DecodedLemmas.{unchanged-input, unsniffed-unchanged, unmarked-unchanged}
+use Rattle.grep_definitions.proofs.laws.unchanged_is_searched.Goals as goal
+
+pub returns-clause-input : goal.returns-clause-input
+returns-clause-input c = unchanged-input c.unchanged_is_decoded.ensures
+
+pub returns-clause-unsniffed : goal.returns-clause-unsniffed
+returns-clause-unsniffed c = unsniffed-unchanged
+
+pub returns-clause-unmarked : goal.returns-clause-unmarked
+returns-clause-unmarked c = unmarked-unchanged

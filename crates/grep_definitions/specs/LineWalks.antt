@@ -1,0 +1,35 @@
+-- What a walk from line to line knows of the lines before it, by the definition of the calls. The contracts of private
+-- functions cite these definitions; no public contract does.
+use Rattle.std.specs.Prelude.{◌≡◌, ℕ, ◌+◌, ◌-◌, ◌<◌, ◌≤◌, true, false, not, ◌&&◌, nat_lt, nat_le, List, Some}
+use Rattle.grep_matcher.specs.Matching.{Meaning}
+use Rattle.grep_definitions.specs.Settings.{Settings}
+use Rattle.grep_definitions.specs.Below.{some_below, count_below, first_below, is_below, is_at}
+use Rattle.grep_definitions.specs.LineSearch.{hits, is_chosen, ends_chosen, fills_limit}
+use Rattle.grep_definitions.specs.LineSearch.{is_selected, follows_selected, is_reported}
+
+module _ (settings : Settings) (meaning : Meaning) (bytes : List ℕ) where
+  -- what a walk at line i knows of the lines before it, if it is done with those up to v, and `left` lines are still to be
+  -- reported after a match: the lines after v aren't selected and follow no selected line
+  pub record IsNear (v i left : ℕ) : Type 0 where
+    pub low : v ≤ i
+    pub few : left ≤ settings.after_context
+    pub close : 0 < left → v ≡ i
+    pub window : (x : ℕ) → i ≤ x
+        → some_below (λ j. nat_le (x - j) settings.after_context && is_selected settings meaning bytes j) i ≡ nat_lt (x - i) left
+    pub passed : (j : ℕ) → v ≤ j → j < i
+        → (is_selected settings meaning bytes j ≡ false) × (follows_selected settings meaning bytes j ≡ false)
+    pub shown : 0 < v → is_reported settings meaning bytes (v - 1) ≡ true
+    pub bare : settings.passthru ≡ true → v ≡ i
+
+  -- what a walk that goes on at line i knows of limit and stop, if c lines were chosen and `left` lines are still to be
+  -- reported after a match
+  pub record IsOpen (i left c : ℕ) : Type 0 where
+    pub below : is_below (count_below (hits settings meaning bytes) i) settings.max_matches
+        ≡ not (is_at c settings.max_matches)
+    pub counted : is_at c settings.max_matches ≡ false → count_below (hits settings meaning bytes) i ≡ c
+    pub any : some_below (is_chosen settings meaning bytes) i ≡ nat_lt 0 c
+    pub unended : settings.stop_on_nonmatch ≡ true → some_below (ends_chosen settings meaning bytes) i ≡ false
+    pub unfilled : is_at c settings.max_matches ≡ false → some_below (fills_limit settings meaning bytes) i ≡ false
+    pub filled : settings.passthru ≡ false → is_at c settings.max_matches ≡ true
+        → (m : ℕ) × (first_below (fills_limit settings meaning bytes) i ≡ Some m)
+        × (m + settings.after_context + 1 ≡ i + left) × (0 < left)

@@ -1,0 +1,3 @@
+pub mod BufferStateLemmas
+pub mod FillLemmas
+pub mod SliceLemmas

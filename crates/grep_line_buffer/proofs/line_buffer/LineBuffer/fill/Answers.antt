@@ -1,0 +1,250 @@
+use Rattle.std.proofs.Common.{◌≡◌, ◌<◌, length, true, false, refl, sym, ap, ◌∙◌, rules, arith}
+use Rattle.std.proofs.lemmas.Bool.{false≢true}
+use Rattle.std.proofs.lemmas.List.{nil_from_length}
+use Rattle.grep_line_buffer.specs.BufferStates.{held, HasNoLine}
+use Rattle.grep_line_buffer.specs.Fills.{PassesOffsets}
+use Rattle.grep_line_buffer.proofs.FillLemmas.{only-limit, Outcome-none, IsFilling-stopped, IsFilling-shown, IsFilling-ended, IsFilling-more, IsFilling-line, IsFilling-past, HasNone-first, HasNone-room, HasNone-fault, HasNone-end, HasNone-more, HasNone-full, filled-before, unless-read, if-read-full, ended_of, size_of}
+use Rattle.grep_line_buffer.proofs.line_buffer.LineBuffer.fill.Goals as goal
+
+pub returns-then-has_ended : goal.returns-then-has_ended
+returns-then-has_ended g c =
+    let was : c.args.self.now.has_ended ≡ true = sym c.has_ended.ensures.value ∙ c.if-has_ended.true in
+    let shown = c.has_ended.ensures.shown c.if-has_ended.true in
+    let out = Outcome-none g.R.Source.remaining g.R.Source.step c.args.self.now _ _ (c.reads_continue.ensures.none _ _) c.has_ended.ensures.within in
+    let filled = filled-before c.args.self.now was shown.0 shown.1 in
+    record {
+      same = out.same;
+      within = out.within;
+      grows = out.grows;
+      capacity = out.capacity;
+      reads = out.reads;
+      read = tt;
+      stream = out.stream;
+      some = search rules;
+      filled = filled;
+      error = tt;
+      limit = only-limit _ _ _ tt filled;
+      fault = tt;
+      done = λ before ended. before was;
+      end = λ before ended. before was;
+      ended = λ ended. (refl, refl, refl, refl);
+      ahead = out.ahead;
+      settled = λ unended. absurd (false≢true (sym unended ∙ was));
+      stays = out.stays;
+      empty = tt;
+      few = tt;
+    }
+
+pub returns-then-not-has_offsets : goal.returns-then-not-has_offsets
+returns-then-not-has_offsets g c =
+    let was : c.args.self.now.has_ended ≡ false = sym c.has_ended.ensures.value ∙ c.if-has_ended.false in
+    let past = c.if-not-has_offsets.ensures in
+    let error : PassesOffsets c.args.self.now c.args.self.now = record { past = past; shown = λ fits. absurd (omega (arith, past, fits)); same = λ passed. refl; unended = was } in
+    let out = Outcome-none g.R.Source.remaining g.R.Source.step c.args.self.now _ _ (c.reads_continue.ensures.none _ _) c.has_ended.ensures.within in
+    record {
+      same = out.same;
+      within = out.within;
+      grows = out.grows;
+      capacity = out.capacity;
+      reads = out.reads;
+      read = tt;
+      stream = out.stream;
+      some = tt;
+      filled = tt;
+      error = error;
+      limit = only-limit _ _ _ error tt;
+      fault = tt;
+      done = λ unended ended. absurd (false≢true (sym was ∙ ended));
+      end = λ unended ended. absurd (false≢true (sym was ∙ ended));
+      ended = λ ended. absurd (false≢true (sym was ∙ ended));
+      ahead = tt;
+      settled = tt;
+      stays = out.stays;
+      empty = tt;
+      few = tt;
+    }
+
+pub returns-in-Err : goal.returns-in-Err
+returns-in-Err g c =
+    let was : c.args.self.now.has_ended ≡ false = sym c.has_ended.ensures.value ∙ c.if-has_ended.false in
+    let before = c.reads.invariant in
+    let full = c.in-Err.ensures.err in
+    let unended = ap ended_of full.0 ∙ before.filling.unended in
+    let out = IsFilling-stopped g.R.Source.remaining g.R.Source.step _ _ _ _ _ _ _ before.filling full.0 in
+    let error = HasNone-full g.R.Source.remaining g.R.Source.step _ _ _ _ _ _ _ c.in-Err.e before full.0 full.1 full.2 in
+    record {
+      same = out.same;
+      within = out.within;
+      grows = out.grows;
+      capacity = out.capacity;
+      reads = unless-read c.in-Err.e out.reads;
+      read = if-read-full c.reads.self c.in-Err.e _ full.2;
+      stream = out.stream;
+      some = tt;
+      filled = tt;
+      error = error;
+      limit = only-limit _ _ _ error tt;
+      fault = if-read-full c.reads.self c.in-Err.e _ full.2;
+      done = λ _ ended. absurd (false≢true (sym unended ∙ ended));
+      end = λ _ ended. absurd (false≢true (sym unended ∙ ended));
+      ended = λ ended. absurd (false≢true (sym was ∙ ended));
+      ahead = tt;
+      settled = tt;
+      stays = out.stays;
+      empty = if-read-full c.reads.self c.in-Err.e _ full.2;
+      few = if-read-full c.reads.self c.in-Err.e _ full.2;
+    }
+
+pub returns-in-Err-read : goal.returns-in-Err-read
+returns-in-Err-read g c =
+    let was : c.args.self.now.has_ended ≡ false = sym c.has_ended.ensures.value ∙ c.if-has_ended.false in
+    let rem = g.R.Source.remaining in
+    let step = g.R.Source.step in
+    let made = c.make_room.ensures in
+    let room = HasNone-room rem step _ _ _ _ _ _ _ _ _ c.reads.invariant made.same made.free made.within made.grows in
+    let failed = c.in-Err-read.ensures.failed in
+    let out = HasNone-fault rem step _ _ _ _ _ _ _ _ _ c.in-Err-read.e c.reads_continue.ensures.more room failed c.in_default.ensures.ok
+    c.read.ensures.capacity c.in-Err-read.ensures.same in
+    let error : HasNoLine c.args.self.now c.read.new.self × (length (held c.read.new.self) < c.read.new.self.size) = (out.line, out.room) in
+    record {
+      same = out.same;
+      within = out.within;
+      grows = out.grows;
+      capacity = out.capacity;
+      reads = tt;
+      read = out.read;
+      stream = out.stream;
+      some = tt;
+      filled = tt;
+      error = error;
+      limit = only-limit _ _ _ error tt;
+      fault = c.reads_fail.ensures _ _ _ _ _ _ _ _ room.filling.read.decodes failed.failed;
+      done = λ _ ended. absurd (false≢true (sym out.unended ∙ ended));
+      end = λ _ ended. absurd (false≢true (sym out.unended ∙ ended));
+      ended = λ ended. absurd (false≢true (sym was ∙ ended));
+      ahead = tt;
+      settled = tt;
+      stays = out.stays;
+      empty = failed.empty;
+      few = out.few;
+    }
+
+pub returns-then-count-eq0 : goal.returns-then-count-eq0
+returns-then-count-eq0 g c =
+    let was : c.args.self.now.has_ended ≡ false = sym c.has_ended.ensures.value ∙ c.if-has_ended.false in
+    let rem = g.R.Source.remaining in
+    let step = g.R.Source.step in
+    let made = c.make_room.ensures in
+    let room = HasNone-room rem step _ _ _ _ _ _ _ _ _ c.reads.invariant made.same made.free made.within made.grows in
+    let came = c.in-Ok.ensures.reads in
+    let next = IsFilling-more rem step _ _ _ _ _ _ _ _ _ _ c.reads_continue.ensures.more room came c.read.ensures.capacity in
+    let none = nil_from_length came.given (came.counted ∙ c.if-count-eq0.true) in
+    let out = IsFilling-ended rem step _ _ _ _ _ _ _ next c.end.ensures.same in
+    let filled = HasNone-end rem step _ _ _ _ _ _ _ _ _ _ _ room came next c.if-count-eq0.true c.in_default.ensures.ok c.end.ensures.same in
+    record {
+      same = out.same;
+      within = out.within;
+      grows = out.grows;
+      capacity = out.capacity;
+      reads = out.reads;
+      read = tt;
+      stream = out.stream;
+      some = rw c.end.ensures.same c.end.ensures.some;
+      filled = filled;
+      error = tt;
+      limit = only-limit _ _ _ tt filled;
+      fault = tt;
+      done = λ _ _. came.reads.done none;
+      end = λ _ _. came.reads.end none;
+      ended = λ ended. absurd (false≢true (sym was ∙ ended));
+      ahead = out.ahead;
+      settled = λ _. came.reads.settled;
+      stays = out.stays;
+      empty = tt;
+      few = tt;
+    }
+
+pub returns-then-not-has_offsets-2 : goal.returns-then-not-has_offsets-2
+returns-then-not-has_offsets-2 g c =
+    let was : c.args.self.now.has_ended ≡ false = sym c.has_ended.ensures.value ∙ c.if-has_ended.false in
+    let rem = g.R.Source.remaining in
+    let step = g.R.Source.step in
+    let made = c.make_room.ensures in
+    let room = HasNone-room rem step _ _ _ _ _ _ _ _ _ c.reads.invariant made.same made.free made.within made.grows in
+    let next = IsFilling-more rem step _ _ _ _ _ _ _ _ _ _ c.reads_continue.ensures.more room c.in-Ok.ensures.reads c.read.ensures.capacity in
+    let out = IsFilling-stopped rem step _ _ _ _ _ _ _ next refl in
+    let error = IsFilling-past rem step _ _ _ _ _ _ _ _ _ room next c.if-not-has_offsets-2.ensures in
+    record {
+      same = out.same;
+      within = out.within;
+      grows = out.grows;
+      capacity = out.capacity;
+      reads = out.reads;
+      read = tt;
+      stream = out.stream;
+      some = tt;
+      filled = tt;
+      error = error;
+      limit = only-limit _ _ _ error tt;
+      fault = tt;
+      done = λ _ ended. absurd (false≢true (sym next.unended ∙ ended));
+      end = λ _ ended. absurd (false≢true (sym next.unended ∙ ended));
+      ended = λ ended. absurd (false≢true (sym was ∙ ended));
+      ahead = tt;
+      settled = tt;
+      stays = out.stays;
+      empty = tt;
+      few = tt;
+    }
+
+pub returns-then-show_lines : goal.returns-then-show_lines
+returns-then-show_lines g c =
+    let was : c.args.self.now.has_ended ≡ false = sym c.has_ended.ensures.value ∙ c.if-has_ended.false in
+    let rem = g.R.Source.remaining in
+    let step = g.R.Source.step in
+    let made = c.make_room.ensures in
+    let room = HasNone-room rem step _ _ _ _ _ _ _ _ _ c.reads.invariant made.same made.free made.within made.grows in
+    let came = c.in-Ok.ensures.reads in
+    let next = IsFilling-more rem step _ _ _ _ _ _ _ _ _ _ c.reads_continue.ensures.more room came c.read.ensures.capacity in
+    let shows = c.if-show_lines.ensures in
+    let out = IsFilling-shown rem step _ _ _ _ _ _ _ _ next shows in
+    let unended = ap ended_of shows.others ∙ next.unended in
+    let filled = IsFilling-line rem step _ _ _ _ _ _ _ _ _ _ _ room came next shows in
+    record {
+      same = out.same;
+      within = out.within;
+      grows = out.grows;
+      capacity = out.capacity;
+      reads = out.reads;
+      read = tt;
+      stream = out.stream;
+      some = (λ _. shows.ends.some, λ _. refl);
+      filled = filled;
+      error = tt;
+      limit = only-limit _ _ _ tt filled;
+      fault = tt;
+      done = λ _ ended. absurd (false≢true (sym unended ∙ ended));
+      end = λ _ ended. absurd (false≢true (sym unended ∙ ended));
+      ended = λ ended. absurd (false≢true (sym was ∙ ended));
+      ahead = out.ahead;
+      settled = λ _. came.reads.settled;
+      stays = out.stays;
+      empty = tt;
+      few = tt;
+    }
+
+pub reads-init : goal.reads-init
+reads-init g c = HasNone-first g.R.Source.remaining g.R.Source.step _ _ _ _ _ (c.reads_continue.ensures.none _ _) c.roll.ensures.same
+    (c.roll.ensures.free ∙ ap size_of c.roll.ensures.same) (sym c.has_ended.ensures.value ∙ c.if-has_ended.false)
+    c.has_ended.ensures.within c.if-not-has_offsets.ensures
+
+pub reads-preserved : goal.reads-preserved
+reads-preserved g c =
+    let rem = g.R.Source.remaining in
+    let step = g.R.Source.step in
+    let made = c.make_room.ensures in
+    let room = HasNone-room rem step _ _ _ _ _ _ _ _ _ c.reads.invariant made.same made.free made.within made.grows in
+    let came = c.in-Ok.ensures.reads in
+    let next = IsFilling-more rem step _ _ _ _ _ _ _ _ _ _ c.reads_continue.ensures.more room came c.read.ensures.capacity in
+    let shows = c.if-show_lines.ensures in
+    HasNone-more rem step _ _ _ _ _ _ _ _ _ _ _ room came next shows.1 c.if-not-has_offsets-2.ensures shows.0

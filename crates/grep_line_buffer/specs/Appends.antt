@@ -1,0 +1,48 @@
+-- One read into a line buffer.
+use Rattle.std.specs.Prelude.{◌≡◌, ◌≢◌, ◌⊎◌, ℕ, ◌+◌, ◌-◌, ◌≤◌, List, [], ◌++◌, length, Option, Some}
+use Rattle.std.specs.Io.KnownBytes.{Consumes, Keeps, IsAtEnd}
+use Rattle.std.specs.declared.io.Error.{Error}
+use Rattle.grep_decode.specs.declared.mode.Mode.TheVariants.{Passing}
+use Rattle.grep_decode.specs.DecoderStates.{DecoderState, Decodes, FailsToDecode, IsDone, IsSettled, TakesAtMost, runs_ahead, yet}
+use Rattle.grep_decode.specs.Source.{ReadResult}
+use Rattle.grep_line_buffer.specs.declared.fill_error.FillError.{FillError}
+use Rattle.grep_line_buffer.specs.declared.fill_error.FillError.TheVariants.{Read, HeapLimit, Offset, Memory}
+use Rattle.grep_line_buffer.specs.BufferStates.{BufferState}
+
+-- a full buffer is at its limit, or there was no memory for a larger one
+abbrev pub IsFullFault : BufferState → FillError → Type 0
+IsFullFault w HeapLimit = w.limit ≡ Some w.size
+IsFullFault w Memory = w.limit ≢ Some w.size
+IsFullFault w Offset = ⊥
+IsFullFault w (Read e) = ⊥
+
+module _ {R : Type 0} (remaining : R → Option (List ℕ)) (step : R → ReadResult → R → Type 0) where
+  -- One read of a decoder gave these bytes, none only at the end, and the decoder has settled on a mode.
+  pub record Reads (decoder : DecoderState) (reader : R) (given : List ℕ)
+      (decoder' : DecoderState) (reader' : R) : Type 0 where
+    pub decodes : Decodes remaining step decoder reader given decoder' reader'
+    pub gives : Consumes (yet decoder (remaining reader)) (yet decoder' (remaining reader')) given
+    pub settled : IsSettled decoder'.mode
+    pub stays : IsSettled decoder.mode → decoder'.mode ≡ decoder.mode
+    pub ahead : decoder'.mode ≡ Passing
+        → TakesAtMost (remaining reader) (remaining reader') (length given + runs_ahead decoder.mode)
+    pub done : given ≡ [] → IsDone decoder'
+    pub end : given ≡ [] → IsAtEnd (yet decoder' (remaining reader'))
+
+  -- One read of a decoder failed, and nothing is lost.
+  pub record FailsToRead (decoder : DecoderState) (reader : R) (error : Error)
+      (decoder' : DecoderState) (reader' : R) : Type 0 where
+    pub failed : FailsToDecode remaining step decoder reader error decoder' reader'
+    pub keeps : Keeps (yet decoder (remaining reader)) (yet decoder' (remaining reader'))
+    pub empty : decoder'.ready ≡ []
+    pub stays : IsSettled decoder.mode → decoder'.mode ≡ decoder.mode
+    pub few : IsSettled decoder'.mode ⊎ TakesAtMost (remaining reader) (remaining reader') 2
+
+  -- One read of a decoder gave so many bytes, which the buffer holds after the others.
+  pub record Appends (count : ℕ) (old : BufferState) (decoder : DecoderState) (reader : R) (new : BufferState)
+      (decoder' : DecoderState) (reader' : R) : Type 0 where
+    pub given : List ℕ
+    pub counted : length given ≡ count
+    pub fits : count ≤ old.free
+    pub appended : new ≡ record old { rest = old.rest ++ given; free = old.free - count }
+    pub reads : Reads decoder reader given decoder' reader'

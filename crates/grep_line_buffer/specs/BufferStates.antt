@@ -1,0 +1,102 @@
+-- What contracts see of a line buffer.
+use Rattle.std.specs.Prelude.{◌≡◌, ◌≢◌, ◌⊎◌, ℕ, ◌+◌, ◌*◌, ◌-◌, ◌<◌, ◌≤◌, Bool, true, false, List, [], ◌++◌, length, drop, All, Option, None, Some, slice_index}
+use Rattle.std.specs.Io.KnownBytes.{prepend_known, Keeps}
+use Rattle.grep_line_buffer.specs.declared.detection.Detection.{Detection}
+
+-- A line buffer: the bytes that it shows, the bytes that it holds after them, the offset of its first byte in the whole
+-- input, its size in bytes, the most that this may become, how many bytes are free, the byte that ends a line, what it does
+-- with binary bytes, and whether the end of the input was seen.
+pub record BufferState : Type 0 where
+  pub shown : List ℕ
+  pub rest : List ℕ
+  pub offset : ℕ
+  pub size : ℕ
+  pub limit : Option ℕ
+  pub free : ℕ
+  pub terminator : ℕ
+  pub detection : Detection
+  pub has_ended : Bool
+
+-- a buffer that holds nothing, at the start of an input
+abbrev pub empty_buffer : ℕ → Option ℕ → ℕ → Detection → BufferState
+empty_buffer size limit terminator detection = record {
+  shown = [];
+  rest = [];
+  offset = 0;
+  size = size;
+  limit = limit;
+  free = size;
+  terminator = terminator;
+  detection = detection;
+  has_ended = false;
+}
+
+-- all bytes that a buffer holds
+abbrev pub held : BufferState → List ℕ
+held w = w.shown ++ w.rest
+
+-- no byte is t
+abbrev pub Lacks : ℕ → List ℕ → Type 0
+Lacks t bytes = All (λ b. b ≢ t) bytes
+
+-- there is a last byte, and it is t
+pub record EndsWith (t : ℕ) (bytes : List ℕ) : Type 0 where
+  pub some : 0 < length bytes
+  pub last : slice_index bytes (length bytes - 1) ≡ t
+
+-- a number is at most the limit, if there is one
+abbrev pub IsWithin : Option ℕ → ℕ → Type 0
+IsWithin None n = Unit {0}
+IsWithin (Some most) n = n ≤ most
+
+-- the bytes that a buffer holds, and then those that are still to come, if they are known
+abbrev pub stream : BufferState → Option (List ℕ) → Option (List ℕ)
+stream w coming = prepend_known (held w) coming
+
+-- no byte of the stream was lost
+abbrev pub KeepsStream : BufferState → BufferState → Option (List ℕ) → Option (List ℕ) → Type 0
+KeepsStream old new before after = Keeps (stream old before) (stream new after)
+
+-- a fill changes nothing but what is held and shown, the size, and whether the end was seen
+pub record IsSameBuffer (old new : BufferState) : Type 0 where
+  pub offset : new.offset ≡ old.offset
+  pub limit : new.limit ≡ old.limit
+  pub terminator : new.terminator ≡ old.terminator
+  pub detection : new.detection ≡ old.detection
+
+-- the size is as before, or a full buffer grew, to at most twice the bytes that it holds now
+abbrev pub GrowsIfFull : BufferState → BufferState → Type 0
+GrowsIfFull old new = (new.size ≡ old.size)
+    ⊎ (old.size < new.size) × (old.size ≤ length (held new)) × (new.size ≤ 2 * length (held new) + 1)
+
+-- Some of the bytes that were read last end a line, and just after the last of these the shown bytes end.
+pub record ShowsLine (old new : BufferState) (count : ℕ) : Type 0 where
+  pub whole : held new ≡ held old
+  pub ends : EndsWith old.terminator new.shown
+  pub none : Lacks old.terminator new.rest
+  pub reached : length (held old) < length new.shown + count
+  pub others : new ≡ record old { shown = new.shown; rest = new.rest }
+
+-- a terminator came, and the shown bytes end just after the last one
+pub record EndsAtLine (old new : BufferState) : Type 0 where
+  pub came : length (held old) < length new.shown
+  pub ends : EndsWith old.terminator new.shown
+  pub none : Lacks old.terminator new.rest
+  pub unended : new.has_ended ≡ false
+
+-- the end came before any terminator, and all bytes that are left are shown
+pub record EndsAtEnd (old new : BufferState) : Type 0 where
+  pub none : Lacks old.terminator (drop (length (held old)) new.shown)
+  pub all : new.rest ≡ []
+  pub room : length new.shown < new.size
+  pub ended : new.has_ended ≡ true
+
+-- what a buffer shows after a fill that succeeded
+abbrev pub IsFilled : BufferState → BufferState → Type 0
+IsFilled old new = EndsAtLine old new ⊎ EndsAtEnd old new
+
+-- after a fill that failed: the bytes that were held before are shown, and what came since has no terminator
+pub record HasNoLine (old new : BufferState) : Type 0 where
+  pub shown : new.shown ≡ held old
+  pub none : Lacks old.terminator new.rest
+  pub unended : new.has_ended ≡ false

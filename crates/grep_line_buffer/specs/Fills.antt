@@ -1,0 +1,65 @@
+-- What a fill of a line buffer reads, and why it fails.
+use Rattle.std.specs.Prelude.{◌≡◌, ◌≢◌, ℕ, ◌+◌, ◌^◌, ◌<◌, ◌≤◌, List, ◌++◌, length, Option, Some, false, Result, Ok, Err}
+use Rattle.std.specs.declared.io.Error.{Error}
+use Rattle.grep_decode.specs.DecoderStates.{DecoderState, Decodes}
+use Rattle.grep_decode.specs.Source.{ReadResult}
+use Rattle.grep_line_buffer.specs.declared.fill_error.FillError.{FillError}
+use Rattle.grep_line_buffer.specs.declared.fill_error.FillError.TheVariants.{Read, HeapLimit, Offset, Memory}
+use Rattle.grep_line_buffer.specs.BufferStates.{BufferState, held, HasNoLine}
+
+-- the fact holds of the reader's error, if the result is one
+abbrev pub IfRead : {X : Type 0} → Result X FillError → (Error → Type 0) → Type 0
+IfRead (Ok x) P = Unit {0}
+IfRead (Err (Read e)) P = P e
+IfRead (Err HeapLimit) P = Unit {0}
+IfRead (Err Offset) P = Unit {0}
+IfRead (Err Memory) P = Unit {0}
+
+-- the fact holds, unless the result is the reader's error
+abbrev pub UnlessRead : {X : Type 0} → Result X FillError → Type 0 → Type 0
+UnlessRead (Ok x) P = P
+UnlessRead (Err (Read e)) P = Unit {0}
+UnlessRead (Err HeapLimit) P = P
+UnlessRead (Err Offset) P = P
+UnlessRead (Err Memory) P = P
+
+-- The offset after the bytes that are held is above 2^64 - 1. If the offset after the bytes that were held before isn't,
+-- these are shown; else nothing changed.
+pub record PassesOffsets (old new : BufferState) : Type 0 where
+  pub past : 2 ^ 64 ≤ new.offset + length (held new)
+  pub shown : old.offset + length (held old) < 2 ^ 64 → new.shown ≡ held old
+  pub same : 2 ^ 64 ≤ old.offset + length (held old) → new ≡ old
+  pub unended : new.has_ended ≡ false
+
+-- A full buffer is at its limit.
+pub record IsAtLimit (w : BufferState) : Type 0 where
+  pub full : length (held w) ≡ w.size
+  pub limit : w.limit ≡ Some w.size
+
+-- A full buffer may grow.
+pub record MayGrow (w : BufferState) : Type 0 where
+  pub full : length (held w) ≡ w.size
+  pub limit : w.limit ≢ Some w.size
+
+-- what each error means
+abbrev pub FillFails : BufferState → BufferState → FillError → Type 0
+FillFails old new (Read e) = HasNoLine old new × (length (held new) < new.size)
+FillFails old new HeapLimit = HasNoLine old new × IsAtLimit new
+FillFails old new Offset = PassesOffsets old new
+FillFails old new Memory = HasNoLine old new × MayGrow new
+
+module _ {R : Type 0} (remaining : R → Option (List ℕ)) (step : R → ReadResult → R → Type 0) where
+  -- Reads of the decoder gave some bytes, and these were appended to what the buffer held.
+  pub record Fills (old : BufferState) (decoder : DecoderState) (reader : R) (new : BufferState)
+      (decoder' : DecoderState) (reader' : R) : Type 0 where
+    pub given : List ℕ
+    pub appended : held new ≡ held old ++ given
+    pub decodes : Decodes remaining step decoder reader given decoder' reader'
+
+  -- The same, and then one more call of the reader returned this error. The decoder has still to give all that it had then.
+  pub record FailsToFill (error : Error) (old : BufferState) (decoder : DecoderState) (reader : R) (new : BufferState)
+      (decoder' : DecoderState) (reader' : R) : Type 0 where
+    pub mid : R
+    pub fills : Fills old decoder reader new decoder' mid
+    pub unended : decoder'.has_ended ≡ false
+    pub failed : step mid (Err error) reader'

@@ -1,0 +1,3 @@
+pub mod Appends
+pub mod BufferStates
+pub mod Fills

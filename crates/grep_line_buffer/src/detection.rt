@@ -1,0 +1,9 @@
+//! What a buffer does with binary bytes.
+
+/// What a line buffer does with a byte that marks its input as binary. More variants may come.
+#[derive(Clone, Copy, Debug, PartialEq, Eq)]
+#[non_exhaustive]
+pub enum Detection {
+    /// No byte marks an input as binary: all bytes are text.
+    None,
+}

@@ -1,0 +1,20 @@
+//! Why a line buffer couldn't be filled.
+use std::io;
+use thiserror::Error;
+
+/// Why a line buffer couldn't be filled. In each case the buffer still holds every byte that it held and that was read.
+#[derive(Debug, Drop, Error)]
+pub enum FillError {
+    /// The reader's own error.
+    #[error("{0}")]
+    Read(io::Error),
+    /// The buffer is full, it is as large as it may be, and it holds no end of a line.
+    #[error("the heap limit was reached")]
+    HeapLimit,
+    /// The offset just after the bytes that were read is above 2^64 - 1.
+    #[error("an offset is above 2^64 - 1")]
+    Offset,
+    /// The buffer is full and may grow, but there was no memory for that.
+    #[error("out of memory")]
+    Memory,
+}

@@ -1,0 +1,436 @@
+//! A buffer over a reader that shows whole lines.
+ghost use Rattle.std.specs.Prelude.{◌≡◌, ◌≢◌, ◌⊎◌, ◌↔◌, ◌<◌, ◌≤◌, ◌+◌, ◌*◌, ◌-◌, ◌^◌, ◌++◌, ℕ, List, [], ◌∷◌, true, false, Err, None, Some, length, take, drop, IsTrue, IsOk, IfOk, IfErr, IfSome, IfNone, OnOk, OnErr, MatchBool, slice_index, replicate, vec_len};
+ghost use Rattle.std.specs.Io.KnownBytes.{IsAtEnd};
+ghost use Rattle.std.specs.Io.{ReadsAtMost};
+ghost use lib.Seq.{paste};
+ghost use Rattle.grep_decode.specs.Source.{FailsWith};
+ghost use Rattle.grep_decode.specs.declared.mode.Mode.TheVariants.{Passing};
+ghost use Rattle.grep_decode.specs.DecoderStates.{IsDone, IsSettled, TakesAtMost, runs_ahead, yet};
+ghost use Rattle.grep_lines.specs.Positions.{slice};
+ghost use Rattle.grep_line_buffer.specs.BufferStates.{BufferState, empty_buffer, held, Lacks, IsWithin, IsSameBuffer, GrowsIfFull, ShowsLine, IsFilled, HasNoLine, KeepsStream};
+ghost use Rattle.grep_line_buffer.specs.Fills.{IfRead, UnlessRead, IsAtLimit, FillFails, Fills, FailsToFill};
+ghost use Rattle.grep_line_buffer.specs.declared.fill_error.FillError.TheVariants.{HeapLimit};
+ghost use Rattle.grep_line_buffer.specs.Appends.{Appends, FailsToRead, IsFullFault, Reads};
+
+use crate::detection::Detection;
+use crate::fill_error::FillError;
+use grep_decode::laws::{reads_continue, reads_fail};
+use grep_decode::{Decoder, Source};
+use memchr::memrchr;
+use std::alloc::{AllocError, Allocator};
+use std::io;
+use std::marker::Model;
+
+/// A buffer over a reader's decoded bytes, which shows whole lines of them.
+///
+/// `fill` reads up to the end of a line, `buffer` shows the lines that were read, and `consume` moves past them. The
+/// buffer grows if a line is longer than it, up to its limit.
+#[derive(Drop)]
+pub struct LineBuffer<A: Allocator> {
+    bytes: Vec<u8, A>,
+    start: usize,
+    line_end: usize,
+    end: usize,
+    offset: u64,
+    limit: Option<usize>,
+    terminator: u8,
+    detection: Detection,
+    has_ended: bool,
+}
+
+impl<A: Allocator> Model for LineBuffer<A> {
+    ghost Value = { BufferState };
+
+    ghost view = { λ b. record {
+      shown = slice b.bytes.items b.start b.line_end;
+      rest = slice b.bytes.items b.line_end b.end;
+      offset = b.offset;
+      size = length b.bytes.items;
+      limit = b.limit;
+      free = length b.bytes.items - b.end;
+      terminator = b.terminator;
+      detection = b.detection;
+      has_ended = b.has_ended;
+    } };
+
+    ghost invariant = { λ b. (b.start ≤ b.line_end) × (b.line_end ≤ b.end) × (b.end ≤ length b.bytes.items)
+        × IsWithin b.limit (length b.bytes.items) × (b.offset + (b.line_end - b.start) < 2 ^ 64)
+        × (b.has_ended ≡ true → (b.line_end ≡ b.end) × (b.end < length b.bytes.items)) };
+}
+
+impl<A: Allocator> LineBuffer<A> {
+    /// An empty buffer of `capacity` bytes, at offset 0, whose lines end with the byte `terminator`. It grows up to
+    /// `limit` bytes, or without a limit for `None`. The caller ensures that `capacity` is at most the limit.
+    ///
+    /// An error is one of being out of memory.
+    pub fn new(
+        alloc: A,
+        capacity: usize,
+        limit: Option<usize>,
+        terminator: u8,
+        detection: Detection,
+    ) -> Result<LineBuffer<A>, AllocError>
+        requires { IsWithin limit capacity }
+        ensures { IfOk result (λ b. b ≡ empty_buffer capacity limit terminator detection) }
+    {
+        let bytes = vec![in alloc; 0u8; capacity]?;
+        Ok(LineBuffer {
+            bytes,
+            start: 0,
+            line_end: 0,
+            end: 0,
+            offset: 0,
+            limit,
+            terminator,
+            detection,
+            has_ended: false,
+        })
+    }
+
+    /// Empties the buffer, for another input. Its size stays, so no memory is taken.
+    pub fn clear(&mut self)
+        ensures { self.new
+            ≡ empty_buffer self.old.size self.old.limit self.old.terminator self.old.detection }
+    {
+        self.start = 0;
+        self.line_end = 0;
+        self.end = 0;
+        self.offset = 0;
+        self.has_ended = false;
+    }
+
+    /// Sets what the buffer does with binary bytes.
+    pub fn set_binary_detection(&mut self, detection: Detection)
+        ensures { self.new ≡ record self.old { detection = detection } }
+    {
+        self.detection = detection;
+    }
+
+    /// The bytes that are shown: whole lines, or all that is left at the end of the input.
+    pub fn buffer(&self) -> &[u8]
+        ensures value { result.now ≡ self.now.shown }
+        ensures within { IsWithin self.now.limit self.now.size }
+        ensures room { length (held self.now) + self.now.free ≤ self.now.size }
+        ensures offset { self.now.offset + length self.now.shown < 2 ^ 64 }
+        ensures ended { self.now.has_ended ≡ true → self.now.rest ≡ [] }
+    {
+        &self.bytes[self.start..self.line_end]
+    }
+
+    /// The offset of the first byte that is shown, from the start of the decoded input.
+    pub fn absolute_byte_offset(&self) -> u64
+        ensures { result ≡ self.now.offset }
+    {
+        self.offset
+    }
+
+    /// The offset of the first binary byte, if one was found. Without detection that is `None`.
+    pub fn binary_byte_offset(&self) -> Option<u64>
+        ensures { result ≡ None }
+    {
+        None
+    }
+
+    /// Moves past the first `count` bytes of those that are shown. The caller ensures that so many are shown.
+    pub fn consume(&mut self, count: usize)
+        requires { count ≤ length self.old.shown }
+        ensures { self.new ≡ record self.old {
+          shown = drop count self.old.shown;
+          offset = self.old.offset + count;
+        } }
+    {
+        self.start += count;
+        self.offset += count as u64;
+    }
+
+    /// Reads up to the end of a line, and returns whether any byte is shown then.
+    ///
+    /// What isn't consumed is moved to the front, and the decoder is read until a terminator comes or nothing is left.
+    /// The shown bytes then end just after the last terminator that was read, or are all bytes that are left. Once the
+    /// end was seen, nothing is read. Each read asks for as many bytes as are free. A full buffer grows to twice its
+    /// size, or up to its limit.
+    ///
+    /// The decoder and the reader are those of the earlier fills since `new` or `clear`: if they are others, the bytes of
+    /// both follow one another.
+    ///
+    /// `FillError::Read` is the reader's own error. `HeapLimit` means that the buffer is full, is at its limit and holds
+    /// no terminator that was read in this call, and `Memory` that it is full likewise, may grow, and there was no
+    /// memory. `Offset` means that the offset after the bytes that it holds is above 2^64 - 1. After an error the buffer
+    /// shows what wasn't consumed before the call, an unfinished line too, and nothing that was read is lost: a further
+    /// call goes on from there. Only after `Offset` each further call returns the same error.
+    pub fn fill<B: Allocator, R: Source>(
+        &mut self,
+        decoder: &mut Decoder<B>,
+        reader: &mut R,
+    ) -> Result<bool, FillError>
+        ensures same { IsSameBuffer self.old self.new }
+        ensures within { IsWithin self.new.limit self.new.size }
+        ensures grows { GrowsIfFull self.old self.new }
+        ensures capacity { decoder.new.capacity ≡ decoder.old.capacity }
+
+        // what was held is followed by bytes that reads of the decoder gave, and nothing is lost
+        ensures reads { UnlessRead result
+            (Fills R.remaining R.step self.old decoder.old reader.old self.new decoder.new reader.new) }
+        ensures read { IfRead result (λ e.
+            FailsToFill R.remaining R.step e self.old decoder.old reader.old self.new decoder.new reader.new) }
+        ensures stream { KeepsStream self.old self.new
+            (yet decoder.old (R.remaining reader.old)) (yet decoder.new (R.remaining reader.new)) }
+
+        // what is shown
+        ensures some { IfOk result (λ some. IsTrue some ↔ (0 < length self.new.shown)) }
+        ensures filled { OnOk result (IsFilled self.old self.new) }
+        ensures error { IfErr result (FillFails self.old self.new) }
+        ensures limit { HasNoLine self.old self.new → IsAtLimit self.new
+            → self.new.offset + length (held self.new) < 2 ^ 64 → result ≡ Err HeapLimit }
+        ensures fault { IfRead result (λ e. FailsWith R.step reader.old e reader.new) }
+
+        // Nothing is left once the end was seen, and nothing is read then.
+        ensures done { (self.old.has_ended ≡ true → IsDone decoder.old)
+            → self.new.has_ended ≡ true → IsDone decoder.new }
+        ensures end { (self.old.has_ended ≡ true → IsAtEnd (yet decoder.old (R.remaining reader.old)))
+            → self.new.has_ended ≡ true → IsAtEnd (yet decoder.new (R.remaining reader.new)) }
+        ensures ended { self.old.has_ended ≡ true → IsOk result × (self.new ≡ self.old)
+            × (decoder.new ≡ decoder.old) × (reader.new ≡ reader.old) }
+
+        // how far the reader is ahead of what was appended, if the bytes pass unchanged
+        ensures ahead { OnOk result (decoder.new.mode ≡ Passing
+            → TakesAtMost (R.remaining reader.old) (R.remaining reader.new)
+            (length (held self.new) - length (held self.old) + runs_ahead decoder.old.mode)) }
+        ensures settled { OnOk result (self.old.has_ended ≡ false → IsSettled decoder.new.mode) }
+        ensures stays { IsSettled decoder.old.mode → decoder.new.mode ≡ decoder.old.mode }
+        ensures empty { IfRead result (λ _. decoder.new.ready ≡ []) }
+        ensures few { IfRead result (λ _. IsSettled decoder.new.mode
+            ⊎ TakesAtMost (R.remaining reader.old) (R.remaining reader.new) 2) }
+    {
+        reads_continue::<R>();
+        reads_fail::<R>();
+        if self.has_ended() {
+            return Ok(!self.buffer().is_empty());
+        }
+        if !self.has_offsets() {
+            return Err(FillError::Offset);
+        }
+        self.roll();
+        'reads: loop {
+            if let Err(e) = self.make_room() {
+                return Err(e);
+            }
+            let count = match self.read(decoder, reader) {
+                Ok(count) => count,
+                Err(e) => return Err(FillError::Read(e)),
+            };
+            if count == 0 {
+                return Ok(self.end());
+            }
+            if !self.has_offsets() {
+                return Err(FillError::Offset);
+            }
+            if self.show_lines(count) {
+                return Ok(true);
+            }
+        }
+    }
+
+    // Whether the end of the input was seen.
+    fn has_ended(&self) -> bool
+        ensures value { result ≡ self.now.has_ended }
+        ensures within { IsWithin self.now.limit self.now.size }
+        ensures shown { result ≡ true → (self.now.rest ≡ []) × (length self.now.shown < self.now.size) }
+    {
+        self.has_ended
+    }
+
+    // Whether the offset after the bytes that are held is at most 2^64 - 1.
+    fn has_offsets(&self) -> bool
+        ensures { MatchBool result (self.now.offset + length (held self.now) < 2 ^ 64)
+            (2 ^ 64 ≤ self.now.offset + length (held self.now)) }
+    {
+        self.offset
+            .checked_add((self.end - self.start) as u64)
+            .is_some()
+    }
+
+    // Moves the bytes that are held to the front, and shows them all.
+    fn roll(&mut self)
+        requires { self.old.offset + length (held self.old) < 2 ^ 64 }
+        ensures same { self.new
+            ≡ record self.old { shown = held self.old; rest = []; free = self.new.free } }
+        ensures free { self.new.free + length (held self.old) ≡ self.new.size }
+    {
+        move_to_front(&mut self.bytes, self.start, self.end);
+        self.line_end = self.end - self.start;
+        self.end = self.line_end;
+        self.start = 0;
+    }
+
+    // Makes room for another byte, if the buffer is full and below its limit.
+    fn make_room(&mut self) -> Result<(), FillError>
+        requires { self.old.free + length (held self.old) ≡ self.old.size }
+        ensures same { self.new ≡ record self.old { size = self.new.size; free = self.new.free } }
+        ensures free { self.new.free + length (held self.new) ≡ self.new.size }
+        ensures within { IsWithin self.new.limit self.new.size }
+        ensures grows { (self.new.size ≡ self.old.size) ⊎ (self.old.size < self.new.size)
+            × (self.old.free ≡ 0) × (self.new.size ≤ 2 * self.old.size + 1) }
+        ensures ok { OnOk result (0 < self.new.free) }
+        ensures err { IfErr result (λ e. (self.new ≡ self.old) × (self.old.free ≡ 0) × IsFullFault self.old e) }
+    {
+        let size = self.bytes.len();
+        if self.end < size {
+            return Ok(());
+        }
+        let Some(wanted) = larger_size(size, self.limit) else {
+            return Err(FillError::HeapLimit);
+        };
+        if grow(&mut self.bytes, wanted).is_err() {
+            return Err(FillError::Memory);
+        }
+        Ok(())
+    }
+
+    // Reads once into the free part, just after the bytes that are held, and returns how many bytes came.
+    fn read<B: Allocator, R: Source>(
+        &mut self,
+        decoder: &mut Decoder<B>,
+        reader: &mut R,
+    ) -> io::Result<usize>
+        requires ended { self.old.has_ended ≡ false }
+        requires free { 0 < self.old.free }
+        ensures capacity { decoder.new.capacity ≡ decoder.old.capacity }
+        ensures reads { IfOk result (λ count. Appends R.remaining R.step count self.old decoder.old reader.old
+            self.new decoder.new reader.new) }
+        ensures same { OnErr result (self.new ≡ self.old) }
+        ensures failed { IfErr result (λ e.
+            FailsToRead R.remaining R.step decoder.old reader.old e decoder.new reader.new) }
+    {
+        match read_after(decoder, reader, &mut self.bytes, self.end) {
+            Ok(count) => {
+                self.end += count;
+                Ok(count)
+            }
+            Err(e) => Err(e),
+        }
+    }
+
+    // Shows the lines that end within the last `count` bytes, and returns whether there is one.
+    fn show_lines(&mut self, count: usize) -> bool
+        requires ended { self.old.has_ended ≡ false }
+        requires count { count ≤ length self.old.rest }
+        requires offset { self.old.offset + length (held self.old) < 2 ^ 64 }
+        ensures { MatchBool result (ShowsLine self.old self.new count)
+            ((self.new ≡ self.old)
+            × Lacks self.old.terminator (drop (length self.old.rest - count) self.old.rest)) }
+    {
+        let from = self.end - count;
+        let length = lines_length(self.terminator, &self.bytes[from..self.end]);
+        if length == 0 {
+            return false;
+        }
+        self.line_end = from + length;
+        true
+    }
+
+    // Shows all that is held, as the end was seen, and returns whether that is any byte.
+    fn end(&mut self) -> bool
+        requires free { 0 < self.old.free }
+        requires offset { self.old.offset + length (held self.old) < 2 ^ 64 }
+        ensures same { self.new
+            ≡ record self.old { shown = held self.old; rest = []; has_ended = true } }
+        ensures some { IsTrue result ↔ (0 < length (held self.old)) }
+    {
+        self.line_end = self.end;
+        self.has_ended = true;
+        self.start < self.end
+    }
+}
+
+// The length of the lines that end within the bytes; 0 if none does.
+fn lines_length(terminator: u8, bytes: &[u8]) -> usize
+    ensures within { result ≤ length bytes.now }
+    ensures last { 0 < result → slice_index bytes.now (result - 1) ≡ terminator }
+    ensures none { Lacks terminator (drop result bytes.now) }
+{
+    match memrchr(terminator, bytes) {
+        Some(at) => at + 1,
+        None => 0,
+    }
+}
+
+// The size to which a full buffer grows; `None` at its limit.
+fn larger_size(size: usize, limit: Option<usize>) -> Option<usize>
+    requires within { IsWithin limit size }
+    requires small { size < 2 ^ 63 }
+    ensures larger { IfSome result (λ wanted. (size < wanted) × (wanted ≤ 2 * size + 1)
+        × IsWithin limit wanted) }
+    ensures none { IfNone result (limit ≡ Some size) }
+    ensures some { IfSome result (λ _. limit ≢ Some size) }
+{
+    let doubled = (size * 2).max(1);
+    match limit {
+        Some(most) if size == most => None,
+        Some(most) => Some(doubled.min(most)),
+        None => Some(doubled),
+    }
+}
+
+// Reads once into the bytes from `end` on.
+fn read_after<B: Allocator, R: Source>(
+    decoder: &mut Decoder<B>,
+    reader: &mut R,
+    bytes: &mut [u8],
+    end: usize,
+) -> io::Result<usize>
+    requires { end < length bytes.old }
+    ensures capacity { decoder.new.capacity ≡ decoder.old.capacity }
+    ensures bound { IfOk result (λ count. end + count ≤ length bytes.new) }
+    ensures front { take end bytes.new ≡ take end bytes.old }
+    ensures reads { IfOk result (λ count. Reads R.remaining R.step decoder.old reader.old
+        (take count (drop end bytes.new)) decoder.new reader.new) }
+    ensures failed { IfErr result (λ e.
+        FailsToRead R.remaining R.step decoder.old reader.old e decoder.new reader.new) }
+{
+    read_once(decoder, reader, &mut bytes[end..])
+}
+
+// Reads once into the front of a buffer with room.
+fn read_once<B: Allocator, R: Source>(
+    decoder: &mut Decoder<B>,
+    reader: &mut R,
+    buffer: &mut [u8],
+) -> io::Result<usize>
+    requires { 0 < length buffer.old }
+    ensures capacity { decoder.new.capacity ≡ decoder.old.capacity }
+    ensures bound { ReadsAtMost result buffer.new }
+    ensures reads { IfOk result (λ count. Reads R.remaining R.step decoder.old reader.old
+        (take count buffer.new) decoder.new reader.new) }
+    ensures failed { IfErr result (λ e.
+        FailsToRead R.remaining R.step decoder.old reader.old e decoder.new reader.new) }
+{
+    match decoder.read(reader, buffer) {
+        Ok(count) => Ok(count),
+        Err(e) => Err(e),
+    }
+}
+
+// Moves the bytes from `start` to `end` to the front.
+fn move_to_front<A: Allocator>(bytes: &mut Vec<u8, A>, start: usize, end: usize)
+    requires order { start ≤ end }
+    requires within { end ≤ vec_len bytes.old }
+    ensures items { bytes.new.items
+        ≡ paste bytes.old.items 0 (drop start bytes.old.items) (end - start) }
+    ensures len { length bytes.new.items ≡ length bytes.old.items }
+{
+    if start > 0 {
+        bytes.copy_within(start..end, 0);
+    }
+}
+
+// Fills up with zeros to `wanted` bytes. An error leaves the bytes as they are.
+fn grow<A: Allocator>(bytes: &mut Vec<u8, A>, wanted: usize) -> Result<(), AllocError>
+    requires { vec_len bytes.old ≤ wanted }
+    ensures ok { OnOk result (bytes.new.items
+        ≡ bytes.old.items ++ replicate (wanted - vec_len bytes.old) 0) }
+    ensures err { OnErr result (bytes.new.items ≡ bytes.old.items) }
+{
+    bytes.reserve_exact(wanted - bytes.len())?;
+    bytes.resize(wanted, 0)
+}
