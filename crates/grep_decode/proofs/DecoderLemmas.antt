@@ -1,5 +1,7 @@
 -- What reads of a decoder do, one after the other.
-use Rattle.std.proofs.Common.{◌≡◌, ℕ, suc, ◌-◌, ◌<◌, ◌≤◌, ◌==◌, Bool, true, false, List, [], ◌∷◌, ◌++◌, Option, Some, None, Result, Ok, Err, IfSome, IfOk, IfErr, OnErr, take, ◌+◌, refl, sym, subst, ap, ◌∙◌, append-nil, append_assoc, arith, length, length-append, length-take, min}
+use Rattle.std.proofs.Common.{◌≡◌, ℕ, suc, ◌-◌, ◌<◌, ◌≤◌, ◌==◌, Bool, true, false, List, [], ◌∷◌, ◌++◌, Option, Some}
+use Rattle.std.proofs.Common.{None, Result, Ok, Err, IfSome, IfOk, IfErr, OnErr, take, ◌+◌, refl, sym, subst, ap, ◌∙◌}
+use Rattle.std.proofs.Common.{append-nil, append_assoc, arith, length, length-append, length-take, min}
 use Rattle.std.proofs.lemmas.Bool.{false≢true}
 use Rattle.std.proofs.lemmas.Bool.Decides.{nat_tests}
 use Rattle.std.proofs.lemmas.List.Folds.{concat-append}
@@ -16,13 +18,42 @@ use Rattle.grep_decode.specs.declared.mode.Mode.TheVariants.{Fresh, Passing, Dec
 use Rattle.grep_decode.specs.Decoded.{decoded, units_of, has_odd_byte, scalars_of, utf16_text}
 use Rattle.grep_decode.specs.UndecodedBytes.{UndecodedBytes, Grows, holding}
 use Rattle.grep_decode.specs.Source.{ReadResult, Pulls, FailsWith}
-use Rattle.grep_decode.specs.DecoderStates.{DecoderState, Calls, Decodes, FailsToDecode, FitsMode, IsDecoded, IsDone, LooksForMark, TakesAtMost, decode_by, mode_after, still_to_give, next_mode, started, unread, yet}
+use Rattle.grep_decode.specs.DecoderStates.{DecoderState, Calls, Decodes, FailsToDecode, FitsMode, IsDecoded, IsDone}
+use Rattle.grep_decode.specs.DecoderStates.{LooksForMark, TakesAtMost, decode_by, mode_after, still_to_give}
+use Rattle.grep_decode.specs.DecoderStates.{next_mode, started, unread, yet}
 use Rattle.grep_decode.proofs.RunLemmas.{Calls-none, Calls-append, Calls-nothing, FailsWith-after}
 
 -- at most so many calls are left, until the reader has ended
 abbrev pub calls_left : Bool → ℕ → ℕ
 calls_left true missing = 0
 calls_left false missing = suc missing
+
+-- no bytes become none in each mode
+decode-nothing : (mode : Mode) → decode_by mode [] ≡ []
+unfolding units_of has_odd_byte scalars_of utf16_text utf8_lossy
+decode-nothing (Fresh None true) = refl
+decode-nothing (Fresh None false) = refl
+decode-nothing (Fresh (Some Utf8) true) = refl
+decode-nothing (Fresh (Some Utf16Le) true) = refl
+decode-nothing (Fresh (Some Utf16Be) true) = refl
+decode-nothing (Fresh (Some Utf8) false) = refl
+decode-nothing (Fresh (Some Utf16Le) false) = refl
+decode-nothing (Fresh (Some Utf16Be) false) = refl
+decode-nothing Passing = refl
+decode-nothing (Decoding Utf8) = refl
+decode-nothing (Decoding Utf16Le) = refl
+decode-nothing (Decoding Utf16Be) = refl
+
+unread-none : (ended : Bool) → unread ended [] ≡ []
+unread-none true = refl
+unread-none false = refl
+
+-- what is left to give once nothing is held
+pub nothing-left : (d : DecoderState) → d.ready ≡ [] → d.held ≡ [] → still_to_give d [] ≡ []
+nothing-left d ready held = rw (ready, held, unread-none d.has_ended) (decode-nothing d.mode)
+
+pub done-gives : (d : DecoderState) (rest : List ℕ) → IsDone d → still_to_give d rest ≡ []
+done-gives d rest done = rw (done.ended, done.ready, done.held) (decode-nothing d.mode)
 
 module _ {R : Type 0} (remaining : R → Option (List ℕ)) (step : R → ReadResult → R → Type 0) where
   pub Decodes-none : (d : DecoderState) (r : R) → Decodes remaining step d r [] d r
@@ -265,31 +296,6 @@ module _ {R : Type 0} (remaining : R → Option (List ℕ)) (step : R → ReadRe
 
   -- ---- the end
 
-  decode-nothing : (mode : Mode) → decode_by mode [] ≡ []
-  unfolding units_of has_odd_byte scalars_of utf16_text utf8_lossy
-  decode-nothing (Fresh None true) = refl
-  decode-nothing (Fresh None false) = refl
-  decode-nothing (Fresh (Some Utf8) true) = refl
-  decode-nothing (Fresh (Some Utf16Le) true) = refl
-  decode-nothing (Fresh (Some Utf16Be) true) = refl
-  decode-nothing (Fresh (Some Utf8) false) = refl
-  decode-nothing (Fresh (Some Utf16Le) false) = refl
-  decode-nothing (Fresh (Some Utf16Be) false) = refl
-  decode-nothing Passing = refl
-  decode-nothing (Decoding Utf8) = refl
-  decode-nothing (Decoding Utf16Le) = refl
-  decode-nothing (Decoding Utf16Be) = refl
-
-  unread-none : (ended : Bool) → unread ended [] ≡ []
-  unread-none true = refl
-  unread-none false = refl
-
-  pub nothing-left : (d : DecoderState) → d.ready ≡ [] → d.held ≡ [] → still_to_give d [] ≡ []
-  nothing-left d ready held = rw (ready, held, unread-none d.has_ended) (decode-nothing d.mode)
-
-  done-gives : (d : DecoderState) (rest : List ℕ) → IsDone d → still_to_give d rest ≡ []
-  done-gives d rest done = rw (done.ended, done.ready, done.held) (decode-nothing d.mode)
-
   pub IsDone-yet : (d : DecoderState) (known : Option (List ℕ)) → IsDone d → IsAtEnd (yet d known)
   IsDone-yet d None done = tt
   IsDone-yet d (Some rest) done = done-gives d rest done
@@ -368,7 +374,7 @@ module _ {R : Type 0} (remaining : R → Option (List ℕ)) (step : R → ReadRe
   none-given d d1 known None given ready held none takes = absurd (subst (λ k. Consumes (yet d k) (yet d1 None) given) none takes)
   none-given d d1 known (Some rest) given ready held none takes =
       let all : still_to_give d [] ≡ given ++ still_to_give d1 rest = subst (λ k. Consumes (yet d k) (yet d1 (Some rest)) given) none takes in
-      let nothing : still_to_give d [] ≡ [] = nothing-left remaining step d ready held in
+      let nothing : still_to_give d [] ≡ [] = nothing-left d ready held in
       let long : length (given ++ still_to_give d1 rest) ≡ 0 = ap length (sym all ∙ nothing) in
       omega (arith, long, length-append given (still_to_give d1 rest))
 

@@ -4,6 +4,7 @@ ghost use Rattle.std.specs.declared.io.Error.{Error};
 ghost use Rattle.grep_decode.specs.declared.label.Label.{Label};
 ghost use Rattle.grep_decode.specs.Decoded.{Spells, scalars_of, decoded, is_unchanged};
 ghost use Rattle.grep_decode.specs.DecoderStates.{DecoderState, Decodes, FailsToDecode, IsDecoded, IsDone, started};
+ghost use Rattle.grep_decode.specs.DecoderStates.{still_to_give};
 ghost use Rattle.grep_decode.specs.Source.{FailsWith};
 
 use crate::source::Source;
@@ -26,6 +27,11 @@ pub fn reads_continue<R: Source>()
     ensures more { (d d1 d2 : DecoderState) (r r1 r2 : R) (given more : List ℕ)
         → Decodes R.remaining R.step d r given d1 r1 → Decodes R.remaining R.step d1 r1 more d2 r2
         → Decodes R.remaining R.step d r (given ++ more) d2 r2 }
+{}
+
+/// A decoder that is done has nothing left to give.
+pub fn done_gives_nothing()
+    ensures { (d : DecoderState) (more : List ℕ) → IsDone d → still_to_give d more ≡ [] }
 {}
 
 /// Reads of a decoder from its start until nothing is left gave the decoded bytes of all that the reader returned.

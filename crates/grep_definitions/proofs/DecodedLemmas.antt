@@ -4,7 +4,7 @@ use Rattle.std.specs.Prelude.{is_some, if◌then◌else◌}
 use Rattle.grep_decode.specs.Decoded.{decoded, is_unchanged}
 use Rattle.grep_decode.specs.Marks.{marked}
 use Rattle.grep_decode.specs.declared.label.Label.{Label}
-use Rattle.grep_definitions.specs.Searches.{searched_bytes, is_searched_unchanged}
+use Rattle.grep_definitions.specs.DecodedInputs.{searched_bytes, is_searched_unchanged}
 use Rattle.grep_definitions.specs.SearchLaws.{UnchangedIsInput, UnsniffedIsUnchanged, UnmarkedIsUnchanged}
 
 pub unchanged-input : ((label : Option Label) (sniff : Bool) (bytes : List ℕ) → is_unchanged label sniff bytes ≡ true

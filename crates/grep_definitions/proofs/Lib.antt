@@ -3,9 +3,11 @@ pub mod ListLemmas
 pub mod BelowLemmas
 pub mod SinkRunLemmas
 pub mod SinkFoldLemmas
+pub mod KnownReaderLemmas
 pub mod LimitLemmas
 pub mod ContextLemmas
 pub mod LineStartLemmas
+pub mod LineLengthLemmas
 pub mod TurnEndLemmas
 pub mod FirstLineLemmas
 pub mod FirstTurnLemmas

@@ -1,6 +1,7 @@
 -- Runs of sinks whose steps are functions.
 use Rattle.std.proofs.Common.{◌≡◌, ℕ, Bool, true, false, List, [], ◌∷◌, Option, refl, sym, ◌∙◌, ap, subst, inl, inr, ⊎_elim}
-use Rattle.std.specs.Prelude.{Ok, Err, None, map}
+use Rattle.std.specs.Prelude.{◌⊎◌, Ok, Err, None, map}
+use Rattle.std.specs.declared.io.Error.{Error}
 use Rattle.std.specs.List.{fold}
 use Rattle.grep_matcher.specs.Matching.{IsInfallible}
 use Rattle.grep_definitions.specs.Settings.{Settings}
@@ -8,10 +9,11 @@ use Rattle.grep_definitions.specs.SinkCalls.{Call, Turn, begins, matches, contex
 use Rattle.grep_definitions.specs.SinkRuns.{Steps, Outcome, AreReported, IsFinished}
 use Rattle.grep_definitions.specs.SearchLaws.{is_match, match_calls}
 use Rattle.grep_definitions.specs.LineSearch.{turns, byte_count}
-use Rattle.grep_definitions.specs.Searches.{ErrorMakers, MatcherFacts, IsFault, of_sink, of_matcher, IsFaultUnless, searched_bytes}
+use Rattle.grep_definitions.specs.Searches.{ErrorMakers, MatcherFacts, IsFault, of_sink, of_matcher, IsFaultUnless}
+use Rattle.grep_definitions.specs.DecodedInputs.{searched_bytes}
 use Rattle.grep_definitions.specs.SinkFolds.{fold_while, run_fold, IsMatchOk, StepsBy, TakesMatches}
 use Rattle.grep_definitions.specs.SinkFolds.{RunsFold, RunsFoldAll, RunsFoldMatches, SearchesFail, ReaderSearchesFail}
-use Rattle.grep_definitions.specs.ReaderSearches.{IsReaderFaultUnless}
+use Rattle.grep_definitions.specs.ReaderSearches.{IsReaderFaultUnless, IsReaderFault, IsUnread, of_search, of_reading}
 use Rattle.grep_decode.specs.Source.{ReadResult}
 
 module _ {S : Type 0} (goes : S → Call → Bool) (next : S → Call → S) where
@@ -133,17 +135,21 @@ module _ {S E F : Type 0} (step : Steps S E) (errors : ErrorMakers E) (matcher :
       absurd (infallible _ error fails)
 
   pub searches-fail : SearchesFail step errors matcher
-  searches-fail settings input old e new infallible allowed searched =
+  searches-fail state input old e new infallible allowed searched =
       ⊎_elim
-      (λ fault. inl (fault-fails settings (searched_bytes settings input) old e new infallible fault))
-      inr
-      (subst (λ refusal. IsFaultUnless step errors matcher refusal settings input old e new) allowed searched)
+      (λ fault. inl (fault-fails state.settings (searched_bytes state.settings input) old e new infallible fault))
+      (λ unsearched. inr (unsearched.seen, unsearched.error, unsearched.cause, unsearched.made))
+      (subst (λ refusal. IsFaultUnless step errors matcher refusal state input old e new) allowed searched)
 
   pub reader_searches-fail : {R : Type 0} (remaining : R → Option (List ℕ)) (read_step : R → ReadResult → R → Type 0)
       → ReaderSearchesFail step errors matcher remaining read_step
-  reader_searches-fail remaining read_step settings reader old e reader' new infallible allowed searched =
-      ⊎_elim
-      (λ read. inl (fault-fails settings read.0 old e new infallible read.2))
-      inr
-      (subst (λ refusal. IsReaderFaultUnless remaining read_step step errors matcher refusal settings reader old e reader' new)
+  reader_searches-fail {R} remaining read_step state reader old e reader' new infallible allowed searched =
+      go (subst (λ refusal. IsReaderFaultUnless remaining read_step step errors matcher refusal state reader old e reader' new)
       allowed searched)
+    where
+      go : IsReaderFault remaining read_step step errors matcher state reader old e reader' new
+          → ((mid : S) × (call : Call) × step mid state.settings call (Err e) new)
+          ⊎ ((seen : Option (List ℕ)) × (error : Error)
+          × IsUnread remaining read_step state matcher.meaning reader seen error reader' × errors.is_io error e)
+      go (of_search taken seen fault whole) = inl (fault-fails state.settings seen old e new infallible fault)
+      go (of_reading seen error cause made reported) = inr (seen, error, cause, made)

@@ -6,6 +6,9 @@ pub mod LineSearch
 pub mod LineWalks
 pub mod SinkRuns
 pub mod Refusals
+pub mod DecodedInputs
+pub mod InputFronts
+pub mod ReadingFaults
 pub mod Searches
 pub mod ReaderSearches
 pub mod SearchLaws

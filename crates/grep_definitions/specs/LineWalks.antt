@@ -8,8 +8,8 @@ use Rattle.grep_definitions.specs.LineSearch.{hits, is_chosen, ends_chosen, fill
 use Rattle.grep_definitions.specs.LineSearch.{is_selected, follows_selected, is_reported}
 
 module _ (settings : Settings) (meaning : Meaning) (bytes : List ℕ) where
-  -- what a walk at line i knows of the lines before it, if it is done with those up to v, and `left` lines are still to be
-  -- reported after a match: the lines after v aren't selected and follow no selected line
+  -- what a walk at line i knows of the lines before it, if it is done with those up to v, and `left` lines are still
+  -- to be reported after a match: the lines after v aren't selected and follow no selected line
   pub record IsNear (v i left : ℕ) : Type 0 where
     pub low : v ≤ i
     pub few : left ≤ settings.after_context

@@ -1,49 +1,118 @@
--- What a search of a reader does: the reader is read to its end, and then its decoded bytes are searched.
-use Rattle.std.specs.Prelude.{◌≡◌, ◌⊎◌, ℕ, Bool, false, List, Option, Some, None, Result, Ok, Err}
+-- What a search of a reader does: it makes the calls for the decoded bytes of what the reader gives, and reads no
+-- more than it needs. What it promises holds whatever would follow what it read.
+use Rattle.std.specs.Prelude.{◌≡◌, ◌≤◌, ◌+◌, ◌++◌, ◌&&◌, ◌≢◌, ℕ, Bool, true, false, not, List, length, All}
+use Rattle.std.specs.Prelude.{Option, Some, None, Result, Ok, Err}
+use Rattle.std.specs.List.{concat}
+use Rattle.std.specs.Io.KnownBytes.{Consumes}
 use Rattle.std.specs.IoError.{error_kind}
 use Rattle.std.specs.declared.io.Error.{Error}
 use Rattle.std.specs.declared.io.ErrorKind.TheVariants.{OutOfMemory}
-use Rattle.grep_decode.specs.DecoderStates.{Calls, IsDecoded}
-use Rattle.grep_decode.specs.Source.{ReadResult, FailsWith}
+use Rattle.grep_decode.specs.DecoderStates.{Calls, TakesAtMost}
+use Rattle.grep_decode.specs.Source.{ReadResult}
+use Rattle.grep_matcher.specs.Lines.{lines}
+use Rattle.grep_matcher.specs.Matching.{Meaning}
+use Rattle.grep_matcher.specs.Terminators.{byte_of}
 use Rattle.grep_report.specs.declared.config_error.ConfigError.{ConfigError}
-use Rattle.grep_definitions.specs.Settings.{Settings}
+use Rattle.grep_definitions.specs.Below.{is_at}
+use Rattle.grep_definitions.specs.DecodedInputs.{IsInput, is_searched_unchanged}
+use Rattle.grep_definitions.specs.InputFronts.{GoesOnAfter, HasOpenLine, IsFront}
+use Rattle.grep_definitions.specs.LineSearch.{turns, turn_count, byte_count}
+use Rattle.grep_definitions.specs.ReadingFaults.{CutsShort}
 use Rattle.grep_definitions.specs.Refusals.{refusal_of}
-use Rattle.grep_definitions.specs.LineSearch.{turns, byte_count}
-use Rattle.grep_definitions.specs.SinkRuns.{Steps, IsRun}
-use Rattle.grep_definitions.specs.Searches.{ErrorMakers, MatcherFacts, IsFault}
+use Rattle.grep_definitions.specs.Searches.{ErrorMakers, MatcherFacts, IsFault, HasReported}
+use Rattle.grep_definitions.specs.Settings.{Settings, SearcherState}
+use Rattle.grep_definitions.specs.SinkCalls.{begins}
+use Rattle.grep_definitions.specs.SinkRuns.{Steps, Outcome, all_true, stopped, failed, AreReported, IsFinished, IsRun}
+
+-- the end of the turn that ended some calls, or the whole count
+abbrev pub count_of : {E : Type 0} → Outcome E → ℕ → ℕ
+count_of all_true count = count
+count_of (stopped end) count = end
+count_of (failed e) count = count
+
+-- whether no line may have a turn
+abbrev pub is_idle : Settings → Bool
+is_idle settings = not settings.passthru && is_at 0 settings.max_matches
 
 module _ {R : Type 0} (remaining : R → Option (List ℕ)) (read_step : R → ReadResult → R → Type 0) where
-  -- calls of the reader gave some pieces, and then one gave none; these are the decoded bytes of all the pieces. If the
-  -- reader says which bytes it has left, the pieces are all of them
-  abbrev pub IsRead : Settings → R → List ℕ → R → Type 0
-  IsRead settings = IsDecoded remaining read_step settings.encoding settings.bom_sniffing
+  -- What was taken of a reader: its calls returned some pieces, and `ended` says whether one more returned none. If
+  -- the reader says which bytes remain, the pieces are the front of them.
+  pub record Taken (old new : R) : Type 0 where
+    pub ended : Bool
+    pub pieces : List (List ℕ)
+    pub calls : Calls remaining read_step false ended old pieces new
+    pub takes : Consumes (remaining old) (remaining new) (concat pieces)
 
-  -- calls of the reader gave some pieces, and then one may have given none
-  abbrev pub ReadsSome : R → R → Type 0
-  ReadsSome old new = (ended : Bool) × (pieces : List (List ℕ)) × Calls remaining read_step false ended old pieces new
-
-  -- why a reader wasn't read to its end: its last call failed with this error, or there was no memory for more
-  pub data IsUnread (old : R) (error : Error) (new : R) : Type 0 where
-    of_reader : FailsWith read_step old error new → IsUnread old error new
-    of_memory : error_kind error ≡ OutOfMemory → ReadsSome old new → IsUnread old error new
+  -- why a reader's input wasn't searched to its end: after the lines that were seen, or before `begin`
+  pub data IsUnread (state : SearcherState) (meaning : Meaning) (reader : R) : Option (List ℕ) → Error → R → Type 0 where
+    of_cut : {seen : List ℕ} {error : Error} {reader' : R} (taken : Taken reader reader')
+        → ((bytes : List ℕ) → IsInput state.settings taken.ended taken.pieces bytes
+        → GoesOnAfter state.settings meaning bytes seen × CutsShort state.settings meaning bytes seen error)
+        → IsUnread state meaning reader (Some seen) error reader'
+    -- the reader's last call failed. If what came before is searched unchanged, and more than two bytes were taken,
+    -- all lines that came whole were seen
+    of_reader : {seen : List ℕ} {error : Error} {reader' : R} (mid : R) (taken : Taken reader mid) → taken.ended ≡ false
+        → read_step mid (Err error) reader'
+        → ((bytes : List ℕ) → IsInput state.settings taken.ended taken.pieces bytes
+        → GoesOnAfter state.settings meaning bytes seen)
+        → (is_searched_unchanged state.settings (concat taken.pieces) ≡ true
+        → (TakesAtMost (remaining reader) (remaining reader') 2 → ⊥)
+        → HasOpenLine state.settings (concat taken.pieces) seen)
+        → IsUnread state meaning reader (Some seen) error reader'
+    -- there were no buffers, and no memory for them
+    of_buffers : {error : Error} → state.has_buffers ≡ false → error_kind error ≡ OutOfMemory
+        → IsUnread state meaning reader None error reader
 
   module _ {S E F : Type 0} (step : Steps S E) (errors : ErrorMakers E) (matcher : MatcherFacts F) where
-    -- an error: that of the refusal, which leaves the reader and the sink as they were, or a fault of the
-    -- search of all the decoded bytes, or they weren't read, and the sink had no call
-    abbrev pub IsReaderFaultUnless : Option ConfigError → Settings → R → S → E → R → S → Type 0
-    IsReaderFaultUnless (Some refusal) settings reader old e reader' new =
-        errors.is_config refusal e × (new ≡ old) × (reader' ≡ reader)
-    IsReaderFaultUnless None settings reader old e reader' new =
-        ((bytes : List ℕ) × IsRead settings reader bytes reader' × IsFault step errors matcher settings bytes old e new)
-        ⊎ ((error : Error) × IsUnread reader error reader' × errors.is_io error e × (new ≡ old))
+    -- A search that ended in `Ok`: the calls were made over the lines that were seen, up to the first false or the
+    -- last, and `finish` followed. Whatever follows what was taken, they are those for the whole input, and unless
+    -- one returned false, each line with a turn was seen.
+    pub record IsReaderRun (settings : Settings) (reader : R) (old : S) (reader' : R) (new : S) : Type 0 where
+      pub taken : Taken reader reader'
+      pub seen : List ℕ
+      pub outcome : Outcome E
+      pub mid : S
+      pub reported : AreReported step settings old (turns settings matcher.meaning seen) outcome mid
+      pub finished : IsFinished step settings outcome mid (byte_count settings matcher.meaning seen) None (Ok tt) new
+      pub front : (bytes : List ℕ) → IsInput settings taken.ended taken.pieces bytes → IsFront settings bytes seen
+      pub run : (bytes : List ℕ) → IsInput settings taken.ended taken.pieces bytes
+          → IsRun step settings old (turns settings matcher.meaning bytes) (byte_count settings matcher.meaning bytes) None
+          (Ok tt) new
+      pub all : (bytes : List ℕ) → IsInput settings taken.ended taken.pieces bytes → outcome ≡ all_true
+          → turn_count settings matcher.meaning bytes ≤ length (lines (byte_of settings.line_terminator) seen)
+      -- nothing was read unless `begin` returned true and a line may have a turn
+      pub begun : Bool
+      pub first : S
+      pub begin : step old settings begins (Ok begun) first
+      pub unread : (begun && not (is_idle settings)) ≡ false → reader' ≡ reader
+      -- how far the reader is ahead of the byte count, under a heap limit, if what came is searched unchanged
+      pub ahead : (limit : ℕ) → settings.heap_limit ≡ Some limit
+          → is_searched_unchanged settings (concat taken.pieces) ≡ true
+          → length (concat taken.pieces) ≤ count_of outcome (byte_count settings matcher.meaning seen) + limit + 3
 
-    -- a search of a reader: it isn't refused, and runs along the calls for the decoded bytes that it gave, or it
-    -- ends in an error
-    abbrev pub IsReaderSearched : Settings → R → S → Result (Unit {0}) E → R → S → Type 0
-    IsReaderSearched settings reader old (Ok u) reader' new =
-        (refusal_of settings matcher.meaning ≡ None)
-        × ((bytes : List ℕ) × IsRead settings reader bytes reader'
-        × IsRun step settings old (turns settings matcher.meaning bytes)
-        (byte_count settings matcher.meaning bytes) None (Ok u) new)
-    IsReaderSearched settings reader old (Err e) reader' new =
-        IsReaderFaultUnless (refusal_of settings matcher.meaning) settings reader old e reader' new
+    -- how a search that isn't refused ends in an error
+    pub data IsReaderFault (state : SearcherState) (reader : R) (old : S) : E → R → S → Type 0 where
+      -- the sink's own error or the matcher's, over the lines that were seen, and whatever follows what was taken
+      of_search : {e : E} {reader' : R} {new : S} (taken : Taken reader reader') (seen : List ℕ)
+          → IsFault step errors matcher state.settings seen old e new
+          → ((bytes : List ℕ) → IsInput state.settings taken.ended taken.pieces bytes
+          → IsFront state.settings bytes seen × IsFault step errors matcher state.settings bytes old e new)
+          → IsReaderFault state reader old e reader' new
+      -- the input wasn't searched to its end
+      of_reading : {e : E} {reader' : R} {new : S} (seen : Option (List ℕ)) (error : Error)
+          → IsUnread state matcher.meaning reader seen error reader' → errors.is_io error e
+          → HasReported step errors matcher state.settings seen old new
+          → IsReaderFault state reader old e reader' new
+
+    -- an error: that of the refusal, which leaves the reader and the sink as they were, or that of the search
+    abbrev pub IsReaderFaultUnless : Option ConfigError → SearcherState → R → S → E → R → S → Type 0
+    IsReaderFaultUnless (Some refusal) state reader old e reader' new =
+        errors.is_config refusal e × (new ≡ old) × (reader' ≡ reader)
+    IsReaderFaultUnless None state reader old e reader' new = IsReaderFault state reader old e reader' new
+
+    -- a search of a reader: it isn't refused, and runs along the calls for its input, or it ends in an error
+    abbrev pub IsReaderSearched : SearcherState → R → S → Result (Unit {0}) E → R → S → Type 0
+    IsReaderSearched state reader old (Ok u) reader' new =
+        (refusal_of state.settings matcher.meaning ≡ None) × IsReaderRun state.settings reader old reader' new
+    IsReaderSearched state reader old (Err e) reader' new =
+        IsReaderFaultUnless (refusal_of state.settings matcher.meaning) state reader old e reader' new

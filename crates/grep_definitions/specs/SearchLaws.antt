@@ -13,7 +13,7 @@ use Rattle.grep_definitions.specs.Below.{count_below, first_below, joined_from}
 use Rattle.grep_definitions.specs.LineTurns.{number_of}
 use Rattle.grep_definitions.specs.LineSearch.{turns, turns_at, turn_count, line_count, byte_count}
 use Rattle.grep_definitions.specs.LineSearch.{number, start, line, is_selected}
-use Rattle.grep_definitions.specs.Searches.{searched_bytes, is_searched_unchanged}
+use Rattle.grep_definitions.specs.DecodedInputs.{searched_bytes, is_searched_unchanged}
 
 -- without a label and a mark that is found, what is searched is the input
 abbrev pub UnchangedIsInput : Type 0

@@ -1,14 +1,13 @@
 -- What a search does to its sink, and what it returns.
-use Rattle.std.specs.Prelude.{◌≡◌, ◌⊎◌, ℕ, ◌<◌, Bool, true, false, List, Option, Some, None, Result, Ok, Err}
-use Rattle.std.specs.IoError.{error_kind}
+use Rattle.std.specs.Prelude.{◌≡◌, ◌⊎◌, ℕ, ◌<◌, true, List, Option, Some, None, Result, Ok, Err}
 use Rattle.std.specs.declared.io.Error.{Error}
-use Rattle.std.specs.declared.io.ErrorKind.TheVariants.{OutOfMemory}
-use Rattle.grep_decode.specs.Decoded.{decoded, is_unchanged}
 use Rattle.grep_matcher.specs.Lines.{strip}
 use Rattle.grep_matcher.specs.Matching.{Meaning}
 use Rattle.grep_report.specs.declared.config_error.ConfigError.{ConfigError}
-use Rattle.grep_definitions.specs.Settings.{Settings}
+use Rattle.grep_definitions.specs.Settings.{Settings, SearcherState}
 use Rattle.grep_definitions.specs.LineSearch.{turns, turns_through, turn_count, byte_count, line, start, is_open_at}
+use Rattle.grep_definitions.specs.DecodedInputs.{searched_bytes}
+use Rattle.grep_definitions.specs.ReadingFaults.{IsUndecoded}
 use Rattle.grep_definitions.specs.Refusals.{refusal_of}
 use Rattle.grep_definitions.specs.SinkRuns.{Steps, all_true, AreReported, IsRun}
 
@@ -25,23 +24,6 @@ pub record MatcherFacts (F : Type 0) : Type 1 where
   pub meaning : Meaning
   pub fails : List ℕ → F → Type 0
   pub text_of : F → Option (List ℕ)
-
--- the bytes that are searched: the input, decoded as the settings say
-unfoldable pub searched_bytes : Settings → List ℕ → List ℕ
-searched_bytes settings input = decoded settings.encoding settings.bom_sniffing input
-
--- no label is set and no mark is found, so that the input is searched as it is
-unfoldable pub is_searched_unchanged : Settings → List ℕ → Bool
-is_searched_unchanged settings input = is_unchanged settings.encoding settings.bom_sniffing input
-
-module _ {S E : Type 0} (errors : ErrorMakers E) where
-  -- there was no memory for the decoded bytes of an input that isn't searched as it is, and the sink had no call
-  pub record IsUndecoded (settings : Settings) (input : List ℕ) (old : S) (e : E) (new : S) : Type 0 where
-    pub is_decoded : is_searched_unchanged settings input ≡ false
-    pub error : Error
-    pub out_of_memory : error_kind error ≡ OutOfMemory
-    pub made : errors.is_io error e
-    pub unchanged : new ≡ old
 
 module _ {S E F : Type 0} (step : Steps S E) (errors : ErrorMakers E) (matcher : MatcherFacts F) where
   -- how a search ends in an error e, by its cause, and which calls the sink had
@@ -71,17 +53,31 @@ module _ {S E F : Type 0} (step : Steps S E) (errors : ErrorMakers E) (matcher :
       (Ok u) new
   IsSearchedAlong settings bytes old (Err e) new = IsFault settings bytes old e new
 
-  -- an error: that of the refusal, which leaves the sink as it was, or a fault, or there was no memory to decode the input
-  abbrev pub IsFaultUnless : Option ConfigError → Settings → List ℕ → S → E → S → Type 0
-  IsFaultUnless (Some refusal) settings input old e new = errors.is_config refusal e × (new ≡ old)
-  IsFaultUnless None settings input old e new =
-      IsFault settings (searched_bytes settings input) old e new ⊎ IsUndecoded errors settings input old e new
+  -- the calls that were made when no more of an input was read: `begin` and the reports over the lines that were
+  -- seen, or none
+  abbrev pub HasReported : Settings → Option (List ℕ) → S → S → Type 0
+  HasReported settings None old new = new ≡ old
+  HasReported settings (Some seen) old new = AreReported step settings old (turns settings matcher.meaning seen) all_true new
+
+  -- an input that is decoded wasn't searched to its end: the error is of that cause, and so are the calls
+  pub record IsUnsearched (state : SearcherState) (input : List ℕ) (old : S) (e : E) (new : S) : Type 0 where
+    pub seen : Option (List ℕ)
+    pub error : Error
+    pub cause : IsUndecoded state matcher.meaning input seen error
+    pub made : errors.is_io error e
+    pub reported : HasReported state.settings seen old new
+
+  -- an error: that of the refusal, which leaves the sink as it was, or a fault, or the input wasn't decoded to its end
+  abbrev pub IsFaultUnless : Option ConfigError → SearcherState → List ℕ → S → E → S → Type 0
+  IsFaultUnless (Some refusal) state input old e new = errors.is_config refusal e × (new ≡ old)
+  IsFaultUnless None state input old e new =
+      IsFault state.settings (searched_bytes state.settings input) old e new ⊎ IsUnsearched state input old e new
 
   -- a search of an input: it isn't refused and runs along the calls for its decoded bytes, or it ends in an error
-  abbrev pub IsSearched : Settings → List ℕ → S → Result (Unit {0}) E → S → Type 0
-  IsSearched settings input old (Ok u) new =
-      (refusal_of settings matcher.meaning ≡ None)
-      × IsRun step settings old (turns settings matcher.meaning (searched_bytes settings input))
-      (byte_count settings matcher.meaning (searched_bytes settings input)) None (Ok u) new
-  IsSearched settings input old (Err e) new =
-      IsFaultUnless (refusal_of settings matcher.meaning) settings input old e new
+  abbrev pub IsSearched : SearcherState → List ℕ → S → Result (Unit {0}) E → S → Type 0
+  IsSearched state input old (Ok u) new =
+      (refusal_of state.settings matcher.meaning ≡ None)
+      × IsRun step state.settings old (turns state.settings matcher.meaning (searched_bytes state.settings input))
+      (byte_count state.settings matcher.meaning (searched_bytes state.settings input)) None (Ok u) new
+  IsSearched state input old (Err e) new =
+      IsFaultUnless (refusal_of state.settings matcher.meaning) state input old e new

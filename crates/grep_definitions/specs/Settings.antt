@@ -1,5 +1,5 @@
--- The settings of a search, as a sink sees them: all that there will ever be. `multi_line` and `binary_detection` have no
--- setter yet: they are always at their defaults.
+-- The settings of a search, as a sink sees them: all that there will ever be. `multi_line` and `binary_detection`
+-- have no setter yet: they are always at their defaults.
 use Rattle.std.specs.Prelude.{ℕ, Bool, true, false, Option, None, if◌then◌else◌}
 use Rattle.grep_decode.specs.declared.label.Label.{Label}
 use Rattle.grep_matcher.specs.declared.line_terminator.LineTerminator.{LineTerminator}
@@ -29,6 +29,12 @@ pub record Settings : Type 0 where
   pub bom_sniffing : Bool
   pub stop_on_nonmatch : Bool
   pub max_matches : Option ℕ
+
+-- what contracts see of a searcher: its settings, and whether it has its buffers. One that is lent to a sink during a
+-- search of a reader has none, and neither has a clone of it, until it is first searched with
+pub record SearcherState : Type 0 where
+  pub settings : Settings
+  pub has_buffers : Bool
 
 -- as they are if nothing is set
 abbrev pub default_settings : Settings

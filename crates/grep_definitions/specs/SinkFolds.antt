@@ -1,12 +1,15 @@
 -- What a sink whose steps are functions makes of a run.
-use Rattle.std.specs.Prelude.{◌≡◌, ◌⊎◌, ℕ, Bool, true, if◌then◌else◌, List, [], ◌∷◌, map, Option, None, Ok, Err}
+use Rattle.std.specs.Prelude.{◌≡◌, ◌⊎◌, ℕ, Bool, true, if◌then◌else◌, List, [], ◌∷◌, map, Option, Some, None, Ok, Err}
 use Rattle.std.specs.List.{fold}
-use Rattle.grep_definitions.specs.Settings.{Settings}
+use Rattle.grep_definitions.specs.Settings.{Settings, SearcherState}
 use Rattle.grep_definitions.specs.SinkCalls.{Call, Turn, begins, matches, context, breaks, binary_data, finishes}
 use Rattle.grep_definitions.specs.SinkRuns.{Steps, IsRun}
 use Rattle.grep_matcher.specs.Matching.{IsInfallible}
+use Rattle.grep_definitions.specs.DecodedInputs.{searched_bytes}
+use Rattle.grep_definitions.specs.LineSearch.{turns, byte_count}
 use Rattle.grep_definitions.specs.Refusals.{refusal_of}
-use Rattle.grep_definitions.specs.Searches.{ErrorMakers, MatcherFacts, IsSearched, IsUndecoded}
+use Rattle.grep_definitions.specs.ReadingFaults.{IsUndecoded}
+use Rattle.grep_definitions.specs.Searches.{ErrorMakers, MatcherFacts, IsSearched}
 use Rattle.grep_definitions.specs.ReaderSearches.{IsReaderSearched, IsUnread}
 use Rattle.grep_decode.specs.Source.{ReadResult}
 use Rattle.std.specs.declared.io.Error.{Error}
@@ -85,23 +88,33 @@ module _ {S E : Type 0} (step : Steps S E) where
       → new ≡ fold_while goes next old (match_calls turns)
 
 module _ {S E F : Type 0} (step : Steps S E) (errors : ErrorMakers E) (matcher : MatcherFacts F) where
-  -- if the matcher never fails and the search isn't refused, an error is that of a step of the sink, or there was no
-  -- memory to decode the input
+  -- if the matcher never fails and the search isn't refused, an error is that of a step of the sink, or the input
+  -- wasn't decoded to its end
   abbrev pub SearchesFail : Type 0
   SearchesFail =
-      (settings : Settings) (input : List ℕ) (old : S) (e : E) (new : S)
-      → IsInfallible matcher.fails → refusal_of settings matcher.meaning ≡ None
-      → IsSearched step errors matcher settings input old (Err e) new
-      → ((mid : S) × (call : Call) × step mid settings call (Err e) new)
-      ⊎ IsUndecoded errors settings input old e new
+      (state : SearcherState) (input : List ℕ) (old : S) (e : E) (new : S)
+      → IsInfallible matcher.fails → refusal_of state.settings matcher.meaning ≡ None
+      → IsSearched step errors matcher state input old (Err e) new
+      → ((mid : S) × (call : Call) × step mid state.settings call (Err e) new)
+      ⊎ ((seen : Option (List ℕ)) × (error : Error) × IsUndecoded state matcher.meaning input seen error
+      × errors.is_io error e)
 
 module _ {S E F : Type 0} (step : Steps S E) (errors : ErrorMakers E) (matcher : MatcherFacts F)
     {R : Type 0} (remaining : R → Option (List ℕ)) (read_step : R → ReadResult → R → Type 0) where
   -- the same of a search of a reader: an error is also one of reading
   abbrev pub ReaderSearchesFail : Type 0
   ReaderSearchesFail =
-      (settings : Settings) (reader : R) (old : S) (e : E) (reader' : R) (new : S)
-      → IsInfallible matcher.fails → refusal_of settings matcher.meaning ≡ None
-      → IsReaderSearched remaining read_step step errors matcher settings reader old (Err e) reader' new
-      → ((mid : S) × (call : Call) × step mid settings call (Err e) new)
-      ⊎ ((error : Error) × IsUnread remaining read_step reader error reader' × errors.is_io error e × (new ≡ old))
+      (state : SearcherState) (reader : R) (old : S) (e : E) (reader' : R) (new : S)
+      → IsInfallible matcher.fails → refusal_of state.settings matcher.meaning ≡ None
+      → IsReaderSearched remaining read_step step errors matcher state reader old (Err e) reader' new
+      → ((mid : S) × (call : Call) × step mid state.settings call (Err e) new)
+      ⊎ ((seen : Option (List ℕ)) × (error : Error)
+      × IsUnread remaining read_step state matcher.meaning reader seen error reader' × errors.is_io error e)
+
+  -- a search of a reader that says which bytes remain, if it ended in `Ok`, is a run along the calls for its decoded bytes
+  abbrev pub KnownReadersRun : Type 0
+  KnownReadersRun =
+      (state : SearcherState) (reader : R) (input : List ℕ) (old : S) (reader' : R) (new : S) → remaining reader ≡ Some input
+      → IsReaderSearched remaining read_step step errors matcher state reader old (Ok tt) reader' new
+      → IsRun step state.settings old (turns state.settings matcher.meaning (searched_bytes state.settings input))
+      (byte_count state.settings matcher.meaning (searched_bytes state.settings input)) None (Ok tt) new

@@ -3,7 +3,8 @@ use Rattle.std.specs.Prelude.{◌≡◌, ◌≢◌, ◌⊎◌, ℕ, ◌+◌, ◌
 use Rattle.std.specs.Io.KnownBytes.{Consumes, Keeps, IsAtEnd}
 use Rattle.std.specs.declared.io.Error.{Error}
 use Rattle.grep_decode.specs.declared.mode.Mode.TheVariants.{Passing}
-use Rattle.grep_decode.specs.DecoderStates.{DecoderState, Decodes, FailsToDecode, IsDone, IsSettled, TakesAtMost, runs_ahead, yet}
+use Rattle.grep_decode.specs.DecoderStates.{DecoderState, Decodes, FailsToDecode, IsDone, IsSettled, TakesAtMost}
+use Rattle.grep_decode.specs.DecoderStates.{runs_ahead, yet}
 use Rattle.grep_decode.specs.Source.{ReadResult}
 use Rattle.grep_line_buffer.specs.declared.fill_error.FillError.{FillError}
 use Rattle.grep_line_buffer.specs.declared.fill_error.FillError.TheVariants.{Read, HeapLimit, Offset, Memory}
@@ -26,6 +27,7 @@ module _ {R : Type 0} (remaining : R → Option (List ℕ)) (step : R → ReadRe
     pub stays : IsSettled decoder.mode → decoder'.mode ≡ decoder.mode
     pub ahead : decoder'.mode ≡ Passing
         → TakesAtMost (remaining reader) (remaining reader') (length given + runs_ahead decoder.mode)
+    pub passing : decoder'.mode ≡ Passing → (length decoder'.ready ≤ 3) × (decoder'.held ≡ [])
     pub done : given ≡ [] → IsDone decoder'
     pub end : given ≡ [] → IsAtEnd (yet decoder' (remaining reader'))
 
@@ -36,6 +38,7 @@ module _ {R : Type 0} (remaining : R → Option (List ℕ)) (step : R → ReadRe
     pub keeps : Keeps (yet decoder (remaining reader)) (yet decoder' (remaining reader'))
     pub empty : decoder'.ready ≡ []
     pub stays : IsSettled decoder.mode → decoder'.mode ≡ decoder.mode
+    pub passing : decoder'.mode ≡ Passing → decoder'.held ≡ []
     pub few : IsSettled decoder'.mode ⊎ TakesAtMost (remaining reader) (remaining reader') 2
 
   -- One read of a decoder gave so many bytes, which the buffer holds after the others.

@@ -1,5 +1,7 @@
 //! A buffer over a reader that shows whole lines.
-ghost use Rattle.std.specs.Prelude.{◌≡◌, ◌≢◌, ◌⊎◌, ◌↔◌, ◌<◌, ◌≤◌, ◌+◌, ◌*◌, ◌-◌, ◌^◌, ◌++◌, ℕ, List, [], ◌∷◌, true, false, Err, None, Some, length, take, drop, IsTrue, IsOk, IfOk, IfErr, IfSome, IfNone, OnOk, OnErr, MatchBool, slice_index, replicate, vec_len};
+ghost use Rattle.std.specs.Prelude.{◌≡◌, ◌≢◌, ◌⊎◌, ◌↔◌, ◌<◌, ◌≤◌, ◌+◌, ◌*◌, ◌-◌, ◌^◌, ◌++◌, ℕ, List, [], ◌∷◌, true};
+ghost use Rattle.std.specs.Prelude.{false, Err, None, Some, length, take, drop, IsTrue, IsOk, IfOk, IfErr, IfSome};
+ghost use Rattle.std.specs.Prelude.{IfNone, OnOk, OnErr, MatchBool, slice_index, replicate, vec_len};
 ghost use Rattle.std.specs.Io.KnownBytes.{IsAtEnd};
 ghost use Rattle.std.specs.Io.{ReadsAtMost};
 ghost use lib.Seq.{paste};
@@ -7,7 +9,8 @@ ghost use Rattle.grep_decode.specs.Source.{FailsWith};
 ghost use Rattle.grep_decode.specs.declared.mode.Mode.TheVariants.{Passing};
 ghost use Rattle.grep_decode.specs.DecoderStates.{IsDone, IsSettled, TakesAtMost, runs_ahead, yet};
 ghost use Rattle.grep_lines.specs.Positions.{slice};
-ghost use Rattle.grep_line_buffer.specs.BufferStates.{BufferState, empty_buffer, held, Lacks, IsWithin, IsSameBuffer, GrowsIfFull, ShowsLine, IsFilled, HasNoLine, KeepsStream};
+ghost use Rattle.grep_line_buffer.specs.BufferStates.{BufferState, empty_buffer, held, Lacks, IsWithin, IsSameBuffer};
+ghost use Rattle.grep_line_buffer.specs.BufferStates.{GrowsIfFull, ShowsLine, IsFilled, HasNoLine, KeepsStream};
 ghost use Rattle.grep_line_buffer.specs.Fills.{IfRead, UnlessRead, IsAtLimit, FillFails, Fills, FailsToFill};
 ghost use Rattle.grep_line_buffer.specs.declared.fill_error.FillError.TheVariants.{HeapLimit};
 ghost use Rattle.grep_line_buffer.specs.Appends.{Appends, FailsToRead, IsFullFault, Reads};
@@ -150,14 +153,14 @@ impl<A: Allocator> LineBuffer<A> {
     /// end was seen, nothing is read. Each read asks for as many bytes as are free. A full buffer grows to twice its
     /// size, or up to its limit.
     ///
-    /// The decoder and the reader are those of the earlier fills since `new` or `clear`: if they are others, the bytes of
-    /// both follow one another.
+    /// The decoder and the reader are those of the earlier fills since `new` or `clear`: if they are others, the
+    /// bytes of both follow one another.
     ///
-    /// `FillError::Read` is the reader's own error. `HeapLimit` means that the buffer is full, is at its limit and holds
-    /// no terminator that was read in this call, and `Memory` that it is full likewise, may grow, and there was no
-    /// memory. `Offset` means that the offset after the bytes that it holds is above 2^64 - 1. After an error the buffer
-    /// shows what wasn't consumed before the call, an unfinished line too, and nothing that was read is lost: a further
-    /// call goes on from there. Only after `Offset` each further call returns the same error.
+    /// `FillError::Read` is the reader's own error. `HeapLimit` means that the buffer is full, is at its limit and
+    /// holds no terminator that was read in this call, and `Memory` that it is full likewise, may grow, and there
+    /// was no memory. `Offset` means that the offset after the bytes that it holds is above 2^64 - 1. After an error
+    /// the buffer shows what wasn't consumed before the call, an unfinished line too, and nothing that was read is
+    /// lost: a further call goes on from there. Only after `Offset` each further call returns the same error.
     pub fn fill<B: Allocator, R: Source>(
         &mut self,
         decoder: &mut Decoder<B>,
@@ -192,10 +195,13 @@ impl<A: Allocator> LineBuffer<A> {
         ensures ended { self.old.has_ended ≡ true → IsOk result × (self.new ≡ self.old)
             × (decoder.new ≡ decoder.old) × (reader.new ≡ reader.old) }
 
-        // how far the reader is ahead of what was appended, if the bytes pass unchanged
+        // how far the reader is ahead of what was appended, and what the decoder holds, if the bytes pass unchanged
         ensures ahead { OnOk result (decoder.new.mode ≡ Passing
             → TakesAtMost (R.remaining reader.old) (R.remaining reader.new)
             (length (held self.new) - length (held self.old) + runs_ahead decoder.old.mode)) }
+        ensures passing { OnOk result (self.old.has_ended ≡ false → decoder.new.mode ≡ Passing
+            → (length decoder.new.ready ≤ 3) × (decoder.new.held ≡ [])) }
+        ensures passed { IfRead result (λ _. decoder.new.mode ≡ Passing → decoder.new.held ≡ []) }
         ensures settled { OnOk result (self.old.has_ended ≡ false → IsSettled decoder.new.mode) }
         ensures stays { IsSettled decoder.old.mode → decoder.new.mode ≡ decoder.old.mode }
         ensures empty { IfRead result (λ _. decoder.new.ready ≡ []) }

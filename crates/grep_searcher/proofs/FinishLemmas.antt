@@ -8,28 +8,36 @@ use Rattle.grep_definitions.specs.Searches.{ErrorMakers, MatcherFacts, IsSearche
 use Rattle.grep_searcher.specs.Walks.{Counted, IsCount}
 
 module _ {S E : Type 0} (step : Steps S E) (k : Settings) (old : S) (turns : List Turn) (whole : ℕ) where
+  -- the call of `finish` with what was counted is the one that is defined
+  pub finish-counted : (count : ℕ) (outcome : Outcome E) (mid : S) (result : Result (Unit {0}) E) (new : S)
+      → IsCount outcome whole count → step mid k (finishes count None) (finish_result result) new
+      → IsFinished step k outcome mid whole None result new
+  finish-counted count all_true mid result new same finish =
+      subst (λ n. step mid k (finishes n None) (finish_result result) new) same finish
+  finish-counted count (stopped end) mid result new same finish =
+      subst (λ n. step mid k (finishes n None) (finish_result result) new) same finish
+  finish-counted count (failed e) mid result new never finish = absurd never
+
   -- `finish` ends what was counted
-  run-finish : (count : ℕ) (mid : S) (result : Result (Unit {0}) E) (new : S) → Counted step k old turns whole count mid
+  pub run-finish : (count : ℕ) (outcome : Outcome E) (mid : S) (result : Result (Unit {0}) E) (new : S)
+      → Counted step k old turns whole count outcome mid
       → step mid k (finishes count None) (finish_result result) new → IsRun step k old turns whole None result new
-  run-finish count mid result new counted finish = record {
-    outcome = counted.outcome;
+  run-finish count outcome mid result new counted finish = record {
+    outcome = outcome;
     mid = mid;
     reported = counted.reported;
-    finished = go counted.outcome counted.is_count;
+    finished = finish-counted count outcome mid result new counted.is_count finish;
   }
-    where
-      go : (outcome : Outcome E) → IsCount outcome whole count → IsFinished step k outcome mid whole None result new
-      go all_true same = subst (λ n. step mid k (finishes n None) (finish_result result) new) same finish
-      go (stopped end) same = subst (λ n. step mid k (finishes n None) (finish_result result) new) same finish
-      go (failed e) never = absurd never
 
 -- and so the search, whatever `finish` returned
 pub searched-finish : {S E F : Type 0} (step : Steps S E) (errors : ErrorMakers E) (matcher : MatcherFacts F)
-    (k : Settings) (bytes : List ℕ) (old : S) (count : ℕ) (mid : S) (result : Result (Unit {0}) E) (new : S)
-    → Counted step k old (turns k matcher.meaning bytes) (byte_count k matcher.meaning bytes) count mid
+    (k : Settings) (bytes : List ℕ) (old : S) (count : ℕ) (outcome : Outcome E) (mid : S)
+    (result : Result (Unit {0}) E) (new : S)
+    → Counted step k old (turns k matcher.meaning bytes) (byte_count k matcher.meaning bytes) count outcome mid
     → step mid k (finishes count None) (finish_result result) new
     → IsSearchedAlong step errors matcher k bytes old result new
-searched-finish step errors matcher k bytes old count mid (Ok u) new counted finish =
-    run-finish step k old (turns k matcher.meaning bytes) (byte_count k matcher.meaning bytes) count mid (Ok u) new counted finish
-searched-finish step errors matcher k bytes old count mid (Err e) new counted finish = of_sink
-    (run-finish step k old (turns k matcher.meaning bytes) (byte_count k matcher.meaning bytes) count mid (Err e) new counted finish)
+searched-finish step errors matcher k bytes old count outcome mid (Ok u) new counted finish =
+    run-finish step k old (turns k matcher.meaning bytes) (byte_count k matcher.meaning bytes) count outcome mid (Ok u) new counted finish
+searched-finish step errors matcher k bytes old count outcome mid (Err e) new counted finish = of_sink
+    (run-finish step k old (turns k matcher.meaning bytes) (byte_count k matcher.meaning bytes) count outcome mid (Err e) new
+    counted finish)

@@ -1,7 +1,10 @@
 pub mod BeforeContextLemmas
 pub mod WalkLemmas
+pub mod FrontLemmas
+pub mod ReadingLemmas
+pub mod RollLemmas
+pub mod RollingLemmas
 pub mod WindowLemmas
 pub mod WindowSearchLemmas
 pub mod FinishLemmas
 pub mod DecodedLemmas
-pub mod ReadLemmas

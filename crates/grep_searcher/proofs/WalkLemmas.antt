@@ -357,15 +357,14 @@ module _ (k : Settings) (meaning : Meaning) (bytes : List ℕ) where
         subst (λ ts. AreReported step k old ts outcome new) (sym (front-through i turned inside))
         (AreReported-ended step k (front i) (joined_from T i (turned - i)) old outcome new ended reported)
 
-    abbrev IsCounted : ℕ → S → Type 0
-    IsCounted count new = Counted step k old (turns k meaning bytes) (byte_count k meaning bytes) count new
+    abbrev IsCounted : ℕ → Outcome E → S → Type 0
+    IsCounted count outcome new = Counted step k old (turns k meaning bytes) (byte_count k meaning bytes) count outcome new
 
     -- no more calls are to come
     counted-done : (w : Walk) (new : S) → IsLineStart t bytes w.offset w.line
         → IsNear k meaning bytes w.reported_through w.line w.after_context_left → IsDone k meaning bytes w.line
-        → AreReported step k old (front w.reported_through) all_true new → IsCounted w.offset new
+        → AreReported step k old (front w.reported_through) all_true new → IsCounted w.offset all_true new
     counted-done w new at near done reported = record {
-      outcome = all_true;
       reported = subst (λ ts. AreReported step k old ts all_true new)
           (sym (front-through w.reported_through turned (omega (arith, done.last, near.low))))
           (AreReported-append step k (front w.reported_through) (joined_from T w.reported_through (turned - w.reported_through)) old new
@@ -375,16 +374,17 @@ module _ (k : Settings) (meaning : Meaning) (bytes : List ℕ) where
       is_count = sym at.begins ∙ ap starts (sym done.last);
     }
 
-    pub counted-end : (w : Walk) (new : S) → HasReported k meaning bytes step old w new → w.line ≡ n → IsCounted w.offset new
+    pub counted-end : (w : Walk) (new : S) → HasReported k meaning bytes step old w new → w.line ≡ n → IsCounted w.offset all_true new
     counted-end w new so_far all = counted-done w new so_far.walk.placed.at so_far.walk.near (done-end w so_far.walk all) so_far.reported
 
-    pub counted-unbegun : (new : S) → step old k begins (Ok false) new → IsCounted 0 new
-    counted-unbegun new stops = record { outcome = stopped 0; reported = inr (inl (refl, stops)); is_count = refl }
+    pub counted-unbegun : (new : S) → step old k begins (Ok false) new → IsCounted 0 (stopped 0) new
+    counted-unbegun new stops = record { reported = inr (inl (refl, stops)); is_count = refl }
 
     reported-begin : (new : S) → step old k begins (Ok true) new → AreReported step k old (front 0) all_true new
     reported-begin new goes = inl (new, goes, (refl, refl))
 
-    pub counted-idle : (new : S) → (not k.passthru && is_at 0 k.max_matches) ≡ true → step old k begins (Ok true) new → IsCounted 0 new
+    pub counted-idle : (new : S) → (not k.passthru && is_at 0 k.max_matches) ≡ true → step old k begins (Ok true) new
+        → IsCounted 0 all_true new
     counted-idle new idle goes =
         let parts = both_true (not k.passthru) (is_at 0 k.max_matches) idle in
         counted-done start_walk new (placed-start).at (IsNear-none k meaning bytes)
@@ -427,15 +427,15 @@ module _ (k : Settings) (meaning : Meaning) (bytes : List ℕ) where
           go false = omega (arith, has w start end same line bare so_far.walk, so_far.walk.near.low)
 
       pub counted-stopped : (new : S) → AreReported step k mid own (stopped (line_end w (here w start end same line))) new
-          → IsCounted (line_end w (here w start end same line)) new
+          → IsCounted (line_end w (here w start end same line)) (stopped (line_end w (here w start end same line))) new
       counted-stopped new reported = record {
-        outcome = stopped (line_end w (here w start end same line));
         reported = AreReported-whole _ (stopped (line_end w (here w start end same line))) new few (λ e. cc)
             (reported-line (stopped (line_end w (here w start end same line))) new reported);
         is_count = refl;
       }
 
-      pub counted-over : (new : S) → AreReported step k mid own all_true new → is_over k next chosen ≡ true → IsCounted next.offset new
+      pub counted-over : (new : S) → AreReported step k mid own all_true new → is_over k next chosen ≡ true
+          → IsCounted next.offset all_true new
       counted-over new reported over = counted-done next new (after w start end same line)
           (near-next w start end same line bare so_far.walk chosen is)
           (done-next w start end same line bare so_far.walk chosen is over)

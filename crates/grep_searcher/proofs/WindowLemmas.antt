@@ -16,7 +16,8 @@ use Rattle.grep_definitions.specs.Settings.{Settings}
 use Rattle.grep_definitions.proofs.LineStartLemmas.{line_start-ascends, line_start-last}
 use Rattle.grep_definitions.proofs.TurnEndLemmas.{line_start-le}
 use Rattle.grep_searcher.specs.declared.searcher.walk.Walk.{Walk}
-use Rattle.grep_searcher.specs.Windows.{IsClosed, IsWindow, IsLineIn, IsInWindow}
+use Rattle.grep_definitions.specs.InputFronts.{IsClosed}
+use Rattle.grep_searcher.specs.Windows.{IsWindow, IsLineIn, IsInWindow}
 
 -- the whole input is a window of itself
 pub own-window : (t : ℕ) (bytes : List ℕ) → IsWindow t [] bytes bytes
@@ -70,7 +71,7 @@ module _ (k : Settings) (gone window input : List ℕ) (i p q : ℕ) (at : IsLin
 
 module _ (t : ℕ) where
   -- two closed parts are closed
-  closed-append : (front back : List ℕ) → IsClosed t front → IsClosed t back → IsClosed t (front ++ back)
+  pub closed-append : (front back : List ℕ) → IsClosed t front → IsClosed t back → IsClosed t (front ++ back)
   closed-append front [] shut closed = subst (IsClosed t) (sym (append-nil front)) shut
   closed-append front (b ∷ back) shut closed = λ some.
       let last : (length (front ++ (b ∷ back)) - 1) - length front ≡ length (b ∷ back) - 1 =
@@ -79,14 +80,14 @@ module _ (t : ℕ) where
       ∙ (ap (λ i. get_or (b ∷ back) i 0) last ∙ closed (omega arith))
 
   -- so is what follows a position in closed bytes
-  closed-drop : (bytes : List ℕ) (r : ℕ) → IsClosed t bytes → IsClosed t (drop r bytes)
+  pub closed-drop : (bytes : List ℕ) (r : ℕ) → IsClosed t bytes → IsClosed t (drop r bytes)
   closed-drop bytes r closed = λ some.
       let last : r + (length (drop r bytes) - 1) ≡ length bytes - 1 = omega (arith, length-drop r bytes) in
       get_or-drop r bytes (length (drop r bytes) - 1) 0
       ∙ (ap (λ i. get_or bytes i 0) last ∙ closed (omega (arith, length-drop r bytes)))
 
   -- and what comes before a position right after the terminator
-  closed-take : (bytes : List ℕ) (r : ℕ) → r ≤ length bytes → (0 < r → slice_index bytes (r - 1) ≡ t) → IsClosed t (take r bytes)
+  pub closed-take : (bytes : List ℕ) (r : ℕ) → r ≤ length bytes → (0 < r → slice_index bytes (r - 1) ≡ t) → IsClosed t (take r bytes)
   closed-take bytes r within ends = λ some.
       let size = length-take-le r bytes within in
       ap (λ n. get_or (take r bytes) (n - 1) 0) size
@@ -94,7 +95,7 @@ module _ (t : ℕ) where
 
 module _ (join : LinesJoin) (append : LinesAppend) (t : ℕ) where
   -- two lines that start at one position are the same
-  start-same : (bytes : List ℕ) (position i j : ℕ) → IsLineStart t bytes position i → IsLineStart t bytes position j → i ≡ j
+  pub start-same : (bytes : List ℕ) (position i j : ℕ) → IsLineStart t bytes position i → IsLineStart t bytes position j → i ≡ j
   start-same bytes position i j first second =
       omega (arith, none i j first second, none j i second first)
     where
@@ -135,7 +136,7 @@ module _ (join : LinesJoin) (append : LinesAppend) (t : ℕ) where
   split-count window r shut = ap (λ bs. length (lines t bs)) (sym (take-append-drop r window))
       ∙ (ap length (append t (take r window) (drop r window) shut) ∙ length-append (lines t (take r window)) (lines t (drop r window)))
 
-  start-all : (window : List ℕ) → IsLineStart t window (length window) (length (lines t window))
+  pub start-all : (window : List ℕ) → IsLineStart t window (length window) (length (lines t window))
   start-all window = record { listed = omega arith; begins = line_start-last join t window }
 
   -- from a position `near` lines before the end there are no more lines than that
@@ -206,6 +207,15 @@ module _ (join : LinesJoin) (append : LinesAppend) (numbered : LinesAreNumbered)
   pub shown : IsWindow t gone window input
   shown = record { after = after; whole = refl; line = line-in }
 
+-- a roll takes no byte from the input
+pub roll-input : (gone window more after : List ℕ) (r : ℕ) → gone ++ (window ++ (more ++ after))
+    ≡ (gone ++ take r window) ++ ((drop r window ++ more) ++ after)
+roll-input gone window more after r =
+    ap (λ xs. gone ++ (xs ++ (more ++ after))) (sym (take-append-drop r window))
+    ∙ (ap (λ xs. gone ++ xs) (append_assoc (take r window) (drop r window) (more ++ after)
+    ∙ ap (λ xs. take r window ++ xs) (sym (append_assoc (drop r window) more after)))
+    ∙ sym (append_assoc gone (take r window) ((drop r window ++ more) ++ after)))
+
 -- the next window, if lines are kept from a position `near` lines before the end
 module _ (join : LinesJoin) (append : LinesAppend) (numbered : LinesAreNumbered) (few : LinesAreFew)
     (k : Settings) (gone window : List ℕ) (r near : ℕ) (within : r ≤ length window)
@@ -229,12 +239,6 @@ module _ (join : LinesJoin) (append : LinesAppend) (numbered : LinesAreNumbered)
   pub gone-closed : IsClosed t (gone ++ front)
   gone-closed = closed-append t gone front opens shut
 
-  whole-is : (more after : List ℕ) → gone ++ (window ++ (more ++ after)) ≡ (gone ++ front) ++ ((rest ++ more) ++ after)
-  whole-is more after =
-      ap (λ xs. gone ++ (xs ++ (more ++ after))) (sym (take-append-drop r window))
-      ∙ (ap (λ xs. gone ++ xs) (append_assoc front rest (more ++ after) ∙ ap (λ xs. front ++ xs) (sym (append_assoc rest more after)))
-      ∙ sym (append_assoc gone front ((rest ++ more) ++ after)))
-
   pub rolled : (more after : List ℕ) (w : Walk) → near ≡ min k.before_context (w.line - w.reported_through)
       → (0 < length after → IsClosed t (rest ++ more))
       → ((i : ℕ) → IsLineStart t window (length window) i → IsLineStart t window r (i - near))
@@ -250,7 +254,7 @@ module _ (join : LinesJoin) (append : LinesAppend) (numbered : LinesAreNumbered)
       let index : length (lines t rest) ≡ w.line - length (lines t (gone ++ front)) =
       omega (arith, all, split, count, gone_lines, is, inside.kept, inside.line.low) in
       record {
-        shown = subst (IsWindow t (gone ++ front) (rest ++ more)) (sym (whole-is more after))
+        shown = subst (IsWindow t (gone ++ front) (rest ++ more)) (sym (roll-input gone window more after r))
             (shown join append numbered few t (gone ++ front) (rest ++ more) after gone-closed closes);
         at = omega (arith, inside.at, length-append gone front, length-take-le r window within, within);
         line = record {

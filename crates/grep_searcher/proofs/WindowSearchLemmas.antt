@@ -9,7 +9,7 @@ use Rattle.grep_definitions.specs.SinkCalls.{begins}
 use Rattle.grep_definitions.specs.Below.{is_at}
 use Rattle.grep_definitions.specs.LineSearch.{differ, turns, byte_count}
 use Rattle.grep_definitions.specs.LineTurns.{matches_line}
-use Rattle.grep_definitions.specs.SinkRuns.{Steps, all_true, stopped, failed, AreReported}
+use Rattle.grep_definitions.specs.SinkRuns.{Steps, Outcome, all_true, stopped, failed, AreReported}
 use Rattle.grep_definitions.specs.Searches.{ErrorMakers, MatcherFacts, IsFault}
 use Rattle.grep_matcher.specs.Terminators.{byte_of}
 use Rattle.grep_searcher.specs.declared.searcher.walk.Walk.{Walk}
@@ -71,23 +71,33 @@ passed-all step k meaning gone window input first p w now so_far end last = reco
       omega (arith, so_far.inside.line.low, last (w.line - before) so_far.inside.line.begins);
 }
 
+-- once all lines of the input are passed, all calls were made and returned true
+pub counted-passed : {S E : Type 0} (step : Steps S E) (k : Settings) (meaning : Meaning) (gone window input : List ℕ) (first : S)
+    (w : Walk) (now : S) → HasPassed step k meaning gone window input first w now
+    → length (lines (byte_of k.line_terminator) gone) + length (lines (byte_of k.line_terminator) window)
+    ≡ length (lines (byte_of k.line_terminator) input)
+    → Counted step k first (turns k meaning input) (byte_count k meaning input) w.offset all_true now
+counted-passed step k meaning gone window input first w now passed all =
+    walks.counted-end k meaning input step first w now passed.searched.reported (passed.all ∙ all)
+
 module _ {S E F : Type 0} (step : Steps S E) (errors : ErrorMakers E) (matcher : MatcherFacts F) (k : Settings)
     (gone window input : List ℕ) (first : S) where
   abbrev pub t : ℕ
   t = byte_of k.line_terminator
 
-  abbrev IsCounted : ℕ → S → Type 0
-  IsCounted count new = Counted step k first (turns k matcher.meaning input) (byte_count k matcher.meaning input) count new
+  abbrev IsCounted : ℕ → Outcome E → S → Type 0
+  IsCounted count outcome new =
+      Counted step k first (turns k matcher.meaning input) (byte_count k matcher.meaning input) count outcome new
 
   -- at the end of the input the walk has made all calls, and if it doesn't go on earlier no more are to come
   pub counted-either : (goes_on : Bool) (w : Walk) (now : S)
       → (goes_on ≡ true → HasPassed step k matcher.meaning gone window input first w now)
-      → (goes_on ≡ false → IsCounted w.offset now)
-      → length (lines t gone) + length (lines t window) ≡ length (lines t input) → IsCounted w.offset now
+      → (goes_on ≡ false → (outcome : Outcome E) × IsCounted w.offset outcome now)
+      → length (lines t gone) + length (lines t window) ≡ length (lines t input)
+      → (outcome : Outcome E) × IsCounted w.offset outcome now
   counted-either false w now goes ends all = ends refl
   counted-either true w now goes ends all =
-      let passed = goes refl in
-      walks.counted-end k matcher.meaning input step first w now passed.searched.reported (passed.all ∙ all)
+      (all_true, counted-passed step k matcher.meaning gone window input first w now (goes refl) all)
 
   -- one line, from p up to q of the window
   module _ (bare : Bare k matcher.meaning input) (p q : ℕ) (w : Walk) (now : S)
@@ -129,17 +139,18 @@ module _ {S E F : Type 0} (step : Steps S E) (errors : ErrorMakers E) (matcher :
           so_far.inside.at at chosen is e new reported))
 
       pub counted-stopped : (new : S) → AreReported step k now (line_turns k input w here chosen) (stopped (line_end w here)) new
-          → IsCounted (line_end w here) new
+          → IsCounted (line_end w here) (stopped (line_end w here)) new
       counted-stopped new = matched
-          (λ xs. AreReported step k now (line_turns k input w xs chosen) (stopped (line_end w xs)) new → IsCounted (line_end w xs) new)
+          (λ xs. AreReported step k now (line_turns k input w xs chosen) (stopped (line_end w xs)) new
+          → IsCounted (line_end w xs) (stopped (line_end w xs)) new)
           (λ is reported. walks.counted-stopped k matcher.meaning input step first bare w now so_far.reported
           (length gone + p) (length gone + q) so_far.inside.at at chosen is new reported)
 
       pub counted-over : (new : S) → AreReported step k now (line_turns k input w here chosen) all_true new
-          → is_over k (next_walk k w here chosen) chosen ≡ true → IsCounted (line_end w here) new
+          → is_over k (next_walk k w here chosen) chosen ≡ true → IsCounted (line_end w here) all_true new
       counted-over new = matched
           (λ xs. AreReported step k now (line_turns k input w xs chosen) all_true new
-          → is_over k (next_walk k w xs chosen) chosen ≡ true → IsCounted (line_end w xs) new)
+          → is_over k (next_walk k w xs chosen) chosen ≡ true → IsCounted (line_end w xs) all_true new)
           (λ is reported over. walks.counted-over k matcher.meaning input step first bare w now so_far.reported
           (length gone + p) (length gone + q) so_far.inside.at at chosen is new reported over)
 

@@ -1,14 +1,25 @@
--- A search of an input that isn't refused. The contract of a private function cites it.
-use Rattle.std.specs.Prelude.{◌⊎◌, ℕ, List, Result, Ok, Err}
-use Rattle.grep_definitions.specs.Settings.{Settings}
-use Rattle.grep_definitions.specs.Searches.{ErrorMakers, MatcherFacts, IsFault, IsSearchedAlong, IsUndecoded, searched_bytes}
+-- A search of an input that isn't refused. The contracts of private functions cite these definitions.
+use Rattle.std.specs.Prelude.{◌⊎◌, ℕ, List, Option, Result, Ok, Err}
+use Rattle.grep_decode.specs.Source.{ReadResult}
+use Rattle.grep_definitions.specs.DecodedInputs.{searched_bytes}
+use Rattle.grep_definitions.specs.ReaderSearches.{IsReaderFault, IsReaderRun}
+use Rattle.grep_definitions.specs.Settings.{SearcherState}
+use Rattle.grep_definitions.specs.Searches.{ErrorMakers, MatcherFacts, IsFault, IsSearchedAlong, IsUnsearched}
 use Rattle.grep_definitions.specs.SinkRuns.{Steps}
 
 module _ {S E F : Type 0} (step : Steps S E) (errors : ErrorMakers E) (matcher : MatcherFacts F) where
-  -- along the calls for its decoded bytes, or it ends in a fault, or there was no memory to decode it
-  abbrev pub IsInputSearched : Settings → List ℕ → S → Result (Unit {0}) E → S → Type 0
-  IsInputSearched settings input old (Ok u) new =
-      IsSearchedAlong step errors matcher settings (searched_bytes settings input) old (Ok u) new
-  IsInputSearched settings input old (Err e) new =
-      IsFault step errors matcher settings (searched_bytes settings input) old e new
-      ⊎ IsUndecoded errors settings input old e new
+  -- along the calls for its decoded bytes, or it ends in a fault, or the input wasn't decoded to its end
+  abbrev pub IsInputSearched : SearcherState → List ℕ → S → Result (Unit {0}) E → S → Type 0
+  IsInputSearched state input old (Ok u) new =
+      IsSearchedAlong step errors matcher state.settings (searched_bytes state.settings input) old (Ok u) new
+  IsInputSearched state input old (Err e) new =
+      IsFault step errors matcher state.settings (searched_bytes state.settings input) old e new
+      ⊎ IsUnsearched step errors matcher state input old e new
+
+  -- the same of a reader
+  abbrev pub IsSourceSearched : {R : Type 0} → (R → Option (List ℕ)) → (R → ReadResult → R → Type 0)
+      → SearcherState → R → S → Result (Unit {0}) E → R → S → Type 0
+  IsSourceSearched remaining read_step state reader old (Ok u) reader' new =
+      IsReaderRun remaining read_step step errors matcher state.settings reader old reader' new
+  IsSourceSearched remaining read_step state reader old (Err e) reader' new =
+      IsReaderFault remaining read_step step errors matcher state reader old e reader' new

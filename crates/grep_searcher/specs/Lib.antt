@@ -1,5 +1,7 @@
 pub mod Configs
 pub mod InputSearches
+pub mod Rolls
+pub mod SearchBuffers
 pub mod Walks
 pub mod Windows
 pub use Rattle.grep_definitions.specs.Settings
@@ -8,6 +10,9 @@ pub use Rattle.grep_definitions.specs.Below
 pub use Rattle.grep_definitions.specs.LineSearch
 pub use Rattle.grep_definitions.specs.SinkRuns
 pub use Rattle.grep_definitions.specs.Refusals
+pub use Rattle.grep_definitions.specs.DecodedInputs
+pub use Rattle.grep_definitions.specs.InputFronts
+pub use Rattle.grep_definitions.specs.ReadingFaults
 pub use Rattle.grep_definitions.specs.Searches
 pub use Rattle.grep_definitions.specs.ReaderSearches
 pub use Rattle.grep_definitions.specs.SearchLaws

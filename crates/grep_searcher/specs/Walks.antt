@@ -1,6 +1,7 @@
 -- The walk over the lines of some bytes: what it reports of the line that it is at, how that line moves it on, and what
 -- it comes to. The contracts of private functions cite these definitions; no public contract does.
-use Rattle.std.specs.Prelude.{◌≡◌, ℕ, ◌+◌, ◌-◌, ◌≤◌, Bool, not, ◌&&◌, ◌||◌, ◌==◌, if◌then◌else◌, nat_lt, List, [], ◌++◌, length, All}
+use Rattle.std.specs.Prelude.{◌≡◌, ℕ, ◌+◌, ◌-◌, ◌≤◌, Bool, not, ◌&&◌, ◌||◌, ◌==◌, if◌then◌else◌, nat_lt, List, []}
+use Rattle.std.specs.Prelude.{◌++◌, length, All}
 use Rattle.grep_matcher.specs.Terminators.{byte_of}
 use Rattle.grep_matcher.specs.Matching.{Meaning}
 use Rattle.grep_lines.specs.Positions.{IsLineStart}
@@ -57,10 +58,9 @@ IsCount all_true whole count = count ≡ whole
 IsCount (stopped end) whole count = count ≡ end
 IsCount (failed e) whole count = ⊥
 
--- the calls were made up to the first false or the last, and that is the byte count
+-- the calls were made up to the first false or the last, with this outcome, and that is the byte count
 pub record Counted {S E : Type 0} (step : Steps S E) (settings : Settings) (old : S) (turns : List Turn)
-    (whole count : ℕ) (new : S) : Type 0 where
-  pub outcome : Outcome E
+    (whole count : ℕ) (outcome : Outcome E) (new : S) : Type 0 where
   pub reported : AreReported step settings old turns outcome new
   pub is_count : IsCount outcome whole count
 
@@ -78,7 +78,8 @@ module _ (settings : Settings) (meaning : Meaning) (bytes : List ℕ) where
     pub low : w.reported_through ≤ w.line
     pub few : w.match_count ≤ w.line
 
-  -- a walk that goes on: which lines were reported, what is known of limit and stop, and that the turns so far have ended
+  -- a walk that goes on: which lines were reported, what is known of limit and stop, and that the turns so far have
+  -- ended
   pub record IsWalk (w : Walk) : Type 0 where
     pub placed : IsPlaced w
     pub near : IsNear settings meaning bytes w.reported_through w.line w.after_context_left

@@ -1,6 +1,6 @@
--- A walk over the lines of an input of which a window is shown. The contracts of private functions cite these definitions;
--- no public contract does.
-use Rattle.std.specs.Prelude.{◌≡◌, ℕ, ◌+◌, ◌-◌, ◌<◌, ◌≤◌, min, List, ◌++◌, length, slice_index}
+-- A walk over the lines of an input of which a window is shown. The contracts of private functions cite these
+-- definitions; no public contract does.
+use Rattle.std.specs.Prelude.{◌≡◌, ℕ, ◌+◌, ◌-◌, ◌≤◌, min, List, ◌++◌, length}
 use Rattle.grep_matcher.specs.Terminators.{byte_of}
 use Rattle.grep_matcher.specs.Lines.{lines}
 use Rattle.grep_matcher.specs.Matching.{Meaning}
@@ -9,10 +9,6 @@ use Rattle.grep_definitions.specs.Settings.{Settings}
 use Rattle.grep_definitions.specs.SinkRuns.{Steps}
 use Rattle.grep_searcher.specs.declared.searcher.walk.Walk.{Walk}
 use Rattle.grep_searcher.specs.Walks.{HasReported}
-
--- bytes that are empty or end in the terminator
-abbrev pub IsClosed : ℕ → List ℕ → Type 0
-IsClosed t bytes = 0 < length bytes → slice_index bytes (length bytes - 1) ≡ t
 
 -- a window shows bytes of the input, after those that are gone, and its lines are lines of the input
 pub record IsWindow (t : ℕ) (gone window input : List ℕ) : Type 0 where

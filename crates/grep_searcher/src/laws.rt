@@ -1,7 +1,7 @@
 //! Laws of the calls that a search makes, each the contract of a function that does nothing. The first
 //! ones are over the definition of those calls alone, the others say what a sink makes of them.
 ghost use Rattle.grep_definitions.specs.SinkFolds.{RunsFold, RunsFoldAll, RunsFoldMatches};
-ghost use Rattle.grep_definitions.specs.SinkFolds.{SearchesFail, ReaderSearchesFail};
+ghost use Rattle.grep_definitions.specs.SinkFolds.{SearchesFail, ReaderSearchesFail, KnownReadersRun};
 
 use crate::sink::Sink;
 use grep_decode::Source;
@@ -33,7 +33,7 @@ pub fn runs_fold_matches<S: Sink>()
 {}
 
 /// If the matcher never fails and the search isn't refused, an error that a search of a slice ended in
-/// is that of a step of the sink.
+/// is that of a step of the sink, or the slice has to be decoded and wasn't to its end.
 pub fn searches_fail<A: Allocator + Copy, M: Matcher, S: Sink>()
 where
     S::Error: SinkError<A>,
@@ -47,6 +47,17 @@ pub fn reader_searches_fail<A: Allocator + Copy, M: Matcher, R: Source, S: Sink>
 where
     S::Error: SinkError<A>,
     ensures { (matcher : M) → ReaderSearchesFail S.step
+        (record { is_message = S.Error.is_message; is_io = S.Error.is_io; is_config = S.Error.is_config })
+        (record { meaning = M.meaning matcher; fails = M.fails matcher; text_of = M.Error.output })
+        R.remaining R.step }
+{}
+
+/// A search of a reader that says which bytes remain, if it ended in `Ok`, is a run along the calls for
+/// the decoded bytes of them all, as a search of a slice is.
+pub fn known_readers_run<A: Allocator + Copy, M: Matcher, R: Source, S: Sink>()
+where
+    S::Error: SinkError<A>,
+    ensures { (matcher : M) → KnownReadersRun S.step
         (record { is_message = S.Error.is_message; is_io = S.Error.is_io; is_config = S.Error.is_config })
         (record { meaning = M.meaning matcher; fails = M.fails matcher; text_of = M.Error.output })
         R.remaining R.step }

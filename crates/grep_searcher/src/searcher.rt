@@ -1,29 +1,34 @@
 //! The searcher and its builder.
-ghost use Rattle.std.specs.Prelude.{◌≡◌, ℕ, true, None, Ok, IfOk, IfErr, IsOk, Result};
+ghost use Rattle.std.specs.Prelude.{◌≡◌, ℕ, true, false, List, Option, None, Ok, IfOk, IfErr, OnOk, OnErr, IsOk, Result};
 ghost use Rattle.std.specs.IoError.{error_kind};
 ghost use Rattle.std.specs.declared.io.Error.{Error};
 ghost use Rattle.std.specs.declared.io.ErrorKind.{ErrorKind};
 ghost use Rattle.grep_matcher.specs.Matching.{IsInfallible};
-ghost use Rattle.grep_definitions.specs.ReaderSearches.{IsReaderSearched, IsRead, IsUnread};
+ghost use Rattle.grep_matcher.specs.Terminators.{byte_of};
+ghost use Rattle.grep_definitions.specs.Below.{is_at};
+ghost use Rattle.grep_definitions.specs.DecodedInputs.{is_searched_unchanged};
+ghost use Rattle.grep_definitions.specs.ReaderSearches.{IsReaderSearched, IsUnread};
+ghost use Rattle.grep_definitions.specs.ReadingFaults.{IsUndecoded};
 ghost use Rattle.grep_definitions.specs.Refusals.{refusal_of};
-ghost use Rattle.grep_definitions.specs.Searches.{IsSearched, IsSearchedAlong, IsUndecoded};
-ghost use Rattle.grep_definitions.specs.Searches.{searched_bytes, is_searched_unchanged};
+ghost use Rattle.grep_definitions.specs.Searches.{IsSearched, IsSearchedAlong};
 ghost use Rattle.grep_definitions.specs.Settings.{default_settings};
 ghost use Rattle.grep_definitions.specs.SinkRuns.{NeverFails};
 ghost use Rattle.grep_searcher.specs.Configs.{settings_of};
 ghost use Rattle.grep_searcher.specs.InputSearches.{IsInputSearched};
+ghost use Rattle.grep_searcher.specs.SearchBuffers.{AreFitting};
 
+mod buffers;
 mod builder;
 mod queries;
-mod read;
+mod read_by_line;
 mod sink_lines;
 mod walk;
 
 use crate::config::Config;
-use crate::searcher::read::read_to_end;
+use crate::searcher::buffers::Buffers;
 use crate::sink::Sink;
 pub use builder::SearcherBuilder;
-use grep_decode::{Decoder, Source, label_of_mark};
+use grep_decode::{Source, label_of_mark};
 use grep_definitions::laws::unchanged_is_searched;
 use grep_matcher::Matcher;
 use grep_report::{ConfigError, SinkError, SinkFinish};
@@ -31,46 +36,56 @@ use std::alloc::{Allocator, Global};
 use std::io;
 use std::marker::Model;
 
-// How many bytes of its reader a searcher's decoder keeps.
-const DECODER_CAPACITY: usize = 8192;
-
 /// A search by line, as a `SearcherBuilder` configured it. It can be used for any number of searches; each begins anew.
 #[derive(Drop)]
 pub struct Searcher<A: Allocator + Copy = Global> {
     config: Config,
-    decoder: Decoder<A>,
+    buffers: Option<Buffers<A>>,
     alloc: A,
 }
 
 impl<A: Allocator + Copy> Model for Searcher<A> {
-    ghost use Rattle.std.specs.Prelude.{◌≡◌, true};
-    ghost use Rattle.grep_definitions.specs.Settings.{Settings};
+    ghost use Rattle.std.specs.Prelude.{◌≡◌, true, is_some, IfSome};
+    ghost use Rattle.grep_definitions.specs.Settings.{SearcherState};
+    ghost use Rattle.grep_matcher.specs.Terminators.{byte_of};
     ghost use Rattle.grep_searcher.specs.Configs.{settings_of};
+    ghost use Rattle.grep_searcher.specs.SearchBuffers.{AreFitting};
 
-    ghost Value = { Settings };
+    ghost Value = { SearcherState };
 
-    ghost view = { λ s. settings_of s.config };
+    ghost view = { λ s. record { settings = settings_of s.config; has_buffers = is_some s.buffers } };
 
     ghost invariant = { λ s.
-        s.config.passthru ≡ true → (s.config.after_context ≡ 0) × (s.config.before_context ≡ 0) };
+        (s.config.passthru ≡ true → (s.config.after_context ≡ 0) × (s.config.before_context ≡ 0))
+        × IfSome s.buffers (λ b.
+        AreFitting s.config.heap_limit (byte_of s.config.line_terminator) b.lines) };
 }
 
 impl<A: Allocator + Copy> Searcher<A> {
     /// The searcher with the default settings, those of `SearcherBuilder::new`. The only error is `Memory`, if there is
     /// none for its buffers.
     pub fn new(alloc: A) -> Result<Searcher<A>, ConfigError>
-        ensures settings { IfOk result (λ searcher. searcher ≡ default_settings) }
+        ensures settings { IfOk result (λ searcher. searcher ≡ record { settings = default_settings; has_buffers = true }) }
         ensures error { IfErr result (λ e. e ≡ ConfigError.Memory) }
     {
         SearcherBuilder::new().build(alloc)
     }
 
-    /// A searcher with the same settings and buffers of its own. The only error is `Memory`, if there is none for
-    /// its buffers.
+    /// A searcher with the same settings and buffers of its own. A clone of the searcher that a sink is lent during a
+    /// search gets its buffers when it is first searched with. The only error is `Memory`, if there is none for its
+    /// buffers.
     pub fn clone(&self) -> Result<Searcher<A>, ConfigError>
         ensures settings { IfOk result (λ searcher. searcher ≡ self.now) }
         ensures error { IfErr result (λ e. e ≡ ConfigError.Memory) }
+        ensures free { OnErr result (self.now.has_buffers ≡ true) }
     {
+        if self.buffers.is_none() {
+            return Ok(Searcher {
+                config: self.config,
+                buffers: None,
+                alloc: self.alloc,
+            });
+        }
         Searcher::of(self.alloc, self.config)
     }
 
@@ -78,13 +93,14 @@ impl<A: Allocator + Copy> Searcher<A> {
     pub(crate) fn of(alloc: A, config: Config) -> Result<Searcher<A>, ConfigError>
         requires { config.passthru ≡ true
             → (config.after_context ≡ 0) × (config.before_context ≡ 0) }
-        ensures settings { IfOk result (λ searcher. searcher ≡ settings_of config) }
+        ensures settings { IfOk result (λ searcher.
+            searcher ≡ record { settings = settings_of config; has_buffers = true }) }
         ensures error { IfErr result (λ e. e ≡ ConfigError.Memory) }
     {
-        match Decoder::new(alloc, DECODER_CAPACITY) {
-            Ok(decoder) => Ok(Searcher {
+        match Buffers::new(alloc, &config) {
+            Ok(buffers) => Ok(Searcher {
                 config,
-                decoder,
+                buffers: Some(buffers),
                 alloc,
             }),
             Err(_) => Err(ConfigError::Memory),
@@ -98,10 +114,10 @@ impl<A: Allocator + Copy> Searcher<A> {
     /// the calls that are defined, up to the first that doesn't return true, and after a false `finish` with the end of
     /// that turn. It ends in the sink's error, or in an error made of the matcher's; then `finish` isn't called.
     ///
-    /// What is searched are the decoded bytes. If a label is set, or a mark is looked for and is there, they are decoded
-    /// first; if there is no memory for them, the error is made of one of kind `OutOfMemory`, and the sink had no call.
-    /// Any other slice is searched as it is: that takes no memory, so it fails in no other way. The settings stay as
-    /// they were.
+    /// What is searched are the decoded bytes. If a label is set, or a mark is looked for and is there, the bytes
+    /// are searched as a reader's are, as `search_reader` says, with its errors but the reader's own. Any other
+    /// slice is searched as it is: that takes no memory, the heap limit is none for it, and it fails in no other
+    /// way. The settings stay as they were, and a searcher that has its buffers has them afterwards.
     pub fn search_slice<M: Matcher, S: Sink>(
         &mut self,
         matcher: M,
@@ -112,7 +128,9 @@ impl<A: Allocator + Copy> Searcher<A> {
         M: Drop,
         S::Error: SinkError<A>,
         requires { S.may_call sink.old }
-        ensures settings { self.new ≡ self.old }
+        ensures settings { self.new.settings ≡ self.old.settings }
+        ensures buffers { self.old.has_buffers ≡ true → self.new.has_buffers ≡ true }
+        ensures same { is_searched_unchanged self.old.settings bytes.now ≡ true → self.new ≡ self.old }
         ensures searched { IsSearched S.step
             (record {
               is_message = S.Error.is_message;
@@ -126,13 +144,9 @@ impl<A: Allocator + Copy> Searcher<A> {
             })
             self.old bytes.now sink.old result sink.new }
         ensures succeeds { NeverFails S.step S.may_call → IsInfallible (M.fails matcher)
-            → refusal_of self.old (M.meaning matcher) ≡ None → IfErr result (λ e. IsUndecoded
-            (record {
-              is_message = S.Error.is_message;
-              is_io = S.Error.is_io;
-              is_config = S.Error.is_config;
-            })
-            self.old bytes.now sink.old e sink.new) }
+            → refusal_of self.old.settings (M.meaning matcher) ≡ None
+            → IfErr result (λ e. (seen : Option (List ℕ)) × (error : Error)
+            × IsUndecoded self.old (M.meaning matcher) bytes.now seen error × S.Error.is_io error e) }
         ensures may_call { S.may_call sink.new }
     {
         match self.refusal(&matcher) {
@@ -141,12 +155,25 @@ impl<A: Allocator + Copy> Searcher<A> {
         }
     }
 
-    /// Reads a reader to its end, and searches its decoded bytes as `search_slice` does. The caller ensures that the
-    /// sink may be called.
+    /// Searches the decoded bytes of a reader, line by line as they come, in bounded memory, and reports to the sink
+    /// what it finds, as `search_slice` does. The caller ensures that the sink may be called.
     ///
-    /// A search that is refused reads nothing. If the reader fails, the error is made of its error, unchanged, and if
-    /// there is no memory for its bytes, of one of kind `OutOfMemory`; then the sink had no call. An interrupted read
-    /// isn't tried again. The bytes don't count against the heap limit.
+    /// `begin` comes before any read. The reader is read no further than the search needs: a false, the limit or a
+    /// stop ends it without another read, and so does an unterminated last line. A buffer shows whole lines; between
+    /// two reads it keeps at most as many of them as are reported before a match. It has 65,536 bytes at first, or
+    /// the heap limit if that is lower, and grows to the heap limit.
+    ///
+    /// A search that is refused reads nothing and makes no call. Any other error of reading comes after the reports
+    /// of the lines before it, and nothing follows. It is made of
+    /// - the reader's error, unchanged; an interrupted read isn't tried again;
+    /// - one of kind `Other`, if the heap limit is reached: a line that is longer than the limit, or as long and
+    ///   unterminated, or with the lines that are kept before it as long as the limit;
+    /// - one of kind `InvalidData`, if the decoded bytes are more than 2^64 - 1;
+    /// - one of kind `OutOfMemory`, if the buffer has to grow and can't, which it never does under a heap limit of
+    ///   at most 65,536; or if the searcher has no buffers, as a clone that was made in a sink, and there is no
+    ///   memory for them: then the sink had no call.
+    ///
+    /// The settings stay as they were, and a searcher that has its buffers has them afterwards, whatever comes.
     pub fn search_reader<M: Matcher, R: Source, S: Sink>(
         &mut self,
         matcher: M,
@@ -157,7 +184,9 @@ impl<A: Allocator + Copy> Searcher<A> {
         M: Drop,
         S::Error: SinkError<A>,
         requires { S.may_call sink.old }
-        ensures settings { self.new ≡ self.old }
+        ensures settings { self.new.settings ≡ self.old.settings }
+        ensures buffers { self.old.has_buffers ≡ true → self.new.has_buffers ≡ true }
+        ensures gets { OnOk result (self.new.has_buffers ≡ true) }
         ensures searched { IsReaderSearched R.remaining R.step S.step
             (record {
               is_message = S.Error.is_message;
@@ -171,50 +200,49 @@ impl<A: Allocator + Copy> Searcher<A> {
             })
             self.old reader.old sink.old result reader.new sink.new }
         ensures succeeds { NeverFails S.step S.may_call → IsInfallible (M.fails matcher)
-            → refusal_of self.old (M.meaning matcher) ≡ None
-            → IfErr result (λ e. (error : Error)
-            × IsUnread R.remaining R.step reader.old error reader.new × S.Error.is_io error e) }
+            → refusal_of self.old.settings (M.meaning matcher) ≡ None
+            → IfErr result (λ e. (seen : Option (List ℕ)) × (error : Error)
+            × IsUnread R.remaining R.step self.old (M.meaning matcher) reader.old seen error reader.new
+            × S.Error.is_io error e) }
         ensures may_call { S.may_call sink.new }
     {
         if let Some(refusal) = self.refusal(&matcher) {
             return Err(S::Error::error_config(self.alloc, refusal));
         }
-        match self.read(reader) {
-            Ok(bytes) => self.search_bytes(&matcher, &bytes, sink),
-            Err(error) => Err(S::Error::error_io(self.alloc, error)),
+        self.search_source(&matcher, reader, sink)
+    }
+
+    // Takes out the buffers, or makes them now if there are none. An error is one of kind `OutOfMemory`.
+    fn take_buffers(&mut self) -> io::Result<Buffers<A>>
+        ensures settings { self.new.settings ≡ self.old.settings }
+        ensures taken { self.new.has_buffers ≡ false }
+        ensures fitting { IfOk result (λ buffers. AreFitting self.new.settings.heap_limit
+            (byte_of self.new.settings.line_terminator) buffers.lines) }
+        ensures none { OnErr result (self.old.has_buffers ≡ false) }
+        ensures memory { IfErr result (λ e. error_kind e ≡ ErrorKind.OutOfMemory) }
+    {
+        if let Some(buffers) = self.buffers.take() {
+            return Ok(buffers);
+        }
+        match Buffers::new(self.alloc, &self.config) {
+            Ok(buffers) => Ok(buffers),
+            Err(_) => Err(io::Error::from(io::ErrorKind::OutOfMemory)),
         }
     }
 
-    // All that a reader gives, decoded. An error is the reader's own, or one of kind `OutOfMemory`.
-    fn read<R: Source>(&mut self, reader: &mut R) -> io::Result<Vec<u8, A>>
-        ensures settings { self.new ≡ self.old }
-        ensures read { IfOk result (λ bytes.
-            IsRead R.remaining R.step self.old reader.old bytes.items reader.new) }
-        ensures unread { IfErr result (λ e.
-            IsUnread R.remaining R.step reader.old e reader.new) }
+    // Puts back the buffers that a search took out.
+    fn put_back(&mut self, buffers: Buffers<A>)
+        requires { AreFitting self.old.settings.heap_limit
+            (byte_of self.old.settings.line_terminator) buffers.lines }
+        ensures { self.new ≡ record self.old { has_buffers = true } }
     {
-        let label = match self.config.encoding {
-            Some(encoding) => Some(encoding.label()),
-            None => None,
-        };
-        let sniff = self.config.bom_sniffing;
-        read_to_end(self.alloc, label, sniff, &mut self.decoder, reader)
-    }
-
-    // The decoded bytes of a slice. An error is one of kind `OutOfMemory`.
-    fn decode(&mut self, input: &[u8]) -> io::Result<Vec<u8, A>>
-        ensures settings { self.new ≡ self.old }
-        ensures text { IfOk result (λ text. text.items ≡ searched_bytes self.old input.now) }
-        ensures memory { IfErr result (λ e. error_kind e ≡ ErrorKind.OutOfMemory) }
-    {
-        let mut remaining = input;
-        self.read(&mut remaining)
+        self.buffers = Some(buffers);
     }
 
     // Whether a slice needs no decoding.
-    #[tactic(auto, unfolding(grep_definitions::specs::Searches::is_searched_unchanged))]
+    #[tactic(auto, unfolding(grep_definitions::specs::DecodedInputs::is_searched_unchanged))]
     fn is_searched_unchanged(&self, input: &[u8]) -> bool
-        ensures { result ≡ is_searched_unchanged self.now input.now }
+        ensures { result ≡ is_searched_unchanged self.now.settings input.now }
     {
         if self.config.encoding.is_some() {
             return false;
@@ -224,7 +252,7 @@ impl<A: Allocator + Copy> Searcher<A> {
 
     // Why a search is refused, if it is.
     fn refusal<M: Matcher>(&self, matcher: &M) -> Option<ConfigError>
-        ensures { result ≡ refusal_of self.now (M.meaning matcher.now) }
+        ensures { result ≡ refusal_of self.now.settings (M.meaning matcher.now) }
     {
         if self.config.heap_limit == Some(0) {
             return Some(ConfigError::SearchUnavailable);
@@ -247,8 +275,11 @@ impl<A: Allocator + Copy> Searcher<A> {
     ) -> Result<(), S::Error>
     where
         S::Error: SinkError<A>,
-        requires { S.may_call sink.old }
-        ensures settings { self.new ≡ self.old }
+        requires allowed { is_at 0 self.old.settings.heap_limit ≡ false }
+        requires may_call { S.may_call sink.old }
+        ensures settings { self.new.settings ≡ self.old.settings }
+        ensures buffers { self.old.has_buffers ≡ true → self.new.has_buffers ≡ true }
+        ensures same { is_searched_unchanged self.old.settings input.now ≡ true → self.new ≡ self.old }
         ensures searched { IsInputSearched S.step
             (record {
               is_message = S.Error.is_message;
@@ -262,23 +293,16 @@ impl<A: Allocator + Copy> Searcher<A> {
             })
             self.old input.now sink.old result sink.new }
         ensures succeeds { NeverFails S.step S.may_call → IsInfallible (M.fails matcher.now)
-            → IfErr result (λ e. IsUndecoded
-            (record {
-              is_message = S.Error.is_message;
-              is_io = S.Error.is_io;
-              is_config = S.Error.is_config;
-            })
-            self.old input.now sink.old e sink.new) }
+            → IfErr result (λ e. (seen : Option (List ℕ)) × (error : Error)
+            × IsUndecoded self.old (M.meaning matcher.now) input.now seen error × S.Error.is_io error e) }
         ensures may_call { S.may_call sink.new }
     {
         unchanged_is_searched();
         if self.is_searched_unchanged(input) {
             return self.search_bytes(matcher, input, sink);
         }
-        match self.decode(input) {
-            Ok(text) => self.search_bytes(matcher, &text, sink),
-            Err(error) => Err(S::Error::error_io(self.alloc, error)),
-        }
+        let mut source = input;
+        self.search_source(matcher, &mut source, sink)
     }
 
     // A search of decoded bytes that isn't refused.
@@ -302,7 +326,7 @@ impl<A: Allocator + Copy> Searcher<A> {
               fails = M.fails matcher.now;
               text_of = M.Error.output;
             })
-            self.now bytes.now sink.old result sink.new }
+            self.now.settings bytes.now sink.old result sink.new }
         ensures succeeds { NeverFails S.step S.may_call → IsInfallible (M.fails matcher.now)
             → IsOk result }
         ensures may_call { S.may_call sink.new }

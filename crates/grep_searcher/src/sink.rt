@@ -27,7 +27,7 @@ pub trait Sink {
     /// A search begins. Returns whether it goes on; an error is the sink's own.
     fn begin<A: Allocator + Copy>(&mut self, searcher: &Searcher<A>) -> Result<bool, Self::Error>
         requires { may_call self.old }
-        ensures step { step self.old searcher.now begins result self.new }
+        ensures step { step self.old searcher.now.settings begins result self.new }
         ensures may_call { may_call self.new };
 
     /// Selected lines, split as the searcher splits lines. Returns whether the search goes on; an error is the sink's
@@ -41,10 +41,10 @@ pub trait Sink {
         found: &SinkMatch<'_>,
     ) -> Result<bool, Self::Error>
         requires may_call { may_call self.old }
-        requires split { found.now.terminator ≡ byte_of searcher.now.line_terminator }
-        requires numbered { is_some found.now.line_number ≡ searcher.now.line_number }
+        requires split { found.now.terminator ≡ byte_of searcher.now.settings.line_terminator }
+        requires numbered { is_some found.now.line_number ≡ searcher.now.settings.line_number }
         requires fits { found.now.offset + length (match_bytes found.now) < 2 ^ 64 }
-        ensures step { step self.old searcher.now (match_call found.now) result self.new }
+        ensures step { step self.old searcher.now.settings (match_call found.now) result self.new }
         ensures may_call { may_call self.new };
 
     /// A line that isn't selected and is reported. Returns whether the search goes on; an error is the sink's own.
@@ -57,9 +57,9 @@ pub trait Sink {
         line: &SinkContext<'_>,
     ) -> Result<bool, Self::Error>
         requires may_call { may_call self.old }
-        requires numbered { is_some line.now.line_number ≡ searcher.now.line_number }
+        requires numbered { is_some line.now.line_number ≡ searcher.now.settings.line_number }
         requires fits { line.now.offset + length line.now.bytes < 2 ^ 64 }
-        ensures step { step self.old searcher.now (context_call line.now) result self.new }
+        ensures step { step self.old searcher.now.settings (context_call line.now) result self.new }
         ensures may_call { may_call self.new };
 
     /// Lines were left out since the last report. Returns whether the search goes on; an error is the sink's own.
@@ -68,7 +68,7 @@ pub trait Sink {
         searcher: &Searcher<A>,
     ) -> Result<bool, Self::Error>
         requires { may_call self.old }
-        ensures step { step self.old searcher.now breaks result self.new }
+        ensures step { step self.old searcher.now.settings breaks result self.new }
         ensures may_call { may_call self.new };
 
     /// The search ends. An error is the sink's own.
@@ -78,7 +78,7 @@ pub trait Sink {
         finish: &SinkFinish,
     ) -> Result<(), Self::Error>
         requires { may_call self.old }
-        ensures step { step self.old searcher.now (finish_call finish.now) (finish_result result)
+        ensures step { step self.old searcher.now.settings (finish_call finish.now) (finish_result result)
             self.new }
         ensures may_call { may_call self.new };
 }

@@ -26,10 +26,12 @@ module _ {W : Type 0} (contents : W → Option (List ℕ)) (settings : Settings)
     pub same_writer : new.writer.ghost_name ≡ old.writer.ghost_name
     pub written : Writes contents old.writer.now (text calls) (Ok tt) new.writer.now
     pub is_found : new.found ≡ (old.found || has_match calls)
+    pub has_failed : new.has_failed ≡ old.has_failed
 
   -- or the writer failed, after some first bytes of their text
   pub record IsCut (old : Printer W) (calls : List Turn) (e : SearchError Global) (new : Printer W) : Type 0 where
     pub same_writer : new.writer.ghost_name ≡ old.writer.ghost_name
+    pub has_failed : new.has_failed ≡ true
     pub error : Error
     pub is_io : e ≡ Io error
     pub written : Writes contents old.writer.now (text calls) (Err error) new.writer.now
@@ -42,7 +44,12 @@ module _ {W : Type 0} (contents : W → Option (List ℕ)) (settings : Settings)
 
   -- no call
   written-none : (old : Printer W) → AreWritten old [] old
-  written-none old = record { same_writer = refl; written = Writes-none contents old.writer.now; is_found = sym (or-false old.found) }
+  written-none old = record {
+    same_writer = refl;
+    written = Writes-none contents old.writer.now;
+    is_found = sym (or-false old.found);
+    has_failed = refl;
+  }
 
   -- a call, and then the others
   written-more : (old mid new : Printer W) (turn : Turn) (later : List Turn) → PrintsCall contents old turn.call true mid
@@ -52,6 +59,7 @@ module _ {W : Type 0} (contents : W → Option (List ℕ)) (settings : Settings)
     written = Writes-more contents old.writer.now mid.writer.now new.writer.now (call_text turn.call) (text later)
         (Ok tt) first.written rest.written;
     is_found = rest.is_found ∙ (ap (λ b. b || has_match later) first.found ∙ or_assoc old.found (is_match turn.call) (has_match later));
+    has_failed = rest.has_failed ∙ first.has_failed;
   }
 
   -- a call, and then one of the others that fails
@@ -59,6 +67,7 @@ module _ {W : Type 0} (contents : W → Option (List ℕ)) (settings : Settings)
       → PrintsCall contents old turn.call true mid → IsCut mid later e new → IsCut old (turn ∷ later) e new
   cut-more old mid new turn later e first rest = record {
     same_writer = rest.same_writer ∙ first.same_writer;
+    has_failed = rest.has_failed;
     error = rest.error;
     is_io = rest.is_io;
     written = Writes-more contents old.writer.now mid.writer.now new.writer.now (call_text turn.call) (text later)
@@ -81,6 +90,7 @@ module _ {W : Type 0} (contents : W → Option (List ℕ)) (settings : Settings)
   reported-written (turn ∷ later) old outcome new (inr (inr (e, is, fails))) = subst (λ o. IsOutcome old (turn ∷ later) o new) (sym is)
       (record {
         same_writer = fails.same_writer;
+        has_failed = fails.has_failed;
         error = fails.error;
         is_io = fails.is_io;
         written = Writes-cut contents old.writer.now new.writer.now (call_text turn.call) (text later) fails.error fails.written;
@@ -94,6 +104,7 @@ module _ {W : Type 0} (contents : W → Option (List ℕ)) (settings : Settings)
     written = subst (λ bytes. Writes contents old.writer.now bytes (Ok tt) new.writer.now) (append-nil (text calls))
         (Writes-more contents old.writer.now mid.writer.now new.writer.now (text calls) [] (Ok tt) all.written finish.written);
     is_found = finish.found ∙ (or-false mid.found ∙ all.is_found);
+    has_failed = finish.has_failed ∙ all.has_failed;
   }
 
   -- what a run along the calls leaves, by its result

@@ -1,46 +1,141 @@
 -- What a search of a reader with a printer has written.
-use Rattle.std.proofs.Common.{◌≡◌, ℕ, inl, inr, List, sym, ap, ◌∙◌, subst}
-use Rattle.std.specs.Prelude.{false, ◌||◌, Option, None, Result, Ok, Err, IfErr, OnOk, string_bytes}
+use Rattle.std.proofs.Common.{◌≡◌, ℕ, List, [], ◌++◌, refl, sym, ap, ◌∙◌, subst}
+use Rattle.std.specs.Prelude.{Bool, true, false, ◌||◌, Option, Some, None, Result, Ok, Err, IfErr, OnOk, string_bytes}
 use Rattle.std.specs.Global.{Global}
+use Rattle.std.specs.Io.KnownBytes.{Keeps, Consumes, IsAtEnd}
+use Rattle.std.specs.List.{concat}
 use Rattle.std.specs.declared.io.Error.{Error}
+use Rattle.grep_decode.specs.DecoderStates.{Calls}
 use Rattle.grep_decode.specs.Source.{ReadResult}
 use Rattle.grep_matcher.specs.Literals.{literal_meaning}
+use Rattle.grep_matcher.specs.Matching.{Meaning}
 use Rattle.grep_searcher.specs.declared.ConfigError.{ConfigError}
 use Rattle.grep_searcher.specs.declared.SearchError.{SearchError}
 use Rattle.grep_searcher.specs.declared.SearchError.TheVariants.{Io}
 use Rattle.grep_searcher.specs.SearchErrors.{IsOutOfMemory}
-use Rattle.grep_searcher.specs.Settings.{Settings}
-use Rattle.grep_searcher.specs.ReaderSearches.{IsReaderSearched, IsUnread}
-use Rattle.grep_searcher.specs.Searches.{ErrorMakers, MatcherFacts}
+use Rattle.grep_searcher.specs.Settings.{Settings, SearcherState}
+use Rattle.grep_searcher.specs.DecodedInputs.{searched_bytes, IsInput}
+use Rattle.grep_searcher.specs.ReaderSearches.{Taken, IsReaderSearched, IsUnread, of_buffers, of_search, of_reading}
+use Rattle.grep_searcher.specs.Searches.{ErrorMakers, MatcherFacts, HasReported}
 use Rattle.lgrep_cli.specs.OptionSettings.{settings_of_options}
 use Rattle.lgrep_cli.specs.Printers.{Prints}
-use Rattle.lgrep_cli.specs.ProgramRuns.{calls_of, IsPrinted, IsFailure, of_memory, of_reader, of_write}
-use Rattle.lgrep_cli.specs.Texts.{has_match}
+use Rattle.lgrep_cli.specs.ProgramRuns.{searcher_of, meaning_of, calls_of, Input, IsPrinted, IsPrintedWhole}
+use Rattle.lgrep_cli.specs.ProgramRuns.{IsFailure, of_memory, of_reader, of_write}
+use Rattle.lgrep_cli.specs.Texts.{text, has_match}
+use Rattle.lgrep_cli.specs.Writing.{Writer, Writes}
 use Rattle.lgrep_cli.specs.declared.options.Options.{Options}
 use Rattle.lgrep_cli.specs.declared.printer.Printer.{Printer}
-use Rattle.lgrep_cli.proofs.PrinterLemmas.{run-written, fault-written}
+use Rattle.lgrep_cli.specs.declared.writing.LastCall.TheVariants.{Flush}
+use Rattle.lgrep_cli.proofs.WritingLemmas.{Writes-kept}
+use Rattle.lgrep_cli.proofs.PrinterLemmas.{AreWritten, IsCut, reported-written, run-written, fault-written}
+
+-- an input with nothing after the pieces that came
+abbrev bytes_of : Settings → List (List ℕ) → List ℕ
+bytes_of settings pieces = searched_bytes settings (concat pieces ++ [])
+
+nothing-more : (settings : Settings) (ended : Bool) (pieces : List (List ℕ)) → IsInput settings ended pieces (bytes_of settings pieces)
+nothing-more settings ended pieces = ([], (λ _. refl), refl)
+
+-- an error is made of one error
+same-error : (e : SearchError Global) (a b : Error) → e ≡ Io a → e ≡ Io b → a ≡ b
+same-error e a b first second = cc
+
+-- a value isn't both true and false
+not-both : (b : Bool) → b ≡ true → b ≡ false → ⊥
+not-both b is isnt = let never : true ≡ false = sym is ∙ isnt in absurd (cc)
+
+-- a searcher that has its buffers isn't without memory for them
+never-without : {R : Type 0} → (remaining : R → Option (List ℕ)) (read_step : R → ReadResult → R → Type 0) (state : SearcherState)
+    (meaning : Meaning) (reader reader' : R) (error : Error) → state.has_buffers ≡ true
+    → IsUnread remaining read_step state meaning reader None error reader' → ⊥
+never-without remaining read_step state meaning reader reader' error has (of_buffers none kind) =
+    let never : true ≡ false = sym has ∙ none in absurd (cc)
+
+module _ {R W : Type 0} (remaining : R → Option (List ℕ)) (read_step : R → ReadResult → R → Type 0) (contents : W
+    → Option (List ℕ)) where
+  -- of a reader that says which bytes remain, whatever was taken
+  whole-input : (settings : Settings) (input : List ℕ) (reader reader' : R) → remaining reader ≡ Some input
+      → (taken : Taken remaining read_step reader reader')
+      → IsInput settings taken.ended taken.pieces (searched_bytes settings input)
+  whole-input settings input reader reader' all taken =
+      go taken.ended taken.pieces taken.calls (remaining reader') refl
+      (subst (λ left. Consumes left (remaining reader') (concat taken.pieces)) all taken.takes)
+    where
+      go : (ended : Bool) (pieces : List (List ℕ)) → Calls remaining read_step false ended reader pieces reader'
+          → (left : Option (List ℕ)) → remaining reader' ≡ left → Consumes (Some input) left (concat pieces)
+          → IsInput settings ended pieces (searched_bytes settings input)
+      go ended pieces calls None is takes = absurd takes
+      go false pieces calls (Some rest) is takes = (rest, (λ ended. absurd (cc)), ap (searched_bytes settings) takes)
+      go true pieces calls (Some rest) is takes = (rest, (λ ended. subst IsAtEnd is calls.3), ap (searched_bytes settings) takes)
+
+  -- what is printed for each input that begins with what was taken is printed for the reader's whole input
+  pub printed-whole : (options : Options) (reader : R) (writer : Writer W) (found : Bool) (reader' : R) (writer' : Writer W)
+      → IsPrinted remaining read_step contents options reader writer found reader' writer'
+      → IsPrintedWhole contents options (remaining reader) writer found writer'
+  printed-whole options reader writer found reader' writer' printed = go (remaining reader) refl
+    where
+      go : (left : Option (List ℕ)) → remaining reader ≡ left → IsPrintedWhole contents options left writer found writer'
+      go None is = tt
+      go (Some input) is =
+          let whole = whole-input (settings_of_options options) input reader reader' is printed.taken in (
+            printed.written (searched_bytes (settings_of_options options) input) whole,
+            printed.is_found (searched_bytes (settings_of_options options) input) whole,
+          )
 
 module _ {R W : Type 0} (remaining : R → Option (List ℕ)) (read_step : R → ReadResult → R → Type 0) (contents : W
     → Option (List ℕ)) (options : Options) (reader reader' : R) (old new : Printer W) where
-  -- what `print` ensures
+  -- a run ends in an error, with the writer in this state
+  abbrev Fails : SearchError Global → Writer W → Type 0
+  Fails e writer = IsFailure remaining read_step contents options reader old.writer.now e reader' writer
+
+  -- what a search leaves: on an error the writer failed, or a flush may follow
   pub record IsSearched (result : Result (Unit {0}) (SearchError Global)) : Type 0 where
     pub same_writer : new.writer.ghost_name ≡ old.writer.ghost_name
     pub printed : OnOk result (IsPrinted remaining read_step contents options reader old.writer.now new.found reader' new.writer.now)
-    pub failed : IfErr result (λ e. IsFailure remaining read_step contents options reader old.writer.now e reader' new.writer.now)
-
-  -- the reader's error, after which the writer is as it was
-  unread : (error : Error) (e : SearchError Global) → e ≡ Io error → IsUnread remaining read_step reader error reader' → new ≡ old
-      → IsFailure remaining read_step contents options reader old.writer.now e reader' new.writer.now
-  unread error e io fails same =
-      subst (λ x. IsFailure remaining read_step contents options reader old.writer.now x reader' new.writer.now) (sym io)
-      (subst (λ (p : Printer W). IsFailure remaining read_step contents options reader old.writer.now (Io error) reader' p.writer.now)
-      (sym same) (of_reader fails))
+    pub of_writer : IfErr result (λ e. new.has_failed ≡ true → Fails e new.writer.now)
+    pub of_reading : IfErr result (λ e. new.has_failed ≡ false → (writer : Writer W) (flushed : Result (Unit {0}) Error)
+        → Keeps (contents new.writer.now.inner) (contents writer.inner) → writer.last ≡ Flush flushed → Fails e writer)
 
   -- out of memory, before the reader and the writer had a call
   pub out_of_memory : (e : SearchError Global) → IsOutOfMemory e
       → IsFailure remaining read_step contents options reader old.writer.now e reader old.writer.now
   out_of_memory e (error, io, kind) =
       subst (λ x. IsFailure remaining read_step contents options reader old.writer.now x reader old.writer.now) (sym io) (of_memory kind)
+
+  -- the writer failed, whatever follows what was taken
+  cut : (e : SearchError Global) (taken : Taken remaining read_step reader reader')
+      → ((bytes : List ℕ) → Input options taken bytes
+      → IsCut contents (settings_of_options options) old (calls_of options bytes) e new)
+      → IsSearched (Err e)
+  cut e taken all =
+      let first = all (bytes_of (settings_of_options options) taken.pieces)
+      (nothing-more (settings_of_options options) taken.ended taken.pieces) in
+      record {
+        same_writer = first.same_writer;
+        printed = tt;
+        of_writer = λ failed. subst (λ x. Fails x new.writer.now) (sym first.is_io) (of_write taken (λ bytes input.
+            subst (λ error. Writes contents old.writer.now (text (calls_of options bytes)) (Err error) new.writer.now)
+            (same-error e (all bytes input).error first.error (all bytes input).is_io first.is_io) (all bytes input).written));
+        of_reading = λ ok. absurd (not-both new.has_failed first.has_failed ok);
+      }
+
+  -- the calls were made over some lines, and the input wasn't read to its end
+  unread : (seen : Option (List ℕ)) (error : Error) (e : SearchError Global) → e ≡ Io error → old.has_failed ≡ false
+      → IsUnread remaining read_step (searcher_of options) (meaning_of options) reader seen error reader'
+      → ((lines : List ℕ) → seen ≡ Some lines
+      → AreWritten contents (settings_of_options options) old (calls_of options lines) new)
+      → IsSearched (Err e)
+  unread None error e io none fails all =
+      absurd (never-without remaining read_step (searcher_of options) (meaning_of options) reader reader' error refl fails)
+  unread (Some seen) error e io none fails all =
+      let written = all seen refl in
+      record {
+        same_writer = written.same_writer;
+        printed = tt;
+        of_writer = λ failed. absurd (not-both new.has_failed failed (written.has_failed ∙ none));
+        of_reading = λ ok writer flushed kept last. subst (λ x. Fails x writer) (sym io) (of_reader seen flushed fails
+            (Writes-kept contents old.writer.now new.writer.now writer (text (calls_of options seen)) written.written kept) last);
+      }
 
   module _ {F : Type 0} (is_message : Option (List ℕ) → SearchError Global → Type 0)
       (is_config : ConfigError → SearchError Global → Type 0)
@@ -52,48 +147,58 @@ module _ {R W : Type 0} (remaining : R → Option (List ℕ)) (read_step : R →
     abbrev facts : List ℕ → MatcherFacts F
     facts literal = record { meaning = literal_meaning literal; fails = λ _ _. ⊥; text_of = text_of }
 
-    -- under the options' settings, with the matcher of their literal, no search is refused
-    searched : (result : Result (Unit {0}) (SearchError Global)) → old.found ≡ false
-        → IsReaderSearched remaining read_step (Prints contents) errors (facts (string_bytes options.literal))
-        (settings_of_options options) reader old result reader' new
-        → IsSearched result
-    searched (Ok u) none (is_valid, (bytes, read, run)) =
-        let all = run-written contents (settings_of_options options) (calls_of options bytes) _ None old (Ok u) new run in
-        record {
-          same_writer = all.same_writer;
-          printed = record {
-            bytes = bytes;
-            read = read;
-            written = all.written;
-            is_found = all.is_found ∙ ap (λ b. b || has_match (calls_of options bytes)) none;
-          };
-          failed = tt;
-        }
-    searched (Err e) none (inl (bytes, read, fault)) =
-        let cut = fault-written contents (settings_of_options options) errors (facts (string_bytes options.literal)) bytes
-        (λ _ _ h. h) old e new fault in
-        record {
-          same_writer = cut.same_writer;
-          printed = tt;
-          failed = subst (λ x. IsFailure remaining read_step contents options reader old.writer.now x reader' new.writer.now)
-              (sym cut.is_io)
-              (of_write bytes read cut.written);
-        }
-    searched (Err e) none (inr (error, fails, io, same)) = record {
-      same_writer = ap (λ (p : Printer W). p.writer.ghost_name) same;
-      printed = tt;
-      failed = unread error e io fails same;
+    -- the lines over which the calls were made
+    reported : (seen : Option (List ℕ)) → HasReported (Prints contents) errors (facts (string_bytes options.literal))
+        (settings_of_options options) seen old new → (lines : List ℕ) → seen ≡ Some lines
+        → AreWritten contents (settings_of_options options) old (calls_of options lines) new
+    reported None none lines is = absurd (cc)
+    reported (Some seen) made lines is =
+        subst (λ xs. AreWritten contents (settings_of_options options) old (calls_of options xs) new) (same seen lines is)
+        (reported-written contents (settings_of_options options) (calls_of options seen) old _ new made)
+      where
+        same : (xs ys : List ℕ) → Some xs ≡ Some ys → xs ≡ ys
+        same xs ys is = cc
+
+    -- the calls of a whole search
+    run : (taken : Taken remaining read_step reader reader')
+        → ((bytes : List ℕ) → Input options taken bytes
+        → AreWritten contents (settings_of_options options) old (calls_of options bytes) new)
+        → old.found ≡ false → IsSearched (Ok tt)
+    run taken all none = record {
+      same_writer = (all (bytes_of (settings_of_options options) taken.pieces)
+          (nothing-more (settings_of_options options) taken.ended taken.pieces)).same_writer;
+      printed = record {
+        taken = taken;
+        written = λ bytes input. (all bytes input).written;
+        is_found = λ bytes input. (all bytes input).is_found ∙ ap (λ b. b || has_match (calls_of options bytes)) none;
+      };
+      of_writer = tt;
+      of_reading = tt;
     }
 
-    -- the same, if the searcher and the matcher are known to be these
-    pub reader-searched : (settings : Settings) (literal : List ℕ) (result : Result (Unit {0}) (SearchError Global))
-        → settings ≡ settings_of_options options → literal ≡ string_bytes options.literal → old.found ≡ false
-        → IsReaderSearched remaining read_step (Prints contents) errors (facts literal) settings reader old result reader' new
+    -- under the options' settings, with the matcher of their literal, no search is refused
+    searched : (result : Result (Unit {0}) (SearchError Global)) → old.found ≡ false → old.has_failed ≡ false
+        → IsReaderSearched remaining read_step (Prints contents) errors (facts (string_bytes options.literal))
+        (searcher_of options) reader old result reader' new
         → IsSearched result
-    reader-searched settings literal result same_settings same_literal none search =
-        searched result none
+    searched (Ok u) none ok (is_valid, whole) =
+        run whole.taken (λ bytes input. run-written contents (settings_of_options options) (calls_of options bytes) _ None old
+        (Ok tt) new (whole.run bytes input)) none
+    searched (Err e) none ok (of_search taken seen fault all) =
+        cut e taken (λ bytes input. fault-written contents (settings_of_options options) errors
+        (facts (string_bytes options.literal)) bytes (λ _ _ h. h) old e new (all bytes input).1)
+    searched (Err e) none ok (of_reading seen error fails io made) = unread seen error e io ok fails (reported seen made)
+
+    -- the same, if the searcher and the matcher are known to be these
+    pub reader-searched : (state : SearcherState) (literal : List ℕ) (result : Result (Unit {0}) (SearchError Global))
+        → state ≡ searcher_of options → literal ≡ string_bytes options.literal → old.found ≡ false
+        → old.has_failed ≡ false
+        → IsReaderSearched remaining read_step (Prints contents) errors (facts literal) state reader old result reader' new
+        → IsSearched result
+    reader-searched state literal result same_state same_literal none ok search =
+        searched result none ok
         (subst (λ l. IsReaderSearched remaining read_step (Prints contents) errors (facts l)
-        (settings_of_options options) reader old result reader' new)
+        (searcher_of options) reader old result reader' new)
         same_literal
         (subst (λ s. IsReaderSearched remaining read_step (Prints contents) errors (facts literal) s reader old result reader' new)
-        same_settings search))
+        same_state search))

@@ -27,11 +27,13 @@ module _ {W : Type 0} (contents : W → Option (List ℕ)) where
     pub continues : goes_on ≡ true
     pub written : Writes contents old.writer.now (call_text call) (Ok tt) new.writer.now
     pub found : new.found ≡ (old.found || is_match call)
+    pub has_failed : new.has_failed ≡ old.has_failed
 
   -- a call that has a text fails with the writer's error, after some first bytes of the text
   pub record FailsAtCall (old : Printer W) (call : Call) (e : SearchError Global) (new : Printer W) : Type 0 where
     pub same_writer : new.writer.ghost_name ≡ old.writer.ghost_name
     pub has_text : is_written call ≡ true
+    pub has_failed : new.has_failed ≡ true
     pub error : Error
     pub is_io : e ≡ Io error
     pub written : Writes contents old.writer.now (call_text call) (Err error) new.writer.now

@@ -1,15 +1,18 @@
--- What a run of lgrep does: the decoded input is searched whole, and the text of the calls is written.
-use Rattle.std.specs.Prelude.{◌≡◌, ℕ, Bool, List, Option, Ok, Err, string_bytes}
+-- What a run of lgrep does: it searches what a reader gives, and writes the text of the calls.
+use Rattle.std.specs.Prelude.{◌≡◌, ℕ, Bool, true, List, Option, Some, None, Result, Ok, Err, string_bytes}
 use Rattle.std.specs.Global.{Global}
 use Rattle.std.specs.IoError.{error_kind}
 use Rattle.std.specs.declared.io.Error.{Error}
 use Rattle.std.specs.declared.io.ErrorKind.TheVariants.{OutOfMemory}
 use Rattle.grep_decode.specs.Source.{ReadResult}
 use Rattle.grep_matcher.specs.Literals.{literal_meaning}
+use Rattle.grep_matcher.specs.Matching.{Meaning}
 use Rattle.grep_searcher.specs.declared.SearchError.{SearchError}
 use Rattle.grep_searcher.specs.declared.SearchError.TheVariants.{Io}
+use Rattle.grep_searcher.specs.DecodedInputs.{IsInput, searched_bytes}
 use Rattle.grep_searcher.specs.SinkCalls.{Turn}
-use Rattle.grep_searcher.specs.ReaderSearches.{IsRead, IsUnread}
+use Rattle.grep_searcher.specs.Settings.{SearcherState}
+use Rattle.grep_searcher.specs.ReaderSearches.{Taken, IsUnread}
 use Rattle.grep_searcher.specs.LineSearch.{turns}
 use Rattle.lgrep_cli.specs.OptionSettings.{settings_of_options}
 use Rattle.lgrep_cli.specs.Texts.{text, has_match}
@@ -17,21 +20,43 @@ use Rattle.lgrep_cli.specs.Writing.{Writer, Writes}
 use Rattle.lgrep_cli.specs.declared.options.Options.{Options}
 use Rattle.lgrep_cli.specs.declared.writing.LastCall.TheVariants.{Flush}
 
+-- a searcher with the options' settings, and its buffers
+abbrev pub searcher_of : Options → SearcherState
+searcher_of options = record { settings = settings_of_options options; has_buffers = true }
+
+-- what the options' literal means
+abbrev pub meaning_of : Options → Meaning
+meaning_of options = literal_meaning (string_bytes options.literal)
+
 -- the calls that are defined for some input, of the literal under the options' settings
 abbrev pub calls_of : Options → List ℕ → List Turn
-calls_of options bytes =
-    turns (settings_of_options options) (literal_meaning (string_bytes options.literal)) bytes
+calls_of options bytes = turns (settings_of_options options) (meaning_of options) bytes
+
+-- the decoded bytes of an input that begins with what was taken of a reader, and ends there if the reader ended
+abbrev pub Input : {R : Type 0} {remaining : R → Option (List ℕ)} {read_step : R → ReadResult → R → Type 0} → Options
+    → {reader reader' : R} → Taken remaining read_step reader reader' → List ℕ → Type 0
+Input options taken bytes = IsInput (settings_of_options options) taken.ended taken.pieces bytes
+
+module _ {W : Type 0} (contents : W → Option (List ℕ)) where
+  -- if a reader says which bytes remain: the text of the calls for all of them, decoded, is written, and `found` is
+  -- whether one of the calls reports a match
+  abbrev pub IsPrintedWhole : Options → Option (List ℕ) → Writer W → Bool → Writer W → Type 0
+  IsPrintedWhole options None writer found writer' = Unit {0}
+  IsPrintedWhole options (Some input) writer found writer' =
+      Writes contents writer (text (calls_of options (searched_bytes (settings_of_options options) input))) (Ok tt)
+      writer'
+      × (found ≡ has_match (calls_of options (searched_bytes (settings_of_options options) input)))
 
 module _ {R W : Type 0} (remaining : R → Option (List ℕ)) (read_step : R → ReadResult → R → Type 0)
     (contents : W → Option (List ℕ)) where
-  -- these are the decoded bytes of what the reader gave, to its end; the text of their calls is written; and `found` is whether one
-  -- of the calls reports a match
+  -- this was taken of the reader. Whatever follows it, the text of the calls is written, and `found` is whether one of
+  -- the calls reports a match
   pub record IsPrinted (options : Options) (reader : R) (writer : Writer W) (found : Bool) (reader' : R)
       (writer' : Writer W) : Type 0 where
-    pub bytes : List ℕ
-    pub read : IsRead remaining read_step (settings_of_options options) reader bytes reader'
-    pub written : Writes contents writer (text (calls_of options bytes)) (Ok tt) writer'
-    pub is_found : found ≡ has_match (calls_of options bytes)
+    pub taken : Taken remaining read_step reader reader'
+    pub written : (bytes : List ℕ) → Input options taken bytes
+        → Writes contents writer (text (calls_of options bytes)) (Ok tt) writer'
+    pub is_found : (bytes : List ℕ) → Input options taken bytes → found ≡ has_match (calls_of options bytes)
 
   -- why a run failed with an error
   pub data IsFailure (options : Options) (reader : R) (writer : Writer W) : SearchError Global → R → Writer W
@@ -39,18 +64,22 @@ module _ {R W : Type 0} (remaining : R → Option (List ℕ)) (read_step : R →
     -- there was no memory to begin with, and neither the reader nor the writer had a call
     of_memory : {error : Error} → error_kind error ≡ OutOfMemory
         → IsFailure options reader writer (Io error) reader writer
-    -- the reader failed with this error, or there was no memory for what it gives, and the writer had no call
-    of_reader : {error : Error} {reader' : R} → IsUnread remaining read_step reader error reader'
-        → IsFailure options reader writer (Io error) reader' writer
-    -- these are the decoded bytes of what the reader gave, to its end, and the writer failed with this error: the
-    -- text of their calls is written as far as some first bytes
-    of_write : {error : Error} {reader' : R} {writer' : Writer W} → (bytes : List ℕ)
-        → IsRead remaining read_step (settings_of_options options) reader bytes reader'
-        → Writes contents writer (text (calls_of options bytes)) (Err error) writer'
+    -- by this error the input wasn't read to its end: the text of the calls over the lines that were seen is written,
+    -- and the last call was a flush, whatever it returned
+    of_reader : {error : Error} {reader' : R} {writer' : Writer W} (seen : List ℕ) (flushed : Result (Unit {0}) Error)
+        → IsUnread remaining read_step (searcher_of options) (meaning_of options) reader (Some seen) error reader'
+        → Writes contents writer (text (calls_of options seen)) (Ok tt) writer'
+        → writer'.last ≡ Flush flushed
         → IsFailure options reader writer (Io error) reader' writer'
-    -- all is written, and the flush failed with this error
-    of_flush : {error : Error} {reader' : R} {writer' : Writer W} → (bytes : List ℕ)
-        → IsRead remaining read_step (settings_of_options options) reader bytes reader'
-        → Writes contents writer (text (calls_of options bytes)) (Ok tt) writer'
+    -- the writer failed with this error. Whatever follows what was taken of the reader, the text of the calls is
+    -- written as far as some first bytes
+    of_write : {error : Error} {reader' : R} {writer' : Writer W} (taken : Taken remaining read_step reader reader')
+        → ((bytes : List ℕ) → Input options taken bytes
+        → Writes contents writer (text (calls_of options bytes)) (Err error) writer')
+        → IsFailure options reader writer (Io error) reader' writer'
+    -- whatever follows what was taken of the reader, all is written, and the flush failed with this error
+    of_flush : {error : Error} {reader' : R} {writer' : Writer W} (taken : Taken remaining read_step reader reader')
+        → ((bytes : List ℕ) → Input options taken bytes
+        → Writes contents writer (text (calls_of options bytes)) (Ok tt) writer')
         → writer'.last ≡ Flush (Err error)
         → IsFailure options reader writer (Io error) reader' writer'

@@ -11,11 +11,12 @@ use std::alloc::Allocator;
 use std::io;
 use std::io::Write;
 
-// Writes the lines that are reported, and keeps whether one of them was a match.
+// Writes the lines that are reported, and keeps whether one of them was a match, and whether the writer failed.
 #[derive(Drop)]
 pub(crate) struct Printer<'w, W> {
     pub(crate) writer: &'w mut Writing<W>,
     pub(crate) found: bool,
+    pub(crate) has_failed: bool,
 }
 
 impl<'w, W: Write> Printer<'w, W> {
@@ -24,10 +25,27 @@ impl<'w, W: Write> Printer<'w, W> {
         ensures same_writer { result.writer.ghost_name ≡ writer.entry.ghost_name }
         ensures writer { result.writer.now ≡ writer.entry.now }
         ensures found { result.found ≡ false }
+        ensures has_failed { result.has_failed ≡ false }
     {
         Printer {
             writer,
             found: false,
+            has_failed: false,
+        }
+    }
+
+    // What a call returns, by how its text was written.
+    fn returned(&mut self, written: io::Result<()>) -> Result<bool, SearchError>
+        ensures { MatchResult written
+            (λ _. (result ≡ Ok true) × (self.new ≡ self.old))
+            (λ error. (result ≡ Err (SearchError.Io error)) × (self.new ≡ record self.old { has_failed = true })) }
+    {
+        match written {
+            Ok(()) => Ok(true),
+            Err(error) => {
+                self.has_failed = true;
+                Err(SearchError::Io(error))
+            }
         }
     }
 }
@@ -51,7 +69,8 @@ impl<'w, W: Write> Sink for Printer<'w, W> {
         found: &SinkMatch<'_>,
     ) -> Result<bool, SearchError> {
         self.found = true;
-        returned(write_lines(self.writer, found.line_number(), found.bytes()))
+        let written = write_lines(self.writer, found.line_number(), found.bytes());
+        self.returned(written)
     }
 
     fn context<A: Allocator + Copy>(
@@ -59,14 +78,16 @@ impl<'w, W: Write> Sink for Printer<'w, W> {
         _searcher: &Searcher<A>,
         line: &SinkContext<'_>,
     ) -> Result<bool, SearchError> {
-        returned(write_line(self.writer, line.line_number(), b'-', line.bytes()))
+        let written = write_line(self.writer, line.line_number(), b'-', line.bytes());
+        self.returned(written)
     }
 
     fn context_break<A: Allocator + Copy>(
         &mut self,
         _searcher: &Searcher<A>,
     ) -> Result<bool, SearchError> {
-        returned(self.writer.write_all(b"--\n"))
+        let written = self.writer.write_all(b"--\n");
+        self.returned(written)
     }
 
     fn finish<A: Allocator + Copy>(
@@ -75,17 +96,6 @@ impl<'w, W: Write> Sink for Printer<'w, W> {
         _finish: &SinkFinish,
     ) -> Result<(), SearchError> {
         Ok(())
-    }
-}
-
-// What a call returns, by how its text was written.
-fn returned(written: io::Result<()>) -> Result<bool, SearchError>
-    ensures { MatchResult written (λ _. result ≡ Ok true)
-        (λ error. result ≡ Err (SearchError.Io error)) }
-{
-    match written {
-        Ok(()) => Ok(true),
-        Err(error) => Err(SearchError::Io(error)),
     }
 }
 

@@ -1,8 +1,8 @@
 //! A search of a reader, with the text of its lines written.
-ghost use Rattle.std.specs.Prelude.{◌≡◌, false, Ok, OnOk, IfOk, IfErr, string_bytes};
+ghost use Rattle.std.specs.Prelude.{◌≡◌, true, false, Ok, OnOk, IfOk, IfErr, string_bytes};
 ghost use Rattle.lgrep_cli.specs.OptionSettings.{settings_of_options};
 ghost use Rattle.grep_searcher.specs.SearchErrors.{IsOutOfMemory};
-ghost use Rattle.lgrep_cli.specs.ProgramRuns.{IsPrinted, IsFailure};
+ghost use Rattle.lgrep_cli.specs.ProgramRuns.{IsPrinted, IsPrintedWhole, IsFailure};
 
 use crate::options::Options;
 use crate::printer::Printer;
@@ -13,12 +13,14 @@ use std::alloc::Global;
 use std::io;
 use std::io::Write;
 
-/// Searches what a reader gives, writes the text of what is found, flushes the writer, and returns whether a match
-/// was reported.
+/// Searches what a reader gives, line by line as it comes, writes the text of what is found, flushes the writer, and
+/// returns whether a match was reported. The reader is read no further than the search needs.
 ///
 /// An error is a `SearchError::Io`:
-/// - of kind `OutOfMemory`, if there is no memory for the search or for the input: nothing is written;
-/// - the reader's own: nothing is written;
+/// - of kind `OutOfMemory`, if there is no memory for the search: nothing is read or written;
+/// - an error of reading: the reader's own, or of kind `OutOfMemory`, if there is no memory for a line that is longer
+///   than the buffer, or of kind `InvalidData`, if the decoded input is longer than 2^64 - 1 bytes. The text of the
+///   lines before it is written, and the writer is flushed; if that fails too, the error of reading is returned;
 /// - what the writer's last call returned, or of kind `WriteZero` if that call took nothing: at a write, after some
 ///   first bytes of the text, or at the flush, after all of it.
 pub fn run<R: Source, W: Write>(
@@ -29,6 +31,8 @@ pub fn run<R: Source, W: Write>(
 ) -> Result<bool, SearchError>
     ensures printed { IfOk result (λ found. IsPrinted R.remaining R.step W.contents options.now
         reader.old writer.old found reader.new writer.new) }
+    ensures whole { IfOk result (λ found. IsPrintedWhole W.contents options.now (R.remaining reader.old)
+        writer.old found writer.new) }
     ensures flushed { OnOk result (writer.new.last ≡ LastCall.Flush (Ok tt)) }
     ensures failed { IfErr result (λ error. IsFailure R.remaining R.step W.contents options.now
         reader.old writer.old error reader.new writer.new) }
@@ -42,14 +46,16 @@ pub fn run<R: Source, W: Write>(
     }
 }
 
-// Searches what a reader gives with a printer to which nothing is reported yet.
+// Searches what a reader gives with a printer to which nothing is reported yet. After an error of reading the writer is
+// flushed.
 fn print<R: Source, W: Write>(
     alloc: Global,
     options: &Options,
     reader: &mut R,
     printer: &mut Printer<'_, W>,
 ) -> Result<(), SearchError>
-    requires { printer.old.found ≡ false }
+    requires found { printer.old.found ≡ false }
+    requires has_failed { printer.old.has_failed ≡ false }
     ensures same_writer { printer.new.writer.ghost_name ≡ printer.old.writer.ghost_name }
     ensures printed { OnOk result (IsPrinted R.remaining R.step W.contents options.now
         reader.old printer.old.writer.now printer.new.found reader.new printer.new.writer.now) }
@@ -58,12 +64,21 @@ fn print<R: Source, W: Write>(
 {
     let mut searcher = searcher(alloc, options)?;
     let matcher = matcher(alloc, options)?;
-    searcher.search_reader(matcher, reader, printer)
+    match searcher.search_reader(matcher, reader, printer) {
+        Ok(()) => Ok(()),
+        Err(error) if printer.has_failed => Err(error),
+        Err(error) => {
+            // Whatever the flush returns, the error of reading came first.
+            let _ = printer.writer.flush();
+            Err(error)
+        }
+    }
 }
 
 // A searcher with the settings of the options.
 fn searcher(alloc: Global, options: &Options) -> Result<Searcher, SearchError>
-    ensures settings { IfOk result (λ searcher. searcher ≡ settings_of_options options.now) }
+    ensures settings { IfOk result (λ searcher.
+        searcher ≡ record { settings = settings_of_options options.now; has_buffers = true }) }
     ensures memory { IfErr result IsOutOfMemory }
 {
     SearcherBuilder::new()

@@ -235,7 +235,7 @@ fn returns_the_error_of_the_writer(rt: HostRuntime) {
     }
 }
 
-// Gives a matching line, and then fails.
+// Gives a matching line and the front of another, and then fails.
 #[derive(Drop)]
 struct Cut {
     is_read: bool,
@@ -253,17 +253,17 @@ impl Source for Cut {
             return Err(io::Error::from(io::ErrorKind::ConnectionReset));
         }
         self.is_read = true;
-        let line = b"a\n";
-        let count = line.len().min(buffer.len());
-        buffer[..count].copy_from_slice(&line[..count]);
+        let front = b"a\na";
+        let count = front.len().min(buffer.len());
+        buffer[..count].copy_from_slice(&front[..count]);
         Ok(count)
     }
 }
 
 #[test]
-fn writes_nothing_if_a_read_fails(rt: HostRuntime) {
+fn writes_the_lines_before_a_read_that_fails(rt: HostRuntime) {
     let mut writer = Writing::new(Vec::new(rt.alloc()));
     let ended = search(rt.alloc(), "a", &mut Cut { is_read: false }, &mut writer);
     assert!(rt; is_fault(ended, io::ErrorKind::ConnectionReset));
-    assert!(rt; writer.into_inner().is_empty());
+    assert!(rt; writer.into_inner().as_slice() == b"1:a\n".as_slice());
 }

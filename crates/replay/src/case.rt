@@ -14,8 +14,7 @@ pub(crate) enum CaseError {
     Malformed,
     /// The label of `enc` isn't one of an encoding that is known.
     UnknownEncoding,
-    /// `multi` or `bin`, for which there is no setting yet, has another value than its default,
-    /// or a reader is to be searched under a heap limit above 0, which has no effect there yet.
+    /// `multi` or `bin`, for which there is no setting yet, has another value than its default.
     Unsupported,
     /// There was no memory for the input, a literal or a label.
     OutOfMemory,
@@ -112,8 +111,6 @@ pub(crate) struct Options {
     pub(crate) settings: SearcherBuilder,
     // whether every field for which there is no setting has its default
     is_supported: bool,
-    // whether the settings have a heap limit above 0
-    has_heap: bool,
 }
 
 /// A search that is to be made.
@@ -221,7 +218,6 @@ impl Options {
             fail_at: None,
             settings: SearcherBuilder::new(),
             is_supported: true,
-            has_heap: false,
         }
     }
 
@@ -231,7 +227,6 @@ impl Options {
             "err_at" => self.error_at = ordinal(value)?,
             "false_at" => self.false_at = ordinal(value)?,
             "fail_at" => self.fail_at = ordinal(value)?,
-            "heap" => self.limit_heap(limit(value)?),
             "multi" => self.support(value == "0"),
             "bin" => self.support(value == "none"),
             "enc" => self.encode(encoding(alloc, value)?),
@@ -254,11 +249,6 @@ impl Options {
         Ok(())
     }
 
-    fn limit_heap(&mut self, bytes: Option<usize>) {
-        self.settings.heap_limit(bytes);
-        self.has_heap = bytes.is_some_and(|bytes| bytes > 0);
-    }
-
     fn encode(&mut self, encoding: Option<Encoding>) {
         self.settings.encoding(encoding);
     }
@@ -269,8 +259,7 @@ impl Options {
 
     // Refuses what can't be run yet.
     fn check(&self) -> Result<(), CaseError> {
-        let is_limited_reader = matches!(self.mode, Mode::Reader) && self.has_heap;
-        if !self.is_supported || is_limited_reader {
+        if !self.is_supported {
             return Err(CaseError::Unsupported);
         }
         Ok(())
@@ -288,6 +277,7 @@ fn configure(settings: &mut SearcherBuilder, key: &str, value: &str) -> Result<(
         "passthru" => settings.passthru(flag(value)?),
         "bom" => settings.bom_sniffing(flag(value)?),
         "stop" => settings.stop_on_nonmatch(flag(value)?),
+        "heap" => settings.heap_limit(limit(value)?),
         "max" => settings.max_matches(limit(value)?),
         _ => return Err(CaseError::Malformed),
     };

@@ -60,12 +60,21 @@ fn search_fault(error: &SearchError) -> &'static str {
     match error {
         SearchError::Message(text) if text.as_str() == RECORDER_MESSAGE => "sink",
         SearchError::Message(_) => "matcher",
-        SearchError::Io(error) if error.kind() == io::ErrorKind::OutOfMemory => "memory",
-        SearchError::Io(_) => "read",
+        SearchError::Io(error) => io_fault(error.kind()),
         SearchError::Config(ConfigError::SearchUnavailable) => "unavailable",
         SearchError::Config(ConfigError::MismatchedLineTerminators { .. }) => "mismatch",
         SearchError::Config(ConfigError::Memory) => "memory",
         SearchError::Config(_) => "unsupported",
+    }
+}
+
+// Why a search failed that ended in an error of this kind. The error of a reader has another kind than these.
+fn io_fault(kind: io::ErrorKind) -> &'static str {
+    match kind {
+        io::ErrorKind::Other => "heap",
+        io::ErrorKind::InvalidData => "offset",
+        io::ErrorKind::OutOfMemory => "memory",
+        _ => "read",
     }
 }
 
@@ -131,7 +140,7 @@ fn search_with<M: Matcher + Drop>(
         Mode::Reader => {
             let fault = options
                 .error_at
-                .map(|read| (read, io::Error::from(io::ErrorKind::Other)));
+                .map(|read| (read, io::Error::from(io::ErrorKind::TimedOut)));
             let mut reader = Pieces::new(input, options.piece, fault);
             searcher.search_reader(matcher, &mut reader, recorder)
         }

@@ -4,20 +4,21 @@ use crate::tally::{Tally, Totals};
 use grep_decode::{Reading, Source};
 use grep_matcher::LiteralMatcher;
 use grep_searcher::{ConfigError, SearchError, Searcher, SearcherBuilder};
-use grep_testing::{Empty, Pieces, Recorder};
+use grep_testing::{Pieces, Recorder};
 use std::alloc::Global;
 use std::io;
 use std::io::ErrorKind;
 use std::process::Abort;
 use std::test::Fail;
 
-// How many bytes a read gives at most, the read that fails, counted from 1, and the kind of its error.
-const FAULT_ROWS: &[(usize, u64, ErrorKind)] = &[
-    (8, 1, ErrorKind::Interrupted),
-    (8, 1, ErrorKind::BrokenPipe),
-    (1, 2, ErrorKind::TimedOut),
-    (2, 3, ErrorKind::Interrupted),
-    (8, 2, ErrorKind::UnexpectedEof),
+// How many bytes a read gives at most, the read that fails, counted from 1, the kind of its error, and the calls of the
+// sink: the first three bytes are read ahead, and lines that came whole before the error are reported.
+const FAULT_ROWS: &[(usize, u64, ErrorKind, &str)] = &[
+    (8, 1, ErrorKind::Interrupted, "begin;"),
+    (8, 1, ErrorKind::BrokenPipe, "begin;"),
+    (1, 2, ErrorKind::TimedOut, "begin;"),
+    (2, 3, ErrorKind::Interrupted, "begin;match 1 0 610a;"),
+    (8, 2, ErrorKind::UnexpectedEof, "begin;match 1 0 610a;"),
 ];
 
 // The error of such a row.
@@ -27,20 +28,19 @@ fn cut(kind: ErrorKind) -> io::Error {
 
 const CUT: &str = "the line was cut";
 
-// The error of its reader in which a search ends that makes no call of its sink.
-fn fault_of<R: Source>(alloc: Global, reader: &mut R) -> Option<io::Error> {
-    let mut searcher = Searcher::new(alloc).ok()?;
+// The error of its reader in which a search for the literal `a` ends, after these calls of its sink.
+fn fault_of<R: Source>(alloc: Global, reader: &mut R, calls: &str) -> Option<io::Error> {
     let mut recorder = Recorder::new(alloc, None, None);
-    let ended = search_reader(&mut searcher, &Empty, reader, &mut recorder);
+    let ended = search_reader_for_a(alloc, reader, &mut recorder);
     match ended {
-        Err(SearchError::Io(fault)) if recorder.text().is_empty() => Some(fault),
+        Err(SearchError::Io(fault)) if recorder.text() == calls => Some(fault),
         _ => None,
     }
 }
 
-// Whether a search makes no call of its sink, and ends in the error of a row.
-fn is_cut<R: Source>(alloc: Global, reader: &mut R, kind: ErrorKind) -> bool {
-    let Some(fault) = fault_of(alloc, reader) else {
+// Whether a search makes these calls of its sink, and ends in the error of a row.
+fn is_cut<R: Source>(alloc: Global, reader: &mut R, kind: ErrorKind, calls: &str) -> bool {
+    let Some(fault) = fault_of(alloc, reader, calls) else {
         return false;
     };
     match format!(in alloc; "{fault}") {
@@ -51,11 +51,11 @@ fn is_cut<R: Source>(alloc: Global, reader: &mut R, kind: ErrorKind) -> bool {
 
 #[test]
 fn faults(rt: HostRuntime) {
-    for (piece, read, kind) in FAULT_ROWS {
+    for (piece, read, kind, calls) in FAULT_ROWS {
         let fault = Some((*read, cut(*kind)));
         let mut reader = Pieces::new(b"a\na\n", *piece, fault);
         assert!(rt;
-            is_cut(rt.alloc(), &mut reader, *kind) && reader.reads() == *read,
+            is_cut(rt.alloc(), &mut reader, *kind, calls) && reader.reads() == *read,
             "{kind:?} at read {read}"
         );
     }
@@ -63,11 +63,11 @@ fn faults(rt: HostRuntime) {
 
 #[test]
 fn faults_of_standard_readers(rt: HostRuntime) {
-    for (piece, read, kind) in FAULT_ROWS {
+    for (piece, read, kind, calls) in FAULT_ROWS {
         let fault = Some((*read, cut(*kind)));
         let mut reader = Reading::new(Pieces::new(b"a\na\n", *piece, fault));
         assert!(rt;
-            is_cut(rt.alloc(), &mut reader, *kind) && reader.into_inner().reads() == *read,
+            is_cut(rt.alloc(), &mut reader, *kind, calls) && reader.into_inner().reads() == *read,
             "{kind:?} at read {read}"
         );
     }
@@ -107,18 +107,34 @@ fn a_standard_reader_is_asked_once(rt: HostRuntime) {
     assert!(rt; reader.into_inner().reads() == 5);
 }
 
-// A searcher with a heap limit of one byte.
-fn limited(alloc: Global) -> Result<Searcher, ConfigError> {
-    SearcherBuilder::new().heap_limit(Some(1)).build(alloc)
+// A heap limit in bytes, and how many matches there are at most.
+type Limits = (usize, Option<u64>);
+
+// A searcher with these limits.
+fn limited(alloc: Global, limits: Limits) -> Result<Searcher, ConfigError> {
+    SearcherBuilder::new()
+        .heap_limit(Some(limits.0))
+        .max_matches(limits.1)
+        .build(alloc)
 }
 
 // Whether these are the calls of its search for the literal `a`.
-fn has_calls<R: Source>(alloc: Global, reader: &mut R, calls: &str) -> Result<bool, SearchError> {
-    let mut searcher = limited(alloc)?;
+fn has_calls<R: Source>(
+    alloc: Global,
+    limits: Limits,
+    reader: &mut R,
+    calls: &str,
+) -> Result<bool, SearchError> {
+    let mut searcher = limited(alloc, limits)?;
     let mut recorder = Recorder::new(alloc, None, None);
     let matcher = LiteralMatcher::borrowed(b"a");
     search_reader(&mut searcher, matcher, reader, &mut recorder)?;
     Ok(recorder.text() == calls)
+}
+
+// Whether a search of `b\na\n` under a heap limit of two bytes finds the second line.
+fn finds_second<R: Source>(alloc: Global, reader: &mut R) -> Result<bool, SearchError> {
+    has_calls(alloc, (2, None), reader, "begin;match 2 2 610a;finish 4 -;")
 }
 
 #[test]
@@ -126,8 +142,7 @@ fn standard_readers(rt: HostRuntime) -> Result<(), Fail> {
     for piece in [1, 4, 0] {
         let mut reader = Reading::new(Pieces::new(b"b\na\n", piece, None));
         assert!(rt;
-            has_calls(rt.alloc(), &mut reader, "begin;match 2 2 610a;finish 4 -;")?
-                && reader.into_inner().rest().is_empty(),
+            finds_second(rt.alloc(), &mut reader)? && reader.into_inner().rest().is_empty(),
             "in pieces of {piece}"
         );
     }
@@ -137,8 +152,69 @@ fn standard_readers(rt: HostRuntime) -> Result<(), Fail> {
 #[test]
 fn a_slice_as_a_reader(rt: HostRuntime) -> Result<(), Fail> {
     let mut slice: &[u8] = b"b\na\n";
-    assert!(rt; has_calls(rt.alloc(), &mut slice, "begin;match 2 2 610a;finish 4 -;")?);
+    assert!(rt; finds_second(rt.alloc(), &mut slice)?);
     assert!(rt; slice.is_empty(), "a slice that was read has no bytes");
+    Ok(())
+}
+
+// Which call of the sink returns false, counted from 1, how many matches there are at most, an input, and how often a
+// search for the literal `a` reads it, a byte at a time.
+type ReadRow = (Option<u64>, Option<u64>, &'static [u8], u64);
+
+const READ_ROWS: &[ReadRow] = &[
+    (Some(1), None, b"a\nb\n", 0),
+    (None, Some(0), b"a\nb\n", 0),
+    (None, Some(1), b"a\nb\n", 2),
+    (Some(2), None, b"a\nb\n", 2),
+    (None, None, b"a", 2),
+];
+
+// Whether a search reads as often as a row says.
+fn has_reads(alloc: Global, row: &ReadRow) -> Result<bool, SearchError> {
+    let mut searcher = SearcherBuilder::new()
+        .bom_sniffing(false)
+        .max_matches(row.1)
+        .build(alloc)?;
+    let mut recorder = Recorder::new(alloc, row.0, None);
+    let mut reader = Pieces::new(row.2, 1, None);
+    let matcher = LiteralMatcher::borrowed(b"a");
+    search_reader(&mut searcher, matcher, &mut reader, &mut recorder)?;
+    Ok(reader.reads() == row.3)
+}
+
+// Nothing is read before `begin` returned true, after the end of a search, or after an unterminated last line.
+#[test]
+fn reads_that_a_search_needs(rt: HostRuntime) -> Result<(), Fail> {
+    for (index, row) in READ_ROWS.iter().enumerate() {
+        assert!(rt; has_reads(rt.alloc(), row)?, "row {index}");
+    }
+    Ok(())
+}
+
+// Whether a search for one match, with a heap limit of 8 bytes, takes at most 13 bytes of an input whose first line
+// matches, in pieces of some size.
+fn takes_few(alloc: Global, input: &[u8], piece: usize) -> Result<bool, SearchError> {
+    let mut reader = Pieces::new(input, piece, None);
+    let calls = "begin;match 1 0 610a;finish 2 -;";
+    let has_calls = has_calls(alloc, (8, Some(1)), &mut reader, calls)?;
+    let taken = input.len().saturating_sub(reader.rest().len());
+    Ok(has_calls && taken <= 13)
+}
+
+// That is the byte count, the heap limit and three bytes.
+#[test]
+fn bytes_that_a_search_takes(rt: HostRuntime) -> Result<(), Fail> {
+    let mut input = Vec::new(rt.alloc());
+    input.extend_from_slice(b"a\n")?;
+    for _ in 0..1000 {
+        input.extend_from_slice(b"b\n")?;
+    }
+    for piece in [1, 2, 3, 7, 0] {
+        assert!(rt;
+            takes_few(rt.alloc(), &input, piece)?,
+            "in pieces of {piece}"
+        );
+    }
     Ok(())
 }
 

@@ -1,2 +1,3 @@
 pub mod SelectedLines
+pub mod DecodingErrors
 pub mod MatchSinks

@@ -1,7 +1,7 @@
 -- What the sinks of these callers make of a call.
-use Rattle.std.specs.Prelude.{ℕ, ◌+◌, ◌-◌, ◌^◌, min, List, [], ◌∷◌, ◌++◌, codes, map, Option, Some, None}
+use Rattle.std.specs.Prelude.{ℕ, ◌+◌, ◌-◌, ◌^◌, true, min, List, [], ◌∷◌, ◌++◌, codes, map, Option, Some, None}
 use Rattle.std.specs.List.{concat}
-use Rattle.grep_searcher.specs.Settings.{Settings, default_settings}
+use Rattle.grep_searcher.specs.Settings.{Settings, SearcherState, default_settings}
 use Rattle.grep_searcher.specs.SinkCalls.{Call, Turn, begins, matches, context, breaks, binary_data, finishes}
 use Rattle.uses.specs.declared.count.MatchCount.{MatchCount}
 use Rattle.uses.specs.declared.first.FirstMatch.{FirstMatch}
@@ -38,6 +38,10 @@ joined text call = text ++ line_of call
 -- the settings of a report: the line before each match is reported too
 abbrev pub one_before : Settings
 one_before = record default_settings { before_context = 1 }
+
+-- the searcher of a report, as it is built
+abbrev pub reporter : SearcherState
+reporter = record { settings = one_before; has_buffers = true }
 
 -- what a report has of a call: a match after `>`, a line before it after a space, a break as two dashes
 abbrev pub marked : Call → List ℕ

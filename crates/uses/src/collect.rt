@@ -1,9 +1,10 @@
 //! The lines of all matches.
-ghost use Rattle.std.specs.Prelude.{◌≡◌, None, IfOk, IfErr};
+ghost use Rattle.std.specs.Prelude.{◌≡◌, ◌⊎◌, true, None, IfOk, IfErr};
+ghost use Rattle.grep_searcher.specs.DecodedInputs.{searched_bytes};
 ghost use Rattle.grep_searcher.specs.Matching.{IsInfallible};
 ghost use Rattle.grep_searcher.specs.Refusals.{refusal_of};
 ghost use Rattle.grep_searcher.specs.SearchErrors.{IsOutOfMemory};
-ghost use Rattle.grep_searcher.specs.Searches.{searched_bytes};
+ghost use Rattle.uses.specs.DecodingErrors.{IsDecodingError};
 ghost use Rattle.uses.specs.SelectedLines.{selected_bytes};
 
 use grep_searcher::laws::{matches_are_selected, runs_fold_matches, searches_fail};
@@ -14,7 +15,8 @@ use std::marker::Model;
 /// Returns the selected lines of `bytes`, decoded and joined: each with its terminator, in order.
 ///
 /// An error is made of the matcher's, of a configuration that the searcher refuses, or of being out
-/// of memory.
+/// of memory. If the bytes have to be decoded, it may also be of the heap limit, or of more than
+/// 2^64 - 1 decoded bytes.
 pub fn matching_lines<M: Matcher + Drop>(
     alloc: Global,
     searcher: &mut Searcher,
@@ -22,11 +24,13 @@ pub fn matching_lines<M: Matcher + Drop>(
     bytes: &[u8],
 ) -> Result<Vec<u8>, SearchError>
     ensures lines { IfOk result (λ text.
-        text.items ≡ selected_bytes searcher.old (M.meaning matcher)
-        (searched_bytes searcher.old bytes.now)) }
-    ensures settings { searcher.new ≡ searcher.old }
+        text.items ≡ selected_bytes searcher.old.settings (M.meaning matcher)
+        (searched_bytes searcher.old.settings bytes.now)) }
+    ensures settings { searcher.new.settings ≡ searcher.old.settings }
+    ensures buffers { searcher.old.has_buffers ≡ true → searcher.new.has_buffers ≡ true }
     ensures error { IsInfallible (M.fails matcher)
-        → refusal_of searcher.old (M.meaning matcher) ≡ None → IfErr result IsOutOfMemory }
+        → refusal_of searcher.old.settings (M.meaning matcher) ≡ None → IfErr result (λ e.
+        IsOutOfMemory e ⊎ IsDecodingError searcher.old (M.meaning matcher) bytes.now e) }
 {
     let mut matches = MatchText {
         text: Vec::new(alloc),

@@ -1,9 +1,9 @@
 //! How many lines match.
 ghost use Rattle.std.specs.Prelude.{◌≡◌, ◌-◌, ◌^◌, None, true, min, IfOk, IfErr, IsOk};
+ghost use Rattle.grep_searcher.specs.DecodedInputs.{searched_bytes, is_searched_unchanged};
 ghost use Rattle.grep_searcher.specs.Matching.{IsInfallible};
 ghost use Rattle.grep_searcher.specs.Refusals.{refusal_of};
-ghost use Rattle.grep_searcher.specs.SearchErrors.{IsOutOfMemory};
-ghost use Rattle.grep_searcher.specs.Searches.{searched_bytes, is_searched_unchanged};
+ghost use Rattle.uses.specs.DecodingErrors.{IsDecodingError};
 ghost use Rattle.uses.specs.SelectedLines.{selected_count};
 
 use grep_searcher::laws::{
@@ -15,24 +15,28 @@ use std::alloc::{Allocator, Global};
 /// Returns how many lines of `bytes` are selected. If the bytes have to be decoded, it is how many of
 /// the decoded lines are, up to the largest `u64`.
 ///
-/// An error is made of the matcher's, of a configuration that the searcher refuses, or of being out
-/// of memory. The last one comes only if the bytes have to be decoded.
+/// An error is made of the matcher's, or of a configuration that the searcher refuses. If the bytes
+/// have to be decoded, it may also be of the heap limit, of being out of memory, or of more than
+/// 2^64 - 1 decoded bytes.
 pub fn count_matching_lines<M: Matcher + Drop>(
     searcher: &mut Searcher,
     matcher: M,
     bytes: &[u8],
 ) -> Result<u64, SearchError>
-    ensures count { is_searched_unchanged searcher.old bytes.now ≡ true → IfOk result (λ count.
-        count ≡ selected_count searcher.old (M.meaning matcher) bytes.now) }
+    ensures count { is_searched_unchanged searcher.old.settings bytes.now ≡ true → IfOk result (λ count.
+        count ≡ selected_count searcher.old.settings (M.meaning matcher) bytes.now) }
     ensures decoded { IfOk result (λ count. count
-        ≡ min (selected_count searcher.old (M.meaning matcher) (searched_bytes searcher.old bytes.now))
+        ≡ min (selected_count searcher.old.settings (M.meaning matcher)
+        (searched_bytes searcher.old.settings bytes.now))
         (2 ^ 64 - 1)) }
-    ensures settings { searcher.new ≡ searcher.old }
+    ensures settings { searcher.new.settings ≡ searcher.old.settings }
+    ensures buffers { searcher.old.has_buffers ≡ true → searcher.new.has_buffers ≡ true }
     ensures error { IsInfallible (M.fails matcher)
-        → refusal_of searcher.old (M.meaning matcher) ≡ None → IfErr result IsOutOfMemory }
+        → refusal_of searcher.old.settings (M.meaning matcher) ≡ None
+        → IfErr result (IsDecodingError searcher.old (M.meaning matcher) bytes.now) }
     ensures succeeds { IsInfallible (M.fails matcher)
-        → refusal_of searcher.old (M.meaning matcher) ≡ None
-        → is_searched_unchanged searcher.old bytes.now ≡ true → IsOk result }
+        → refusal_of searcher.old.settings (M.meaning matcher) ≡ None
+        → is_searched_unchanged searcher.old.settings bytes.now ≡ true → IsOk result }
 {
     let mut matches = MatchCount { count: 0 };
     searches_fail::<Global, M, MatchCount>();

@@ -1,12 +1,13 @@
 //! The first match of a reader.
-ghost use Rattle.std.specs.Prelude.{◌≡◌, ℕ, true, None, List, IfOk, IfErr};
+ghost use Rattle.std.specs.Prelude.{◌≡◌, ℕ, true, Option, None, List, IfOk, IfErr};
 ghost use Rattle.std.specs.declared.io.Error.{Error};
+ghost use Rattle.grep_searcher.specs.DecodedInputs.{IsInput};
 ghost use Rattle.grep_searcher.specs.Matching.{IsInfallible};
-ghost use Rattle.grep_searcher.specs.ReaderSearches.{IsRead, IsUnread};
+ghost use Rattle.grep_searcher.specs.ReaderSearches.{Taken, IsUnread};
 ghost use Rattle.grep_searcher.specs.Refusals.{refusal_of};
 ghost use Rattle.uses.specs.SelectedLines.{first_selected};
 
-use grep_searcher::laws::{first_match_is_first, lines_are_numbered, runs_fold_matches};
+use grep_searcher::laws::{first_match_is_first, runs_fold_matches};
 use grep_searcher::{
     Matcher, SearchError, Searcher, Sink, SinkContext, SinkFinish, SinkMatch, Source,
 };
@@ -16,27 +17,32 @@ use std::alloc::{Allocator, Global};
 /// offset in the decoded bytes; `None` if no line is selected. The caller ensures that the searcher numbers
 /// lines.
 ///
+/// Whatever follows what was taken of the reader, this is the first selected line. The reader is read no
+/// further than the search needs, and not again once a line is selected.
+///
 /// An error is made of the reader's, of the matcher's, of a configuration that the searcher refuses,
-/// or of being out of memory.
+/// of the heap limit, of being out of memory, or of more than 2^64 - 1 decoded bytes.
 pub fn first_match<M: Matcher + Drop, R: Source>(
     searcher: &mut Searcher,
     matcher: M,
     reader: &mut R,
 ) -> Result<Option<(u64, u64)>, SearchError>
-    requires { searcher.old.line_number ≡ true }
-    ensures first { IfOk result (λ found. (bytes : List ℕ)
-        × IsRead R.remaining R.step searcher.old reader.old bytes reader.new
-        × (found ≡ first_selected searcher.old (M.meaning matcher) bytes)) }
-    ensures settings { searcher.new ≡ searcher.old }
+    requires { searcher.old.settings.line_number ≡ true }
+    ensures first { IfOk result (λ found. (taken : Taken R.remaining R.step reader.old reader.new)
+        × ((bytes : List ℕ) → IsInput searcher.old.settings taken.ended taken.pieces bytes
+        → found ≡ first_selected searcher.old.settings (M.meaning matcher) bytes)) }
+    ensures settings { searcher.new.settings ≡ searcher.old.settings }
+    ensures buffers { searcher.old.has_buffers ≡ true → searcher.new.has_buffers ≡ true }
     ensures error { IsInfallible (M.fails matcher)
-        → refusal_of searcher.old (M.meaning matcher) ≡ None → IfErr result (λ e. (error : Error)
-        × IsUnread R.remaining R.step reader.old error reader.new × (e ≡ SearchError.Io error)) }
+        → refusal_of searcher.old.settings (M.meaning matcher) ≡ None
+        → IfErr result (λ e. (seen : Option (List ℕ)) × (error : Error)
+        × IsUnread R.remaining R.step searcher.old (M.meaning matcher) reader.old seen error reader.new
+        × (e ≡ SearchError.Io error)) }
 {
     let mut first = FirstMatch { position: None };
     searcher.search_reader(matcher, reader, &mut first)?;
     runs_fold_matches::<FirstMatch>();
     first_match_is_first();
-    lines_are_numbered();
     Ok(first.position)
 }
 

@@ -1,10 +1,11 @@
 //! A whole search with a sink of its own: the example of the README.
 ghost use Rattle.std.specs.Prelude.{◌≡◌, ◌⊎◌, IfOk, IfErr};
+ghost use Rattle.grep_searcher.specs.DecodedInputs.{searched_bytes};
 ghost use Rattle.grep_searcher.specs.LineSearch.{turns};
 ghost use Rattle.grep_searcher.specs.Literals.{literal_meaning};
 ghost use Rattle.grep_searcher.specs.SearchErrors.{IsOutOfMemory};
-ghost use Rattle.grep_searcher.specs.Searches.{searched_bytes};
-ghost use Rattle.uses.specs.MatchSinks.{one_before, report_of};
+ghost use Rattle.uses.specs.DecodingErrors.{IsDecodingError};
+ghost use Rattle.uses.specs.MatchSinks.{one_before, reporter, report_of};
 
 use grep_searcher::laws::{runs_fold_all, searches_fail};
 use grep_searcher::{
@@ -17,13 +18,15 @@ use std::marker::Model;
 /// Returns a report of a log: each line that has the literal, after a `>`, and the line before it,
 /// after a space. Two dashes are between two reported lines if lines were left out there.
 ///
-/// An error is one of being out of memory.
+/// An error is one of being out of memory. If the log has to be decoded, it may also be of more than
+/// 2^64 - 1 decoded bytes.
 pub fn in_context(alloc: Global, log: &[u8], literal: &[u8]) -> Result<Vec<u8>, SearchError>
     ensures report { IfOk result (λ text.
         text.items ≡ report_of (turns one_before (literal_meaning literal.now)
         (searched_bytes one_before log.now))) }
     ensures error { IfErr result (λ e.
-        IsOutOfMemory e ⊎ (e ≡ SearchError.Config ConfigError.Memory)) }
+        IsOutOfMemory e ⊎ ((e ≡ SearchError.Config ConfigError.Memory)
+        ⊎ IsDecodingError reporter (literal_meaning literal.now) log.now e)) }
 {
     let mut searcher = SearcherBuilder::new().before_context(1).build(alloc)?;
     let matcher = LiteralMatcher::new(alloc, literal)?;

@@ -1,5 +1,5 @@
 //! The builder of a searcher.
-ghost use Rattle.std.specs.Prelude.{◌≡◌, IfOk, IfErr};
+ghost use Rattle.std.specs.Prelude.{◌≡◌, true, IfOk, IfErr};
 ghost use Rattle.grep_definitions.specs.Settings.{default_settings, built};
 
 use crate::config::Config;
@@ -75,7 +75,8 @@ impl SearcherBuilder {
     /// A searcher with these settings, except that both contexts are 0 under `passthru`. It keeps `alloc` for what it
     /// needs memory for. The only error is `Memory`, if there is none for its buffers.
     pub fn build<A: Allocator + Copy>(&self, alloc: A) -> Result<Searcher<A>, ConfigError>
-        ensures settings { IfOk result (λ searcher. searcher ≡ built self.now) }
+        ensures settings { IfOk result (λ searcher.
+            searcher ≡ record { settings = built self.now; has_buffers = true }) }
         ensures error { IfErr result (λ e. e ≡ ConfigError.Memory) }
     {
         let mut config = self.config;
@@ -140,8 +141,9 @@ impl SearcherBuilder {
         self
     }
 
-    /// How many bytes a search may hold of its input at most; no limit by default. A limit of 0 refuses each search.
-    /// The bytes of a slice, and those of a reader that are read whole, don't count.
+    /// How many decoded bytes of a reader, or of a slice that needs decoding, a search holds at most; no limit by
+    /// default. A line that doesn't fit ends the search in an error, as `Searcher::search_reader` says. A limit of 0
+    /// refuses each search. The bytes of any other slice don't count, nor do the 8,192 of the decoder.
     pub fn heap_limit(&mut self, bytes: Option<usize>) -> &mut SearcherBuilder
         ensures reference { result.ghost_name ≡ self.entry.ghost_name }
         ensures set { result.now ≡ record self.old { heap_limit = bytes } }

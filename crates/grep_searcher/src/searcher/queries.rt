@@ -10,74 +10,74 @@ use std::fmt;
 impl<A: Allocator + Copy> Searcher<A> {
     /// What ends a line.
     pub fn line_terminator(&self) -> LineTerminator
-        ensures { result ≡ self.now.line_terminator }
+        ensures { result ≡ self.now.settings.line_terminator }
     {
         self.config.line_terminator
     }
 
     /// Whether the lines that don't match are selected.
     pub fn invert_match(&self) -> bool
-        ensures { result ≡ self.now.invert_match }
+        ensures { result ≡ self.now.settings.invert_match }
     {
         self.config.invert_match
     }
 
     /// Whether lines are numbered.
     pub fn line_number(&self) -> bool
-        ensures { result ≡ self.now.line_number }
+        ensures { result ≡ self.now.settings.line_number }
     {
         self.config.line_number
     }
 
     /// How many lines are reported after a match; 0 under `passthru`.
     pub fn after_context(&self) -> usize
-        ensures value { result ≡ self.now.after_context }
-        ensures bare { self.now.passthru ≡ true → result ≡ 0 }
+        ensures value { result ≡ self.now.settings.after_context }
+        ensures bare { self.now.settings.passthru ≡ true → result ≡ 0 }
     {
         self.config.after_context
     }
 
     /// How many lines are reported before a match; 0 under `passthru`.
     pub fn before_context(&self) -> usize
-        ensures value { result ≡ self.now.before_context }
-        ensures bare { self.now.passthru ≡ true → result ≡ 0 }
+        ensures value { result ≡ self.now.settings.before_context }
+        ensures bare { self.now.settings.passthru ≡ true → result ≡ 0 }
     {
         self.config.before_context
     }
 
     /// Whether every line is reported, up to the last that has a turn.
     pub fn passthru(&self) -> bool
-        ensures value { result ≡ self.now.passthru }
-        ensures bare { self.now.passthru ≡ true
-            → (self.now.after_context ≡ 0) × (self.now.before_context ≡ 0) }
+        ensures value { result ≡ self.now.settings.passthru }
+        ensures bare { self.now.settings.passthru ≡ true
+            → (self.now.settings.after_context ≡ 0) × (self.now.settings.before_context ≡ 0) }
     {
         self.config.passthru
     }
 
-    /// How many bytes a search may hold of its input at most, if there is a limit.
+    /// How many decoded bytes a search holds at most, if there is a limit.
     pub fn heap_limit(&self) -> Option<usize>
-        ensures { result ≡ self.now.heap_limit }
+        ensures { result ≡ self.now.settings.heap_limit }
     {
         self.config.heap_limit
     }
 
     /// Whether a file is mapped into memory.
     pub fn memory_map(&self) -> MmapChoice
-        ensures { result ≡ self.now.memory_map }
+        ensures { result ≡ self.now.settings.memory_map }
     {
         self.config.memory_map
     }
 
     /// Whether the first line that isn't selected, after one that is, ends the search.
     pub fn stop_on_nonmatch(&self) -> bool
-        ensures { result ≡ self.now.stop_on_nonmatch }
+        ensures { result ≡ self.now.settings.stop_on_nonmatch }
     {
         self.config.stop_on_nonmatch
     }
 
     /// How many lines are selected at most, if there is a limit.
     pub fn max_matches(&self) -> Option<u64>
-        ensures { result ≡ self.now.max_matches }
+        ensures { result ≡ self.now.settings.max_matches }
     {
         self.config.max_matches
     }

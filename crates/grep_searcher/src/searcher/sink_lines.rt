@@ -9,7 +9,8 @@ ghost use Rattle.grep_definitions.specs.LineTurns.{number_of, is_gap, break_turn
 ghost use Rattle.grep_definitions.specs.LineTurns.{before_turns, pending_turns, match_turns};
 ghost use Rattle.grep_definitions.specs.SinkRuns.{AreReported, outcome_of, NeverFails};
 ghost use Rattle.grep_searcher.specs.Walks.{line_turns, line_end};
-ghost use Rattle.grep_searcher.specs.Windows.{IsClosed, IsInWindow, IsLineIn};
+ghost use Rattle.grep_definitions.specs.InputFronts.{IsClosed};
+ghost use Rattle.grep_searcher.specs.Windows.{IsInWindow, IsLineIn};
 
 use crate::searcher::Searcher;
 use crate::searcher::walk::Walk;
@@ -39,9 +40,9 @@ impl<A: Allocator + Copy> Searcher<A> {
         requires through { walk.now.reported_through ≤ walk.now.line }
         requires may_call { S.may_call sink.old }
         ensures reported { (gone input : List ℕ)
-            → IsInWindow self.now gone window.now input start walk.now
-            → AreReported S.step self.now sink.old
-            (line_turns self.now input walk.now (slice window.now start end) chosen)
+            → IsInWindow self.now.settings gone window.now input start walk.now
+            → AreReported S.step self.now.settings sink.old
+            (line_turns self.now.settings input walk.now (slice window.now start end) chosen)
             (outcome_of (line_end walk.now (slice window.now start end)) result) sink.new }
         ensures succeeds { NeverFails S.step S.may_call → IsOk result }
         ensures may_call { S.may_call sink.new }
@@ -80,9 +81,9 @@ impl<A: Allocator + Copy> Searcher<A> {
         requires through { walk.now.reported_through ≤ walk.now.line }
         requires may_call { S.may_call sink.old }
         ensures reported { (gone input : List ℕ)
-            → IsInWindow self.now gone window.now input start walk.now
-            → (end : ℕ) → AreReported S.step self.now sink.old
-            (pending_turns self.now input walk.now.reported_through walk.now.line end
+            → IsInWindow self.now.settings gone window.now input start walk.now
+            → (end : ℕ) → AreReported S.step self.now.settings sink.old
+            (pending_turns self.now.settings input walk.now.reported_through walk.now.line end
             walk.now.reported_through (walk.now.line - walk.now.reported_through))
             (outcome_of end result) sink.new }
         ensures succeeds { NeverFails S.step S.may_call → IsOk result }
@@ -101,10 +102,10 @@ impl<A: Allocator + Copy> Searcher<A> {
         requires { position ≤ length window.now }
         ensures within { result ≤ position }
         ensures closed { 0 < result → result < position
-            → slice_index window.now (result - 1) ≡ byte_of self.now.line_terminator }
+            → slice_index window.now (result - 1) ≡ byte_of self.now.settings.line_terminator }
         ensures start { (i : ℕ)
-            → IsLineStart (byte_of self.now.line_terminator) window.now position i
-            → IsLineStart (byte_of self.now.line_terminator) window.now result (i - lines) }
+            → IsLineStart (byte_of self.now.settings.line_terminator) window.now position i
+            → IsLineStart (byte_of self.now.settings.line_terminator) window.now result (i - lines) }
     {
         if lines == 0 {
             return position;
@@ -113,25 +114,24 @@ impl<A: Allocator + Copy> Searcher<A> {
         preceding_by_pos(window, position, terminator, lines - 1)
     }
 
-    // The index in a window, over whose lines a walk has gone, from which on bytes are kept when the next window is shown:
-    // those of the last lines that weren't reported, as many as are reported with a match. No search has a second window
-    // yet; a reader in bounded memory will.
+    // The index in a window, over whose lines a walk has gone, from which on bytes are kept when the next window is
+    // shown: those of the last lines that weren't reported, as many as are reported with a match.
     pub(crate) fn first_kept(&self, window: &[u8], walk: &Walk) -> usize
         ensures within { result ≤ length window.now }
-        ensures few { length (lines (byte_of self.now.line_terminator) (drop result window.now))
-            ≤ self.now.before_context }
+        ensures few { length (lines (byte_of self.now.settings.line_terminator) (drop result window.now))
+            ≤ self.now.settings.before_context }
         ensures closed { (gone : List ℕ)
-            → IsClosed (byte_of self.now.line_terminator) gone
-            → IsClosed (byte_of self.now.line_terminator) window.now
-            → IsClosed (byte_of self.now.line_terminator) (gone ++ take result window.now) }
+            → IsClosed (byte_of self.now.settings.line_terminator) gone
+            → IsClosed (byte_of self.now.settings.line_terminator) window.now
+            → IsClosed (byte_of self.now.settings.line_terminator) (gone ++ take result window.now) }
         ensures kept { (gone more after : List ℕ)
-            → IsClosed (byte_of self.now.line_terminator) gone
-            → IsClosed (byte_of self.now.line_terminator) window.now
+            → IsClosed (byte_of self.now.settings.line_terminator) gone
+            → IsClosed (byte_of self.now.settings.line_terminator) window.now
             → (0 < length after
-            → IsClosed (byte_of self.now.line_terminator) (drop result window.now ++ more))
-            → IsInWindow self.now gone window.now (gone ++ (window.now ++ (more ++ after)))
+            → IsClosed (byte_of self.now.settings.line_terminator) (drop result window.now ++ more))
+            → IsInWindow self.now.settings gone window.now (gone ++ (window.now ++ (more ++ after)))
             (length window.now) walk.now
-            → IsInWindow self.now (gone ++ take result window.now)
+            → IsInWindow self.now.settings (gone ++ take result window.now)
             (drop result window.now ++ more) (gone ++ (window.now ++ (more ++ after)))
             (length window.now - result) walk.now }
     {
@@ -145,7 +145,7 @@ impl<A: Allocator + Copy> Searcher<A> {
 
     // How many lines before the one that a walk is at are reported with it, if that is chosen.
     fn lines_before(&self, walk: &Walk) -> usize
-        ensures { result ≡ min self.now.before_context (walk.now.line - walk.now.reported_through) }
+        ensures { result ≡ min self.now.settings.before_context (walk.now.line - walk.now.reported_through) }
     {
         let passed = walk.line.saturating_sub(walk.reported_through) as usize;
         self.config.before_context.min(passed)
@@ -168,13 +168,13 @@ impl<A: Allocator + Copy> Searcher<A> {
         requires fits { walk.now.offset + (length window.now - start) < 2 ^ 64 }
         requires number { walk.now.line + 1 < 2 ^ 64 }
         requires below { index ≤ walk.now.line }
-        requires near { walk.now.line - index ≤ self.now.before_context }
+        requires near { walk.now.line - index ≤ self.now.settings.before_context }
         requires may_call { S.may_call sink.old }
         ensures reported { (gone input : List ℕ)
-            → IsInWindow self.now gone window.now input start walk.now
-            → IsLineIn self.now gone window.now first index
-            → (end : ℕ) → AreReported S.step self.now sink.old
-            (pending_turns self.now input walk.now.reported_through walk.now.line end
+            → IsInWindow self.now.settings gone window.now input start walk.now
+            → IsLineIn self.now.settings gone window.now first index
+            → (end : ℕ) → AreReported S.step self.now.settings sink.old
+            (pending_turns self.now.settings input walk.now.reported_through walk.now.line end
             index (walk.now.line - index))
             (outcome_of end result) sink.new }
         ensures succeeds { NeverFails S.step S.may_call → IsOk result }
@@ -210,11 +210,11 @@ impl<A: Allocator + Copy> Searcher<A> {
         requires fits { offset + length line.now < 2 ^ 64 }
         requires number { index + 1 < 2 ^ 64 }
         requires below { index < walk.now.line }
-        requires near { walk.now.line - index ≤ self.now.before_context }
+        requires near { walk.now.line - index ≤ self.now.settings.before_context }
         requires may_call { S.may_call sink.old }
-        ensures reported { (end : ℕ) → AreReported S.step self.now sink.old
-            (before_turns self.now walk.now.reported_through index walk.now.line
-            (number_of self.now index) offset end line.now)
+        ensures reported { (end : ℕ) → AreReported S.step self.now.settings sink.old
+            (before_turns self.now.settings walk.now.reported_through index walk.now.line
+            (number_of self.now.settings index) offset end line.now)
             (outcome_of end result) sink.new }
         ensures succeeds { NeverFails S.step S.may_call → IsOk result }
         ensures may_call { S.may_call sink.new }
@@ -241,8 +241,8 @@ impl<A: Allocator + Copy> Searcher<A> {
         requires fits { walk.now.offset + length (slice window.now start end) < 2 ^ 64 }
         requires number { walk.now.line + 1 < 2 ^ 64 }
         requires may_call { S.may_call sink.old }
-        ensures reported { (stop : ℕ) → AreReported S.step self.now sink.old
-            (match_turns self.now walk.now.reported_through walk.now.line walk.now.offset stop
+        ensures reported { (stop : ℕ) → AreReported S.step self.now.settings sink.old
+            (match_turns self.now.settings walk.now.reported_through walk.now.line walk.now.offset stop
             (slice window.now start end))
             (outcome_of stop result) sink.new }
         ensures succeeds { NeverFails S.step S.may_call → IsOk result }
@@ -262,7 +262,7 @@ impl<A: Allocator + Copy> Searcher<A> {
     // is at, or is that line.
     fn is_gap(&self, index: u64, walk: &Walk) -> bool
         requires { index ≤ walk.now.line }
-        ensures { result ≡ is_gap self.now walk.now.reported_through index walk.now.line }
+        ensures { result ≡ is_gap self.now.settings walk.now.reported_through index walk.now.line }
     {
         let is_first = walk.line - index == self.config.before_context as u64;
         walk.reported_through > 0 && walk.reported_through < index && is_first
@@ -271,8 +271,8 @@ impl<A: Allocator + Copy> Searcher<A> {
     // Whether lines were left out before the chosen one that a walk is at. If there are lines before a match, the break
     // comes before the first of them.
     fn is_gap_before_match(&self, walk: &Walk) -> bool
-        ensures { result ≡ (nat_lt 0 self.now.after_context
-            && is_gap self.now walk.now.reported_through walk.now.line walk.now.line) }
+        ensures { result ≡ (nat_lt 0 self.now.settings.after_context
+            && is_gap self.now.settings walk.now.reported_through walk.now.line walk.now.line) }
     {
         self.config.after_context > 0 && self.is_gap(walk.line, walk)
     }
@@ -280,7 +280,7 @@ impl<A: Allocator + Copy> Searcher<A> {
     // Makes a break if lines were left out. Returns whether the search goes on.
     fn sink_break<S: Sink>(&self, is_gap: bool, sink: &mut S) -> Result<bool, S::Error>
         requires { S.may_call sink.old }
-        ensures reported { (end : ℕ) → AreReported S.step self.now sink.old (break_turns is_gap end)
+        ensures reported { (end : ℕ) → AreReported S.step self.now.settings sink.old (break_turns is_gap end)
             (outcome_of end result) sink.new }
         ensures succeeds { NeverFails S.step S.may_call → IsOk result }
         ensures may_call { S.may_call sink.new }
@@ -303,8 +303,8 @@ impl<A: Allocator + Copy> Searcher<A> {
         requires fits { offset + length line.now < 2 ^ 64 }
         requires number { index + 1 < 2 ^ 64 }
         requires may_call { S.may_call sink.old }
-        ensures step { S.step sink.old self.now
-            (context kind (number_of self.now index) offset line.now) result sink.new }
+        ensures step { S.step sink.old self.now.settings
+            (context kind (number_of self.now.settings index) offset line.now) result sink.new }
         ensures succeeds { NeverFails S.step S.may_call → IsOk result }
         ensures may_call { S.may_call sink.new }
     {

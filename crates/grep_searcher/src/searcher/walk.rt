@@ -10,7 +10,7 @@ ghost use Rattle.grep_definitions.specs.Below.{is_at};
 ghost use Rattle.grep_definitions.specs.LineSearch.{turns, byte_count, differ};
 ghost use Rattle.grep_definitions.specs.LineTurns.{number_of, matches_line};
 ghost use Rattle.grep_definitions.specs.Searches.{IsFault};
-ghost use Rattle.grep_definitions.specs.SinkRuns.{NeverFails};
+ghost use Rattle.grep_definitions.specs.SinkRuns.{Outcome, NeverFails};
 ghost use Rattle.grep_searcher.specs.Walks.{next_walk, is_over, Counted, IsOrdered};
 ghost use Rattle.grep_searcher.specs.Windows.{HasSearched, HasPassed};
 
@@ -36,8 +36,8 @@ pub(crate) struct Walk {
     pub(crate) match_count: u64,
 }
 
-// Before the first line.
-const START: Walk = Walk {
+/// Before the first line.
+pub(crate) const START: Walk = Walk {
     offset: 0,
     line: 0,
     reported_through: 0,
@@ -56,10 +56,11 @@ impl<A: Allocator + Copy> Searcher<A> {
     where
         S::Error: SinkError<A>,
         requires { S.may_call sink.old }
-        ensures reported { IfOk result (λ count. Counted S.step self.now sink.old
-            (turns self.now (M.meaning matcher.now) bytes.now)
-            (byte_count self.now (M.meaning matcher.now) bytes.now)
-            count sink.new) }
+        ensures reported { IfOk result (λ count. (outcome : Outcome S.Error)
+            × Counted S.step self.now.settings sink.old
+            (turns self.now.settings (M.meaning matcher.now) bytes.now)
+            (byte_count self.now.settings (M.meaning matcher.now) bytes.now)
+            count outcome sink.new) }
         ensures fault { IfErr result (λ e. IsFault S.step
             (record {
               is_message = S.Error.is_message;
@@ -71,7 +72,7 @@ impl<A: Allocator + Copy> Searcher<A> {
               fails = M.fails matcher.now;
               text_of = M.Error.output;
             })
-            self.now bytes.now sink.old e sink.new) }
+            self.now.settings bytes.now sink.old e sink.new) }
         ensures succeeds { NeverFails S.step S.may_call → IsInfallible (M.fails matcher.now)
             → IsOk result }
         ensures may_call { S.may_call sink.new }
@@ -87,10 +88,10 @@ impl<A: Allocator + Copy> Searcher<A> {
         Ok(walk.offset)
     }
 
-    // Walks over the lines of a window from `start` to the window's end, and returns whether the search goes on after
-    // it; if not, the walk's offset is the byte count. A window shows some bytes of the input. The caller ensures that
-    // its lines are lines of the input, and that of the lines before `start` that weren't reported it has as many as are
-    // reported with a match.
+    // Walks over the lines of a window from `start` to the window's end, and returns whether the search goes on
+    // after it; if not, the walk's offset is the byte count. A window shows some bytes of the input. The caller
+    // ensures that its lines are lines of the input, and that of the lines before `start` that weren't reported it
+    // has as many as are reported with a match.
     pub(crate) fn search_window<M: Matcher, S: Sink>(
         &self,
         matcher: &M,
@@ -109,22 +110,25 @@ impl<A: Allocator + Copy> Searcher<A> {
         ensures ordered { IfOk result (λ goes_on. IsOrdered walk.new) }
         ensures moved { IfOk result (λ goes_on. goes_on ≡ true
             → walk.new.offset + start ≡ walk.old.offset + length window.now) }
+        ensures within { IfOk result (λ goes_on.
+            walk.new.offset + start ≤ walk.old.offset + length window.now) }
+        ensures ahead { IfOk result (λ goes_on. walk.old.offset ≤ walk.new.offset) }
         ensures goes_on { IfOk result (λ goes_on. goes_on ≡ true
             → (gone input : List ℕ) (first : S)
-            → HasSearched S.step self.now (M.meaning matcher.now) gone window.now input
+            → HasSearched S.step self.now.settings (M.meaning matcher.now) gone window.now input
             first start walk.old sink.old
-            → HasPassed S.step self.now (M.meaning matcher.now) gone window.now input
+            → HasPassed S.step self.now.settings (M.meaning matcher.now) gone window.now input
             first walk.new sink.new) }
         ensures ends { IfOk result (λ goes_on. goes_on ≡ false
-            → (gone input : List ℕ) (first : S)
-            → HasSearched S.step self.now (M.meaning matcher.now) gone window.now input
+            → (outcome : Outcome S.Error) × ((gone input : List ℕ) (first : S)
+            → HasSearched S.step self.now.settings (M.meaning matcher.now) gone window.now input
             first start walk.old sink.old
-            → Counted S.step self.now first
-            (turns self.now (M.meaning matcher.now) input)
-            (byte_count self.now (M.meaning matcher.now) input)
-            walk.new.offset sink.new) }
+            → Counted S.step self.now.settings first
+            (turns self.now.settings (M.meaning matcher.now) input)
+            (byte_count self.now.settings (M.meaning matcher.now) input)
+            walk.new.offset outcome sink.new)) }
         ensures fault { IfErr result (λ e. (gone input : List ℕ) (first : S)
-            → HasSearched S.step self.now (M.meaning matcher.now) gone window.now input
+            → HasSearched S.step self.now.settings (M.meaning matcher.now) gone window.now input
             first start walk.old sink.old
             → IsFault S.step
             (record {
@@ -137,7 +141,7 @@ impl<A: Allocator + Copy> Searcher<A> {
               fails = M.fails matcher.now;
               text_of = M.Error.output;
             })
-            self.now input first e sink.new) }
+            self.now.settings input first e sink.new) }
         ensures succeeds { NeverFails S.step S.may_call → IsInfallible (M.fails matcher.now)
             → IsOk result }
         ensures may_call { S.may_call sink.new }
@@ -163,15 +167,15 @@ impl<A: Allocator + Copy> Searcher<A> {
     pub(crate) fn next_line(&self, bytes: &[u8], start: usize) -> Option<usize>
         requires { start ≤ length bytes.now }
         ensures within { IfSome result (λ end. (start < end) × (end ≤ length bytes.now)) }
-        ensures bare { self.now.passthru ≡ true
-            → (self.now.after_context ≡ 0) × (self.now.before_context ≡ 0) }
+        ensures bare { self.now.settings.passthru ≡ true
+            → (self.now.settings.after_context ≡ 0) × (self.now.settings.before_context ≡ 0) }
         ensures line { IfSome result (λ end. (i : ℕ)
-            → IsLineStart (byte_of self.now.line_terminator) bytes.now start i
-            → IsLine (byte_of self.now.line_terminator) bytes.now i start end) }
+            → IsLineStart (byte_of self.now.settings.line_terminator) bytes.now start i
+            → IsLine (byte_of self.now.settings.line_terminator) bytes.now i start end) }
         ensures end { IfNone result (start ≡ length bytes.now) }
         ensures last { IfNone result ((i : ℕ)
-            → IsLineStart (byte_of self.now.line_terminator) bytes.now start i
-            → i ≡ length (lines (byte_of self.now.line_terminator) bytes.now)) }
+            → IsLineStart (byte_of self.now.settings.line_terminator) bytes.now start i
+            → i ≡ length (lines (byte_of self.now.settings.line_terminator) bytes.now)) }
     {
         let terminator = self.config.line_terminator.as_byte();
         let (_, end) = LineStep::new(terminator, start, bytes.len()).next(bytes)?;
@@ -181,7 +185,7 @@ impl<A: Allocator + Copy> Searcher<A> {
     // The number of the line with this index, if lines have one.
     pub(crate) fn number(&self, index: u64) -> Option<u64>
         requires { index + 1 < 2 ^ 64 }
-        ensures { result ≡ number_of self.now index }
+        ensures { result ≡ number_of self.now.settings index }
     {
         if self.config.line_number {
             Some(index + 1)
@@ -192,7 +196,7 @@ impl<A: Allocator + Copy> Searcher<A> {
 
     // Whether the limit is reached.
     fn is_full(&self, walk: &Walk) -> bool
-        ensures { result ≡ is_at walk.now.match_count self.now.max_matches }
+        ensures { result ≡ is_at walk.now.match_count self.now.settings.max_matches }
     {
         match self.config.max_matches {
             Some(limit) => walk.match_count == limit,
@@ -201,8 +205,8 @@ impl<A: Allocator + Copy> Searcher<A> {
     }
 
     // Whether no line has a turn.
-    fn is_idle(&self) -> bool
-        ensures { result ≡ (not self.now.passthru && is_at 0 self.now.max_matches) }
+    pub(crate) fn is_idle(&self) -> bool
+        ensures { result ≡ (not self.now.settings.passthru && is_at 0 self.now.settings.max_matches) }
     {
         match self.config.max_matches {
             Some(limit) => !self.config.passthru && limit == 0,
@@ -212,7 +216,7 @@ impl<A: Allocator + Copy> Searcher<A> {
 
     // Whether no later line has a turn.
     fn is_over(&self, walk: &Walk, chosen: bool) -> bool
-        ensures { result ≡ is_over self.now walk.now chosen }
+        ensures { result ≡ is_over self.now.settings walk.now chosen }
     {
         self.config.stop_on_nonmatch && walk.match_count > 0 && !chosen
             || !self.config.passthru && self.is_full(walk) && walk.after_context_left == 0
@@ -223,7 +227,7 @@ impl<A: Allocator + Copy> Searcher<A> {
         requires fits { walk.now.offset + length line.now < 2 ^ 64 }
         requires number { walk.now.line + 1 < 2 ^ 64 }
         requires few { walk.now.match_count ≤ walk.now.line }
-        ensures { result ≡ next_walk self.now walk.now line.now chosen }
+        ensures { result ≡ next_walk self.now.settings walk.now line.now chosen }
     {
         let is_reported = chosen || walk.after_context_left > 0 || self.config.passthru;
         Walk {
@@ -255,11 +259,12 @@ impl<A: Allocator + Copy> Searcher<A> {
         walk: &Walk,
     ) -> Result<bool, E>
         ensures value { IfOk result (λ chosen. chosen
-            ≡ (not (is_at walk.now.match_count self.now.max_matches)
-            && differ (matches_line self.now (M.meaning matcher.now) line.now) self.now.invert_match)) }
-        ensures open { IfErr result (λ e. is_at walk.now.match_count self.now.max_matches ≡ false) }
+            ≡ (not (is_at walk.now.match_count self.now.settings.max_matches)
+            && differ (matches_line self.now.settings (M.meaning matcher.now) line.now)
+            self.now.settings.invert_match)) }
+        ensures open { IfErr result (λ e. is_at walk.now.match_count self.now.settings.max_matches ≡ false) }
         ensures fault { IfErr result (λ e. (error : M.Error) × E.is_message (M.Error.output error) e
-            × M.fails matcher.now (strip self.now.line_terminator line.now) error) }
+            × M.fails matcher.now (strip self.now.settings.line_terminator line.now) error) }
     {
         if self.is_full(walk) {
             return Ok(false);

@@ -12,6 +12,7 @@ returns-in-Ok-clause-reads g c =
       settled = made.settled (omega arith);
       stays = made.stays;
       ahead = λ passing. rw len (made.ahead passing);
+      passing = made.passing;
       done = λ none. made.done (sym len ∙ ap (λ l. length l) none) (omega arith);
       end = λ none. made.end (sym len ∙ ap (λ l. length l) none) (omega arith);
     }

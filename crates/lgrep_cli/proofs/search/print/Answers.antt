@@ -2,24 +2,50 @@ use Rattle.std.proofs.lemmas.Result.{err_from_is_err_and}
 use Rattle.lgrep_cli.proofs.SearchLemmas.{IsSearched, out_of_memory, reader-searched}
 use Rattle.lgrep_cli.proofs.search.print.Given.{Over}
 use Rattle.lgrep_cli.proofs.search.print.Goals as goal
-use Rattle.lgrep_cli.proofs.search.print.Goals.{After-drop-searcher-inside-2}
+use Rattle.lgrep_cli.proofs.search.print.Goals.{Joined-searcher-2, Joined-searcher-3, Joined-searcher-4}
 
-searched : (g : Over) (c : After-drop-searcher-inside-2 g)
+searched-whole : (g : Over) (c : Joined-searcher-2 g)
     → IsSearched g.R.Source.remaining g.R.Source.step g.W.Write.contents c.args.options.now c.args.reader.now c.search_reader.new.reader
     c.args.printer.now c.search_reader.new.sink c.search_reader.result
-searched g c = reader-searched g.R.Source.remaining g.R.Source.step g.W.Write.contents c.args.options.now c.args.reader.now
+searched-whole g c = reader-searched g.R.Source.remaining g.R.Source.step g.W.Write.contents c.args.options.now c.args.reader.now
     c.search_reader.new.reader c.args.printer.now c.search_reader.new.sink _ _ _ c.in_ok-searcher.searcher c.in_ok-matcher.matcher
-    c.search_reader.result
-    c.in_ok-searcher.ensures.settings c.in_ok-matcher.ensures.literal c.requires c.search_reader.ensures.searched
+    c.search_reader.result c.in_ok-searcher.ensures.settings c.in_ok-matcher.ensures.literal c.requires.found c.requires.has_failed
+    c.search_reader.ensures.searched
+
+searched-cut : (g : Over) (c : Joined-searcher-3 g)
+    → IsSearched g.R.Source.remaining g.R.Source.step g.W.Write.contents c.args.options.now c.args.reader.now c.search_reader.new.reader
+    c.args.printer.now c.search_reader.new.sink c.search_reader.result
+searched-cut g c = reader-searched g.R.Source.remaining g.R.Source.step g.W.Write.contents c.args.options.now c.args.reader.now
+    c.search_reader.new.reader c.args.printer.now c.search_reader.new.sink _ _ _ c.in_ok-searcher.searcher c.in_ok-matcher.matcher
+    c.search_reader.result c.in_ok-searcher.ensures.settings c.in_ok-matcher.ensures.literal c.requires.found c.requires.has_failed
+    c.search_reader.ensures.searched
+
+searched-read : (g : Over) (c : Joined-searcher-4 g)
+    → IsSearched g.R.Source.remaining g.R.Source.step g.W.Write.contents c.args.options.now c.args.reader.now c.search_reader.new.reader
+    c.args.printer.now c.search_reader.new.sink c.search_reader.result
+searched-read g c = reader-searched g.R.Source.remaining g.R.Source.step g.W.Write.contents c.args.options.now c.args.reader.now
+    c.search_reader.new.reader c.args.printer.now c.search_reader.new.sink _ _ _ c.in_ok-searcher.searcher c.in_ok-matcher.matcher
+    c.search_reader.result c.in_ok-searcher.ensures.settings c.in_ok-matcher.ensures.literal c.requires.found c.requires.has_failed
+    c.search_reader.ensures.searched
+
+pub returns-in-Ok-clause-same_writer : goal.returns-in-Ok-clause-same_writer
+returns-in-Ok-clause-same_writer g c = (searched-whole g c).same_writer
+
+pub returns-in-Ok-clause-printed : goal.returns-in-Ok-clause-printed
+returns-in-Ok-clause-printed g c = rw c.in-Ok.is at (searched-whole g c).printed
+
+pub returns-in-Err-clause-same_writer : goal.returns-in-Err-clause-same_writer
+returns-in-Err-clause-same_writer g c = (searched-cut g c).same_writer
+
+pub returns-in-Err-clause-failed : goal.returns-in-Err-clause-failed
+returns-in-Err-clause-failed g c = (rw c.in-Err.is at (searched-cut g c).of_writer) c.if-printer.true
 
 pub returns-clause-same_writer : goal.returns-clause-same_writer
-returns-clause-same_writer g c = (searched g c).same_writer
-
-pub returns-clause-printed : goal.returns-clause-printed
-returns-clause-printed g c = (searched g c).printed
+returns-clause-same_writer g c = (searched-read g c).same_writer
 
 pub returns-clause-failed : goal.returns-clause-failed
-returns-clause-failed g c = (searched g c).failed
+returns-clause-failed g c = (rw c.in-Err.is at (searched-read g c).of_reading) c.if-printer.false c.flush.new.self c.flush.result
+    c.flush.ensures.bytes c.flush.ensures.last
 
 pub returns-in_err-searcher-clause-failed : goal.returns-in_err-searcher-clause-failed
 returns-in_err-searcher-clause-failed g c =

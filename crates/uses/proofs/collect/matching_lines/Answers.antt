@@ -1,13 +1,13 @@
 use Rattle.std.proofs.Common.{true, []}
 use Rattle.grep_searcher.specs.SearchLaws.{selected_lines}
-use Rattle.grep_searcher.specs.Searches.{searched_bytes}
+use Rattle.grep_searcher.specs.DecodedInputs.{searched_bytes}
 use Rattle.uses.specs.MatchSinks.{joined}
 use Rattle.uses.proofs.FoldLemmas.{fold_while-joined}
 use Rattle.uses.proofs.collect.matching_lines.Goals as goal
 
 pub returns-clause-lines : goal.returns-clause-lines
 returns-clause-lines g c =
-    let settings = c.args.searcher.now in
+    let settings = c.args.searcher.now.settings in
     let meaning = g.M.Matcher.meaning c.args.matcher in
     let bytes = searched_bytes settings c.args.bytes.now in
     let folded = c.runs_fold_matches.ensures (λ _ _. true) joined (λ _ _ _ _ _ h. h) _ _ _ _ _ _ c.in_ok-search_slice.ensures.searched.1

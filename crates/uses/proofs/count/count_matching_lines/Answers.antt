@@ -1,7 +1,7 @@
 use Rattle.std.proofs.Common.{◌≡◌, ◌-◌, ◌^◌, min, true, ap, arith, subst, ◌∙◌}
 use Rattle.grep_searcher.specs.LineSearch.{turns}
 use Rattle.grep_searcher.specs.SearchLaws.{match_calls}
-use Rattle.grep_searcher.specs.Searches.{searched_bytes}
+use Rattle.grep_searcher.specs.DecodedInputs.{searched_bytes}
 use Rattle.uses.specs.MatchSinks.{counted}
 use Rattle.uses.specs.SelectedLines.{selected_count}
 use Rattle.uses.proofs.FoldLemmas.{fold_while-counted_all}
@@ -9,7 +9,7 @@ use Rattle.uses.proofs.count.count_matching_lines.Goals as goal
 
 pub returns-clause-decoded : goal.returns-clause-decoded
 returns-clause-decoded g c =
-    let settings = c.args.searcher.now in
+    let settings = c.args.searcher.now.settings in
     let meaning = g.M.Matcher.meaning c.args.matcher in
     let bytes = searched_bytes settings c.args.bytes.now in
     let folded = c.runs_fold_matches.ensures (λ _ _. true) counted (λ _ _ _ _ _ h. h) _ _ _ _ _ _ c.in_ok-search_slice.ensures.searched.1
@@ -20,7 +20,7 @@ returns-clause-decoded g c =
 
 pub returns-clause-count : goal.returns-clause-count
 returns-clause-count g c = λ unchanged.
-    let settings = c.args.searcher.now in
+    let settings = c.args.searcher.now.settings in
     let meaning = g.M.Matcher.meaning c.args.matcher in
     let input = c.args.bytes.now in
     let count : c.search_slice.new.sink.count ≡ min (selected_count settings meaning input) (2 ^ 64 - 1) =

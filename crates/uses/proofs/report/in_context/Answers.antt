@@ -1,19 +1,46 @@
-use Rattle.std.proofs.Common.{◌≡◌, ap, ◌∙◌}
+use Rattle.std.proofs.lemmas.Result.{err_from_is_err_and}
+use Rattle.std.proofs.Common.{◌≡◌, inl, inr, None, true, ap, subst, ◌∙◌}
+use Rattle.grep_searcher.specs.ReadingFaults.{IsUndecoded}
+use Rattle.grep_searcher.specs.Refusals.{refusal_of}
 use Rattle.grep_searcher.specs.LineSearch.{turns}
 use Rattle.grep_searcher.specs.Literals.{literal_meaning}
 use Rattle.grep_searcher.specs.Settings.{Settings, built}
-use Rattle.grep_searcher.specs.Searches.{searched_bytes}
-use Rattle.uses.specs.MatchSinks.{one_before, reported, report_of}
+use Rattle.grep_searcher.specs.DecodedInputs.{searched_bytes}
+use Rattle.uses.specs.MatchSinks.{one_before, reporter, reported, report_of}
 use Rattle.uses.proofs.FoldLemmas.{reported-run}
 use Rattle.uses.proofs.report.in_context.Goals as goal
 
 pub returns-clause-report : goal.returns-clause-report
 returns-clause-report c =
     let set : Settings → Settings = λ settings. record settings { before_context = 1 } in
-    let settings : c.in_ok-searcher.searcher ≡ one_before =
-    c.in_ok-searcher.ensures.settings ∙ ap built (c.before_context.ensures.set ∙ ap set c.new.ensures) in
+    let settings : c.in_ok-searcher.searcher.settings ≡ one_before =
+    ap (λ s. s.settings) c.in_ok-searcher.ensures.settings ∙ ap built (c.before_context.ensures.set ∙ ap set c.new.ensures) in
     let folded = c.runs_fold_all.ensures reported (λ _ _ _ _ _ h. h) _ _ _ _ _ _ c.in_ok-search_slice.ensures.searched.1 in
     c.into_text.ensures ∙ folded
-    ∙ reported-run _ (turns c.in_ok-searcher.searcher (literal_meaning c.in_ok-matcher.matcher) (searched_bytes c.in_ok-searcher.searcher c.args.log.now)) c.new-3.ensures.items
+    ∙ reported-run _ (turns c.in_ok-searcher.searcher.settings (literal_meaning c.in_ok-matcher.matcher)
+    (searched_bytes c.in_ok-searcher.searcher.settings c.args.log.now)) c.new-3.ensures.items
     ∙ ap (λ s. report_of (turns s (literal_meaning c.in_ok-matcher.matcher) (searched_bytes s c.args.log.now))) settings
     ∙ ap (λ m. report_of (turns one_before (literal_meaning m) (searched_bytes one_before c.args.log.now))) c.in_ok-matcher.ensures
+
+pub returns-in_err-search_slice-clause-error : goal.returns-in_err-search_slice-clause-error
+returns-in_err-search_slice-clause-error c =
+    let set : Settings → Settings = λ settings. record settings { before_context = 1 } in
+    let state : c.in_ok-searcher.searcher ≡ reporter =
+    c.in_ok-searcher.ensures.settings
+    ∙ ap (λ s. record { settings = built s; has_buffers = true }) (c.before_context.ensures.set ∙ ap set c.new.ensures) in
+    let allowed : refusal_of c.in_ok-searcher.searcher.settings (literal_meaning c.in_ok-matcher.matcher) ≡ None =
+    ap (λ s. refusal_of s.settings (literal_meaning c.in_ok-matcher.matcher)) state in
+    let failed = c.searches_fail.ensures c.in_ok-matcher.matcher c.in_ok-searcher.searcher c.args.log.now c.new-3.result.items
+    c.in_err-search_slice.field-0.0 c.search_slice.new.sink (λ _ _ h. h) allowed c.in_err-search_slice.ensures.searched in
+    let error = err_from_is_err_and c.from_residual-in_err-search_slice.result c.from_residual-in_err-search_slice.ensures.1 in
+    rw (error.1, error.2) (elim failed [
+      | inl failing ↦ inl failing.2
+      | inr undecoded ↦ inr (inr (
+        undecoded.0,
+        undecoded.1,
+        subst (λ s. IsUndecoded s (literal_meaning c.args.literal.now) c.args.log.now undecoded.0 undecoded.1) state
+            (subst (λ m. IsUndecoded c.in_ok-searcher.searcher (literal_meaning m) c.args.log.now undecoded.0 undecoded.1)
+            c.in_ok-matcher.ensures undecoded.2),
+        undecoded.3,
+      ))
+    ])

@@ -3,7 +3,11 @@ use Rattle.std.proofs.lemmas.Bool.{false≢true}
 use Rattle.std.proofs.lemmas.List.{nil_from_length}
 use Rattle.grep_line_buffer.specs.BufferStates.{held, HasNoLine}
 use Rattle.grep_line_buffer.specs.Fills.{PassesOffsets}
-use Rattle.grep_line_buffer.proofs.FillLemmas.{only-limit, Outcome-none, IsFilling-stopped, IsFilling-shown, IsFilling-ended, IsFilling-more, IsFilling-line, IsFilling-past, HasNone-first, HasNone-room, HasNone-fault, HasNone-end, HasNone-more, HasNone-full, filled-before, unless-read, if-read-full, ended_of, size_of}
+use Rattle.grep_line_buffer.proofs.FillLemmas.{only-limit, Outcome-none, IsFilling-stopped, IsFilling-shown}
+use Rattle.grep_line_buffer.proofs.FillLemmas.{IsFilling-ended, IsFilling-more, IsFilling-line, IsFilling-past}
+use Rattle.grep_line_buffer.proofs.FillLemmas.{HasNone-first, HasNone-room, HasNone-fault, HasNone-end, HasNone-more}
+use Rattle.grep_line_buffer.proofs.FillLemmas.{HasNone-full, filled-before, unless-read, if-read-full, ended_of}
+use Rattle.grep_line_buffer.proofs.FillLemmas.{size_of}
 use Rattle.grep_line_buffer.proofs.line_buffer.LineBuffer.fill.Goals as goal
 
 pub returns-then-has_ended : goal.returns-then-has_ended
@@ -29,6 +33,8 @@ returns-then-has_ended g c =
       end = λ before ended. before was;
       ended = λ ended. (refl, refl, refl, refl);
       ahead = out.ahead;
+      passing = λ unended. absurd (false≢true (sym unended ∙ was));
+      passed = tt;
       settled = λ unended. absurd (false≢true (sym unended ∙ was));
       stays = out.stays;
       empty = tt;
@@ -58,6 +64,8 @@ returns-then-not-has_offsets g c =
       end = λ unended ended. absurd (false≢true (sym was ∙ ended));
       ended = λ ended. absurd (false≢true (sym was ∙ ended));
       ahead = tt;
+      passing = tt;
+      passed = tt;
       settled = tt;
       stays = out.stays;
       empty = tt;
@@ -89,6 +97,8 @@ returns-in-Err g c =
       end = λ _ ended. absurd (false≢true (sym unended ∙ ended));
       ended = λ ended. absurd (false≢true (sym was ∙ ended));
       ahead = tt;
+      passing = tt;
+      passed = if-read-full c.reads.self c.in-Err.e _ full.2;
       settled = tt;
       stays = out.stays;
       empty = if-read-full c.reads.self c.in-Err.e _ full.2;
@@ -123,6 +133,8 @@ returns-in-Err-read g c =
       end = λ _ ended. absurd (false≢true (sym out.unended ∙ ended));
       ended = λ ended. absurd (false≢true (sym was ∙ ended));
       ahead = tt;
+      passing = tt;
+      passed = failed.passing;
       settled = tt;
       stays = out.stays;
       empty = failed.empty;
@@ -158,6 +170,8 @@ returns-then-count-eq0 g c =
       end = λ _ _. came.reads.end none;
       ended = λ ended. absurd (false≢true (sym was ∙ ended));
       ahead = out.ahead;
+      passing = λ _. came.reads.passing;
+      passed = tt;
       settled = λ _. came.reads.settled;
       stays = out.stays;
       empty = tt;
@@ -191,6 +205,8 @@ returns-then-not-has_offsets-2 g c =
       end = λ _ ended. absurd (false≢true (sym next.unended ∙ ended));
       ended = λ ended. absurd (false≢true (sym was ∙ ended));
       ahead = tt;
+      passing = tt;
+      passed = tt;
       settled = tt;
       stays = out.stays;
       empty = tt;
@@ -227,6 +243,8 @@ returns-then-show_lines g c =
       end = λ _ ended. absurd (false≢true (sym unended ∙ ended));
       ended = λ ended. absurd (false≢true (sym was ∙ ended));
       ahead = out.ahead;
+      passing = λ _. came.reads.passing;
+      passed = tt;
       settled = λ _. came.reads.settled;
       stays = out.stays;
       empty = tt;

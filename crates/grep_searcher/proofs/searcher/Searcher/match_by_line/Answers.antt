@@ -1,6 +1,7 @@
 use Rattle.std.proofs.Common.{rules, ◌≡◌, ◌∙◌, [], arith, sym, true, false}
 use Rattle.std.proofs.lemmas.Result.{err_from_is_err_and}
 use Rattle.grep_matcher.specs.Terminators.{byte_of}
+use Rattle.grep_definitions.specs.SinkRuns.{all_true, stopped}
 use Rattle.grep_searcher.proofs.WalkLemmas as walks
 use Rattle.grep_searcher.proofs.WindowLemmas.{own-window}
 use Rattle.grep_searcher.proofs.WindowSearchLemmas as search
@@ -9,13 +10,24 @@ use Rattle.grep_searcher.proofs.searcher.Searcher.match_by_line.Goals as goal
 pub returns-in_err-begin-clause-fault : goal.returns-in_err-begin-clause-fault
 returns-in_err-begin-clause-fault g c =
     let p = err_from_is_err_and c.from_residual.result c.from_residual.ensures.1 in
-    rw (p.1, p.2) (walks.fault-begin g.S.Sink.step _ _ c.args.self.now c.args.bytes.now c.args.sink.now _ _ c.in_err-begin.ensures.step)
+    rw (p.1, p.2) (walks.fault-begin g.S.Sink.step _ _ c.args.self.now.settings c.args.bytes.now c.args.sink.now _ _
+    c.in_err-begin.ensures.step)
 
 pub returns-then-not-branch-clause-reported : goal.returns-then-not-branch-clause-reported
 returns-then-not-branch-clause-reported g c =
-    let unbegun : c.in_ok-begin.field-0 ≡ false = search rules in
-    walks.counted-unbegun c.args.self.now (g.M.Matcher.meaning c.args.matcher.now) c.args.bytes.now g.S.Sink.step c.args.sink.now _
-    (rw unbegun at c.in_ok-begin.ensures.step)
+    let unbegun : c.in_ok-begin.field-0 ≡ false = search rules in (
+      stopped 0,
+      walks.counted-unbegun c.args.self.now.settings (g.M.Matcher.meaning c.args.matcher.now) c.args.bytes.now g.S.Sink.step
+          c.args.sink.now _ (rw unbegun at c.in_ok-begin.ensures.step),
+    )
+
+pub returns-then-is_idle-clause-reported : goal.returns-then-is_idle-clause-reported
+returns-then-is_idle-clause-reported g c =
+    let goes : c.in_ok-begin.field-0 ≡ true = search rules in (
+      all_true,
+      walks.counted-idle c.args.self.now.settings (g.M.Matcher.meaning c.args.matcher.now) c.args.bytes.now g.S.Sink.step
+          c.args.sink.now _ (sym c.is_idle.ensures ∙ c.if-is_idle.true) (rw goes at c.in_ok-begin.ensures.step),
+    )
 
 pub returns-in_err-search_window-clause-fault : goal.returns-in_err-search_window-clause-fault
 returns-in_err-search_window-clause-fault g c =
@@ -23,15 +35,17 @@ returns-in_err-search_window-clause-fault g c =
     let goes : c.in_ok-begin.field-0 ≡ true = search rules in
     let begun = rw goes at c.in_ok-begin.ensures.step in
     rw (p.1, p.2) (c.in_err-search_window.ensures.fault [] c.args.bytes.now c.args.sink.now
-    (search.searched-start g.S.Sink.step c.args.self.now (g.M.Matcher.meaning c.args.matcher.now) c.args.bytes.now c.args.bytes.now
-    c.args.sink.now c.begin.new.self (own-window (byte_of c.args.self.now.line_terminator) c.args.bytes.now) (sym c.is_idle.ensures ∙ c.if-is_idle.false) begun))
+    (search.searched-start g.S.Sink.step c.args.self.now.settings (g.M.Matcher.meaning c.args.matcher.now) c.args.bytes.now c.args.bytes.now
+    c.args.sink.now c.begin.new.self (own-window (byte_of c.args.self.now.settings.line_terminator) c.args.bytes.now)
+    (sym c.is_idle.ensures ∙ c.if-is_idle.false) begun))
 
 pub returns-clause-reported : goal.returns-clause-reported
 returns-clause-reported g c =
     let goes : c.in_ok-begin.field-0 ≡ true = search rules in
     let begun = rw goes at c.in_ok-begin.ensures.step in
-    let start = search.searched-start g.S.Sink.step c.args.self.now (g.M.Matcher.meaning c.args.matcher.now) c.args.bytes.now
-    c.args.bytes.now c.args.sink.now c.begin.new.self (own-window (byte_of c.args.self.now.line_terminator) c.args.bytes.now) (sym c.is_idle.ensures ∙ c.if-is_idle.false) begun in
+    let start = search.searched-start g.S.Sink.step c.args.self.now.settings (g.M.Matcher.meaning c.args.matcher.now) c.args.bytes.now
+    c.args.bytes.now c.args.sink.now c.begin.new.self (own-window (byte_of c.args.self.now.settings.line_terminator)
+    c.args.bytes.now) (sym c.is_idle.ensures ∙ c.if-is_idle.false) begun in
     search.counted-either g.S.Sink.step
     (record { is_message = g.S.Error.SinkError.is_message; is_io = g.S.Error.SinkError.is_io; is_config = g.S.Error.SinkError.is_config })
     (record {
@@ -39,7 +53,9 @@ returns-clause-reported g c =
       fails = g.M.Matcher.fails c.args.matcher.now;
       text_of = g.M.Error.Display.output;
     })
-    c.args.self.now [] c.args.bytes.now c.args.bytes.now c.args.sink.now
+    c.args.self.now.settings [] c.args.bytes.now c.args.bytes.now c.args.sink.now
     c.in_ok-search_window.field-0 c.search_window.new.walk c.search_window.new.sink
     (λ on. c.in_ok-search_window.ensures.goes_on on [] c.args.bytes.now c.args.sink.now start)
-    (λ off. c.in_ok-search_window.ensures.ends off [] c.args.bytes.now c.args.sink.now start) (omega arith)
+    (λ off.
+    let ends = c.in_ok-search_window.ensures.ends off in
+    (ends.0, ends.1 [] c.args.bytes.now c.args.sink.now start)) (omega arith)

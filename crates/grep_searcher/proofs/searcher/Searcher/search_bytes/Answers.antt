@@ -12,5 +12,6 @@ returns-clause-searched g c =
     record { meaning = matcher.meaning c.args.matcher.now; fails = matcher.fails c.args.matcher.now; text_of = g.M.Error.Display.output }
     in
     let finish = rw c.new.ensures at c.finish.ensures.step in
-    searched-finish g.S.Sink.step errors facts c.args.self.now c.args.bytes.now c.args.sink.now
-    c.in_ok-count.count c.match_by_line.new.sink c.finish.result c.finish.new.self c.in_ok-count.ensures.reported finish
+    searched-finish g.S.Sink.step errors facts c.args.self.now.settings c.args.bytes.now c.args.sink.now
+    c.in_ok-count.count c.in_ok-count.ensures.reported.0 c.match_by_line.new.sink c.finish.result c.finish.new.self
+    c.in_ok-count.ensures.reported.1 finish

@@ -1,10 +1,10 @@
-use Rattle.std.proofs.Common.{sym, ◌∙◌}
+use Rattle.std.proofs.Common.{◌∙◌, sym, refl}
 use Rattle.grep_definitions.specs.Searches.{ErrorMakers, MatcherFacts}
-use Rattle.grep_searcher.proofs.DecodedLemmas.{input-searched}
+use Rattle.grep_searcher.proofs.DecodedLemmas.{input-searched, undecoded-unless}
 use Rattle.grep_searcher.proofs.searcher.Searcher.search_input.Goals as goal
 
-pub returns-then-is_searched_unchanged-clause-searched : goal.returns-then-is_searched_unchanged-clause-searched
-returns-then-is_searched_unchanged-clause-searched g c =
+pub returns-clause-searched : goal.returns-clause-searched
+returns-clause-searched g c =
     let maker = g.S.Error.SinkError in
     let matcher = g.M.Matcher in
     let errors : ErrorMakers g.row.S-Error.Denot =
@@ -12,8 +12,19 @@ returns-then-is_searched_unchanged-clause-searched g c =
     let facts : MatcherFacts g.row.M-Error.Denot =
     record { meaning = matcher.meaning c.args.matcher.now; fails = matcher.fails c.args.matcher.now; text_of = g.M.Error.Display.output }
     in
-    input-searched g.S.Sink.step errors facts c.args.self.now c.args.input.now c.args.input.now c.args.sink.now c.search_bytes.result
-    c.search_bytes.new.sink
-    (sym (c.unchanged_is_searched.ensures.input c.args.self.now c.args.input.now
-    (sym c.is_searched_unchanged.ensures ∙ c.if-is_searched_unchanged.true)))
-    c.search_bytes.ensures.searched
+    input-searched g.S.Sink.step errors facts _ _ (λ s e t fails. fails) c.args.self.now c.args.input.now
+    (sym c.is_searched_unchanged.ensures ∙ c.if-is_searched_unchanged.false) _ _ refl c.args.sink.now c.search_source.result
+    c.search_source.new.sink c.search_source.ensures.searched
+
+pub returns-clause-succeeds : goal.returns-clause-succeeds
+returns-clause-succeeds g c = λ never infallible.
+    let maker = g.S.Error.SinkError in
+    let matcher = g.M.Matcher in
+    let errors : ErrorMakers g.row.S-Error.Denot =
+    record { is_message = maker.is_message; is_io = maker.is_io; is_config = maker.is_config } in
+    let facts : MatcherFacts g.row.M-Error.Denot =
+    record { meaning = matcher.meaning c.args.matcher.now; fails = matcher.fails c.args.matcher.now; text_of = g.M.Error.Display.output }
+    in
+    undecoded-unless g.S.Sink.step errors facts _ _ (λ s e t fails. fails) c.args.self.now c.args.input.now
+    (sym c.is_searched_unchanged.ensures ∙ c.if-is_searched_unchanged.false) _ _ refl c.search_source.result
+    (c.search_source.ensures.succeeds never infallible)

@@ -7,10 +7,11 @@ abbrev pub invariant-loop-end : goal.invariant-loop-end
 invariant-loop-end g l = record {
   within : l.start ≤ length l.window;
   same : l.walk.offset + l.fn.start ≡ l.fn.walk.offset + l.start;
+  ahead : l.fn.start ≤ l.start;
   ordered : IsOrdered l.walk;
   searched : (gone input : List ℕ) (first : g.row.S.Denot)
-      → HasSearched g.S.Sink.step l.self (g.M.Matcher.meaning l.matcher) gone l.window input first l.fn.start l.fn.walk l.fn.sink
-      → HasSearched g.S.Sink.step l.self (g.M.Matcher.meaning l.matcher) gone l.window input first l.start l.walk l.sink;
+      → HasSearched g.S.Sink.step l.self.settings (g.M.Matcher.meaning l.matcher) gone l.window input first l.fn.start l.fn.walk l.fn.sink
+      → HasSearched g.S.Sink.step l.self.settings (g.M.Matcher.meaning l.matcher) gone l.window input first l.start l.walk l.sink;
   may_call : g.S.Sink.may_call l.sink;
 }
 

@@ -9,12 +9,12 @@ use Rattle.grep_searcher.proofs.searcher.Searcher.sink_before_context.Goals as g
 pub returns-then-near-eq0-clause-reported : goal.returns-then-near-eq0-clause-reported
 returns-then-near-eq0-clause-reported g c =
     let w = c.args.walk.now in
-    λ gone input inside end. before.reported-none c.args.self.now input w.reported_through w.line end g.S.Sink.step c.args.sink.now
+    λ gone input inside end. before.reported-none c.args.self.now.settings input w.reported_through w.line end g.S.Sink.step c.args.sink.now
     c.requires.through (sym c.lines_before-near.ensures ∙ c.if-near-eq0.true)
 
 pub returns-clause-reported : goal.returns-clause-reported
 returns-clause-reported g c =
-    let k = c.args.self.now in
+    let k = c.args.self.now.settings in
     let w = c.args.walk.now in
     let near = c.lines_before-near.result in
     λ gone input inside end.

@@ -10,19 +10,22 @@ use Rattle.grep_searcher.proofs.searcher.Searcher.sink_before_line.Goals as goal
 pub returns-then-not-branch-clause-reported : goal.returns-then-not-branch-clause-reported
 returns-then-not-branch-clause-reported g c =
     let w = c.args.walk.now in
-    let near = le-leb (w.line - c.args.index) c.args.self.now.before_context c.requires.near in
+    let near = le-leb (w.line - c.args.index) c.args.self.now.settings.before_context c.requires.near in
     let stops : c.in_ok-sink_break.field-0 ≡ false = search rules in
     let reported = rw (stops, c.is_gap-is_gap.ensures) at c.in_ok-sink_break.ensures.reported in
-    rw near (λ end. AreReported-unbroken g.S.Sink.step c.args.self.now (is_gap c.args.self.now w.reported_through c.args.index w.line)
-    (context Before (number_of c.args.self.now c.args.index) c.args.offset c.args.line.now) end c.args.sink.now
+    rw near (λ end. AreReported-unbroken g.S.Sink.step c.args.self.now.settings (is_gap c.args.self.now.settings w.reported_through
+    c.args.index w.line)
+    (context Before (number_of c.args.self.now.settings c.args.index) c.args.offset c.args.line.now) end c.args.sink.now
     (stopped end) c.sink_break.new.sink (λ x. cc) (reported end))
 
 pub returns-clause-reported : goal.returns-clause-reported
 returns-clause-reported g c =
     let w = c.args.walk.now in
-    let near = le-leb (w.line - c.args.index) c.args.self.now.before_context c.requires.near in
+    let near = le-leb (w.line - c.args.index) c.args.self.now.settings.before_context c.requires.near in
     let goes : c.in_ok-sink_break.field-0 ≡ true = search rules in
     let reported = rw (goes, c.is_gap-is_gap.ensures) at c.in_ok-sink_break.ensures.reported in
-    rw near (λ end. AreReported-broken g.S.Sink.step c.args.self.now (is_gap c.args.self.now w.reported_through c.args.index w.line)
-    (context Before (number_of c.args.self.now c.args.index) c.args.offset c.args.line.now) end c.args.sink.now c.sink_break.new.sink
+    rw near (λ end. AreReported-broken g.S.Sink.step c.args.self.now.settings (is_gap c.args.self.now.settings w.reported_through
+    c.args.index w.line)
+    (context Before (number_of c.args.self.now.settings c.args.index) c.args.offset c.args.line.now) end c.args.sink.now
+    c.sink_break.new.sink
     c.sink_context.result c.sink_context.new.sink (reported end) c.sink_context.ensures.step)

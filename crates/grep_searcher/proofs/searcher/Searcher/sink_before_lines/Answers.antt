@@ -10,7 +10,7 @@ pub returns-in_err-sink_before_line-clause-reported : goal.returns-in_err-sink_b
 returns-in_err-sink_before_line-clause-reported g c =
     let p = err_from_is_err_and c.from_residual.result c.from_residual.ensures.1 in
     rw (p.1, p.2) (λ gone input inside from end.
-    let k = c.args.self.now in
+    let k = c.args.self.now.settings in
     let window = c.args.window.now in
     let w = c.args.walk.now in
     before.window-ended k gone window input w c.args.start inside end g.S.Sink.step c.args.sink.now c.loop-at.sink
@@ -24,7 +24,7 @@ returns-then-not-branch-clause-reported g c =
     let stops : c.in_ok-sink_before_line.field-0 ≡ false = search rules in
     let here = rw stops at c.in_ok-sink_before_line.ensures.reported in
     λ gone input inside from end.
-    let k = c.args.self.now in
+    let k = c.args.self.now.settings in
     let window = c.args.window.now in
     let w = c.args.walk.now in
     before.window-ended k gone window input w c.args.start inside end g.S.Sink.step c.args.sink.now c.loop-at.sink
@@ -35,7 +35,8 @@ returns-then-not-branch-clause-reported g c =
 
 pub returns-in_default-clause-reported : goal.returns-in_default-clause-reported
 returns-in_default-clause-reported g c = λ gone input inside from end.
-    before.window-short c.args.self.now gone c.args.window.now input c.args.walk.now c.args.start inside g.S.Sink.step c.args.sink.now
+    before.window-short c.args.self.now.settings gone c.args.window.now input c.args.walk.now c.args.start inside g.S.Sink.step
+    c.args.sink.now
     c.loop-at.sink _ all_true c.loop-at.at c.loop-at.position (c.loop-at.invariant.at gone from) c.in_default.ensures.last
     c.loop-at-test.true
 
@@ -43,13 +44,14 @@ pub returns-clause-reported : goal.returns-clause-reported
 returns-clause-reported g c = λ gone input inside from end.
     let w = c.args.walk.now in
     let all : c.loop-at.at ≡ w.line = omega (arith, c.loop-at.invariant.below, c.loop-at-test.false) in
-    subst (λ m. AreReported g.S.Sink.step c.args.self.now c.args.sink.now
-    (pending_turns c.args.self.now input w.reported_through w.line end c.args.index (m - c.args.index)) all_true c.loop-at.sink) all
+    subst (λ m. AreReported g.S.Sink.step c.args.self.now.settings c.args.sink.now
+    (pending_turns c.args.self.now.settings input w.reported_through w.line end c.args.index (m - c.args.index)) all_true
+    c.loop-at.sink) all
     (c.loop-at.invariant.reported gone input inside from end)
 
 pub loop-at-preserved : goal.loop-at-preserved
 loop-at-preserved g c =
-    let k = c.args.self.now in
+    let k = c.args.self.now.settings in
     let window = c.args.window.now in
     let w = c.args.walk.now in
     let goes : c.in_ok-sink_before_line.field-0 ≡ true = search rules in

@@ -10,11 +10,11 @@ invariant-loop-at g l = record {
   same : l.offset + l.start ≡ l.walk.offset + l.position;
   low : l.index ≤ l.at;
   below : l.at ≤ l.walk.line;
-  at : (gone : List ℕ) → IsLineIn l.self gone l.window l.first l.index → IsLineIn l.self gone l.window l.position l.at;
-  reported : (gone input : List ℕ) → IsInWindow l.self gone l.window input l.start l.walk
-      → IsLineIn l.self gone l.window l.first l.index
-      → (end : ℕ) → AreReported g.S.Sink.step l.self l.fn.sink
-      (pending_turns l.self input l.walk.reported_through l.walk.line end l.index (l.at - l.index)) all_true l.sink;
+  at : (gone : List ℕ) → IsLineIn l.self.settings gone l.window l.first l.index → IsLineIn l.self.settings gone l.window l.position l.at;
+  reported : (gone input : List ℕ) → IsInWindow l.self.settings gone l.window input l.start l.walk
+      → IsLineIn l.self.settings gone l.window l.first l.index
+      → (end : ℕ) → AreReported g.S.Sink.step l.self.settings l.fn.sink
+      (pending_turns l.self.settings input l.walk.reported_through l.walk.line end l.index (l.at - l.index)) all_true l.sink;
   may_call : g.S.Sink.may_call l.sink;
 }
 

@@ -13,9 +13,9 @@ returns-in_err-sink_before_context-clause-reported g c =
     let here = slice c.args.window.now c.args.start c.args.end in
     let stop = line_end w here in
     let p = err_from_is_err_and c.from_residual.result c.from_residual.ensures.1 in
-    rw (p.1, p.2, c.if-chosen.true) (λ gone input inside. AreReported-ended g.S.Sink.step c.args.self.now
-    (pending_turns c.args.self.now input w.reported_through w.line stop w.reported_through (w.line - w.reported_through))
-    (match_turns c.args.self.now w.reported_through w.line w.offset stop here) c.args.sink.now
+    rw (p.1, p.2, c.if-chosen.true) (λ gone input inside. AreReported-ended g.S.Sink.step c.args.self.now.settings
+    (pending_turns c.args.self.now.settings input w.reported_through w.line stop w.reported_through (w.line - w.reported_through))
+    (match_turns c.args.self.now.settings w.reported_through w.line w.offset stop here) c.args.sink.now
     (failed c.in_err-sink_before_context.field-0.0)
     c.sink_before_context.new.sink (λ e. cc) (c.in_err-sink_before_context.ensures.reported gone input inside stop))
 
@@ -26,9 +26,9 @@ returns-then-not-branch-clause-reported g c =
     let stop = line_end w here in
     let stops : c.in_ok-sink_before_context.field-0 ≡ false = search rules in
     let reported = rw stops at c.in_ok-sink_before_context.ensures.reported in
-    rw c.if-chosen.true (λ gone input inside. AreReported-ended g.S.Sink.step c.args.self.now
-    (pending_turns c.args.self.now input w.reported_through w.line stop w.reported_through (w.line - w.reported_through))
-    (match_turns c.args.self.now w.reported_through w.line w.offset stop here) c.args.sink.now (stopped stop)
+    rw c.if-chosen.true (λ gone input inside. AreReported-ended g.S.Sink.step c.args.self.now.settings
+    (pending_turns c.args.self.now.settings input w.reported_through w.line stop w.reported_through (w.line - w.reported_through))
+    (match_turns c.args.self.now.settings w.reported_through w.line w.offset stop here) c.args.sink.now (stopped stop)
     c.sink_before_context.new.sink (λ e. cc) (reported gone input inside stop))
 
 pub returns-then-chosen-clause-reported : goal.returns-then-chosen-clause-reported
@@ -38,7 +38,7 @@ returns-then-chosen-clause-reported g c =
     let stop = line_end w here in
     let goes : c.in_ok-sink_before_context.field-0 ≡ true = search rules in
     let reported = rw goes at c.in_ok-sink_before_context.ensures.reported in
-    rw c.if-chosen.true (λ gone input inside. AreReported-append g.S.Sink.step c.args.self.now
-    (pending_turns c.args.self.now input w.reported_through w.line stop w.reported_through (w.line - w.reported_through))
-    (match_turns c.args.self.now w.reported_through w.line w.offset stop here) c.args.sink.now c.sink_before_context.new.sink
+    rw c.if-chosen.true (λ gone input inside. AreReported-append g.S.Sink.step c.args.self.now.settings
+    (pending_turns c.args.self.now.settings input w.reported_through w.line stop w.reported_through (w.line - w.reported_through))
+    (match_turns c.args.self.now.settings w.reported_through w.line w.offset stop here) c.args.sink.now c.sink_before_context.new.sink
     (outcome_of stop c.sink_matched.result) c.sink_matched.new.sink (reported gone input inside stop) (c.sink_matched.ensures.reported stop))

@@ -12,9 +12,9 @@ returns-then-not-branch-clause-reported g c =
     let w = c.args.walk.now in
     let stops : c.in_ok-sink_break.field-0 ≡ false = search rules in
     let reported = rw (stops, c.is_gap_before_match-is_gap.ensures) at c.in_ok-sink_break.ensures.reported in
-    λ stop. AreReported-unbroken g.S.Sink.step c.args.self.now
-    (nat_lt 0 c.args.self.now.after_context && is_gap c.args.self.now w.reported_through w.line w.line)
-    (matches (number_of c.args.self.now w.line) w.offset (slice c.args.window.now c.args.start c.args.end)) stop
+    λ stop. AreReported-unbroken g.S.Sink.step c.args.self.now.settings
+    (nat_lt 0 c.args.self.now.settings.after_context && is_gap c.args.self.now.settings w.reported_through w.line w.line)
+    (matches (number_of c.args.self.now.settings w.line) w.offset (slice c.args.window.now c.args.start c.args.end)) stop
     c.args.sink.now (stopped stop) c.sink_break.new.sink (λ x. cc) (reported stop)
 
 pub returns-clause-reported : goal.returns-clause-reported
@@ -24,7 +24,7 @@ returns-clause-reported g c =
     let reported = rw (goes, c.is_gap_before_match-is_gap.ensures) at c.in_ok-sink_break.ensures.reported in
     let number = c.number-number.ensures in
     let step = rw (c.new-found.ensures, number) at c.matched.ensures.step in
-    λ stop. AreReported-broken g.S.Sink.step c.args.self.now
-    (nat_lt 0 c.args.self.now.after_context && is_gap c.args.self.now w.reported_through w.line w.line)
-    (matches (number_of c.args.self.now w.line) w.offset (slice c.args.window.now c.args.start c.args.end)) stop
+    λ stop. AreReported-broken g.S.Sink.step c.args.self.now.settings
+    (nat_lt 0 c.args.self.now.settings.after_context && is_gap c.args.self.now.settings w.reported_through w.line w.line)
+    (matches (number_of c.args.self.now.settings w.line) w.offset (slice c.args.window.now c.args.start c.args.end)) stop
     c.args.sink.now c.sink_break.new.sink c.matched.result c.matched.new.self (reported stop) step

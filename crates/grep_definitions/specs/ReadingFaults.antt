@@ -1,0 +1,37 @@
+-- Why reading ends before a search does.
+use Rattle.std.specs.Prelude.{◌≡◌, ℕ, ◌^◌, ◌<◌, ◌≤◌, false, List, length, Option, Some, None, IfSome}
+use Rattle.std.specs.IoError.{error_kind}
+use Rattle.std.specs.declared.io.Error.{Error}
+use Rattle.std.specs.declared.io.ErrorKind.TheVariants.{InvalidData, Other, OutOfMemory}
+use Rattle.grep_matcher.specs.Matching.{Meaning}
+use Rattle.grep_definitions.specs.Settings.{Settings, SearcherState}
+use Rattle.grep_definitions.specs.InputFronts.{GoesOnAfter, IsCrowded}
+use Rattle.grep_definitions.specs.DecodedInputs.{searched_bytes, is_searched_unchanged}
+
+-- how many bytes a buffer for lines has at first, if no limit is lower
+abbrev pub buffer_capacity : ℕ
+buffer_capacity = 65536
+
+-- why no more of an input is read after the lines that were seen, by the error
+pub data CutsShort (settings : Settings) (meaning : Meaning) (input seen : List ℕ) : Error → Type 0 where
+  -- a buffer of the heap limit can't hold the next line, and those that are kept before it
+  of_limit : {error : Error} (limit : ℕ) → settings.heap_limit ≡ Some limit → error_kind error ≡ Other
+      → IsCrowded settings meaning input seen limit
+      → CutsShort settings meaning input seen error
+  -- the offset of the end is above 2^64 - 1
+  of_offset : {error : Error} → error_kind error ≡ InvalidData → 2 ^ 64 ≤ length input
+      → CutsShort settings meaning input seen error
+  -- the buffer may grow and there was no memory: as large as it is at first, it can't hold these lines
+  of_memory : {error : Error} → error_kind error ≡ OutOfMemory → IfSome settings.heap_limit (λ limit. buffer_capacity < limit)
+      → IsCrowded settings meaning input seen buffer_capacity
+      → CutsShort settings meaning input seen error
+
+-- why an input that is decoded wasn't searched to its end: after the lines that were seen, or before `begin` if
+-- there were no buffers and no memory for them
+pub data IsUndecoded (state : SearcherState) (meaning : Meaning) (input : List ℕ) : Option (List ℕ) → Error → Type 0 where
+  of_cut : {seen : List ℕ} {error : Error} → is_searched_unchanged state.settings input ≡ false
+      → GoesOnAfter state.settings meaning (searched_bytes state.settings input) seen
+      → CutsShort state.settings meaning (searched_bytes state.settings input) seen error
+      → IsUndecoded state meaning input (Some seen) error
+  of_buffers : {error : Error} → is_searched_unchanged state.settings input ≡ false → state.has_buffers ≡ false
+      → error_kind error ≡ OutOfMemory → IsUndecoded state meaning input None error

@@ -1,0 +1,450 @@
+-- A search of a reader, fill by fill, against what the reader gives.
+use Rattle.std.proofs.Common.{◌≡◌, ◌≢◌, ◌⊎◌, ℕ, ◌<◌, ◌≤◌, Bool, true, false, List, [], ◌++◌, length, take, drop}
+use Rattle.std.proofs.Common.{Option, Some, None, Ok, Err, inl, inr, refl, sym, ◌∙◌, ap, subst, arith, ⊎_elim}
+use Rattle.std.proofs.Common.{append-nil, append_assoc, length-append}
+use Rattle.std.proofs.lemmas.Bool.{cases_lt, false≢true}
+use Rattle.std.proofs.lemmas.List.{append_cancel_left}
+use Rattle.std.proofs.lemmas.List.Elements.{All-append}
+use Rattle.std.specs.Prelude.{All, IfSome}
+use Rattle.std.specs.declared.io.Error.{Error}
+use Rattle.grep_decode.specs.declared.mode.Mode.TheVariants.{Passing}
+use Rattle.grep_decode.specs.DecoderStates.{DecoderState, Decodes, IsDone, IsSettled, TakesAtMost, started, still_to_give}
+use Rattle.grep_decode.specs.Source.{ReadResult}
+use Rattle.grep_line_buffer.specs.declared.fill_error.FillError.{FillError}
+use Rattle.grep_line_buffer.specs.declared.fill_error.FillError.TheVariants.{Read, HeapLimit, Offset, Memory}
+use Rattle.grep_line_buffer.specs.BufferStates.{BufferState, held, GrowsIfFull, HasNoLine, IsFilled, IsSameBuffer, IsWithin}
+use Rattle.grep_line_buffer.specs.Fills.{FailsToFill, FillFails, Fills, IfRead, UnlessRead}
+use Rattle.grep_lines.specs.LineLaws.{LinesJoin, LinesAppend, LinesAreNumbered, LinesAreFew}
+use Rattle.grep_matcher.specs.Lines.{lines}
+use Rattle.grep_matcher.specs.Matching.{Meaning}
+use Rattle.grep_matcher.specs.Terminators.{byte_of}
+use Rattle.grep_definitions.specs.Below.{is_at}
+use Rattle.grep_definitions.specs.DecodedInputs.{IsInput}
+use Rattle.grep_definitions.specs.InputFronts.{IsClosed, IsCrowded, IsFront}
+use Rattle.grep_definitions.specs.LineSearch
+use Rattle.grep_definitions.specs.ReaderSearches.{IsReaderFault, IsUnread, Taken, is_idle, of_cut, of_reader, of_search}
+use Rattle.grep_definitions.specs.ReadingFaults.{of_limit, of_memory, of_offset}
+use Rattle.grep_definitions.specs.SearchLaws.{UnchangedIsInput}
+use Rattle.grep_definitions.specs.Searches.{ErrorMakers, MatcherFacts, IsFault}
+use Rattle.grep_definitions.specs.Settings.{Settings}
+use Rattle.grep_definitions.specs.SinkCalls.{begins}
+use Rattle.grep_definitions.specs.SinkRuns.{Steps}
+use Rattle.grep_searcher.specs.declared.searcher.walk.Walk.{Walk}
+use Rattle.grep_searcher.specs.Rolls.{HasCounted, HasEnded, HasMovedOn, IsBetween, IsCountedFor, IsLast, IsReady, IsRolling, start_in}
+use Rattle.grep_searcher.specs.Walks.{IsCount}
+use Rattle.grep_searcher.specs.Windows.{HasSearched}
+use Rattle.grep_searcher.specs.SearchBuffers.{AreFitting, IsMadeOf, least_size}
+use Rattle.grep_searcher.proofs.FrontLemmas.{crowded, turns-seen}
+use Rattle.grep_searcher.proofs.ReadingLemmas as reading
+use Rattle.grep_searcher.proofs.RollLemmas as rolls
+use Rattle.grep_searcher.proofs.WalkLemmas.{start_walk}
+use Rattle.grep_searcher.proofs.WindowLemmas as windows
+use Rattle.grep_searcher.proofs.WindowLemmas.{closed-append}
+use Rattle.grep_searcher.proofs.WindowSearchLemmas.{searched-start}
+
+-- the bytes that were held and given come after those that were shown
+split-text : (gone shown rest given later bytes : List ℕ) → bytes ≡ (gone ++ ((shown ++ rest) ++ given)) ++ later
+    → bytes ≡ (gone ++ shown) ++ ((rest ++ given) ++ later)
+split-text gone shown rest given later bytes is =
+    is ∙ (ap (λ xs. (gone ++ xs) ++ later) (append_assoc shown rest given)
+    ∙ (ap (λ xs. xs ++ later) (sym (append_assoc gone shown (rest ++ given))) ∙ append_assoc (gone ++ shown) (rest ++ given) later))
+
+-- a limit that isn't 0 is above it
+limit-above : (limit : Option ℕ) (size : ℕ) → is_at 0 limit ≡ false → limit ≡ Some size → 0 < size
+limit-above limit size allowed is = ⊎_elim (λ some. some)
+    (λ none. let zero : size ≡ 0 = omega (arith, none) in
+    absurd (false≢true (sym allowed ∙ (ap (is_at 0) (is ∙ ap Some zero)))))
+    (cases_lt 0 size)
+
+-- a buffer that may grow is as large as it was made, and its limit is above that
+may-grow : (limit : Option ℕ) (size : ℕ) → least_size limit ≤ size → IsWithin limit size → (limit ≡ Some size → ⊥)
+    → IfSome limit (λ most. 65536 < most) × (65536 ≤ size)
+may-grow None size least within below = (tt, least)
+may-grow (Some most) size least within below = ⊎_elim
+    (λ above. (above, omega (arith, least, above)))
+    (λ low. let same : most ≡ size = omega (arith, low, least, within) in absurd (below (ap Some same)))
+    (cases_lt 65536 most)
+
+-- a fill leaves a buffer at least as large
+grown : (least : ℕ) (old new : BufferState) → GrowsIfFull old new → least ≤ old.size → least ≤ new.size
+grown least old new (inl same) low = omega (arith, same, low)
+grown least old new (inr (more, full, few)) low = omega (arith, more, low)
+
+module _ {R : Type 0} (remaining : R → Option (List ℕ)) (read_step : R → ReadResult → R → Type 0)
+    (join : LinesJoin) (append : LinesAppend) {S E : Type 0} (step : Steps S E) (k : Settings) (meaning : Meaning) where
+  abbrev pub t : ℕ
+  t = byte_of k.line_terminator
+
+  -- a search begins with an empty buffer, once `begin` returned true
+  pub rolling-start : LinesAreNumbered → LinesAreFew → (decoder : DecoderState) (reader : R) (first now : S) (buffer : BufferState)
+      → buffer.shown ≡ [] → buffer.rest ≡ [] → buffer.offset ≡ 0 → buffer.has_ended ≡ false
+      → Decodes remaining read_step decoder reader [] decoder reader → is_idle k ≡ false → step first k begins (Ok true) now
+      → IsRolling step k meaning remaining read_step decoder reader first buffer decoder reader (start_walk k meaning []) now
+  rolling-start numbered few decoder reader first now buffer shown rest offset unended reads busy begun = record {
+    gone = [];
+    between = record {
+      opens = λ none. rolls.nothing none;
+      shut = λ some. absurd (omega (arith, some, ap length shown));
+      unfinished = λ i x below. absurd (omega (arith, below, ap length rest));
+      offset = offset;
+      unended = unended;
+      few = omega (arith, ap (λ xs. length (lines t xs)) shown);
+      fits = λ limit is i x below. absurd (omega (arith, below, ap (λ xs. length (lines t xs)) shown));
+      next = subst (λ xs. (more after : List ℕ) → (0 < length after → IsClosed t (xs ++ more))
+          → HasSearched-at (xs ++ more) (xs ++ more) (length xs) after) (sym shown)
+          (λ more after closes. searched-start step k meaning more (more ++ after) first now
+          (windows.shown join append numbered few t [] more after (λ none. rolls.nothing none) closes) busy begun);
+    };
+    reads = subst (λ xs. Decodes remaining read_step decoder reader xs decoder reader)
+        (sym (ap (λ xs. xs ++ buffer.rest) shown ∙ rest)) reads;
+    settled = inr refl;
+  }
+    where
+      HasSearched-at : List ℕ → List ℕ → ℕ → List ℕ → Type 0
+      HasSearched-at window shown start after =
+          HasSearched step k meaning [] window ([] ++ (shown ++ after)) first start (start_walk k meaning []) now
+
+  -- a fill of a search that reads on
+  module _ (capacity : ℕ) (reader reader' : R) (d d' : DecoderState) (gone : List ℕ) (old new : BufferState) (first : S)
+      (w : Walk) (now : S) (between : IsBetween step k meaning gone old first w now) (fitting : AreFitting k.heap_limit t old)
+      (same : IsSameBuffer old new) where
+    abbrev seen : List ℕ
+    seen = gone ++ old.shown
+
+    -- it failed
+    module _ (has_buffers : Bool) (grows : GrowsIfFull old new) (within : IsWithin new.limit new.size)
+        (allowed : is_at 0 k.heap_limit ≡ false) (unchanged : UnchangedIsInput)
+        (none : (d : DecoderState) (more : List ℕ) → IsDone d → still_to_give d more ≡ []) where
+      -- why it is cut short there, for an input that goes on with what was given
+      crowded-there : (given later bytes : List ℕ) (least : ℕ) → held new ≡ held old ++ given → HasNoLine old new
+          → bytes ≡ (gone ++ held new) ++ later → length (held new) ≡ new.size → 0 < least → least ≤ new.size
+          → IsCrowded k meaning bytes seen least
+      crowded-there given later bytes least whole no_line is full some enough =
+          let tail : given ≡ new.rest = append_cancel_left (held old) given new.rest
+          (sym whole ∙ ap (λ xs. xs ++ new.rest) no_line.shown) in
+          let lacks : All (λ b. b ≢ t) (old.rest ++ given) = All-append (λ b. b ≢ t) old.rest given between.unfinished
+          (subst (All (λ b. b ≢ t)) (sym tail) (subst (λ c. All (λ b. b ≢ c) new.rest) fitting.terminator no_line.none)) in
+          subst (λ xs. IsCrowded k meaning xs seen least)
+          (sym (split-text gone old.shown old.rest given later bytes (is ∙ ap (λ xs. (gone ++ xs) ++ later) whole)))
+          (crowded join append k meaning gone old.shown (old.rest ++ given) later least between.opens between.shut lacks between.few some
+          (omega (
+            arith,
+            enough,
+            full,
+            ap length whole,
+            length-append (held old) given,
+            length-append old.shown old.rest,
+            length-append old.rest given,
+          )))
+
+      abbrev IsCut : FillError → Error → Type 0
+      IsCut error io =
+          IsUnread remaining read_step (record { settings = k; has_buffers = has_buffers }) meaning reader (Some seen) io reader'
+
+      limit-is : new.limit ≡ Some new.size → k.heap_limit ≡ Some new.size
+      limit-is at = sym fitting.limit ∙ (sym same.limit ∙ at)
+
+      pub unread-cut : (error : FillError) (io : Error) → IsMadeOf error io → FillFails old new error
+          → (reads : Decodes remaining read_step (started capacity k.encoding k.bom_sniffing) reader (gone ++ held new) d' reader')
+          → (given : List ℕ) → held new ≡ held old ++ given → ((e : Error) → error ≡ Read e → ⊥)
+          → IsCut error io
+      unread-cut (Read e) io made fails reads given whole other = absurd (other e refl)
+      unread-cut HeapLimit io made (no_line, at) reads given whole other = of_cut
+          (reading.taken remaining read_step k capacity reader (gone ++ held new) d' reader' reads)
+          (λ bytes input.
+          let text = reading.input-is remaining read_step k capacity reader (gone ++ held new) d' reader' reads none bytes input in
+          let is = split-text gone old.shown old.rest given text.0 bytes (text.1 ∙ ap (λ xs. (gone ++ xs) ++ text.0) whole) in
+          let some = limit-above k.heap_limit new.size allowed (limit-is at.limit) in (
+            rolls.goes-on join append step k meaning gone old first w now between bytes ((old.rest ++ given) ++ text.0) is,
+            of_limit new.size (limit-is at.limit) made
+                (crowded-there given text.0 bytes new.size whole no_line text.1 at.full some (omega arith)),
+          ))
+      unread-cut Offset io made fails reads given whole other = of_cut
+          (reading.taken remaining read_step k capacity reader (gone ++ held new) d' reader' reads)
+          (λ bytes input.
+          let text = reading.input-is remaining read_step k capacity reader (gone ++ held new) d' reader' reads none bytes input in
+          let is = split-text gone old.shown old.rest given text.0 bytes (text.1 ∙ ap (λ xs. (gone ++ xs) ++ text.0) whole) in (
+            rolls.goes-on join append step k meaning gone old first w now between bytes ((old.rest ++ given) ++ text.0) is,
+            of_offset made (omega (
+              arith,
+              fails.past,
+              same.offset,
+              between.offset,
+              ap length text.1,
+              length-append (gone ++ held new) text.0,
+              length-append gone (held new),
+            )),
+          ))
+      unread-cut Memory io made (no_line, may) reads given whole other = of_cut
+          (reading.taken remaining read_step k capacity reader (gone ++ held new) d' reader' reads)
+          (λ bytes input.
+          let text = reading.input-is remaining read_step k capacity reader (gone ++ held new) d' reader' reads none bytes input in
+          let is = split-text gone old.shown old.rest given text.0 bytes (text.1 ∙ ap (λ xs. (gone ++ xs) ++ text.0) whole) in
+          let limit : new.limit ≡ k.heap_limit = same.limit ∙ fitting.limit in
+          let large = may-grow k.heap_limit new.size (grown (least_size k.heap_limit) old new grows fitting.size)
+          (subst (λ m. IsWithin m new.size) limit within) (λ is. may.limit (limit ∙ is)) in (
+            rolls.goes-on join append step k meaning gone old first w now between bytes ((old.rest ++ given) ++ text.0) is,
+            of_memory made large.0 (crowded-there given text.0 bytes 65536 whole no_line text.1 may.full (omega arith) large.1),
+          ))
+
+      -- the reader's own error
+      pub unread-read : (error : Error) (mid : R)
+          → (reads : Decodes remaining read_step (started capacity k.encoding k.bom_sniffing) reader (gone ++ held new) d' mid)
+          → (given : List ℕ) → held new ≡ held old ++ given → HasNoLine old new → length (held new) < new.size → d'.has_ended ≡ false
+          → read_step mid (Err error) reader' → d'.ready ≡ [] → (d'.mode ≡ Passing → d'.held ≡ [])
+          → IsSettled d'.mode ⊎ TakesAtMost (remaining reader) (remaining reader') 2
+          → IsUnread remaining read_step (record { settings = k; has_buffers = has_buffers }) meaning reader (Some seen) error reader'
+      unread-read error mid reads given whole no_line room unended failed ready held_none few = of_reader mid
+          (reading.taken remaining read_step k capacity reader (gone ++ held new) d' mid reads) unended failed
+          (λ bytes input.
+          let text = reading.input-is remaining read_step k capacity reader (gone ++ held new) d' mid reads none bytes input in
+          rolls.goes-on join append step k meaning gone old first w now between bytes ((old.rest ++ given) ++ text.0)
+          (split-text gone old.shown old.rest given text.0 bytes (text.1 ∙ ap (λ xs. (gone ++ xs) ++ text.0) whole)))
+          (λ same_bytes more.
+          let settled = ⊎_elim (λ is. is) (λ two. absurd (more two)) few in
+          let all = reading.taken-all remaining read_step k capacity reader (gone ++ held new) d' mid reads unchanged same_bytes settled
+          ready held_none in
+          let tail : given ≡ new.rest = append_cancel_left (held old) given new.rest
+          (sym whole ∙ ap (λ xs. xs ++ new.rest) no_line.shown) in
+          record {
+            rest = old.rest ++ given;
+            whole = all ∙ (ap (λ xs. gone ++ xs) whole ∙ (ap (λ xs. gone ++ xs) (append_assoc old.shown old.rest given)
+                ∙ sym (append_assoc gone old.shown (old.rest ++ given))));
+            unended = All-append (λ b. b ≢ t) old.rest given between.unfinished
+                (subst (All (λ b. b ≢ t)) (sym tail) (subst (λ c. All (λ b. b ≢ c) new.rest) fitting.terminator no_line.none));
+            room = λ limit is. omega (
+              arith,
+              subst (λ m. IsWithin m new.size) (same.limit ∙ (fitting.limit ∙ is)) within,
+              room,
+              ap length whole,
+              length-append (held old) given,
+              length-append old.shown old.rest,
+              length-append old.rest given,
+            );
+          })
+
+    -- it succeeded
+    module _ (given : List ℕ) (whole : held new ≡ held old ++ given) (filled : IsFilled old new) (room : length (held new) ≤ new.size)
+        (within : IsWithin new.limit new.size)
+        (reads : Decodes remaining read_step (started capacity k.encoding k.bom_sniffing) reader (gone ++ held new) d' reader')
+        (none : (d : DecoderState) (more : List ℕ) → IsDone d → still_to_give d more ≡ [])
+        (done : new.has_ended ≡ true → IsDone d') where
+      abbrev shown : List ℕ
+      shown = gone ++ new.shown
+
+      pub shown-room : length new.shown ≤ new.size
+      shown-room = omega (arith, room, length-append new.shown new.rest)
+
+      abbrev Input : List ℕ → Type 0
+      Input = IsInput k d'.has_ended reads.pieces
+
+      abbrev pub taken : Taken remaining read_step reader reader'
+      taken = reading.taken remaining read_step k capacity reader (gone ++ held new) d' reader' reads
+
+      pub limit-within : (limit : ℕ) → k.heap_limit ≡ Some limit → new.size ≤ limit
+      limit-within limit is = subst (λ m. IsWithin m new.size) (same.limit ∙ (fitting.limit ∙ is)) within
+
+      -- what follows what is shown
+      abbrev after : (bytes : List ℕ) → Input bytes → List ℕ
+      after bytes input =
+          new.rest ++ (reading.input-is remaining read_step k capacity reader (gone ++ held new) d' reader' reads none bytes input).0
+
+      after-is : (bytes : List ℕ) (input : Input bytes) → gone ++ (new.shown ++ after bytes input) ≡ bytes
+      after-is bytes input =
+          let text = reading.input-is remaining read_step k capacity reader (gone ++ held new) d' reader' reads none bytes input in
+          sym (text.1 ∙ (append_assoc gone (held new) text.0 ∙ ap (λ xs. gone ++ xs) (append_assoc new.shown new.rest text.0)))
+
+      last : (bytes : List ℕ) (input : Input bytes) → new.has_ended ≡ true
+          → (reading.input-is remaining read_step k capacity reader (gone ++ held new) d' reader' reads none bytes input).0 ≡ []
+      last bytes input ended =
+          (reading.input-is remaining read_step k capacity reader (gone ++ held new) d' reader' reads none bytes input).2 (done ended)
+
+      closes : (bytes : List ℕ) (input : Input bytes) → 0 < length (after bytes input) → IsClosed t new.shown
+      closes bytes input = rolls.closed-filled t old new fitting.terminator
+          (reading.input-is remaining read_step k capacity reader (gone ++ held new) d' reader' reads none bytes input).0 filled
+          (last bytes input)
+
+      abbrev front : (bytes : List ℕ) (input : Input bytes) → IsFront k bytes shown
+      front bytes input = record {
+        after = after bytes input;
+        whole = sym (after-is bytes input) ∙ sym (append_assoc gone new.shown (after bytes input));
+        closed = λ some. closed-append t gone new.shown between.opens (closes bytes input some);
+        held = λ limit is. rolls.fits-filled join append step k meaning gone old first w now between new given whole fitting.terminator
+            filled shown-room limit is (limit-within limit is);
+      }
+
+      start-is : start_in new w ≡ length old.shown
+      start-is = omega (arith, rolls.walk-at join append step k meaning gone old first w now between, same.offset, between.offset)
+
+      ready : IsReady step k meaning gone new.shown (start_in new w) first w now
+      ready = subst (λ p. IsReady step k meaning gone new.shown p first w now) (sym start-is)
+          (rolls.filled-ready join append step k meaning gone old first w now between new given whole fitting.terminator filled)
+
+      -- a fault within what is shown
+      pub faulted : {F : Type 0} (errors : ErrorMakers E) (matcher : MatcherFacts F) (has_buffers : Bool) (e : E) (now' : S)
+          → ((gone : List ℕ) (first : S) → IsReady step k meaning gone new.shown (start_in new w) first w now
+          → (after : List ℕ) → (0 < length after → IsClosed t new.shown)
+          → IsFault step errors matcher k (gone ++ (new.shown ++ after)) first e now')
+          → IsReaderFault remaining read_step step errors matcher (record { settings = k; has_buffers = has_buffers })
+          reader first e reader' now'
+      faulted errors matcher has_buffers e now' fault = of_search taken shown
+          (subst (λ xs. IsFault step errors matcher k (gone ++ xs) first e now') (append-nil new.shown)
+          (fault gone first ready [] rolls.nothing))
+          (λ bytes input. (
+            front bytes input,
+            subst (λ xs. IsFault step errors matcher k xs first e now') (after-is bytes input)
+                (fault gone first ready (after bytes input) (closes bytes input)),
+          ))
+
+      -- the search ended within what is shown, or with it
+      module _ (w' : Walk) (now' : S) (ended : HasEnded step k meaning new w now w' now') where
+        over : (bytes : List ℕ) (input : Input bytes) → IsCountedFor step k meaning first bytes w'.offset ended.outcome now'
+        over bytes input = subst (λ xs. IsCountedFor step k meaning first xs w'.offset ended.outcome now') (after-is bytes input)
+            (ended.counted gone first between.opens ready (after bytes input) (closes bytes input)
+            (λ nothing_new. rolls.last-filled t old new fitting.terminator
+            (reading.input-is remaining read_step k capacity reader (gone ++ held new) d' reader' reads none bytes input).0 filled
+            (last bytes input) (subst (λ p. IsLast t new.shown p) start-is nothing_new)))
+
+        high : w'.offset ≤ length shown
+        high = omega (arith, ended.high, same.offset, between.offset, length-append gone new.shown)
+
+        pub has-counted : UnchangedIsInput → IsSettled d'.mode → (d'.mode ≡ Passing → (length d'.ready ≤ 3) × (d'.held ≡ []))
+            → HasCounted step k meaning remaining read_step reader first w'.offset reader' now'
+        has-counted unchanged settled passing = record {
+          taken = taken;
+          seen = shown;
+          outcome = ended.outcome;
+          over_seen = subst (λ xs. IsCountedFor step k meaning first (gone ++ xs) w'.offset ended.outcome now') (append-nil new.shown)
+              (ended.counted gone first between.opens ready [] rolls.nothing (λ _. refl));
+          front = front;
+          over_all = over;
+          all = λ bytes input all.
+              let count = subst (λ o. IsCount o (LineSearch.byte_count k meaning bytes) w'.offset) all
+              (over bytes input).is_count in
+              let text : bytes ≡ shown ++ after bytes input = (front bytes input).whole in
+              subst (λ xs. LineSearch.turn_count k meaning xs ≤ length (lines t shown)) (sym text)
+              (turns-seen join append k meaning shown (after bytes input) (front bytes input).closed
+              (subst (λ xs. LineSearch.byte_count k meaning xs ≤ length shown) text (omega (arith, count, high))));
+          ahead = λ limit is same_bytes.
+              let few = reading.taken-few remaining read_step k capacity reader (gone ++ held new) d' reader' reads unchanged same_bytes
+              settled passing in
+              omega (
+                arith,
+                few,
+                limit-within limit is,
+                ended.low,
+                room,
+                length-append gone (held new),
+                rolls.walk-at join append step k meaning gone old first w now between,
+              );
+        }
+
+  -- why a search that reads on is cut short by a fill that failed
+  pub unread-filled : (capacity : ℕ) (reader : R) (decoder : DecoderState)
+      → decoder ≡ started capacity k.encoding k.bom_sniffing → (first : S) (old new : BufferState) (d d' : DecoderState) (r r' : R)
+      (w : Walk) (now : S) (so_far : IsRolling step k meaning remaining read_step decoder reader first old d r w now)
+      → AreFitting k.heap_limit t old → IsSameBuffer old new
+      → ((r2 : R) → Fills remaining read_step old d r new d' r2
+      → Decodes remaining read_step decoder reader (so_far.gone ++ held new) d' r2)
+      → (has_buffers : Bool) → GrowsIfFull old new → IsWithin new.limit new.size → is_at 0 k.heap_limit ≡ false
+      → UnchangedIsInput → ((d : DecoderState) (more : List ℕ) → IsDone d → still_to_give d more ≡ [])
+      → (error : FillError) (io : Error) → IsMadeOf error io → FillFails old new error
+      → UnlessRead {X = Bool} (Err error) (Fills remaining read_step old d r new d' r')
+      → IfRead {X = Bool} (Err error) (λ e. FailsToFill remaining read_step e old d r new d' r')
+      → IfRead {X = Bool} (Err error) (λ _. d'.mode ≡ Passing → d'.held ≡ [])
+      → IfRead {X = Bool} (Err error) (λ _. d'.ready ≡ [])
+      → IfRead {X = Bool} (Err error) (λ _. IsSettled d'.mode ⊎ TakesAtMost (remaining r) (remaining r') 2)
+      → (IsSettled d.mode → d'.mode ≡ d.mode)
+      → IsUnread remaining read_step (record { settings = k; has_buffers = has_buffers }) meaning reader
+      (Some (so_far.gone ++ old.shown)) io r'
+  unread-filled capacity reader decoder begun first old new d d' r r' w now so_far fitting same reads has_buffers grows within allowed
+      unchanged none error io made fails cut read passed empty few stays = go error made fails cut read passed empty few
+    where
+      from_start : (r2 : R) → Fills remaining read_step old d r new d' r2
+          → Decodes remaining read_step (started capacity k.encoding k.bom_sniffing) reader (so_far.gone ++ held new) d' r2
+      from_start r2 fills = subst (λ x. Decodes remaining read_step x reader (so_far.gone ++ held new) d' r2) begun (reads r2 fills)
+
+      go : (error : FillError) → IsMadeOf error io → FillFails old new error
+          → UnlessRead {X = Bool} (Err error) (Fills remaining read_step old d r new d' r')
+          → IfRead {X = Bool} (Err error) (λ e. FailsToFill remaining read_step e old d r new d' r')
+          → IfRead {X = Bool} (Err error) (λ _. d'.mode ≡ Passing → d'.held ≡ [])
+          → IfRead {X = Bool} (Err error) (λ _. d'.ready ≡ [])
+          → IfRead {X = Bool} (Err error) (λ _. IsSettled d'.mode ⊎ TakesAtMost (remaining r) (remaining r') 2)
+          → IsUnread remaining read_step (record { settings = k; has_buffers = has_buffers }) meaning reader
+          (Some (so_far.gone ++ old.shown)) io r'
+      go (Read e) made fails cut read passed empty few =
+          let ahead = ⊎_elim
+          (λ settled. inl (subst IsSettled (sym (stays settled)) settled))
+          (λ first_read. subst (λ x. IsSettled d'.mode ⊎ TakesAtMost (remaining x) (remaining r') 2) first_read few)
+          so_far.settled in
+          subst (λ x. IsUnread remaining read_step (record { settings = k; has_buffers = has_buffers }) meaning reader
+          (Some (so_far.gone ++ old.shown)) x r') (sym made)
+          (unread-read capacity reader r' d d' so_far.gone old new first w now so_far.between fitting same has_buffers grows within allowed
+          unchanged none e read.mid (from_start read.mid read.fills) read.fills.given read.fills.appended fails.0 fails.1 read.unended read.failed
+          empty passed ahead)
+      go HeapLimit made fails cut read passed empty few =
+          unread-cut capacity reader r' d d' so_far.gone old new first w now so_far.between fitting same has_buffers grows within allowed
+          unchanged none HeapLimit io made fails (from_start r' cut) cut.given cut.appended (λ e is. cc)
+      go Offset made fails cut read passed empty few =
+          unread-cut capacity reader r' d d' so_far.gone old new first w now so_far.between fitting same has_buffers grows within allowed
+          unchanged none Offset io made fails (from_start r' cut) cut.given cut.appended (λ e is. cc)
+      go Memory made fails cut read passed empty few =
+          unread-cut capacity reader r' d d' so_far.gone old new first w now so_far.between fitting same has_buffers grows within allowed
+          unchanged none Memory io made fails (from_start r' cut) cut.given cut.appended (λ e is. cc)
+
+  -- what comes after a fill that succeeded
+  module _ (capacity : ℕ) (reader : R) (decoder : DecoderState) (begun : decoder ≡ started capacity k.encoding k.bom_sniffing)
+      (first : S) (old new : BufferState) (d d' : DecoderState) (r r' : R) (w : Walk) (now : S)
+      (so_far : IsRolling step k meaning remaining read_step decoder reader first old d r w now)
+      (fitting : AreFitting k.heap_limit t old) (same : IsSameBuffer old new) (fills : Fills remaining read_step old d r new d' r')
+      (reads : Decodes remaining read_step decoder reader (so_far.gone ++ held new) d' r') (filled : IsFilled old new)
+      (room : length (held new) ≤ new.size) (within : IsWithin new.limit new.size) where
+    abbrev from_start : Decodes remaining read_step (started capacity k.encoding k.bom_sniffing) reader (so_far.gone ++ held new) d' r'
+    from_start = subst (λ x. Decodes remaining read_step x reader (so_far.gone ++ held new) d' r') begun reads
+
+    module _ (none : (d : DecoderState) (more : List ℕ) → IsDone d → still_to_give d more ≡ [])
+        (done : (old.has_ended ≡ true → IsDone d) → new.has_ended ≡ true → IsDone d') where
+      done_then : new.has_ended ≡ true → IsDone d'
+      done_then = done (λ was. absurd (false≢true (sym so_far.between.unended ∙ was)))
+
+      pub faulted-filled : {F : Type 0} (errors : ErrorMakers E) (matcher : MatcherFacts F) (has_buffers : Bool) (e : E) (now' : S)
+          → ((gone : List ℕ) (first : S) → IsReady step k meaning gone new.shown (start_in new w) first w now
+          → (after : List ℕ) → (0 < length after → IsClosed t new.shown)
+          → IsFault step errors matcher k (gone ++ (new.shown ++ after)) first e now')
+          → IsReaderFault remaining read_step step errors matcher (record { settings = k; has_buffers = has_buffers })
+          reader first e r' now'
+      faulted-filled = faulted capacity reader r' d d' so_far.gone old new first w now so_far.between fitting same fills.given
+          fills.appended filled room within from_start none done_then
+
+      pub counted-filled : (w' : Walk) (now' : S) → HasEnded step k meaning new w now w' now' → UnchangedIsInput → IsSettled d'.mode
+          → (d'.mode ≡ Passing → (length d'.ready ≤ 3) × (d'.held ≡ []))
+          → HasCounted step k meaning remaining read_step reader first w'.offset r' now'
+      counted-filled = has-counted capacity reader r' d d' so_far.gone old new first w now so_far.between fitting same fills.given
+          fills.appended filled room within from_start none done_then
+
+      pub rolling-next : (w' : Walk) (moved : BufferState) (now' : S) → HasMovedOn step k meaning new w now moved w' now'
+          → ((count : ℕ) → so_far.gone ++ held new ≡ (so_far.gone ++ take count new.shown) ++ (drop count new.shown ++ new.rest))
+          → IsSettled d'.mode
+          → IsRolling step k meaning remaining read_step decoder reader first moved d' r' w' now'
+      rolling-next w' moved now' on consumed settled = record {
+        gone = so_far.gone ++ take on.count new.shown;
+        between = rolls.between-next join append step k meaning so_far.gone old first w now so_far.between new fills.given fills.appended
+            fitting.terminator filled same.offset (omega (arith, room, length-append new.shown new.rest))
+            (limit-within capacity reader r' d d' so_far.gone old new first w now so_far.between fitting same fills.given
+            fills.appended filled room within from_start none done_then)
+            moved w' now' on;
+        reads = subst (λ xs. Decodes remaining read_step decoder reader xs d' r')
+            (consumed on.count ∙ ap (λ b. (so_far.gone ++ take on.count new.shown) ++ held b) (sym on.moved)) reads;
+        settled = inl settled;
+      }
+
+-- buffers that fit a configuration do so after a fill
+pub fitting-filled : (most : Option ℕ) (t : ℕ) (old new : BufferState) → AreFitting most t old → IsSameBuffer old new
+    → GrowsIfFull old new → IsWithin new.limit new.size → AreFitting most t new
+fitting-filled most t old new fitting same grows within = record {
+  limit = same.limit ∙ fitting.limit;
+  terminator = same.terminator ∙ fitting.terminator;
+  size = grown (least_size most) old new grows fitting.size;
+  within = subst (λ m. IsWithin m new.size) (same.limit ∙ fitting.limit) within;
+  detection = same.detection ∙ fitting.detection;
+}

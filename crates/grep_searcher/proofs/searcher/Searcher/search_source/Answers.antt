@@ -1,0 +1,47 @@
+use Rattle.std.proofs.Common.{None}
+use Rattle.grep_definitions.specs.ReaderSearches.{of_buffers}
+use Rattle.grep_definitions.specs.Searches.{ErrorMakers, MatcherFacts}
+use Rattle.grep_searcher.proofs.DecodedLemmas.{fault-buffers, searched-same, unread-same}
+use Rattle.grep_searcher.proofs.searcher.Searcher.search_source.Goals as goal
+
+pub returns-in-Err-clause-searched : goal.returns-in-Err-clause-searched
+returns-in-Err-clause-searched g c =
+    let maker = g.S.Error.SinkError in
+    let matcher = g.M.Matcher in
+    let errors : ErrorMakers g.row.S-Error.Denot =
+    record { is_message = maker.is_message; is_io = maker.is_io; is_config = maker.is_config } in
+    let facts : MatcherFacts g.row.M-Error.Denot =
+    record { meaning = matcher.meaning c.args.matcher.now; fails = matcher.fails c.args.matcher.now; text_of = g.M.Error.Display.output }
+    in
+    fault-buffers g.S.Sink.step errors facts g.R.Source.remaining g.R.Source.step c.args.self.now c.args.reader.now c.args.sink.now
+    c.in-Err.error c.error_io.result c.in-Err.ensures.none c.in-Err.ensures.memory c.error_io.ensures
+
+pub returns-in-Err-clause-succeeds : goal.returns-in-Err-clause-succeeds
+returns-in-Err-clause-succeeds g c = λ never infallible.
+    (None, c.in-Err.error, of_buffers c.in-Err.ensures.none c.in-Err.ensures.memory, c.error_io.ensures)
+
+pub returns-clause-searched : goal.returns-clause-searched
+returns-clause-searched g c =
+    let maker = g.S.Error.SinkError in
+    let matcher = g.M.Matcher in
+    let errors : ErrorMakers g.row.S-Error.Denot =
+    record { is_message = maker.is_message; is_io = maker.is_io; is_config = maker.is_config } in
+    let facts : MatcherFacts g.row.M-Error.Denot =
+    record { meaning = matcher.meaning c.args.matcher.now; fails = matcher.fails c.args.matcher.now; text_of = g.M.Error.Display.output }
+    in
+    searched-same g.S.Sink.step errors facts g.R.Source.remaining g.R.Source.step c.take_buffers.new.self.settings c.args.self.now
+    c.args.reader.now c.args.sink.now c.search_with-result.result c.search_with-result.new.reader c.search_with-result.new.sink
+    c.in-Ok.ensures.settings c.search_with-result.ensures.searched
+
+pub returns-clause-succeeds : goal.returns-clause-succeeds
+returns-clause-succeeds g c = λ never infallible.
+    let maker = g.S.Error.SinkError in
+    let matcher = g.M.Matcher in
+    let errors : ErrorMakers g.row.S-Error.Denot =
+    record { is_message = maker.is_message; is_io = maker.is_io; is_config = maker.is_config } in
+    let facts : MatcherFacts g.row.M-Error.Denot =
+    record { meaning = matcher.meaning c.args.matcher.now; fails = matcher.fails c.args.matcher.now; text_of = g.M.Error.Display.output }
+    in
+    unread-same g.S.Sink.step errors facts g.R.Source.remaining g.R.Source.step c.take_buffers.new.self.settings c.args.self.now
+    c.args.reader.now c.search_with-result.result c.search_with-result.new.reader c.in-Ok.ensures.settings
+    (c.search_with-result.ensures.succeeds never infallible)

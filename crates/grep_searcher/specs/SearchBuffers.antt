@@ -1,0 +1,29 @@
+-- The buffers of a searcher. The contracts of private functions cite these definitions; no public contract does.
+use Rattle.std.specs.Prelude.{◌≡◌, ℕ, ◌≤◌, min, Option, None, Some}
+use Rattle.std.specs.IoError.{error_kind}
+use Rattle.std.specs.declared.io.Error.{Error}
+use Rattle.std.specs.declared.io.ErrorKind.TheVariants.{InvalidData, Other, OutOfMemory}
+use Rattle.grep_line_buffer.specs.declared.fill_error.FillError.{FillError}
+use Rattle.grep_line_buffer.specs.declared.fill_error.FillError.TheVariants.{Read, HeapLimit, Offset, Memory}
+use Rattle.grep_line_buffer.specs.declared.detection.Detection.TheVariants.{None as no_detection}
+use Rattle.grep_line_buffer.specs.BufferStates.{BufferState, IsWithin}
+
+-- the least size of a line buffer, by its limit
+abbrev pub least_size : Option ℕ → ℕ
+least_size None = 65536
+least_size (Some most) = min 65536 most
+
+-- a line buffer fits a configuration with this limit, where lines are split at the byte t
+pub record AreFitting (most : Option ℕ) (t : ℕ) (lines : BufferState) : Type 0 where
+  pub limit : lines.limit ≡ most
+  pub terminator : lines.terminator ≡ t
+  pub size : least_size most ≤ lines.size
+  pub within : IsWithin most lines.size
+  pub detection : lines.detection ≡ no_detection
+
+-- the error of reading that an error of a line buffer becomes: the reader's own, or one of a kind of its own
+abbrev pub IsMadeOf : FillError → Error → Type 0
+IsMadeOf (Read e) error = error ≡ e
+IsMadeOf HeapLimit error = error_kind error ≡ Other
+IsMadeOf Offset error = error_kind error ≡ InvalidData
+IsMadeOf Memory error = error_kind error ≡ OutOfMemory

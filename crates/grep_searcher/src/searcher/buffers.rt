@@ -1,0 +1,40 @@
+//! The buffers of a searcher.
+ghost use Rattle.std.specs.Prelude.{IfOk};
+ghost use Rattle.grep_matcher.specs.Terminators.{byte_of};
+ghost use Rattle.grep_searcher.specs.SearchBuffers.{AreFitting};
+
+use crate::config::Config;
+use grep_decode::Decoder;
+use grep_line_buffer::{Detection, LineBuffer};
+use std::alloc::{AllocError, Allocator};
+
+// The size of a line buffer in bytes, if no limit is below it.
+const BUFFER_CAPACITY: usize = 64 * 1024;
+
+// How many bytes of its reader a decoder keeps.
+const DECODER_CAPACITY: usize = 8192;
+
+/// What a search of a reader needs: a buffer that shows its lines, over a decoder.
+#[derive(Drop)]
+pub(crate) struct Buffers<A: Allocator> {
+    pub(crate) lines: LineBuffer<A>,
+    pub(crate) decoder: Decoder<A>,
+}
+
+impl<A: Allocator + Copy> Buffers<A> {
+    // Buffers for searches with this configuration.
+    pub(crate) fn new(alloc: A, config: &Config) -> Result<Buffers<A>, AllocError>
+        ensures fitting { IfOk result (λ buffers. AreFitting config.now.heap_limit
+            (byte_of config.now.line_terminator) buffers.lines) }
+    {
+        let limit = config.heap_limit;
+        let capacity = match limit {
+            Some(most) => BUFFER_CAPACITY.min(most),
+            None => BUFFER_CAPACITY,
+        };
+        let terminator = config.line_terminator.as_byte();
+        let lines = LineBuffer::new(alloc, capacity, limit, terminator, Detection::None)?;
+        let decoder = Decoder::new(alloc, DECODER_CAPACITY)?;
+        Ok(Buffers { lines, decoder })
+    }
+}

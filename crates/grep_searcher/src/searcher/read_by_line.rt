@@ -1,0 +1,342 @@
+//! The search of a reader, fill by fill of a line buffer. It follows grep-searcher's module `searcher::glue`.
+ghost use Rattle.std.specs.Prelude.{◌≡◌, ◌≤◌, ◌<◌, ◌+◌, ◌++◌, ◌⊎◌, ℕ, Bool, List, Option, Ok, true, false, length};
+ghost use Rattle.std.specs.Prelude.{IfOk, IfErr, IsOk, OnErr, OnOk, MatchBool};
+ghost use Rattle.std.specs.declared.io.Error.{Error};
+ghost use Rattle.grep_matcher.specs.Terminators.{byte_of};
+ghost use Rattle.grep_matcher.specs.Matching.{IsInfallible};
+ghost use Rattle.grep_decode.specs.DecoderStates.{started};
+ghost use Rattle.grep_line_buffer.specs.BufferStates.{empty_buffer, held};
+ghost use Rattle.grep_definitions.specs.Below.{is_at};
+ghost use Rattle.grep_definitions.specs.InputFronts.{IsClosed};
+ghost use Rattle.grep_definitions.specs.ReaderSearches.{IsReaderFault, IsUnread, is_idle};
+ghost use Rattle.grep_definitions.specs.Searches.{IsFault};
+ghost use Rattle.grep_definitions.specs.SinkCalls.{begins};
+ghost use Rattle.grep_definitions.specs.SinkRuns.{NeverFails};
+ghost use Rattle.grep_searcher.specs.InputSearches.{IsSourceSearched};
+ghost use Rattle.grep_searcher.specs.Rolls.{IsReady, HasBegun, HasMovedOn, HasEnded, HasCounted, start_in};
+ghost use Rattle.grep_searcher.specs.SearchBuffers.{AreFitting, IsMadeOf};
+ghost use Rattle.grep_searcher.specs.Walks.{IsOrdered};
+
+use crate::searcher::Searcher;
+use crate::searcher::buffers::Buffers;
+use crate::searcher::walk::{START, Walk};
+use crate::sink::Sink;
+use grep_decode::laws::{done_gives_nothing, reads_continue};
+use grep_decode::{Decoder, Label, Source};
+use grep_definitions::laws::unchanged_is_searched;
+use grep_line_buffer::laws::fills_continue;
+use grep_line_buffer::{FillError, LineBuffer};
+use grep_lines::laws::{lines_append, lines_are_few, lines_are_numbered, lines_join};
+use grep_matcher::Matcher;
+use grep_report::{SinkError, SinkFinish};
+use std::alloc::Allocator;
+use std::io;
+
+impl<A: Allocator + Copy> Searcher<A> {
+    // A search of a reader that isn't refused. The buffers are taken out, so that the searcher that a sink is lent
+    // has none, and put back whatever comes.
+    pub(crate) fn search_source<M: Matcher, R: Source, S: Sink>(
+        &mut self,
+        matcher: &M,
+        reader: &mut R,
+        sink: &mut S,
+    ) -> Result<(), S::Error>
+    where
+        S::Error: SinkError<A>,
+        requires allowed { is_at 0 self.old.settings.heap_limit ≡ false }
+        requires may_call { S.may_call sink.old }
+        ensures settings { self.new.settings ≡ self.old.settings }
+        ensures buffers { self.old.has_buffers ≡ true → self.new.has_buffers ≡ true }
+        ensures gets { OnOk result (self.new.has_buffers ≡ true) }
+        ensures searched { IsSourceSearched S.step
+            (record {
+              is_message = S.Error.is_message;
+              is_io = S.Error.is_io;
+              is_config = S.Error.is_config;
+            })
+            (record {
+              meaning = M.meaning matcher.now;
+              fails = M.fails matcher.now;
+              text_of = M.Error.output;
+            })
+            R.remaining R.step self.old reader.old sink.old result reader.new sink.new }
+        ensures succeeds { NeverFails S.step S.may_call → IsInfallible (M.fails matcher.now)
+            → IfErr result (λ e. (seen : Option (List ℕ)) × (error : Error)
+            × IsUnread R.remaining R.step self.old (M.meaning matcher.now) reader.old seen error reader.new
+            × S.Error.is_io error e) }
+        ensures may_call { S.may_call sink.new }
+    {
+        let mut buffers = match self.take_buffers() {
+            Ok(buffers) => buffers,
+            Err(error) => return Err(S::Error::error_io(self.alloc, error)),
+        };
+        let result = self.search_with(matcher, &mut buffers, reader, sink);
+        self.put_back(buffers);
+        result
+    }
+
+    // The same with buffers that were taken out.
+    fn search_with<M: Matcher, R: Source, S: Sink>(
+        &self,
+        matcher: &M,
+        buffers: &mut Buffers<A>,
+        reader: &mut R,
+        sink: &mut S,
+    ) -> Result<(), S::Error>
+    where
+        S::Error: SinkError<A>,
+        requires allowed { is_at 0 self.now.settings.heap_limit ≡ false }
+        requires fitting { AreFitting self.now.settings.heap_limit
+            (byte_of self.now.settings.line_terminator) buffers.old.lines }
+        requires may_call { S.may_call sink.old }
+        ensures fitting { AreFitting self.now.settings.heap_limit
+            (byte_of self.now.settings.line_terminator) buffers.new.lines }
+        ensures searched { (has_buffers : Bool) → IsSourceSearched S.step
+            (record {
+              is_message = S.Error.is_message;
+              is_io = S.Error.is_io;
+              is_config = S.Error.is_config;
+            })
+            (record {
+              meaning = M.meaning matcher.now;
+              fails = M.fails matcher.now;
+              text_of = M.Error.output;
+            })
+            R.remaining R.step (record { settings = self.now.settings; has_buffers = has_buffers })
+            reader.old sink.old result reader.new sink.new }
+        ensures succeeds { NeverFails S.step S.may_call → IsInfallible (M.fails matcher.now)
+            → IfErr result (λ e. (has_buffers : Bool) → (seen : Option (List ℕ)) × (error : Error)
+            × IsUnread R.remaining R.step (record { settings = self.now.settings; has_buffers = has_buffers })
+            (M.meaning matcher.now) reader.old seen error reader.new × S.Error.is_io error e) }
+        ensures may_call { S.may_call sink.new }
+    {
+        let count = self.match_source(matcher, buffers, reader, sink)?;
+        sink.finish(self, &SinkFinish::new(count, None))
+    }
+
+    // Makes each call but `finish`, and returns the byte count.
+    fn match_source<M: Matcher, R: Source, S: Sink>(
+        &self,
+        matcher: &M,
+        buffers: &mut Buffers<A>,
+        reader: &mut R,
+        sink: &mut S,
+    ) -> Result<u64, S::Error>
+    where
+        S::Error: SinkError<A>,
+        requires allowed { is_at 0 self.now.settings.heap_limit ≡ false }
+        requires fitting { AreFitting self.now.settings.heap_limit
+            (byte_of self.now.settings.line_terminator) buffers.old.lines }
+        requires may_call { S.may_call sink.old }
+        ensures fitting { AreFitting self.now.settings.heap_limit
+            (byte_of self.now.settings.line_terminator) buffers.new.lines }
+        ensures begun { IfOk result (λ count. HasBegun S.step self.now.settings (M.meaning matcher.now)
+            R.remaining R.step reader.old sink.old reader.new) }
+        ensures counted { IfOk result (λ count. HasCounted S.step self.now.settings (M.meaning matcher.now)
+            R.remaining R.step reader.old sink.old count reader.new sink.new) }
+        ensures fault { IfErr result (λ e. (has_buffers : Bool) → IsReaderFault R.remaining R.step S.step
+            (record {
+              is_message = S.Error.is_message;
+              is_io = S.Error.is_io;
+              is_config = S.Error.is_config;
+            })
+            (record {
+              meaning = M.meaning matcher.now;
+              fails = M.fails matcher.now;
+              text_of = M.Error.output;
+            })
+            (record { settings = self.now.settings; has_buffers = has_buffers })
+            reader.old sink.old e reader.new sink.new) }
+        ensures succeeds { NeverFails S.step S.may_call → IsInfallible (M.fails matcher.now)
+            → IfErr result (λ e. (has_buffers : Bool) → (seen : Option (List ℕ)) × (error : Error)
+            × IsUnread R.remaining R.step (record { settings = self.now.settings; has_buffers = has_buffers })
+            (M.meaning matcher.now) reader.old seen error reader.new × S.Error.is_io error e) }
+        ensures may_call { S.may_call sink.new }
+    {
+        lines_join();
+        lines_append();
+        if !sink.begin(self)? {
+            return Ok(0);
+        }
+        if self.is_idle() {
+            return Ok(0);
+        }
+        buffers.lines.clear();
+        buffers
+            .decoder
+            .start(self.label(), self.config.bom_sniffing);
+        self.read_by_line(
+            matcher,
+            &mut buffers.lines,
+            &mut buffers.decoder,
+            reader,
+            sink,
+        )
+    }
+
+    // The label that is set.
+    fn label(&self) -> Option<Label>
+        ensures { result ≡ self.now.settings.encoding }
+    {
+        match self.config.encoding {
+            Some(encoding) => Some(encoding.label()),
+            None => None,
+        }
+    }
+
+    // Searches the decoded bytes of a reader as a buffer shows them. Makes each call but `begin` and `finish`, and
+    // returns the byte count. The caller ensures that the buffer is empty, that the decoder was started with the
+    // searcher's label, and that `begin` returned true and some line may have a turn.
+    pub(crate) fn read_by_line<M: Matcher, R: Source, S: Sink>(
+        &self,
+        matcher: &M,
+        lines: &mut LineBuffer<A>,
+        decoder: &mut Decoder<A>,
+        reader: &mut R,
+        sink: &mut S,
+    ) -> Result<u64, S::Error>
+    where
+        S::Error: SinkError<A>,
+        requires allowed { is_at 0 self.now.settings.heap_limit ≡ false }
+        requires busy { is_idle self.now.settings ≡ false }
+        requires fitting { AreFitting self.now.settings.heap_limit
+            (byte_of self.now.settings.line_terminator) lines.old }
+        requires empty { lines.old ≡ empty_buffer lines.old.size lines.old.limit lines.old.terminator
+            lines.old.detection }
+        requires started { decoder.old ≡ started decoder.old.capacity self.now.settings.encoding
+            self.now.settings.bom_sniffing }
+        requires may_call { S.may_call sink.old }
+        ensures fitting { AreFitting self.now.settings.heap_limit
+            (byte_of self.now.settings.line_terminator) lines.new }
+        ensures counted { IfOk result (λ count. (first : S)
+            → S.step first self.now.settings begins (Ok true) sink.old
+            → HasCounted S.step self.now.settings (M.meaning matcher.now) R.remaining R.step
+            reader.old first count reader.new sink.new) }
+        ensures fault { IfErr result (λ e. (first : S)
+            → S.step first self.now.settings begins (Ok true) sink.old
+            → (has_buffers : Bool) → IsReaderFault R.remaining R.step S.step
+            (record {
+              is_message = S.Error.is_message;
+              is_io = S.Error.is_io;
+              is_config = S.Error.is_config;
+            })
+            (record {
+              meaning = M.meaning matcher.now;
+              fails = M.fails matcher.now;
+              text_of = M.Error.output;
+            })
+            (record { settings = self.now.settings; has_buffers = has_buffers })
+            reader.old first e reader.new sink.new) }
+        ensures succeeds { NeverFails S.step S.may_call → IsInfallible (M.fails matcher.now)
+            → IfErr result (λ e. (first : S) → S.step first self.now.settings begins (Ok true) sink.old
+            → (has_buffers : Bool) → (seen : Option (List ℕ)) × (error : Error)
+            × IsUnread R.remaining R.step (record { settings = self.now.settings; has_buffers = has_buffers })
+            (M.meaning matcher.now) reader.old seen error reader.new × S.Error.is_io error e) }
+        ensures may_call { S.may_call sink.new }
+    {
+        unchanged_is_searched();
+        reads_continue::<R>();
+        fills_continue::<R>();
+        done_gives_nothing();
+        lines_join();
+        lines_append();
+        lines_are_numbered();
+        lines_are_few();
+        let mut walk = START;
+        'fills: loop {
+            if let Err(error) = lines.fill(decoder, reader) {
+                return Err(S::Error::error_io(self.alloc, io_error(error)));
+            }
+            if !self.search_shown(matcher, lines, &mut walk, sink)? {
+                return Ok(walk.offset);
+            }
+        }
+    }
+
+    // Searches what a buffer shows from where a walk is, and moves past the lines that aren't kept. Returns whether
+    // more lines may come; if not, the walk's offset is the byte count.
+    fn search_shown<M: Matcher, S: Sink>(
+        &self,
+        matcher: &M,
+        lines: &mut LineBuffer<A>,
+        walk: &mut Walk,
+        sink: &mut S,
+    ) -> Result<bool, S::Error>
+    where
+        S::Error: SinkError<A>,
+        requires low { lines.old.offset ≤ walk.old.offset }
+        requires inside { walk.old.offset ≤ lines.old.offset + length lines.old.shown }
+        requires ordered { IsOrdered walk.old }
+        requires may_call { S.may_call sink.old }
+        ensures fitting { (limit : Option ℕ) (t : ℕ) → AreFitting limit t lines.old
+            → AreFitting limit t lines.new }
+        ensures ordered { IfOk result (λ goes_on. IsOrdered walk.new) }
+        ensures goes_on { IfOk result (λ goes_on. goes_on ≡ true
+            → HasMovedOn S.step self.now.settings (M.meaning matcher.now)
+            lines.old walk.old sink.old lines.new walk.new sink.new) }
+        ensures same { IfOk result (λ goes_on. goes_on ≡ false → lines.new ≡ lines.old) }
+        ensures ends { IfOk result (λ goes_on. goes_on ≡ false
+            → HasEnded S.step self.now.settings (M.meaning matcher.now)
+            lines.old walk.old sink.old walk.new sink.new) }
+        ensures fault { IfErr result (λ e. (gone : List ℕ) (first : S)
+            → IsReady S.step self.now.settings (M.meaning matcher.now) gone lines.old.shown
+            (start_in lines.old walk.old) first walk.old sink.old
+            → (after : List ℕ)
+            → (0 < length after → IsClosed (byte_of self.now.settings.line_terminator) lines.old.shown)
+            → IsFault S.step
+            (record {
+              is_message = S.Error.is_message;
+              is_io = S.Error.is_io;
+              is_config = S.Error.is_config;
+            })
+            (record {
+              meaning = M.meaning matcher.now;
+              fails = M.fails matcher.now;
+              text_of = M.Error.output;
+            })
+            self.now.settings (gone ++ (lines.old.shown ++ after)) first e sink.new) }
+        ensures kept { OnErr result (lines.new ≡ lines.old) }
+        ensures room { length (held lines.old) ≤ lines.old.size }
+        ensures succeeds { NeverFails S.step S.may_call → IsInfallible (M.fails matcher.now)
+            → IsOk result }
+        ensures may_call { S.may_call sink.new }
+    {
+        lines_join();
+        lines_append();
+        let window = lines.buffer();
+        let start = (walk.offset - lines.absolute_byte_offset()) as usize;
+        if start == window.len() {
+            return Ok(false);
+        }
+        if !self.search_window(matcher, window, start, walk, sink)? {
+            return Ok(false);
+        }
+        if !self.is_terminated(window) {
+            return Ok(false);
+        }
+        let count = self.first_kept(window, walk);
+        lines.consume(count);
+        Ok(true)
+    }
+
+    // Whether the last byte ends a line.
+    fn is_terminated(&self, window: &[u8]) -> bool
+        requires { 0 < length window.now }
+        ensures { MatchBool result (IsClosed (byte_of self.now.settings.line_terminator) window.now)
+            (IsClosed (byte_of self.now.settings.line_terminator) window.now → ⊥) }
+    {
+        window[window.len() - 1] == self.config.line_terminator.as_byte()
+    }
+}
+
+// The error of reading that an error of a line buffer becomes.
+fn io_error(error: FillError) -> io::Error
+    ensures { IsMadeOf error result }
+{
+    match error {
+        FillError::Read(error) => error,
+        FillError::HeapLimit => io::Error::from(io::ErrorKind::Other),
+        FillError::Offset => io::Error::from(io::ErrorKind::InvalidData),
+        FillError::Memory => io::Error::from(io::ErrorKind::OutOfMemory),
+    }
+}
