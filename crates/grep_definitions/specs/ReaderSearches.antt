@@ -19,7 +19,7 @@ use Rattle.grep_definitions.specs.InputFronts.{GoesOnAfter, HasOpenLine, IsFront
 use Rattle.grep_definitions.specs.LineSearch.{turns, turn_count, byte_count}
 use Rattle.grep_definitions.specs.ReadingFaults.{CutsShort}
 use Rattle.grep_definitions.specs.Refusals.{refusal_of}
-use Rattle.grep_definitions.specs.Searches.{ErrorMakers, MatcherFacts, IsFault, HasReported}
+use Rattle.grep_definitions.specs.Searches.{ErrorMakers, MatcherFacts, IsFault, HasReported, IsLawful}
 use Rattle.grep_definitions.specs.Settings.{Settings, SearcherState}
 use Rattle.grep_definitions.specs.SinkCalls.{begins}
 use Rattle.grep_definitions.specs.SinkRuns.{Steps, Outcome, all_true, stopped, failed, AreReported, IsFinished, IsRun}
@@ -104,15 +104,19 @@ module _ {R : Type 0} (remaining : R → Option (List ℕ)) (read_step : R → R
           → HasReported step errors matcher state.settings seen old new
           → IsReaderFault state reader old e reader' new
 
-    -- an error: that of the refusal, which leaves the reader and the sink as they were, or that of the search
+    -- an error: that of the refusal, which leaves the reader and the sink as they were, or that of the search, which is
+    -- said if the matcher is lawful
     abbrev pub IsReaderFaultUnless : Option ConfigError → SearcherState → R → S → E → R → S → Type 0
     IsReaderFaultUnless (Some refusal) state reader old e reader' new =
         errors.is_config refusal e × (new ≡ old) × (reader' ≡ reader)
-    IsReaderFaultUnless None state reader old e reader' new = IsReaderFault state reader old e reader' new
+    IsReaderFaultUnless None state reader old e reader' new =
+        IsLawful matcher state.settings → IsReaderFault state reader old e reader' new
 
-    -- a search of a reader: it isn't refused, and runs along the calls for its input, or it ends in an error
+    -- a search of a reader: it isn't refused and, if the matcher is lawful, runs along the calls for its input, or it ends
+    -- in an error
     abbrev pub IsReaderSearched : SearcherState → R → S → Result (Unit {0}) E → R → S → Type 0
     IsReaderSearched state reader old (Ok u) reader' new =
-        (refusal_of state.settings matcher.meaning ≡ None) × IsReaderRun state.settings reader old reader' new
+        (refusal_of state.settings matcher.meaning ≡ None)
+        × (IsLawful matcher state.settings → IsReaderRun state.settings reader old reader' new)
     IsReaderSearched state reader old (Err e) reader' new =
         IsReaderFaultUnless (refusal_of state.settings matcher.meaning) state reader old e reader' new

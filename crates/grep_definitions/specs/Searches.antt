@@ -1,12 +1,13 @@
 -- What a search does to its sink, and what it returns.
 use Rattle.std.specs.Prelude.{◌≡◌, ◌⊎◌, ℕ, ◌<◌, true, List, Option, Some, None, Result, Ok, Err}
 use Rattle.std.specs.declared.io.Error.{Error}
-use Rattle.grep_matcher.specs.Lines.{strip}
+use Rattle.grep_matcher.specs.declared.line_terminator.LineTerminator.{LineTerminator}
 use Rattle.grep_matcher.specs.Matching.{Meaning}
 use Rattle.grep_report.specs.declared.config_error.ConfigError.{ConfigError}
 use Rattle.grep_definitions.specs.Settings.{Settings, SearcherState}
-use Rattle.grep_definitions.specs.LineSearch.{turns, turns_through, turn_count, byte_count, line, start, is_open_at}
+use Rattle.grep_definitions.specs.LineSearch.{turns, turns_through, turn_count, byte_count, start, is_open_at}
 use Rattle.grep_definitions.specs.DecodedInputs.{searched_bytes}
+use Rattle.grep_definitions.specs.Questions.{IsAsked, IsLawfulFor}
 use Rattle.grep_definitions.specs.ReadingFaults.{IsUndecoded}
 use Rattle.grep_definitions.specs.Refusals.{refusal_of}
 use Rattle.grep_definitions.specs.SinkRuns.{Steps, all_true, AreReported, IsRun}
@@ -18,12 +19,17 @@ pub record ErrorMakers (E : Type 0) : Type 1 where
   pub is_io : Error → E → Type 0
   pub is_config : ConfigError → E → Type 0
 
--- what is known of a matcher: what it means, which errors a haystack may get, and the text of an error if that is
--- known
+-- what is known of a matcher: what it means, which errors a haystack may get, for which terminators what it finds in
+-- many lines can be trusted, and the text of an error if that is known
 pub record MatcherFacts (F : Type 0) : Type 1 where
   pub meaning : Meaning
   pub fails : List ℕ → F → Type 0
+  pub is_lawful : LineTerminator → Type 0
   pub text_of : F → Option (List ℕ)
+
+-- a matcher is lawful for the search's terminator, if the search may ask it about many lines at once
+abbrev pub IsLawful : {F : Type 0} → MatcherFacts F → Settings → Type 0
+IsLawful matcher settings = IsLawfulFor settings matcher.meaning matcher.is_lawful
 
 module _ {S E F : Type 0} (step : Steps S E) (errors : ErrorMakers E) (matcher : MatcherFacts F) where
   -- how a search ends in an error e, by its cause, and which calls the sink had
@@ -34,12 +40,13 @@ module _ {S E F : Type 0} (step : Steps S E) (errors : ErrorMakers E) (matcher :
         (byte_count settings matcher.meaning bytes) None
         (Err e) new
         → IsFault settings bytes old e new
-    -- the matcher's error, at line i: one that its stripped bytes may get. The line has a turn, and fewer lines before
-    -- it hit than the limit has. Just those calls were made whose turn ends at or before the start of that line
-    of_matcher : {e : E} {new : S} (i : ℕ) (error : F)
+    -- the matcher's error, at line i: one that a question at that line may get. The line has a turn, and fewer lines
+    -- before it hit than the limit has. Just those calls were made whose turn ends at or before the start of that line
+    of_matcher : {e : E} {new : S} (i : ℕ) (haystack : List ℕ) (error : F)
         → i < turn_count settings matcher.meaning bytes
         → is_open_at settings matcher.meaning bytes i ≡ true
-        → matcher.fails (strip settings.line_terminator (line settings matcher.meaning bytes i)) error
+        → IsAsked settings matcher.meaning bytes i haystack
+        → matcher.fails haystack error
         → errors.is_message (matcher.text_of error) e
         → AreReported step settings old
         (turns_through settings matcher.meaning bytes (start settings matcher.meaning bytes i)) all_true new
@@ -67,17 +74,21 @@ module _ {S E F : Type 0} (step : Steps S E) (errors : ErrorMakers E) (matcher :
     pub made : errors.is_io error e
     pub reported : HasReported state.settings seen old new
 
-  -- an error: that of the refusal, which leaves the sink as it was, or a fault, or the input wasn't decoded to its end
+  -- an error: that of the refusal, which leaves the sink as it was, or a fault, or the input wasn't decoded to its end;
+  -- of a search that isn't refused this is said if the matcher is lawful
   abbrev pub IsFaultUnless : Option ConfigError → SearcherState → List ℕ → S → E → S → Type 0
   IsFaultUnless (Some refusal) state input old e new = errors.is_config refusal e × (new ≡ old)
   IsFaultUnless None state input old e new =
-      IsFault state.settings (searched_bytes state.settings input) old e new ⊎ IsUnsearched state input old e new
+      IsLawful matcher state.settings
+      → IsFault state.settings (searched_bytes state.settings input) old e new ⊎ IsUnsearched state input old e new
 
-  -- a search of an input: it isn't refused and runs along the calls for its decoded bytes, or it ends in an error
+  -- a search of an input: it isn't refused and, if the matcher is lawful, runs along the calls for its decoded bytes, or
+  -- it ends in an error
   abbrev pub IsSearched : SearcherState → List ℕ → S → Result (Unit {0}) E → S → Type 0
   IsSearched state input old (Ok u) new =
       (refusal_of state.settings matcher.meaning ≡ None)
-      × IsRun step state.settings old (turns state.settings matcher.meaning (searched_bytes state.settings input))
-      (byte_count state.settings matcher.meaning (searched_bytes state.settings input)) None (Ok u) new
+      × (IsLawful matcher state.settings
+      → IsRun step state.settings old (turns state.settings matcher.meaning (searched_bytes state.settings input))
+      (byte_count state.settings matcher.meaning (searched_bytes state.settings input)) None (Ok u) new)
   IsSearched state input old (Err e) new =
       IsFaultUnless (refusal_of state.settings matcher.meaning) state input old e new

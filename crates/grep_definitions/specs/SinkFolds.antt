@@ -9,7 +9,7 @@ use Rattle.grep_definitions.specs.DecodedInputs.{searched_bytes}
 use Rattle.grep_definitions.specs.LineSearch.{turns, byte_count}
 use Rattle.grep_definitions.specs.Refusals.{refusal_of}
 use Rattle.grep_definitions.specs.ReadingFaults.{IsUndecoded}
-use Rattle.grep_definitions.specs.Searches.{ErrorMakers, MatcherFacts, IsSearched}
+use Rattle.grep_definitions.specs.Searches.{ErrorMakers, MatcherFacts, IsSearched, IsLawful}
 use Rattle.grep_definitions.specs.ReaderSearches.{IsReaderSearched, IsUnread}
 use Rattle.grep_decode.specs.Source.{ReadResult}
 use Rattle.std.specs.declared.io.Error.{Error}
@@ -88,12 +88,12 @@ module _ {S E : Type 0} (step : Steps S E) where
       → new ≡ fold_while goes next old (match_calls turns)
 
 module _ {S E F : Type 0} (step : Steps S E) (errors : ErrorMakers E) (matcher : MatcherFacts F) where
-  -- if the matcher never fails and the search isn't refused, an error is that of a step of the sink, or the input
-  -- wasn't decoded to its end
+  -- if the matcher never fails and is lawful, and the search isn't refused, an error is that of a step of the sink, or the
+  -- input wasn't decoded to its end
   abbrev pub SearchesFail : Type 0
   SearchesFail =
       (state : SearcherState) (input : List ℕ) (old : S) (e : E) (new : S)
-      → IsInfallible matcher.fails → refusal_of state.settings matcher.meaning ≡ None
+      → IsInfallible matcher.fails → IsLawful matcher state.settings → refusal_of state.settings matcher.meaning ≡ None
       → IsSearched step errors matcher state input old (Err e) new
       → ((mid : S) × (call : Call) × step mid state.settings call (Err e) new)
       ⊎ ((seen : Option (List ℕ)) × (error : Error) × IsUndecoded state matcher.meaning input seen error
@@ -105,7 +105,7 @@ module _ {S E F : Type 0} (step : Steps S E) (errors : ErrorMakers E) (matcher :
   abbrev pub ReaderSearchesFail : Type 0
   ReaderSearchesFail =
       (state : SearcherState) (reader : R) (old : S) (e : E) (reader' : R) (new : S)
-      → IsInfallible matcher.fails → refusal_of state.settings matcher.meaning ≡ None
+      → IsInfallible matcher.fails → IsLawful matcher state.settings → refusal_of state.settings matcher.meaning ≡ None
       → IsReaderSearched remaining read_step step errors matcher state reader old (Err e) reader' new
       → ((mid : S) × (call : Call) × step mid state.settings call (Err e) new)
       ⊎ ((seen : Option (List ℕ)) × (error : Error)
@@ -115,6 +115,7 @@ module _ {S E F : Type 0} (step : Steps S E) (errors : ErrorMakers E) (matcher :
   abbrev pub KnownReadersRun : Type 0
   KnownReadersRun =
       (state : SearcherState) (reader : R) (input : List ℕ) (old : S) (reader' : R) (new : S) → remaining reader ≡ Some input
+      → IsLawful matcher state.settings
       → IsReaderSearched remaining read_step step errors matcher state reader old (Ok tt) reader' new
       → IsRun step state.settings old (turns state.settings matcher.meaning (searched_bytes state.settings input))
       (byte_count state.settings matcher.meaning (searched_bytes state.settings input)) None (Ok tt) new

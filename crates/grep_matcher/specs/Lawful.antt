@@ -1,21 +1,22 @@
--- When what a matcher says of many lines at once can be trusted for a line terminator.
---
--- No contract cites this file yet. A search that asks a matcher about many lines at once will: it then finds the same
--- lines as a search that asks about one line at a time.
-use Rattle.std.specs.Prelude.{◌≡◌, ◌≢◌, ◌⊎◌, ℕ, ◌+◌, ◌-◌, ◌<◌, ◌≤◌, Bool, true, false, List, [], length, slice_index, slice_index_or, Option, Some, None, is_some}
+-- When what a matcher finds in many lines at once can be trusted for a line terminator: a search that asks it about many
+-- lines then finds the same lines as one that asks about one line at a time.
+use Rattle.std.specs.Prelude.{◌≡◌, ◌≢◌, ◌⊎◌, ℕ, ◌+◌, ◌-◌, ◌<◌, ◌≤◌, Bool, true, false, List, [], length}
+use Rattle.std.specs.Prelude.{slice_index, slice_index_or, Option, Some, None, is_some}
+use Rattle.grep_matcher.specs.declared.line_match_kind.LineMatchKind.{LineMatchKind}
+use Rattle.grep_matcher.specs.declared.line_match_kind.LineMatchKind.TheVariants.{Confirmed, Candidate}
 use Rattle.grep_matcher.specs.declared.line_terminator.LineTerminator.{LineTerminator}
 use Rattle.grep_matcher.specs.Terminators.{byte_of}
 use Rattle.grep_matcher.specs.Lines.{lines, line_start, strip}
 use Rattle.grep_matcher.specs.Matching.{Meaning}
 
--- what a matcher finds in many lines: a position whose line matches, or one whose line is the first that may match
-pub data Candidate : Type 0 where
-  confirmed : ℕ → Candidate
-  possible : ℕ → Candidate
+-- the position of what was found, and whether its line surely matches
+abbrev pub position_of : LineMatchKind → ℕ
+position_of (Confirmed position) = position
+position_of (Candidate position) = position
 
-abbrev pub position_of : Candidate → ℕ
-position_of (confirmed position) = position
-position_of (possible position) = position
+abbrev pub is_confirmed : LineMatchKind → Bool
+is_confirmed (Confirmed position) = true
+is_confirmed (Candidate position) = false
 
 module _ (terminator : LineTerminator) (meaning : Meaning) (bytes : List ℕ) where
   -- whether line i matches without its terminator
@@ -39,25 +40,26 @@ module _ (terminator : LineTerminator) (meaning : Meaning) (bytes : List ℕ) wh
   abbrev pub EachLine : (ℕ → Type 0) → Type 0
   EachLine P = (i : ℕ) → i < length (lines (byte_of terminator) bytes) → P i
 
-  -- the line that holds a confirmed position matches, if a line holds it
-  abbrev pub IsConfirmed : Candidate → Type 0
-  IsConfirmed (confirmed position) = EachLine (λ i. HoldsPosition i position → matches_at i ≡ true)
-  IsConfirmed (possible position) = Unit {0}
-
-  -- if nothing is found, no line matches; if a position is found, no line that ends before it matches
-  abbrev pub IsLawfulResult : Option Candidate → Type 0
+  -- if nothing is found, no line matches; if a position is found, no line that ends before it matches, and if it is
+  -- confirmed, the line that holds it does
+  abbrev pub IsLawfulResult : Option LineMatchKind → Type 0
   IsLawfulResult None = EachLine (λ i. matches_at i ≡ false)
-  IsLawfulResult (Some found) = EachLine (λ i. EndsBefore i (position_of found) → matches_at i ≡ false)
-      × IsConfirmed found
+  IsLawfulResult (Some found) =
+      EachLine (λ i. EndsBefore i (position_of found) → matches_at i ≡ false)
+      × EachLine (λ i. HoldsPosition i (position_of found) → is_confirmed found ≡ true → matches_at i ≡ true)
 
 -- the matcher says that no match contains the terminator: it declares it, or its byte is one that no match contains
 abbrev pub ExcludesTerminator : LineTerminator → Meaning → Type 0
 ExcludesTerminator terminator meaning = (meaning.terminator ≡ Some terminator)
     ⊎ (meaning.absent (byte_of terminator) ≡ true)
 
--- a matcher whose results over whole lines are lawful, if it excludes the terminator
-abbrev pub IsLawful : LineTerminator → Meaning → (List ℕ → Option Candidate → Type 0) → Type 0
-IsLawful terminator meaning returns =
-    ExcludesTerminator terminator meaning
-    → (bytes : List ℕ) (found : Option Candidate) → returns bytes found
+-- what was found in some bytes can be trusted for each terminator that the matcher excludes and is lawful for
+abbrev pub IsTrusted : Meaning → (LineTerminator → Type 0) → List ℕ → Option LineMatchKind → Type 0
+IsTrusted meaning is_lawful bytes found =
+    (terminator : LineTerminator) → is_lawful terminator → ExcludesTerminator terminator meaning
     → IsLawfulResult terminator meaning bytes found
+
+-- a position in the bytes, if one was found
+abbrev pub IsInside : List ℕ → Option LineMatchKind → Type 0
+IsInside bytes None = Unit {0}
+IsInside bytes (Some found) = position_of found ≤ length bytes

@@ -30,3 +30,7 @@ holds_if_some (Some set) byte = holds set byte
 -- no haystack gets an error
 abbrev pub IsInfallible : {F : Type 0} → (List ℕ → F → Type 0) → Type 0
 IsInfallible {F} fails = (haystack : List ℕ) (error : F) → fails haystack error → ⊥
+
+-- these matches, with no line terminator and no bytes that no match contains
+abbrev pub plain : (List ℕ → Option (ℕ × ℕ)) → Meaning
+plain first = record { first = first; terminator = None; absent = λ byte. false }

@@ -3,13 +3,17 @@
 #![tactic(auto)]
 
 mod byte_set;
+mod line_match_kind;
 mod line_terminator;
 mod literal;
 mod matcher;
+mod plain;
 mod range;
 
 pub use byte_set::ByteSet;
+pub use line_match_kind::LineMatchKind;
 pub use line_terminator::LineTerminator;
 pub use literal::LiteralMatcher;
 pub use matcher::Matcher;
+pub use plain::Plain;
 pub use range::Match;

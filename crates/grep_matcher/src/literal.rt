@@ -4,6 +4,7 @@ ghost use Rattle.grep_matcher.specs.ByteSets.{holds};
 ghost use Rattle.grep_matcher.specs.Literals.{lacks};
 
 use crate::byte_set::ByteSet;
+use crate::line_match_kind::LineMatchKind;
 use crate::line_terminator::LineTerminator;
 use crate::matcher::Matcher;
 use crate::range::Match;
@@ -15,7 +16,8 @@ use std::marker::Model;
 /// A pattern that matches a literal: some bytes, exactly. The empty literal matches every haystack, at its start.
 ///
 /// It declares no line terminator, its non-matching bytes are all those that don't occur in the literal, and it never
-/// fails.
+/// fails. A line that it finds among many is a `Candidate` if the literal has a carriage return, which may be part of the
+/// line's terminator, and `Confirmed` otherwise; it is lawful for every terminator.
 #[derive(Drop)]
 pub struct LiteralMatcher<'n> {
     finder: Finder<'n>,
@@ -80,10 +82,21 @@ impl Matcher for LiteralMatcher<'_> {
 
     ghost fails = { λ _ _ _. ⊥ };
 
+    ghost is_lawful = { λ _ _. Unit {0} };
+
     #[inline]
     fn find(&self, haystack: &[u8]) -> Result<Option<Match>, io::Error> {
         match self.finder.find(haystack) {
             Some(start) => Ok(Some(Match::new(start, start + self.finder.needle().len()))),
+            None => Ok(None),
+        }
+    }
+
+    #[inline]
+    fn find_candidate_line(&self, haystack: &[u8]) -> Result<Option<LineMatchKind>, io::Error> {
+        match self.finder.find(haystack) {
+            Some(start) if self.absent.contains(b'\r') => Ok(Some(LineMatchKind::Confirmed(start))),
+            Some(start) => Ok(Some(LineMatchKind::Candidate(start))),
             None => Ok(None),
         }
     }

@@ -1,9 +1,12 @@
 //! The trait of a pattern.
 ghost use Rattle.std.specs.Prelude.{◌≡◌, ℕ, List, Option, is_some, IfOk, IfErr};
 ghost use Rattle.std.specs.Option.{option_copied};
+ghost use Rattle.grep_matcher.specs.declared.line_terminator.LineTerminator.{LineTerminator};
+ghost use Rattle.grep_matcher.specs.Lawful.{IsInside, IsTrusted};
 ghost use Rattle.grep_matcher.specs.Matching.{Meaning, IsWithin, Avoids, IsPosition, holds_if_some};
 
 use crate::byte_set::ByteSet;
+use crate::line_match_kind::LineMatchKind;
 use crate::line_terminator::LineTerminator;
 use crate::range::Match;
 use std::fmt::Display;
@@ -19,8 +22,12 @@ pub trait Matcher {
     /// What the matcher means.
     ghost meaning: { Self → Meaning };
 
-    /// Which errors `find`, `shortest_match` and `is_match` may return for a haystack.
+    /// Which errors a call may return for a haystack.
     ghost fails: { Self → List ℕ → Self.Error → Type 0 };
+
+    /// For which line terminators `find_candidate_line` can be trusted. A search with another one is safe and
+    /// returns, and nothing more is promised of it if the search asks about many lines at once.
+    ghost is_lawful: { Self → LineTerminator → Type 0 };
 
     /// The first match of a haystack, as positions in it, or `None` if it has no match. The match lies within the
     /// haystack and contains none of the non-matching bytes. An error is one that the matcher may return for this
@@ -58,6 +65,24 @@ pub trait Matcher {
         Ok(self.shortest_match(haystack)?.is_some())
     }
 
+    /// The first line of the haystack that may match, or `None` if no line matches. The haystack is a run of whole
+    /// lines, and a line matches if it has a match without its terminator. An error is one that the matcher may return
+    /// for this haystack.
+    ///
+    /// The line is given by a position in it: one from its start up to its end; the end itself belongs to the line
+    /// only if it has no terminator. No line before it matches, and if the position is `Confirmed` the line itself
+    /// does; of a `Candidate` a search asks again with the line alone. A position at the end of a haystack that ends
+    /// in its terminator is in no line, and says that no line matches.
+    ///
+    /// A search asks this only if the matcher declares the search's line terminator, or has its byte among the
+    /// non-matching bytes, and trusts it for the terminators of which the matcher is lawful. A matcher that knows no
+    /// better way returns the position of `shortest_match`, as `Confirmed`.
+    fn find_candidate_line(&self, haystack: &[u8]) -> Result<Option<LineMatchKind>, Self::Error>
+        ensures inside { IfOk result (IsInside haystack.now) }
+        ensures trusted { IfOk result
+            (IsTrusted (meaning self.now) (is_lawful self.now) haystack.now) }
+        ensures error { IfErr result (λ e. fails self.now haystack.now e) };
+
     /// The line terminator that the matcher declares, if any. A search with another line terminator is refused.
     fn line_terminator(&self) -> Option<LineTerminator>
         ensures { result ≡ (meaning self.now).terminator };
@@ -76,6 +101,8 @@ impl<M: Matcher> Matcher for &M {
 
     ghost fails = { λ m. M.fails m.now };
 
+    ghost is_lawful = { λ m. M.is_lawful m.now };
+
     fn find(&self, haystack: &[u8]) -> Result<Option<Match>, M::Error> {
         (**self).find(haystack)
     }
@@ -86,6 +113,10 @@ impl<M: Matcher> Matcher for &M {
 
     fn is_match(&self, haystack: &[u8]) -> Result<bool, M::Error> {
         (**self).is_match(haystack)
+    }
+
+    fn find_candidate_line(&self, haystack: &[u8]) -> Result<Option<LineMatchKind>, M::Error> {
+        (**self).find_candidate_line(haystack)
     }
 
     fn line_terminator(&self) -> Option<LineTerminator> {
