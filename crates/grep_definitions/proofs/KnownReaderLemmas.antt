@@ -29,5 +29,6 @@ module _ {R : Type 0} (remaining : R → Option (List ℕ)) (read_step : R → R
 
   pub known_readers-run : {S E F : Type 0} (step : Steps S E) (errors : ErrorMakers E) (matcher : MatcherFacts F)
       → KnownReadersRun step errors matcher remaining read_step
-  known_readers-run step errors matcher state reader input old reader' new all searched =
-      searched.1.run (searched_bytes state.settings input) (taken-input state.settings input reader reader' all searched.1.taken)
+  known_readers-run step errors matcher state reader input old reader' new all lawful searched =
+      let run = searched.1 lawful in
+      run.run (searched_bytes state.settings input) (taken-input state.settings input reader reader' all run.taken)

@@ -131,21 +131,21 @@ module _ {S E F : Type 0} (step : Steps S E) (errors : ErrorMakers E) (matcher :
   fault-fails settings bytes old e new infallible (of_sink run) =
       reported-fails step settings (byte_count settings matcher.meaning bytes) None e new (turns settings matcher.meaning bytes) old
       run.outcome run.mid run.reported run.finished
-  fault-fails settings bytes old e new infallible (of_matcher i error turn room fails message reported) =
+  fault-fails settings bytes old e new infallible (of_matcher i haystack error turn room asked fails message reported) =
       absurd (infallible _ error fails)
 
   pub searches-fail : SearchesFail step errors matcher
-  searches-fail state input old e new infallible allowed searched =
+  searches-fail state input old e new infallible lawful allowed searched =
       ⊎_elim
       (λ fault. inl (fault-fails state.settings (searched_bytes state.settings input) old e new infallible fault))
       (λ unsearched. inr (unsearched.seen, unsearched.error, unsearched.cause, unsearched.made))
-      (subst (λ refusal. IsFaultUnless step errors matcher refusal state input old e new) allowed searched)
+      (subst (λ refusal. IsFaultUnless step errors matcher refusal state input old e new) allowed searched lawful)
 
   pub reader_searches-fail : {R : Type 0} (remaining : R → Option (List ℕ)) (read_step : R → ReadResult → R → Type 0)
       → ReaderSearchesFail step errors matcher remaining read_step
-  reader_searches-fail {R} remaining read_step state reader old e reader' new infallible allowed searched =
+  reader_searches-fail {R} remaining read_step state reader old e reader' new infallible lawful allowed searched =
       go (subst (λ refusal. IsReaderFaultUnless remaining read_step step errors matcher refusal state reader old e reader' new)
-      allowed searched)
+      allowed searched lawful)
     where
       go : IsReaderFault remaining read_step step errors matcher state reader old e reader' new
           → ((mid : S) × (call : Call) × step mid state.settings call (Err e) new)

@@ -142,6 +142,23 @@ lines-closed t (b ∷ c ∷ bytes) closed =
     onto [] some = absurd (omega arith)
     onto (line ∷ more) some = refl
 
+-- any other bytes have one line more
+pub lines-unclosed : (t : ℕ) (bytes : List ℕ) → 0 < length bytes → slice_index bytes (length bytes - 1) ≢ t
+    → length (lines t bytes) ≡ count t bytes + 1
+lines-unclosed t [] some last = absurd (omega (arith, some))
+lines-unclosed t (b ∷ []) some last = omega (arith, ap length (lines-inner t b [] last), count-inner t b [] last)
+lines-unclosed t (b ∷ c ∷ bytes) some last =
+    let later = lines-unclosed t (c ∷ bytes) (omega arith) (λ is. last (simp unary_clauses (simp unary_clauses at is))) in
+    ⊎_elim
+    (λ same. omega (arith, ap length (lines-end t b (c ∷ bytes) same), count-end t b (c ∷ bytes) same, later))
+    (λ other. ap length (lines-inner t b (c ∷ bytes) other) ∙ (onto (lines t (c ∷ bytes)) (lines-some t c bytes)
+    ∙ (later ∙ ap (λ n. n + 1) (sym (count-inner t b (c ∷ bytes) other)))))
+    (cases_eq b t)
+  where
+    onto : (rest : List (List ℕ)) → 0 < length rest → length (onto_first b rest) ≡ length rest
+    onto [] some = absurd (omega arith)
+    onto (line ∷ more) some = refl
+
 -- any bytes have at most one line more than they have t
 pub lines-few : (t : ℕ) (bytes : List ℕ) → length (lines t bytes) ≤ count t bytes + 1
 lines-few t [] = omega arith

@@ -1,5 +1,6 @@
-//! How often a byte occurs in some bytes.
+//! How often a byte occurs in some bytes, and how many lines they have.
 ghost use Rattle.std.specs.Prelude.{◌≡◌, ◌==◌, length, count_by};
+ghost use Rattle.grep_matcher.specs.Lines.{lines};
 
 use std::simd::prelude::*;
 
@@ -21,6 +22,21 @@ pub fn count(bytes: &[u8], terminator: u8) -> u64
         rest = others;
     }
     total + count_rest(rest, terminator)
+}
+
+/// How many lines the bytes have: one for each `terminator`, and one more if bytes come after the last.
+pub fn line_count(bytes: &[u8], terminator: u8) -> u64
+    ensures { result ≡ length (lines terminator bytes.now) }
+{
+    if bytes.is_empty() {
+        return 0;
+    }
+    let terminators = count(bytes, terminator);
+    if bytes[bytes.len() - 1] == terminator {
+        terminators
+    } else {
+        terminators + 1
+    }
 }
 
 // The same for fewer bytes than a wide part.

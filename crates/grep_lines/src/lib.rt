@@ -10,7 +10,7 @@ mod preceding_lines;
 mod strip;
 mod whole_lines;
 
-pub use counts::count;
+pub use counts::{count, line_count};
 pub use line_iter::LineIter;
 pub use line_step::LineStep;
 pub use preceding_lines::{preceding, preceding_by_pos};

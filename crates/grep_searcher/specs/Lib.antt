@@ -1,5 +1,6 @@
 pub mod Configs
 pub mod InputSearches
+pub mod LookAheads
 pub mod Rolls
 pub mod SearchBuffers
 pub mod Walks

@@ -39,7 +39,7 @@ where
     S::Error: SinkError<A>,
     ensures { (matcher : M) → SearchesFail S.step
         (record { is_message = S.Error.is_message; is_io = S.Error.is_io; is_config = S.Error.is_config })
-        (record { meaning = M.meaning matcher; fails = M.fails matcher; text_of = M.Error.output }) }
+        (record { meaning = M.meaning matcher; fails = M.fails matcher; is_lawful = M.is_lawful matcher; text_of = M.Error.output }) }
 {}
 
 /// The same of a search of a reader: an error is that of a step of the sink, or one of reading.
@@ -48,7 +48,7 @@ where
     S::Error: SinkError<A>,
     ensures { (matcher : M) → ReaderSearchesFail S.step
         (record { is_message = S.Error.is_message; is_io = S.Error.is_io; is_config = S.Error.is_config })
-        (record { meaning = M.meaning matcher; fails = M.fails matcher; text_of = M.Error.output })
+        (record { meaning = M.meaning matcher; fails = M.fails matcher; is_lawful = M.is_lawful matcher; text_of = M.Error.output })
         R.remaining R.step }
 {}
 
@@ -59,6 +59,6 @@ where
     S::Error: SinkError<A>,
     ensures { (matcher : M) → KnownReadersRun S.step
         (record { is_message = S.Error.is_message; is_io = S.Error.is_io; is_config = S.Error.is_config })
-        (record { meaning = M.meaning matcher; fails = M.fails matcher; text_of = M.Error.output })
+        (record { meaning = M.meaning matcher; fails = M.fails matcher; is_lawful = M.is_lawful matcher; text_of = M.Error.output })
         R.remaining R.step }
 {}

@@ -19,6 +19,7 @@ ghost use Rattle.grep_searcher.specs.SearchBuffers.{AreFitting};
 
 mod buffers;
 mod builder;
+mod look_ahead;
 mod queries;
 mod read_by_line;
 mod sink_lines;
@@ -140,6 +141,7 @@ impl<A: Allocator + Copy> Searcher<A> {
             (record {
               meaning = M.meaning matcher;
               fails = M.fails matcher;
+              is_lawful = M.is_lawful matcher;
               text_of = M.Error.output;
             })
             self.old bytes.now sink.old result sink.new }
@@ -196,6 +198,7 @@ impl<A: Allocator + Copy> Searcher<A> {
             (record {
               meaning = M.meaning matcher;
               fails = M.fails matcher;
+              is_lawful = M.is_lawful matcher;
               text_of = M.Error.output;
             })
             self.old reader.old sink.old result reader.new sink.new }
@@ -289,6 +292,7 @@ impl<A: Allocator + Copy> Searcher<A> {
             (record {
               meaning = M.meaning matcher.now;
               fails = M.fails matcher.now;
+              is_lawful = M.is_lawful matcher.now;
               text_of = M.Error.output;
             })
             self.old input.now sink.old result sink.new }
@@ -324,6 +328,7 @@ impl<A: Allocator + Copy> Searcher<A> {
             (record {
               meaning = M.meaning matcher.now;
               fails = M.fails matcher.now;
+              is_lawful = M.is_lawful matcher.now;
               text_of = M.Error.output;
             })
             self.now.settings bytes.now sink.old result sink.new }

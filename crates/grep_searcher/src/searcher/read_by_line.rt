@@ -57,6 +57,7 @@ impl<A: Allocator + Copy> Searcher<A> {
             (record {
               meaning = M.meaning matcher.now;
               fails = M.fails matcher.now;
+              is_lawful = M.is_lawful matcher.now;
               text_of = M.Error.output;
             })
             R.remaining R.step self.old reader.old sink.old result reader.new sink.new }
@@ -100,6 +101,7 @@ impl<A: Allocator + Copy> Searcher<A> {
             (record {
               meaning = M.meaning matcher.now;
               fails = M.fails matcher.now;
+              is_lawful = M.is_lawful matcher.now;
               text_of = M.Error.output;
             })
             R.remaining R.step (record { settings = self.now.settings; has_buffers = has_buffers })
@@ -143,6 +145,7 @@ impl<A: Allocator + Copy> Searcher<A> {
             (record {
               meaning = M.meaning matcher.now;
               fails = M.fails matcher.now;
+              is_lawful = M.is_lawful matcher.now;
               text_of = M.Error.output;
             })
             (record { settings = self.now.settings; has_buffers = has_buffers })
@@ -223,6 +226,7 @@ impl<A: Allocator + Copy> Searcher<A> {
             (record {
               meaning = M.meaning matcher.now;
               fails = M.fails matcher.now;
+              is_lawful = M.is_lawful matcher.now;
               text_of = M.Error.output;
             })
             (record { settings = self.now.settings; has_buffers = has_buffers })
@@ -292,6 +296,7 @@ impl<A: Allocator + Copy> Searcher<A> {
             (record {
               meaning = M.meaning matcher.now;
               fails = M.fails matcher.now;
+              is_lawful = M.is_lawful matcher.now;
               text_of = M.Error.output;
             })
             self.now.settings (gone ++ (lines.old.shown ++ after)) first e sink.new) }

@@ -9,12 +9,14 @@ ghost use Rattle.grep_lines.specs.Positions.{IsLine, IsLineStart};
 ghost use Rattle.grep_definitions.specs.Below.{is_at};
 ghost use Rattle.grep_definitions.specs.LineSearch.{turns, byte_count, differ};
 ghost use Rattle.grep_definitions.specs.LineTurns.{number_of, matches_line};
+ghost use Rattle.grep_definitions.specs.Questions.{IsLawfulFor};
 ghost use Rattle.grep_definitions.specs.Searches.{IsFault};
 ghost use Rattle.grep_definitions.specs.SinkRuns.{Outcome, NeverFails};
 ghost use Rattle.grep_searcher.specs.Walks.{next_walk, is_over, Counted, IsOrdered};
 ghost use Rattle.grep_searcher.specs.Windows.{HasSearched, HasPassed};
 
 use crate::searcher::Searcher;
+use crate::searcher::look_ahead::UNKNOWN;
 use crate::sink::Sink;
 use grep_lines::{LineStep, without_terminator};
 use grep_matcher::Matcher;
@@ -56,12 +58,16 @@ impl<A: Allocator + Copy> Searcher<A> {
     where
         S::Error: SinkError<A>,
         requires { S.may_call sink.old }
-        ensures reported { IfOk result (λ count. (outcome : Outcome S.Error)
+        ensures reported { IfOk result (λ count.
+            IsLawfulFor self.now.settings (M.meaning matcher.now) (M.is_lawful matcher.now)
+            → (outcome : Outcome S.Error)
             × Counted S.step self.now.settings sink.old
             (turns self.now.settings (M.meaning matcher.now) bytes.now)
             (byte_count self.now.settings (M.meaning matcher.now) bytes.now)
             count outcome sink.new) }
-        ensures fault { IfErr result (λ e. IsFault S.step
+        ensures fault { IfErr result (λ e.
+            IsLawfulFor self.now.settings (M.meaning matcher.now) (M.is_lawful matcher.now)
+            → IsFault S.step
             (record {
               is_message = S.Error.is_message;
               is_io = S.Error.is_io;
@@ -70,6 +76,7 @@ impl<A: Allocator + Copy> Searcher<A> {
             (record {
               meaning = M.meaning matcher.now;
               fails = M.fails matcher.now;
+              is_lawful = M.is_lawful matcher.now;
               text_of = M.Error.output;
             })
             self.now.settings bytes.now sink.old e sink.new) }
@@ -113,21 +120,25 @@ impl<A: Allocator + Copy> Searcher<A> {
         ensures within { IfOk result (λ goes_on.
             walk.new.offset + start ≤ walk.old.offset + length window.now) }
         ensures ahead { IfOk result (λ goes_on. walk.old.offset ≤ walk.new.offset) }
-        ensures goes_on { IfOk result (λ goes_on. goes_on ≡ true
-            → (gone input : List ℕ) (first : S)
+        ensures goes_on { IfOk result (λ goes_on.
+            IsLawfulFor self.now.settings (M.meaning matcher.now) (M.is_lawful matcher.now)
+            → goes_on ≡ true → (gone input : List ℕ) (first : S)
             → HasSearched S.step self.now.settings (M.meaning matcher.now) gone window.now input
             first start walk.old sink.old
             → HasPassed S.step self.now.settings (M.meaning matcher.now) gone window.now input
             first walk.new sink.new) }
-        ensures ends { IfOk result (λ goes_on. goes_on ≡ false
-            → (outcome : Outcome S.Error) × ((gone input : List ℕ) (first : S)
+        ensures ends { IfOk result (λ goes_on.
+            IsLawfulFor self.now.settings (M.meaning matcher.now) (M.is_lawful matcher.now)
+            → goes_on ≡ false → (outcome : Outcome S.Error) × ((gone input : List ℕ) (first : S)
             → HasSearched S.step self.now.settings (M.meaning matcher.now) gone window.now input
             first start walk.old sink.old
             → Counted S.step self.now.settings first
             (turns self.now.settings (M.meaning matcher.now) input)
             (byte_count self.now.settings (M.meaning matcher.now) input)
             walk.new.offset outcome sink.new)) }
-        ensures fault { IfErr result (λ e. (gone input : List ℕ) (first : S)
+        ensures fault { IfErr result (λ e.
+            IsLawfulFor self.now.settings (M.meaning matcher.now) (M.is_lawful matcher.now)
+            → (gone input : List ℕ) (first : S)
             → HasSearched S.step self.now.settings (M.meaning matcher.now) gone window.now input
             first start walk.old sink.old
             → IsFault S.step
@@ -139,6 +150,7 @@ impl<A: Allocator + Copy> Searcher<A> {
             (record {
               meaning = M.meaning matcher.now;
               fails = M.fails matcher.now;
+              is_lawful = M.is_lawful matcher.now;
               text_of = M.Error.output;
             })
             self.now.settings input first e sink.new) }
@@ -147,9 +159,16 @@ impl<A: Allocator + Copy> Searcher<A> {
         ensures may_call { S.may_call sink.new }
     {
         let mut start = start;
-        while let Some(end) = self.next_line(window, start) {
+        let mut ahead = UNKNOWN;
+        'lines: loop {
+            ahead = self.look_ahead::<M, S::Error>(matcher, window, start, walk, ahead)?;
+            start = self.skip(window, start, &ahead, walk);
+            let Some(end) = self.next_line(window, start) else {
+                return Ok(true);
+            };
             let line = &window[start..end];
-            let chosen = self.is_chosen::<M, S::Error>(matcher, line, walk)?;
+            let known = ahead.at(start);
+            let chosen = self.is_chosen::<M, S::Error>(matcher, line, known, walk)?;
             if !self.sink_line(window, start, end, walk, chosen, sink)? {
                 walk.offset += line.len() as u64;
                 return Ok(false);
@@ -160,7 +179,6 @@ impl<A: Allocator + Copy> Searcher<A> {
             }
             start = end;
         }
-        Ok(true)
     }
 
     // Where the line ends that begins at a position; none at the end of the bytes.
@@ -195,7 +213,7 @@ impl<A: Allocator + Copy> Searcher<A> {
     }
 
     // Whether the limit is reached.
-    fn is_full(&self, walk: &Walk) -> bool
+    pub(crate) fn is_full(&self, walk: &Walk) -> bool
         ensures { result ≡ is_at walk.now.match_count self.now.settings.max_matches }
     {
         match self.config.max_matches {
@@ -251,15 +269,19 @@ impl<A: Allocator + Copy> Searcher<A> {
         }
     }
 
-    // Whether the line that a walk is at is chosen. The matcher isn't asked once the limit is reached.
+    // Whether the line that a walk is at is chosen, if it may be known whether the line matches. The matcher isn't
+    // asked if it is known, nor once the limit is reached.
     fn is_chosen<M: Matcher, E: SinkError<A>>(
         &self,
         matcher: &M,
         line: &[u8],
+        known: Option<bool>,
         walk: &Walk,
     ) -> Result<bool, E>
-        ensures value { IfOk result (λ chosen. chosen
-            ≡ (not (is_at walk.now.match_count self.now.settings.max_matches)
+        ensures value { IfOk result (λ chosen.
+            IfSome known (λ matches. matches
+            ≡ matches_line self.now.settings (M.meaning matcher.now) line.now)
+            → chosen ≡ (not (is_at walk.now.match_count self.now.settings.max_matches)
             && differ (matches_line self.now.settings (M.meaning matcher.now) line.now)
             self.now.settings.invert_match)) }
         ensures open { IfErr result (λ e. is_at walk.now.match_count self.now.settings.max_matches ≡ false) }
@@ -268,6 +290,9 @@ impl<A: Allocator + Copy> Searcher<A> {
     {
         if self.is_full(walk) {
             return Ok(false);
+        }
+        if let Some(matches) = known {
+            return Ok(matches != self.config.invert_match);
         }
         match matcher.shortest_match(without_terminator(line, self.config.line_terminator)) {
             Ok(position) => Ok(position.is_some() != self.config.invert_match),

@@ -51,6 +51,7 @@ returns-clause-reported g c =
     (record {
       meaning = g.M.Matcher.meaning c.args.matcher.now;
       fails = g.M.Matcher.fails c.args.matcher.now;
+      is_lawful = g.M.Matcher.is_lawful c.args.matcher.now;
       text_of = g.M.Error.Display.output;
     })
     c.args.self.now.settings [] c.args.bytes.now c.args.bytes.now c.args.sink.now

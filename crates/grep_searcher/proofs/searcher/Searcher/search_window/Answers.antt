@@ -34,7 +34,7 @@ returns-then-not-branch-clause-ends g c = λ ends.
       λ gone input first so_far.
           let here = c.loop-end.invariant.searched gone input first so_far in
           search.counted-stopped g.S.Sink.step (record { is_message = g.S.Error.SinkError.is_message; is_io = g.S.Error.SinkError.is_io; is_config = g.S.Error.SinkError.is_config })
-          (record { meaning = g.M.Matcher.meaning c.args.matcher.now; fails = g.M.Matcher.fails c.args.matcher.now; text_of = g.M.Error.Display.output }) c.args.self.now.settings gone c.args.window.now input first
+          (record { meaning = g.M.Matcher.meaning c.args.matcher.now; fails = g.M.Matcher.fails c.args.matcher.now; is_lawful = g.M.Matcher.is_lawful c.args.matcher.now; text_of = g.M.Error.Display.output }) c.args.self.now.settings gone c.args.window.now input first
           c.in-Some.ensures.bare c.loop-end.start c.in-Some.end c.loop-end.walk c.loop-end.sink here
           c.in-Some.ensures.within.0 c.in-Some.ensures.within.1 c.in-Some.ensures.line
           c.in_ok-chosen.chosen c.in_ok-chosen.ensures.value _ (reported gone input here.inside),
@@ -51,7 +51,7 @@ returns-then-is_over-clause-ends g c = λ ends.
       λ gone input first so_far.
           let here = c.loop-end.invariant.searched gone input first so_far in
           search.counted-over g.S.Sink.step (record { is_message = g.S.Error.SinkError.is_message; is_io = g.S.Error.SinkError.is_io; is_config = g.S.Error.SinkError.is_config })
-          (record { meaning = g.M.Matcher.meaning c.args.matcher.now; fails = g.M.Matcher.fails c.args.matcher.now; text_of = g.M.Error.Display.output }) c.args.self.now.settings gone c.args.window.now input first
+          (record { meaning = g.M.Matcher.meaning c.args.matcher.now; fails = g.M.Matcher.fails c.args.matcher.now; is_lawful = g.M.Matcher.is_lawful c.args.matcher.now; text_of = g.M.Error.Display.output }) c.args.self.now.settings gone c.args.window.now input first
           c.in-Some.ensures.bare c.loop-end.start c.in-Some.end c.loop-end.walk c.loop-end.sink here
           c.in-Some.ensures.within.0 c.in-Some.ensures.within.1 c.in-Some.ensures.line
           c.in_ok-chosen.chosen c.in_ok-chosen.ensures.value _ (reported gone input here.inside) over,
@@ -79,7 +79,7 @@ loop-end-preserved g c =
       searched = λ gone input first so_far.
           let here = c.loop-end.invariant.searched gone input first so_far in
           search.searched-next g.S.Sink.step (record { is_message = g.S.Error.SinkError.is_message; is_io = g.S.Error.SinkError.is_io; is_config = g.S.Error.SinkError.is_config })
-          (record { meaning = g.M.Matcher.meaning c.args.matcher.now; fails = g.M.Matcher.fails c.args.matcher.now; text_of = g.M.Error.Display.output }) c.args.self.now.settings gone c.args.window.now input
+          (record { meaning = g.M.Matcher.meaning c.args.matcher.now; fails = g.M.Matcher.fails c.args.matcher.now; is_lawful = g.M.Matcher.is_lawful c.args.matcher.now; text_of = g.M.Error.Display.output }) c.args.self.now.settings gone c.args.window.now input
           first c.in-Some.ensures.bare c.loop-end.start c.in-Some.end c.loop-end.walk c.loop-end.sink here
           c.in-Some.ensures.within.0 c.in-Some.ensures.within.1 c.in-Some.ensures.line
           c.in_ok-chosen.chosen c.in_ok-chosen.ensures.value _ (reported gone input here.inside) on;

@@ -1,0 +1,166 @@
+//! What a walk knows of the lines from its line on: what a matcher found in many lines at once, and which of them the walk
+//! skips.
+ghost use Rattle.std.specs.Prelude.{◌≡◌, ◌≤◌, ◌<◌, ◌+◌, ◌-◌, ◌^◌, ℕ, true, if◌then◌else◌, length, drop, IfOk, IfErr};
+ghost use Rattle.grep_lines.specs.Positions.{IsLineStart};
+ghost use Rattle.grep_matcher.specs.Lawful.{IsInside, IsLawfulResult};
+ghost use Rattle.grep_matcher.specs.Matching.{Meaning};
+ghost use Rattle.grep_matcher.specs.Terminators.{byte_of};
+ghost use Rattle.grep_definitions.specs.Questions.{IsLawfulFor};
+ghost use Rattle.grep_searcher.specs.LookAheads.{known_at, IsBounded, IsKnown, MayAskAhead};
+ghost use Rattle.grep_searcher.specs.LookAheads.{can_skip, skips, skipped};
+ghost use Rattle.grep_searcher.specs.Walks.{IsOrdered};
+
+use crate::searcher::Searcher;
+use crate::searcher::walk::Walk;
+use grep_lines::laws::{lines_append, lines_are_few, lines_join};
+use grep_lines::{line_count, locate};
+use grep_matcher::{LineMatchKind, LineTerminator, Match, Matcher};
+use grep_report::SinkError;
+use std::alloc::Allocator;
+
+/// What is known of the lines of a window from a walk's line on, by positions in the window.
+#[derive(Clone, Copy)]
+pub(crate) struct Ahead {
+    /// The lines that begin before this position don't match.
+    pub(crate) misses: usize,
+    /// The lines that begin before this position, and not before `misses`, match.
+    pub(crate) hits: usize,
+}
+
+/// Nothing is known.
+pub(crate) const UNKNOWN: Ahead = Ahead { misses: 0, hits: 0 };
+
+impl Ahead {
+    // Whether the line that begins at a position matches, if that is known.
+    pub(crate) fn at(&self, start: usize) -> Option<bool>
+        ensures { result ≡ known_at self.now start }
+    {
+        if start < self.misses {
+            Some(false)
+        } else if start < self.hits {
+            Some(true)
+        } else {
+            None
+        }
+    }
+}
+
+impl<A: Allocator + Copy> Searcher<A> {
+    // Learns more if nothing is known of the line at `start`, and the matcher may be asked about many lines at once.
+    // The caller ensures that a line of the window begins there.
+    pub(crate) fn look_ahead<M: Matcher, E: SinkError<A>>(
+        &self,
+        matcher: &M,
+        window: &[u8],
+        start: usize,
+        walk: &Walk,
+        ahead: Ahead,
+    ) -> Result<Ahead, E>
+        requires inside { start ≤ length window.now }
+        requires bounded { IsBounded window.now ahead }
+        ensures bounded { IfOk result (IsBounded window.now) }
+        ensures known { IfOk result (λ next.
+            IsLawfulFor self.now.settings (M.meaning matcher.now) (M.is_lawful matcher.now)
+            → (i : ℕ) → IsLineStart (byte_of self.now.settings.line_terminator) window.now start i
+            → IsKnown self.now.settings (M.meaning matcher.now) window.now start ahead
+            → IsKnown self.now.settings (M.meaning matcher.now) window.now start next) }
+        ensures some { IfErr result (λ e. start < length window.now) }
+        ensures allowed { IfErr result (λ e. MayAskAhead self.now.settings (M.meaning matcher.now) walk.now) }
+        ensures fault { IfErr result (λ e. (error : M.Error) × E.is_message (M.Error.output error) e
+            × M.fails matcher.now (drop start window.now) error) }
+    {
+        if start < ahead.hits || start == window.len() || !self.asks_ahead(matcher, walk) {
+            return Ok(ahead);
+        }
+        match matcher.find_candidate_line(&window[start..]) {
+            Ok(found) => Ok(self.ahead_of(window, start, found)),
+            Err(e) => Err(E::error_message(self.alloc, e)),
+        }
+    }
+
+    // Whether a walk may ask a matcher about many lines at once.
+    fn asks_ahead<M: Matcher>(&self, matcher: &M, walk: &Walk) -> bool
+        ensures { result ≡ true → MayAskAhead self.now.settings (M.meaning matcher.now) walk.now }
+    {
+        if self.config.passthru
+            || self.is_full(walk)
+            || self.config.stop_on_nonmatch && walk.match_count > 0
+        {
+            return false;
+        }
+        match matcher.line_terminator() {
+            Some(LineTerminator::Byte(0)) => false,
+            Some(terminator) => terminator == self.config.line_terminator,
+            None => match matcher.non_matching_bytes() {
+                Some(absent) => absent.contains(self.config.line_terminator.as_byte()),
+                None => false,
+            },
+        }
+    }
+
+    // What a matcher's result for the lines from `start` on says of them.
+    fn ahead_of(&self, window: &[u8], start: usize, found: Option<LineMatchKind>) -> Ahead
+        requires inside { start ≤ length window.now }
+        requires found { IsInside (drop start window.now) found }
+        ensures bounded { IsBounded window.now result }
+        ensures known { (meaning : Meaning) (i : ℕ)
+            → IsLineStart (byte_of self.now.settings.line_terminator) window.now start i
+            → IsLawfulResult self.now.settings.line_terminator meaning (drop start window.now) found
+            → IsKnown self.now.settings meaning window.now start result }
+    {
+        lines_join();
+        lines_append();
+        let Some(found) = found else {
+            return Ahead {
+                misses: window.len(),
+                hits: window.len(),
+            };
+        };
+        let terminator = self.config.line_terminator.as_byte();
+        let line = locate(&window[start..], terminator, Match::zero(found.position()));
+        let misses = start + line.start();
+        Ahead {
+            misses,
+            hits: if found.is_confirmed() {
+                start + line.end()
+            } else {
+                misses
+            },
+        }
+    }
+
+    // Skips the lines from `start` on that are known not to match, if none of them can be reported: moves the walk past
+    // them and returns where it is then.
+    pub(crate) fn skip(&self, window: &[u8], start: usize, ahead: &Ahead, walk: &mut Walk) -> usize
+        requires bounded { IsBounded window.now ahead.now }
+        requires inside { start ≤ length window.now }
+        requires fits { walk.old.offset + (length window.now - start) < 2 ^ 64 }
+        requires ordered { IsOrdered walk.old }
+        ensures position { result ≡ (if skips self.now.settings walk.old start ahead.now.misses
+            then ahead.now.misses else start) }
+        ensures walk { walk.new ≡ (if skips self.now.settings walk.old start ahead.now.misses
+            then skipped self.now.settings window.now start ahead.now.misses walk.old else walk.old) }
+        ensures ordered { IsOrdered walk.new }
+        ensures low { start ≤ result }
+        ensures within { result ≤ length window.now }
+    {
+        lines_are_few();
+        if start >= ahead.misses || !self.can_skip(walk) {
+            return start;
+        }
+        let lines = &window[start..ahead.misses];
+        walk.offset += lines.len() as u64;
+        walk.line += line_count(lines, self.config.line_terminator.as_byte());
+        ahead.misses
+    }
+
+    // Whether a walk may skip lines that don't match.
+    fn can_skip(&self, walk: &Walk) -> bool
+        ensures { result ≡ can_skip self.now.settings walk.now }
+    {
+        !self.config.invert_match
+            && !self.config.passthru
+            && walk.after_context_left == 0
+            && !(self.config.stop_on_nonmatch && walk.match_count > 0)
+    }
+}
