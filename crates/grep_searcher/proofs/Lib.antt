@@ -1,8 +1,10 @@
 pub mod BeforeContextLemmas
 pub mod WalkLemmas
 pub mod FrontLemmas
+pub mod LineRangeLemmas
 pub mod ReadingLemmas
 pub mod RollLemmas
+pub mod SkipLemmas
 pub mod RollingLemmas
 pub mod WindowLemmas
 pub mod WindowSearchLemmas

@@ -20,6 +20,7 @@ use Rattle.grep_definitions.specs.LineTurns.{context_turns, match_turns, pending
 use Rattle.grep_definitions.specs.SinkRuns.{Steps, Outcome, all_true, stopped, failed, AreReported}
 use Rattle.grep_definitions.specs.Searches.{ErrorMakers, MatcherFacts, IsFault, of_sink, of_matcher}
 use Rattle.grep_definitions.specs.LineWalks.{IsNear, IsOpen}
+use Rattle.grep_definitions.specs.Questions.{IsAsked}
 use Rattle.grep_definitions.proofs.SinkRunLemmas.{AreReported-append, AreReported-ended}
 use Rattle.grep_definitions.proofs.BelowLemmas.{joined_from-add, joined_from-more, joined_from-equal, joined_from-none}
 use Rattle.grep_definitions.proofs.LimitLemmas.{IsOpen-none, IsOpen-chosen, IsOpen-missed, turn_above, turn_all}
@@ -464,14 +465,13 @@ module _ {S E F : Type 0} (step : Steps S E) (errors : ErrorMakers E) (matcher :
 
   pub fault-matcher : (w : Walk) (new : S) → HasReported k matcher.meaning bytes step old w new
       → (start end : ℕ) (same : w.offset ≡ start) (line : IsLine (byte_of k.line_terminator) bytes w.line start end)
-      → Bare k matcher.meaning bytes → is_at w.match_count k.max_matches ≡ false → (error : F) (e : E)
-      → errors.is_message (matcher.text_of error) e → matcher.fails (strip k.line_terminator (slice bytes start end)) error
-      → IsFault step errors matcher k bytes old e new
-  fault-matcher w new so_far start end same line bare room error e message fails = of_matcher w.line error
+      → Bare k matcher.meaning bytes → is_at w.match_count k.max_matches ≡ false → (haystack : List ℕ) (error : F) (e : E)
+      → IsAsked k matcher.meaning bytes w.line haystack → errors.is_message (matcher.text_of error) e
+      → matcher.fails haystack error → IsFault step errors matcher k bytes old e new
+  fault-matcher w new so_far start end same line bare room haystack error e asked message fails = of_matcher w.line haystack error
       (has k matcher.meaning bytes w start end same line bare so_far.walk)
       (so_far.walk.opened.below ∙ ap not room)
-      (subst (λ xs. matcher.fails (strip k.line_terminator xs) error) (sym line.line) fails)
-      message
+      asked fails message
       (subst (λ ts. AreReported step k old ts all_true new)
       (sym (through-is k matcher.meaning bytes w start end same line bare so_far.walk))
       so_far.reported)

@@ -1,9 +1,12 @@
 -- A walk over the lines of a window, against the calls that are defined for the input.
 use Rattle.std.proofs.Common.{◌∙◌, ◌≡◌, ℕ, ◌+◌, ◌-◌, ◌<◌, ◌≤◌, ◌&&◌, min, Bool, true, false, not, List, [], length, drop, arith}
-use Rattle.std.proofs.Common.{Ok, refl, subst, if◌then◌else◌, length-take, length-drop}
-use Rattle.grep_matcher.specs.Lines.{lines, strip}
+use Rattle.std.proofs.Common.{Ok, refl, sym, ap, ap₂, subst, inl, inr, if◌then◌else◌, length-take, length-drop}
+use Rattle.std.proofs.lemmas.List.{take_rest}
+use Rattle.grep_matcher.specs.Lines.{lines, line_start, strip}
 use Rattle.grep_matcher.specs.Matching.{Meaning}
+use Rattle.grep_lines.specs.LineLaws.{LinesJoin}
 use Rattle.grep_lines.specs.Positions.{slice, IsLine, IsLineStart}
+use Rattle.grep_definitions.proofs.LineStartLemmas.{line_start-last}
 use Rattle.grep_definitions.specs.Settings.{Settings}
 use Rattle.grep_definitions.specs.SinkCalls.{begins}
 use Rattle.grep_definitions.specs.Below.{is_at}
@@ -14,7 +17,10 @@ use Rattle.grep_definitions.specs.Searches.{ErrorMakers, MatcherFacts, IsFault}
 use Rattle.grep_matcher.specs.Terminators.{byte_of}
 use Rattle.grep_searcher.specs.declared.searcher.walk.Walk.{Walk}
 use Rattle.grep_searcher.specs.Walks.{IsOrdered, HasReported, line_end, line_turns, next_walk, is_over, reports_line, Counted}
+use Rattle.grep_definitions.specs.Questions.{IsAsked}
+use Rattle.grep_searcher.specs.LookAheads.{MayAskAhead}
 use Rattle.grep_searcher.specs.Windows.{IsWindow, IsInWindow, HasSearched, HasPassed}
+use Rattle.grep_searcher.proofs.LineRangeLemmas.{line-at}
 use Rattle.grep_searcher.proofs.WalkLemmas as walks
 use Rattle.grep_searcher.proofs.WalkLemmas.{Bare, start_walk}
 use Rattle.grep_searcher.proofs.WindowLemmas as windows
@@ -113,13 +119,40 @@ module _ {S E F : Type 0} (step : Steps S E) (errors : ErrorMakers E) (matcher :
     shifted : (P : List ℕ → Type 0) → P (slice input (length gone + p) (length gone + q)) → P here
     shifted P = subst P (windows.slice-in gone window so_far.inside.shown.after input so_far.inside.shown.whole p q (omega arith) within)
 
-    pub failed-matcher : is_at w.match_count k.max_matches ≡ false → (error : F) (e : E)
-        → errors.is_message (matcher.text_of error) e → matcher.fails (strip k.line_terminator here) error
-        → IsFault step errors matcher k input first e now
-    failed-matcher room error e message = shifted
-        (λ xs. matcher.fails (strip k.line_terminator xs) error → IsFault step errors matcher k input first e now)
-        (λ fails. walks.fault-matcher step errors matcher k input first w now so_far.reported (length gone + p) (length gone + q)
-        so_far.inside.at at bare room error e message fails)
+    -- the matcher's error for a question at that line
+    pub failed-matcher : is_at w.match_count k.max_matches ≡ false → (haystack : List ℕ) (error : F) (e : E)
+        → IsAsked k matcher.meaning input w.line haystack → errors.is_message (matcher.text_of error) e
+        → matcher.fails haystack error → IsFault step errors matcher k input first e now
+    failed-matcher room haystack error e asked message fails = walks.fault-matcher step errors matcher k input first w now
+        so_far.reported (length gone + p) (length gone + q) so_far.inside.at at bare room haystack error e asked message fails
+
+    -- a question about that line alone
+    pub asked-line : IsAsked k matcher.meaning input w.line (strip k.line_terminator here)
+    asked-line = inl (ap (strip k.line_terminator) (sym (at.line
+        ∙ windows.slice-in gone window so_far.inside.shown.after input so_far.inside.shown.whole p q (omega arith) within)))
+
+    -- a question about the lines from there to the end of the window
+    pub asked-ahead : LinesJoin → MayAskAhead k matcher.meaning w → IsAsked k matcher.meaning input w.line (drop p window)
+    asked-ahead join may =
+        let before = length (lines t gone) in
+        let count = length (lines t window) in
+        let own = line (w.line - before) so_far.inside.line.begins in
+        let last = line-at t window (count - 1) (omega (arith, own.listed)) in
+        let next : (count - 1) + 1 ≡ count = omega (arith, own.listed) in
+        let end = ap (line_start t window) next ∙ line_start-last join t window in
+        let there = so_far.inside.shown.line (count - 1) _ _ last in
+        let sum : (before + (count - 1)) + 1 ≡ before + count = omega (arith, own.listed) in
+        inr (record {
+          allowed = may.allowed;
+          unstopped = ap (λ b. k.stop_on_nonmatch && b) so_far.reported.walk.opened.any ∙ may.unstopped;
+          end = before + count;
+          after = omega (arith, own.listed, so_far.inside.line.low);
+          within = omega (arith, there.listed, own.listed);
+          lines = sym (ap₂ (λ a b. slice input a b) at.begins
+              (ap (line_start t input) (sym sum) ∙ (there.ends ∙ ap (λ n. length gone + n) end))
+              ∙ (windows.slice-in gone window so_far.inside.shown.after input so_far.inside.shown.whole p (length window)
+              (omega (arith, within)) (omega arith) ∙ take_rest window p));
+        })
 
     module _ (chosen : Bool) (value : chosen ≡ (not (is_at w.match_count k.max_matches)
         && differ (matches_line k matcher.meaning here) k.invert_match)) where

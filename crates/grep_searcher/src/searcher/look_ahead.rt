@@ -141,6 +141,7 @@ impl<A: Allocator + Copy> Searcher<A> {
         ensures walk { walk.new ≡ (if skips self.now.settings walk.old start ahead.now.misses
             then skipped self.now.settings window.now start ahead.now.misses walk.old else walk.old) }
         ensures ordered { IsOrdered walk.new }
+        ensures moved { walk.new.offset + start ≡ walk.old.offset + result }
         ensures low { start ≤ result }
         ensures within { result ≤ length window.now }
     {

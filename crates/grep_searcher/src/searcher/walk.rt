@@ -18,6 +18,7 @@ ghost use Rattle.grep_searcher.specs.Windows.{HasSearched, HasPassed};
 use crate::searcher::Searcher;
 use crate::searcher::look_ahead::UNKNOWN;
 use crate::sink::Sink;
+use grep_lines::laws::{lines_append, lines_join};
 use grep_lines::{LineStep, without_terminator};
 use grep_matcher::Matcher;
 use grep_report::SinkError;
@@ -158,6 +159,8 @@ impl<A: Allocator + Copy> Searcher<A> {
             → IsOk result }
         ensures may_call { S.may_call sink.new }
     {
+        lines_join();
+        lines_append();
         let mut start = start;
         let mut ahead = UNKNOWN;
         'lines: loop {

@@ -1,47 +1,133 @@
-use Rattle.std.proofs.Common.{rules, ◌≡◌, ◌∙◌, ap, sym, arith, true, false, length-take, length-drop, ◌-◌, drop}
+use Rattle.std.proofs.Common.{rules, ◌≡◌, ◌∙◌, refl, ap, sym, subst, arith, true, false, length-take, length-drop, ◌-◌, drop}
+use Rattle.std.proofs.lemmas.Bool.{false≢true}
 use Rattle.std.proofs.lemmas.Result.{err_from_is_err_and}
+use Rattle.std.specs.Prelude.{IfSome}
 use Rattle.grep_lines.specs.Positions.{slice}
+use Rattle.grep_definitions.specs.LineTurns.{matches_line}
+use Rattle.grep_definitions.specs.Searches.{ErrorMakers, MatcherFacts}
 use Rattle.grep_definitions.specs.SinkRuns.{all_true, stopped}
 use Rattle.grep_searcher.specs.Walks.{is_over, line_end}
+use Rattle.grep_searcher.proofs.SkipLemmas as skips
 use Rattle.grep_searcher.proofs.WindowSearchLemmas as search
 use Rattle.grep_searcher.proofs.WindowSearchLemmas.{ordered-next}
+use Rattle.grep_searcher.proofs.searcher.Searcher.search_window.Given.{Over}
 use Rattle.grep_searcher.proofs.searcher.Searcher.search_window.Goals as goal
+
+abbrev errors : (g : Over) → ErrorMakers g.row.S-Error.Denot
+errors g = record {
+  is_message = g.S.Error.SinkError.is_message;
+  is_io = g.S.Error.SinkError.is_io;
+  is_config = g.S.Error.SinkError.is_config;
+}
+
+abbrev facts : (g : Over) → g.row.M.Denot → MatcherFacts g.row.M-Error.Denot
+facts g matcher = record {
+  meaning = g.M.Matcher.meaning matcher;
+  fails = g.M.Matcher.fails matcher;
+  is_lawful = g.M.Matcher.is_lawful matcher;
+  text_of = g.M.Error.Display.output;
+}
+
+pub lines-init : goal.lines-init
+lines-init g c = record {
+  within = c.requires.inside;
+  same = refl;
+  ahead = omega arith;
+  ordered = c.requires.ordered;
+  bounded = record { ordered = omega arith; within = omega arith };
+  known = λ lawful gone input first so_far. skips.known-nothing c.args.self.now.settings (g.M.Matcher.meaning c.args.matcher.now)
+      c.args.window.now c.args.start;
+  searched = λ lawful gone input first so_far. so_far;
+  may_call = c.requires.may_call;
+}
+
+pub returns-in_err-ahead-clause-fault : goal.returns-in_err-ahead-clause-fault
+returns-in_err-ahead-clause-fault g c =
+    let p = err_from_is_err_and c.from_residual.result c.from_residual.ensures.1 in
+    let ahead = c.in_err-ahead.ensures in
+    let fault = ahead.fault in
+    rw (p.1, p.2) (λ lawful gone input first so_far. skips.failed-ahead c.lines_join.ensures c.lines_append.ensures g.S.Sink.step
+    (errors g) (facts g c.args.matcher.now) c.args.self.now.settings gone c.args.window.now input first c.lines.sink
+    (λ passthru. absurd (false≢true (sym ahead.allowed.allowed.selects ∙ passthru)))
+    c.lines.walk c.lines.start (c.lines.invariant.searched lawful gone input first so_far) ahead.some ahead.allowed
+    fault.0 _ fault.1 fault.2)
+
+pub returns-in_default-clause-goes_on : goal.returns-in_default-clause-goes_on
+returns-in_default-clause-goes_on g c = λ lawful goes gone input first so_far.
+    let now = c.lines.invariant.searched lawful gone input first so_far in
+    let known = c.in_ok-ahead.ensures.known lawful _ now.inside.line.begins (c.lines.invariant.known lawful gone input first so_far) in
+    let here = skips.searched-on c.lines_join.ensures c.lines_append.ensures g.S.Sink.step (errors g) (facts g c.args.matcher.now)
+    c.args.self.now.settings gone c.args.window.now input first c.lines.sink c.in_default.ensures.bare c.lines.walk c.lines.start
+    c.in_ok-ahead.ahead now (omega (arith, c.in_ok-ahead.ensures.bounded.ordered, c.in_ok-ahead.ensures.bounded.within)) known
+    c.skip-start.result c.skip-start.new.walk c.skip-start.ensures.position c.skip-start.ensures.walk in
+    search.passed-all g.S.Sink.step c.args.self.now.settings (g.M.Matcher.meaning c.args.matcher.now) gone c.args.window.now input first
+    c.skip-start.result c.skip-start.new.walk c.lines.sink here c.in_default.ensures.end c.in_default.ensures.last
 
 pub returns-in_err-chosen-clause-fault : goal.returns-in_err-chosen-clause-fault
 returns-in_err-chosen-clause-fault g c =
-    let p = err_from_is_err_and c.from_residual.result c.from_residual.ensures.1 in
+    let p = err_from_is_err_and c.from_residual-in_err-chosen.result c.from_residual-in_err-chosen.ensures.1 in
     let fault = c.in_err-chosen.ensures.fault in
-    rw (p.1, p.2) (λ gone input first so_far. search.failed-matcher g.S.Sink.step _ _ c.args.self.now.settings gone c.args.window.now input first
-    c.in-Some.ensures.bare c.loop-end.start c.in-Some.end c.loop-end.walk c.loop-end.sink
-    (c.loop-end.invariant.searched gone input first so_far) c.in-Some.ensures.within.0 c.in-Some.ensures.within.1 c.in-Some.ensures.line
-    c.in_err-chosen.ensures.open fault.0 _ fault.1 fault.2)
+    rw (p.1, p.2) (λ lawful gone input first so_far.
+    let now = c.lines.invariant.searched lawful gone input first so_far in
+    let known = c.in_ok-ahead.ensures.known lawful _ now.inside.line.begins (c.lines.invariant.known lawful gone input first so_far) in
+    let here = skips.searched-on c.lines_join.ensures c.lines_append.ensures g.S.Sink.step (errors g) (facts g c.args.matcher.now)
+    c.args.self.now.settings gone c.args.window.now input first c.lines.sink c.in-Some.ensures.bare c.lines.walk c.lines.start
+    c.in_ok-ahead.ahead now (omega (arith, c.in_ok-ahead.ensures.bounded.ordered, c.in_ok-ahead.ensures.bounded.within)) known
+    c.skip-start.result c.skip-start.new.walk c.skip-start.ensures.position c.skip-start.ensures.walk in
+    search.failed-matcher g.S.Sink.step (errors g) (facts g c.args.matcher.now) c.args.self.now.settings gone c.args.window.now input
+    first c.in-Some.ensures.bare c.skip-start.result c.in-Some.end c.skip-start.new.walk c.lines.sink here c.in-Some.ensures.within.0
+    c.in-Some.ensures.within.1 c.in-Some.ensures.line c.in_err-chosen.ensures.open _ fault.0 _
+    (search.asked-line g.S.Sink.step (errors g) (facts g c.args.matcher.now) c.args.self.now.settings gone c.args.window.now input
+    first c.in-Some.ensures.bare c.skip-start.result c.in-Some.end c.skip-start.new.walk c.lines.sink here c.in-Some.ensures.within.0
+    c.in-Some.ensures.within.1 c.in-Some.ensures.line) fault.1 fault.2)
 
 pub returns-in_err-sink_line-clause-fault : goal.returns-in_err-sink_line-clause-fault
 returns-in_err-sink_line-clause-fault g c =
     let p = err_from_is_err_and c.from_residual-in_err-sink_line.result c.from_residual-in_err-sink_line.ensures.1 in
-    rw (p.1, p.2) (λ gone input first so_far.
-    let here = c.loop-end.invariant.searched gone input first so_far in
-    search.failed-line g.S.Sink.step _ _ c.args.self.now.settings gone c.args.window.now input first
-    c.in-Some.ensures.bare c.loop-end.start c.in-Some.end c.loop-end.walk c.loop-end.sink here
-    c.in-Some.ensures.within.0 c.in-Some.ensures.within.1 c.in-Some.ensures.line
-    c.in_ok-chosen.chosen c.in_ok-chosen.ensures.value _ _ (c.in_err-sink_line.ensures.reported gone input here.inside))
+    rw (p.1, p.2) (λ lawful gone input first so_far.
+    let now = c.lines.invariant.searched lawful gone input first so_far in
+    let known = c.in_ok-ahead.ensures.known lawful _ now.inside.line.begins (c.lines.invariant.known lawful gone input first so_far) in
+    let here = skips.searched-on c.lines_join.ensures c.lines_append.ensures g.S.Sink.step (errors g) (facts g c.args.matcher.now)
+    c.args.self.now.settings gone c.args.window.now input first c.lines.sink c.in-Some.ensures.bare c.lines.walk c.lines.start
+    c.in_ok-ahead.ahead now (omega (arith, c.in_ok-ahead.ensures.bounded.ordered, c.in_ok-ahead.ensures.bounded.within)) known
+    c.skip-start.result c.skip-start.new.walk c.skip-start.ensures.position c.skip-start.ensures.walk in
+    let value = c.in_ok-chosen.ensures.value (subst (λ o. IfSome o (λ m. m ≡ matches_line c.args.self.now.settings
+    (g.M.Matcher.meaning c.args.matcher.now) (slice c.args.window.now c.skip-start.result c.in-Some.end))) (sym c.at-known.ensures)
+    (skips.known-line c.args.self.now.settings (g.M.Matcher.meaning c.args.matcher.now) c.args.window.now c.in_ok-ahead.ahead _
+    c.skip-start.result c.in-Some.end (skips.known-later c.args.self.now.settings (g.M.Matcher.meaning c.args.matcher.now)
+    c.args.window.now c.lines.start c.skip-start.result c.in_ok-ahead.ahead c.skip-start.ensures.low known)
+    (c.in-Some.ensures.line _ here.inside.line.begins))) in
+    search.failed-line g.S.Sink.step (errors g) (facts g c.args.matcher.now) c.args.self.now.settings gone c.args.window.now input
+    first c.in-Some.ensures.bare c.skip-start.result c.in-Some.end c.skip-start.new.walk c.lines.sink here c.in-Some.ensures.within.0
+    c.in-Some.ensures.within.1 c.in-Some.ensures.line c.in_ok-chosen.chosen value _ _
+    (c.in_err-sink_line.ensures.reported gone input here.inside))
 
 pub returns-then-not-branch-clause-ends : goal.returns-then-not-branch-clause-ends
-returns-then-not-branch-clause-ends g c = λ ends.
+returns-then-not-branch-clause-ends g c = λ lawful ends.
     let stops : c.in_ok-sink_line.field-0 ≡ false = search rules in
     let reported = rw stops at c.in_ok-sink_line.ensures.reported in (
-      stopped (line_end c.loop-end.walk (slice c.args.window.now c.loop-end.start c.in-Some.end)),
+      stopped (line_end c.skip-start.new.walk (slice c.args.window.now c.skip-start.result c.in-Some.end)),
       λ gone input first so_far.
-          let here = c.loop-end.invariant.searched gone input first so_far in
-          search.counted-stopped g.S.Sink.step (record { is_message = g.S.Error.SinkError.is_message; is_io = g.S.Error.SinkError.is_io; is_config = g.S.Error.SinkError.is_config })
-          (record { meaning = g.M.Matcher.meaning c.args.matcher.now; fails = g.M.Matcher.fails c.args.matcher.now; is_lawful = g.M.Matcher.is_lawful c.args.matcher.now; text_of = g.M.Error.Display.output }) c.args.self.now.settings gone c.args.window.now input first
-          c.in-Some.ensures.bare c.loop-end.start c.in-Some.end c.loop-end.walk c.loop-end.sink here
-          c.in-Some.ensures.within.0 c.in-Some.ensures.within.1 c.in-Some.ensures.line
-          c.in_ok-chosen.chosen c.in_ok-chosen.ensures.value _ (reported gone input here.inside),
+          let now = c.lines.invariant.searched lawful gone input first so_far in
+          let known = c.in_ok-ahead.ensures.known lawful _ now.inside.line.begins (c.lines.invariant.known lawful gone input first so_far) in
+          let here = skips.searched-on c.lines_join.ensures c.lines_append.ensures g.S.Sink.step (errors g) (facts g c.args.matcher.now)
+          c.args.self.now.settings gone c.args.window.now input first c.lines.sink c.in-Some.ensures.bare c.lines.walk c.lines.start
+          c.in_ok-ahead.ahead now (omega (arith, c.in_ok-ahead.ensures.bounded.ordered, c.in_ok-ahead.ensures.bounded.within)) known
+          c.skip-start.result c.skip-start.new.walk c.skip-start.ensures.position c.skip-start.ensures.walk in
+          let value = c.in_ok-chosen.ensures.value (subst (λ o. IfSome o (λ m. m ≡ matches_line c.args.self.now.settings
+          (g.M.Matcher.meaning c.args.matcher.now) (slice c.args.window.now c.skip-start.result c.in-Some.end))) (sym c.at-known.ensures)
+          (skips.known-line c.args.self.now.settings (g.M.Matcher.meaning c.args.matcher.now) c.args.window.now c.in_ok-ahead.ahead _
+          c.skip-start.result c.in-Some.end (skips.known-later c.args.self.now.settings (g.M.Matcher.meaning c.args.matcher.now)
+          c.args.window.now c.lines.start c.skip-start.result c.in_ok-ahead.ahead c.skip-start.ensures.low known)
+          (c.in-Some.ensures.line _ here.inside.line.begins))) in
+          search.counted-stopped g.S.Sink.step (errors g) (facts g c.args.matcher.now) c.args.self.now.settings gone c.args.window.now
+          input first c.in-Some.ensures.bare c.skip-start.result c.in-Some.end c.skip-start.new.walk c.lines.sink here
+          c.in-Some.ensures.within.0 c.in-Some.ensures.within.1 c.in-Some.ensures.line c.in_ok-chosen.chosen value _
+          (reported gone input here.inside),
     )
 
 pub returns-then-is_over-clause-ends : goal.returns-then-is_over-clause-ends
-returns-then-is_over-clause-ends g c = λ ends.
+returns-then-is_over-clause-ends g c = λ lawful ends.
     let goes : c.in_ok-sink_line.field-0 ≡ true = search rules in
     let reported = rw goes at c.in_ok-sink_line.ensures.reported in
     let over = ap (λ p. is_over c.args.self.now.settings p c.in_ok-chosen.chosen) (sym c.advance.ensures)
@@ -49,45 +135,67 @@ returns-then-is_over-clause-ends g c = λ ends.
     rw c.advance.ensures (
       all_true,
       λ gone input first so_far.
-          let here = c.loop-end.invariant.searched gone input first so_far in
-          search.counted-over g.S.Sink.step (record { is_message = g.S.Error.SinkError.is_message; is_io = g.S.Error.SinkError.is_io; is_config = g.S.Error.SinkError.is_config })
-          (record { meaning = g.M.Matcher.meaning c.args.matcher.now; fails = g.M.Matcher.fails c.args.matcher.now; is_lawful = g.M.Matcher.is_lawful c.args.matcher.now; text_of = g.M.Error.Display.output }) c.args.self.now.settings gone c.args.window.now input first
-          c.in-Some.ensures.bare c.loop-end.start c.in-Some.end c.loop-end.walk c.loop-end.sink here
-          c.in-Some.ensures.within.0 c.in-Some.ensures.within.1 c.in-Some.ensures.line
-          c.in_ok-chosen.chosen c.in_ok-chosen.ensures.value _ (reported gone input here.inside) over,
+          let now = c.lines.invariant.searched lawful gone input first so_far in
+          let known = c.in_ok-ahead.ensures.known lawful _ now.inside.line.begins (c.lines.invariant.known lawful gone input first so_far) in
+          let here = skips.searched-on c.lines_join.ensures c.lines_append.ensures g.S.Sink.step (errors g) (facts g c.args.matcher.now)
+          c.args.self.now.settings gone c.args.window.now input first c.lines.sink c.in-Some.ensures.bare c.lines.walk c.lines.start
+          c.in_ok-ahead.ahead now (omega (arith, c.in_ok-ahead.ensures.bounded.ordered, c.in_ok-ahead.ensures.bounded.within)) known
+          c.skip-start.result c.skip-start.new.walk c.skip-start.ensures.position c.skip-start.ensures.walk in
+          let value = c.in_ok-chosen.ensures.value (subst (λ o. IfSome o (λ m. m ≡ matches_line c.args.self.now.settings
+          (g.M.Matcher.meaning c.args.matcher.now) (slice c.args.window.now c.skip-start.result c.in-Some.end))) (sym c.at-known.ensures)
+          (skips.known-line c.args.self.now.settings (g.M.Matcher.meaning c.args.matcher.now) c.args.window.now c.in_ok-ahead.ahead _
+          c.skip-start.result c.in-Some.end (skips.known-later c.args.self.now.settings (g.M.Matcher.meaning c.args.matcher.now)
+          c.args.window.now c.lines.start c.skip-start.result c.in_ok-ahead.ahead c.skip-start.ensures.low known)
+          (c.in-Some.ensures.line _ here.inside.line.begins))) in
+          search.counted-over g.S.Sink.step (errors g) (facts g c.args.matcher.now) c.args.self.now.settings gone c.args.window.now
+          input first c.in-Some.ensures.bare c.skip-start.result c.in-Some.end c.skip-start.new.walk c.lines.sink here
+          c.in-Some.ensures.within.0 c.in-Some.ensures.within.1 c.in-Some.ensures.line c.in_ok-chosen.chosen value _
+          (reported gone input here.inside) over,
     )
 
-pub loop-end-preserved : goal.loop-end-preserved
-loop-end-preserved g c =
+pub lines-preserved : goal.lines-preserved
+lines-preserved g c =
     let goes : c.in_ok-sink_line.field-0 ≡ true = search rules in
     let reported = rw goes at c.in_ok-sink_line.ensures.reported in
     let on = ap (λ p. is_over c.args.self.now.settings p c.in_ok-chosen.chosen) (sym c.advance.ensures)
     ∙ rw c.is_over.ensures at c.if-is_over.false in
+    let size = length-take (c.in-Some.end - c.skip-start.result) (drop c.skip-start.result c.args.window.now) in
     rw c.advance.ensures (record {
       within = c.in-Some.ensures.within.1;
       same = omega (
         arith,
-        length-take (c.in-Some.end - c.loop-end.start) (drop c.loop-end.start c.args.window.now),
-        length-drop c.loop-end.start c.args.window.now,
+        size,
+        length-drop c.skip-start.result c.args.window.now,
         c.in-Some.ensures.within.0,
         c.in-Some.ensures.within.1,
-        c.loop-end.invariant.same,
+        c.skip-start.ensures.moved,
+        c.lines.invariant.same,
       );
-      ahead = omega (arith, c.loop-end.invariant.ahead, c.in-Some.ensures.within.0);
-      ordered = ordered-next c.args.self.now.settings c.loop-end.walk c.loop-end.start c.in-Some.end c.args.window.now c.in_ok-chosen.chosen
-          c.in-Some.ensures.within.0 c.in-Some.ensures.within.1 c.loop-end.invariant.ordered;
-      searched = λ gone input first so_far.
-          let here = c.loop-end.invariant.searched gone input first so_far in
-          search.searched-next g.S.Sink.step (record { is_message = g.S.Error.SinkError.is_message; is_io = g.S.Error.SinkError.is_io; is_config = g.S.Error.SinkError.is_config })
-          (record { meaning = g.M.Matcher.meaning c.args.matcher.now; fails = g.M.Matcher.fails c.args.matcher.now; is_lawful = g.M.Matcher.is_lawful c.args.matcher.now; text_of = g.M.Error.Display.output }) c.args.self.now.settings gone c.args.window.now input
-          first c.in-Some.ensures.bare c.loop-end.start c.in-Some.end c.loop-end.walk c.loop-end.sink here
-          c.in-Some.ensures.within.0 c.in-Some.ensures.within.1 c.in-Some.ensures.line
-          c.in_ok-chosen.chosen c.in_ok-chosen.ensures.value _ (reported gone input here.inside) on;
+      ahead = omega (arith, c.lines.invariant.ahead, c.skip-start.ensures.low, c.in-Some.ensures.within.0);
+      ordered = ordered-next c.args.self.now.settings c.skip-start.new.walk c.skip-start.result c.in-Some.end c.args.window.now
+          c.in_ok-chosen.chosen c.in-Some.ensures.within.0 c.in-Some.ensures.within.1 c.skip-start.ensures.ordered;
+      bounded = c.in_ok-ahead.ensures.bounded;
+      known = λ lawful gone input first so_far.
+          let now = c.lines.invariant.searched lawful gone input first so_far in
+          skips.known-later c.args.self.now.settings (g.M.Matcher.meaning c.args.matcher.now) c.args.window.now c.lines.start
+          c.in-Some.end c.in_ok-ahead.ahead (omega (arith, c.skip-start.ensures.low, c.in-Some.ensures.within.0))
+          (c.in_ok-ahead.ensures.known lawful _ now.inside.line.begins (c.lines.invariant.known lawful gone input first so_far));
+      searched = λ lawful gone input first so_far.
+          let now = c.lines.invariant.searched lawful gone input first so_far in
+          let known = c.in_ok-ahead.ensures.known lawful _ now.inside.line.begins (c.lines.invariant.known lawful gone input first so_far) in
+          let here = skips.searched-on c.lines_join.ensures c.lines_append.ensures g.S.Sink.step (errors g) (facts g c.args.matcher.now)
+          c.args.self.now.settings gone c.args.window.now input first c.lines.sink c.in-Some.ensures.bare c.lines.walk c.lines.start
+          c.in_ok-ahead.ahead now (omega (arith, c.in_ok-ahead.ensures.bounded.ordered, c.in_ok-ahead.ensures.bounded.within)) known
+          c.skip-start.result c.skip-start.new.walk c.skip-start.ensures.position c.skip-start.ensures.walk in
+          let value = c.in_ok-chosen.ensures.value (subst (λ o. IfSome o (λ m. m ≡ matches_line c.args.self.now.settings
+          (g.M.Matcher.meaning c.args.matcher.now) (slice c.args.window.now c.skip-start.result c.in-Some.end))) (sym c.at-known.ensures)
+          (skips.known-line c.args.self.now.settings (g.M.Matcher.meaning c.args.matcher.now) c.args.window.now c.in_ok-ahead.ahead _
+          c.skip-start.result c.in-Some.end (skips.known-later c.args.self.now.settings (g.M.Matcher.meaning c.args.matcher.now)
+          c.args.window.now c.lines.start c.skip-start.result c.in_ok-ahead.ahead c.skip-start.ensures.low known)
+          (c.in-Some.ensures.line _ here.inside.line.begins))) in
+          search.searched-next g.S.Sink.step (errors g) (facts g c.args.matcher.now) c.args.self.now.settings gone c.args.window.now
+          input first c.in-Some.ensures.bare c.skip-start.result c.in-Some.end c.skip-start.new.walk c.lines.sink here
+          c.in-Some.ensures.within.0 c.in-Some.ensures.within.1 c.in-Some.ensures.line c.in_ok-chosen.chosen value _
+          (reported gone input here.inside) on;
       may_call = c.in_ok-sink_line.ensures.may_call;
     })
-
-pub returns-clause-goes_on : goal.returns-clause-goes_on
-returns-clause-goes_on g c = λ goes gone input first so_far.
-    search.passed-all g.S.Sink.step c.args.self.now.settings (g.M.Matcher.meaning c.args.matcher.now) gone c.args.window.now input first
-    c.loop-end.start c.loop-end.walk c.loop-end.sink (c.loop-end.invariant.searched gone input first so_far)
-    c.in_default.ensures.end c.in_default.ensures.last
