@@ -7,6 +7,7 @@ ghost use Rattle.grep_matcher.specs.Matching.{IsInfallible};
 ghost use Rattle.grep_matcher.specs.Terminators.{byte_of};
 ghost use Rattle.grep_definitions.specs.Below.{is_at};
 ghost use Rattle.grep_definitions.specs.DecodedInputs.{is_searched_unchanged};
+ghost use Rattle.grep_definitions.specs.Questions.{IsLawfulFor};
 ghost use Rattle.grep_definitions.specs.ReaderSearches.{IsReaderSearched, IsUnread};
 ghost use Rattle.grep_definitions.specs.ReadingFaults.{IsUndecoded};
 ghost use Rattle.grep_definitions.specs.Refusals.{refusal_of};
@@ -146,6 +147,7 @@ impl<A: Allocator + Copy> Searcher<A> {
             })
             self.old bytes.now sink.old result sink.new }
         ensures succeeds { NeverFails S.step S.may_call → IsInfallible (M.fails matcher)
+            → IsLawfulFor self.old.settings (M.meaning matcher) (M.is_lawful matcher)
             → refusal_of self.old.settings (M.meaning matcher) ≡ None
             → IfErr result (λ e. (seen : Option (List ℕ)) × (error : Error)
             × IsUndecoded self.old (M.meaning matcher) bytes.now seen error × S.Error.is_io error e) }
@@ -203,6 +205,7 @@ impl<A: Allocator + Copy> Searcher<A> {
             })
             self.old reader.old sink.old result reader.new sink.new }
         ensures succeeds { NeverFails S.step S.may_call → IsInfallible (M.fails matcher)
+            → IsLawfulFor self.old.settings (M.meaning matcher) (M.is_lawful matcher)
             → refusal_of self.old.settings (M.meaning matcher) ≡ None
             → IfErr result (λ e. (seen : Option (List ℕ)) × (error : Error)
             × IsUnread R.remaining R.step self.old (M.meaning matcher) reader.old seen error reader.new
@@ -283,7 +286,8 @@ impl<A: Allocator + Copy> Searcher<A> {
         ensures settings { self.new.settings ≡ self.old.settings }
         ensures buffers { self.old.has_buffers ≡ true → self.new.has_buffers ≡ true }
         ensures same { is_searched_unchanged self.old.settings input.now ≡ true → self.new ≡ self.old }
-        ensures searched { IsInputSearched S.step
+        ensures searched { IsLawfulFor self.old.settings (M.meaning matcher.now) (M.is_lawful matcher.now)
+            → IsInputSearched S.step
             (record {
               is_message = S.Error.is_message;
               is_io = S.Error.is_io;
@@ -297,6 +301,7 @@ impl<A: Allocator + Copy> Searcher<A> {
             })
             self.old input.now sink.old result sink.new }
         ensures succeeds { NeverFails S.step S.may_call → IsInfallible (M.fails matcher.now)
+            → IsLawfulFor self.old.settings (M.meaning matcher.now) (M.is_lawful matcher.now)
             → IfErr result (λ e. (seen : Option (List ℕ)) × (error : Error)
             × IsUndecoded self.old (M.meaning matcher.now) input.now seen error × S.Error.is_io error e) }
         ensures may_call { S.may_call sink.new }
@@ -319,7 +324,8 @@ impl<A: Allocator + Copy> Searcher<A> {
     where
         S::Error: SinkError<A>,
         requires { S.may_call sink.old }
-        ensures searched { IsSearchedAlong S.step
+        ensures searched { IsLawfulFor self.now.settings (M.meaning matcher.now) (M.is_lawful matcher.now)
+            → IsSearchedAlong S.step
             (record {
               is_message = S.Error.is_message;
               is_io = S.Error.is_io;

@@ -1,5 +1,5 @@
 //! The search of a reader, fill by fill of a line buffer. It follows grep-searcher's module `searcher::glue`.
-ghost use Rattle.std.specs.Prelude.{◌≡◌, ◌≤◌, ◌<◌, ◌+◌, ◌++◌, ◌⊎◌, ℕ, Bool, List, Option, Ok, true, false, length};
+ghost use Rattle.std.specs.Prelude.{◌^◌, ◌≡◌, ◌≤◌, ◌<◌, ◌+◌, ◌++◌, ◌⊎◌, ℕ, Bool, List, Option, Ok, true, false, length};
 ghost use Rattle.std.specs.Prelude.{IfOk, IfErr, IsOk, OnErr, OnOk, MatchBool};
 ghost use Rattle.std.specs.declared.io.Error.{Error};
 ghost use Rattle.grep_matcher.specs.Terminators.{byte_of};
@@ -9,6 +9,7 @@ ghost use Rattle.grep_line_buffer.specs.BufferStates.{empty_buffer, held};
 ghost use Rattle.grep_definitions.specs.Below.{is_at};
 ghost use Rattle.grep_definitions.specs.InputFronts.{IsClosed};
 ghost use Rattle.grep_definitions.specs.ReaderSearches.{IsReaderFault, IsUnread, is_idle};
+ghost use Rattle.grep_definitions.specs.Questions.{IsLawfulFor};
 ghost use Rattle.grep_definitions.specs.Searches.{IsFault};
 ghost use Rattle.grep_definitions.specs.SinkCalls.{begins};
 ghost use Rattle.grep_definitions.specs.SinkRuns.{NeverFails};
@@ -48,7 +49,8 @@ impl<A: Allocator + Copy> Searcher<A> {
         ensures settings { self.new.settings ≡ self.old.settings }
         ensures buffers { self.old.has_buffers ≡ true → self.new.has_buffers ≡ true }
         ensures gets { OnOk result (self.new.has_buffers ≡ true) }
-        ensures searched { IsSourceSearched S.step
+        ensures searched { IsLawfulFor self.old.settings (M.meaning matcher.now) (M.is_lawful matcher.now)
+            → IsSourceSearched S.step
             (record {
               is_message = S.Error.is_message;
               is_io = S.Error.is_io;
@@ -62,6 +64,7 @@ impl<A: Allocator + Copy> Searcher<A> {
             })
             R.remaining R.step self.old reader.old sink.old result reader.new sink.new }
         ensures succeeds { NeverFails S.step S.may_call → IsInfallible (M.fails matcher.now)
+            → IsLawfulFor self.old.settings (M.meaning matcher.now) (M.is_lawful matcher.now)
             → IfErr result (λ e. (seen : Option (List ℕ)) × (error : Error)
             × IsUnread R.remaining R.step self.old (M.meaning matcher.now) reader.old seen error reader.new
             × S.Error.is_io error e) }
@@ -92,7 +95,8 @@ impl<A: Allocator + Copy> Searcher<A> {
         requires may_call { S.may_call sink.old }
         ensures fitting { AreFitting self.now.settings.heap_limit
             (byte_of self.now.settings.line_terminator) buffers.new.lines }
-        ensures searched { (has_buffers : Bool) → IsSourceSearched S.step
+        ensures searched { IsLawfulFor self.now.settings (M.meaning matcher.now) (M.is_lawful matcher.now)
+            → (has_buffers : Bool) → IsSourceSearched S.step
             (record {
               is_message = S.Error.is_message;
               is_io = S.Error.is_io;
@@ -107,6 +111,7 @@ impl<A: Allocator + Copy> Searcher<A> {
             R.remaining R.step (record { settings = self.now.settings; has_buffers = has_buffers })
             reader.old sink.old result reader.new sink.new }
         ensures succeeds { NeverFails S.step S.may_call → IsInfallible (M.fails matcher.now)
+            → IsLawfulFor self.now.settings (M.meaning matcher.now) (M.is_lawful matcher.now)
             → IfErr result (λ e. (has_buffers : Bool) → (seen : Option (List ℕ)) × (error : Error)
             × IsUnread R.remaining R.step (record { settings = self.now.settings; has_buffers = has_buffers })
             (M.meaning matcher.now) reader.old seen error reader.new × S.Error.is_io error e) }
@@ -134,9 +139,13 @@ impl<A: Allocator + Copy> Searcher<A> {
             (byte_of self.now.settings.line_terminator) buffers.new.lines }
         ensures begun { IfOk result (λ count. HasBegun S.step self.now.settings (M.meaning matcher.now)
             R.remaining R.step reader.old sink.old reader.new) }
-        ensures counted { IfOk result (λ count. HasCounted S.step self.now.settings (M.meaning matcher.now)
+        ensures counted { IfOk result (λ count.
+            IsLawfulFor self.now.settings (M.meaning matcher.now) (M.is_lawful matcher.now)
+            → HasCounted S.step self.now.settings (M.meaning matcher.now)
             R.remaining R.step reader.old sink.old count reader.new sink.new) }
-        ensures fault { IfErr result (λ e. (has_buffers : Bool) → IsReaderFault R.remaining R.step S.step
+        ensures fault { IfErr result (λ e.
+            IsLawfulFor self.now.settings (M.meaning matcher.now) (M.is_lawful matcher.now)
+            → (has_buffers : Bool) → IsReaderFault R.remaining R.step S.step
             (record {
               is_message = S.Error.is_message;
               is_io = S.Error.is_io;
@@ -151,6 +160,7 @@ impl<A: Allocator + Copy> Searcher<A> {
             (record { settings = self.now.settings; has_buffers = has_buffers })
             reader.old sink.old e reader.new sink.new) }
         ensures succeeds { NeverFails S.step S.may_call → IsInfallible (M.fails matcher.now)
+            → IsLawfulFor self.now.settings (M.meaning matcher.now) (M.is_lawful matcher.now)
             → IfErr result (λ e. (has_buffers : Bool) → (seen : Option (List ℕ)) × (error : Error)
             × IsUnread R.remaining R.step (record { settings = self.now.settings; has_buffers = has_buffers })
             (M.meaning matcher.now) reader.old seen error reader.new × S.Error.is_io error e) }
@@ -211,11 +221,15 @@ impl<A: Allocator + Copy> Searcher<A> {
         requires may_call { S.may_call sink.old }
         ensures fitting { AreFitting self.now.settings.heap_limit
             (byte_of self.now.settings.line_terminator) lines.new }
-        ensures counted { IfOk result (λ count. (first : S)
+        ensures counted { IfOk result (λ count.
+            IsLawfulFor self.now.settings (M.meaning matcher.now) (M.is_lawful matcher.now)
+            → (first : S)
             → S.step first self.now.settings begins (Ok true) sink.old
             → HasCounted S.step self.now.settings (M.meaning matcher.now) R.remaining R.step
             reader.old first count reader.new sink.new) }
-        ensures fault { IfErr result (λ e. (first : S)
+        ensures fault { IfErr result (λ e.
+            IsLawfulFor self.now.settings (M.meaning matcher.now) (M.is_lawful matcher.now)
+            → (first : S)
             → S.step first self.now.settings begins (Ok true) sink.old
             → (has_buffers : Bool) → IsReaderFault R.remaining R.step S.step
             (record {
@@ -232,6 +246,7 @@ impl<A: Allocator + Copy> Searcher<A> {
             (record { settings = self.now.settings; has_buffers = has_buffers })
             reader.old first e reader.new sink.new) }
         ensures succeeds { NeverFails S.step S.may_call → IsInfallible (M.fails matcher.now)
+            → IsLawfulFor self.now.settings (M.meaning matcher.now) (M.is_lawful matcher.now)
             → IfErr result (λ e. (first : S) → S.step first self.now.settings begins (Ok true) sink.old
             → (has_buffers : Bool) → (seen : Option (List ℕ)) × (error : Error)
             × IsUnread R.remaining R.step (record { settings = self.now.settings; has_buffers = has_buffers })
@@ -275,14 +290,22 @@ impl<A: Allocator + Copy> Searcher<A> {
         ensures fitting { (limit : Option ℕ) (t : ℕ) → AreFitting limit t lines.old
             → AreFitting limit t lines.new }
         ensures ordered { IfOk result (λ goes_on. IsOrdered walk.new) }
-        ensures goes_on { IfOk result (λ goes_on. goes_on ≡ true
-            → HasMovedOn S.step self.now.settings (M.meaning matcher.now)
+        ensures at { IfOk result (λ goes_on. goes_on ≡ true
+            → walk.new.offset ≡ lines.new.offset + length lines.new.shown) }
+        ensures below { IfOk result (λ goes_on. goes_on ≡ true → walk.new.offset < 2 ^ 64) }
+        ensures ahead { IfOk result (λ goes_on. goes_on ≡ true → walk.old.offset < walk.new.offset) }
+        ensures goes_on { IfOk result (λ goes_on.
+            IsLawfulFor self.now.settings (M.meaning matcher.now) (M.is_lawful matcher.now)
+            → goes_on ≡ true → HasMovedOn S.step self.now.settings (M.meaning matcher.now)
             lines.old walk.old sink.old lines.new walk.new sink.new) }
         ensures same { IfOk result (λ goes_on. goes_on ≡ false → lines.new ≡ lines.old) }
-        ensures ends { IfOk result (λ goes_on. goes_on ≡ false
-            → HasEnded S.step self.now.settings (M.meaning matcher.now)
+        ensures ends { IfOk result (λ goes_on.
+            IsLawfulFor self.now.settings (M.meaning matcher.now) (M.is_lawful matcher.now)
+            → goes_on ≡ false → HasEnded S.step self.now.settings (M.meaning matcher.now)
             lines.old walk.old sink.old walk.new sink.new) }
-        ensures fault { IfErr result (λ e. (gone : List ℕ) (first : S)
+        ensures fault { IfErr result (λ e.
+            IsLawfulFor self.now.settings (M.meaning matcher.now) (M.is_lawful matcher.now)
+            → (gone : List ℕ) (first : S)
             → IsReady S.step self.now.settings (M.meaning matcher.now) gone lines.old.shown
             (start_in lines.old walk.old) first walk.old sink.old
             → (after : List ℕ)

@@ -10,11 +10,11 @@ use Rattle.grep_searcher.proofs.searcher.Searcher.match_by_line.Goals as goal
 pub returns-in_err-begin-clause-fault : goal.returns-in_err-begin-clause-fault
 returns-in_err-begin-clause-fault g c =
     let p = err_from_is_err_and c.from_residual.result c.from_residual.ensures.1 in
-    rw (p.1, p.2) (walks.fault-begin g.S.Sink.step _ _ c.args.self.now.settings c.args.bytes.now c.args.sink.now _ _
+    rw (p.1, p.2) (λ lawful. walks.fault-begin g.S.Sink.step _ _ c.args.self.now.settings c.args.bytes.now c.args.sink.now _ _
     c.in_err-begin.ensures.step)
 
 pub returns-then-not-branch-clause-reported : goal.returns-then-not-branch-clause-reported
-returns-then-not-branch-clause-reported g c =
+returns-then-not-branch-clause-reported g c = λ lawful.
     let unbegun : c.in_ok-begin.field-0 ≡ false = search rules in (
       stopped 0,
       walks.counted-unbegun c.args.self.now.settings (g.M.Matcher.meaning c.args.matcher.now) c.args.bytes.now g.S.Sink.step
@@ -22,7 +22,7 @@ returns-then-not-branch-clause-reported g c =
     )
 
 pub returns-then-is_idle-clause-reported : goal.returns-then-is_idle-clause-reported
-returns-then-is_idle-clause-reported g c =
+returns-then-is_idle-clause-reported g c = λ lawful.
     let goes : c.in_ok-begin.field-0 ≡ true = search rules in (
       all_true,
       walks.counted-idle c.args.self.now.settings (g.M.Matcher.meaning c.args.matcher.now) c.args.bytes.now g.S.Sink.step
@@ -34,13 +34,13 @@ returns-in_err-search_window-clause-fault g c =
     let p = err_from_is_err_and c.from_residual-in_err-search_window.result c.from_residual-in_err-search_window.ensures.1 in
     let goes : c.in_ok-begin.field-0 ≡ true = search rules in
     let begun = rw goes at c.in_ok-begin.ensures.step in
-    rw (p.1, p.2) (c.in_err-search_window.ensures.fault [] c.args.bytes.now c.args.sink.now
+    rw (p.1, p.2) (λ lawful. c.in_err-search_window.ensures.fault lawful [] c.args.bytes.now c.args.sink.now
     (search.searched-start g.S.Sink.step c.args.self.now.settings (g.M.Matcher.meaning c.args.matcher.now) c.args.bytes.now c.args.bytes.now
     c.args.sink.now c.begin.new.self (own-window (byte_of c.args.self.now.settings.line_terminator) c.args.bytes.now)
     (sym c.is_idle.ensures ∙ c.if-is_idle.false) begun))
 
 pub returns-clause-reported : goal.returns-clause-reported
-returns-clause-reported g c =
+returns-clause-reported g c = λ lawful.
     let goes : c.in_ok-begin.field-0 ≡ true = search rules in
     let begun = rw goes at c.in_ok-begin.ensures.step in
     let start = search.searched-start g.S.Sink.step c.args.self.now.settings (g.M.Matcher.meaning c.args.matcher.now) c.args.bytes.now
@@ -56,7 +56,7 @@ returns-clause-reported g c =
     })
     c.args.self.now.settings [] c.args.bytes.now c.args.bytes.now c.args.sink.now
     c.in_ok-search_window.field-0 c.search_window.new.walk c.search_window.new.sink
-    (λ on. c.in_ok-search_window.ensures.goes_on on [] c.args.bytes.now c.args.sink.now start)
+    (λ on. c.in_ok-search_window.ensures.goes_on lawful on [] c.args.bytes.now c.args.sink.now start)
     (λ off.
-    let ends = c.in_ok-search_window.ensures.ends off in
+    let ends = c.in_ok-search_window.ensures.ends lawful off in
     (ends.0, ends.1 [] c.args.bytes.now c.args.sink.now start)) (omega arith)

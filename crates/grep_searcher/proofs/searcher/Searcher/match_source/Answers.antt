@@ -14,12 +14,12 @@ returns-in_err-begin-clause-fault g c =
     record { meaning = matcher.meaning c.args.matcher.now; fails = matcher.fails c.args.matcher.now; is_lawful = matcher.is_lawful c.args.matcher.now; text_of = g.M.Error.Display.output }
     in
     let p = err_from_is_err_and c.from_residual.result c.from_residual.ensures.1 in
-    rw (p.1, p.2) (λ has_buffers. sources.fault-begin g.S.Sink.step errors facts g.R.Source.remaining g.R.Source.step
+    rw (p.1, p.2) (λ lawful has_buffers. sources.fault-begin g.S.Sink.step errors facts g.R.Source.remaining g.R.Source.step
     (record { settings = c.args.self.now.settings; has_buffers = has_buffers }) c.args.reader.now c.args.sink.now _ _
     c.in_err-begin.ensures.step)
 
 pub returns-then-not-branch-clause-counted : goal.returns-then-not-branch-clause-counted
-returns-then-not-branch-clause-counted g c =
+returns-then-not-branch-clause-counted g c = λ lawful.
     let maker = g.S.Error.SinkError in
     let matcher = g.M.Matcher in
     let errors : ErrorMakers g.row.S-Error.Denot =
@@ -31,7 +31,7 @@ returns-then-not-branch-clause-counted g c =
     c.args.self.now.settings c.args.reader.now c.args.sink.now c.begin.new.self (rw c.if-not-branch.true at c.in_ok-begin.ensures.step)
 
 pub returns-then-is_idle-clause-counted : goal.returns-then-is_idle-clause-counted
-returns-then-is_idle-clause-counted g c =
+returns-then-is_idle-clause-counted g c = λ lawful.
     let maker = g.S.Error.SinkError in
     let matcher = g.M.Matcher in
     let errors : ErrorMakers g.row.S-Error.Denot =
@@ -60,11 +60,11 @@ returns-clause-begun g c =
 pub returns-clause-counted : goal.returns-clause-counted
 returns-clause-counted g c =
     sources.if_ok-each _ _ c.read_by_line.result
-    (λ count counted. counted c.args.sink.now (rw c.if-not-branch.false at c.in_ok-begin.ensures.step))
+    (λ count counted lawful. counted lawful c.args.sink.now (rw c.if-not-branch.false at c.in_ok-begin.ensures.step))
     c.read_by_line.ensures.counted
 
 pub returns-clause-succeeds : goal.returns-clause-succeeds
-returns-clause-succeeds g c = λ never infallible.
+returns-clause-succeeds g c = λ never infallible lawful.
     sources.if_err-each _ _ c.read_by_line.result
     (λ e unread. unread c.args.sink.now (rw c.if-not-branch.false at c.in_ok-begin.ensures.step))
-    (c.read_by_line.ensures.succeeds never infallible)
+    (c.read_by_line.ensures.succeeds never infallible lawful)

@@ -1,5 +1,6 @@
 use Rattle.std.proofs.Common.{◌≡◌, ◌+◌, ◌-◌, ◌<◌, ◌^◌, Ok, true, length}
 use Rattle.grep_matcher.specs.Terminators.{byte_of}
+use Rattle.grep_definitions.specs.Questions.{IsLawfulFor}
 use Rattle.grep_definitions.specs.SinkCalls.{begins}
 use Rattle.grep_searcher.specs.Rolls.{IsRolling}
 use Rattle.grep_searcher.specs.SearchBuffers.{AreFitting}
@@ -13,7 +14,8 @@ invariant-fills g l = record {
   below : l.walk.offset < 2 ^ 64;
   ordered : IsOrdered l.walk;
   may_call : g.S.Sink.may_call l.sink;
-  rolling : (first : g.row.S.Denot) → g.S.Sink.step first l.self.settings begins (Ok true) l.fn.sink
+  rolling : IsLawfulFor l.self.settings (g.M.Matcher.meaning l.matcher) (g.M.Matcher.is_lawful l.matcher)
+      → (first : g.row.S.Denot) → g.S.Sink.step first l.self.settings begins (Ok true) l.fn.sink
       → IsRolling g.S.Sink.step l.self.settings (g.M.Matcher.meaning l.matcher) g.R.Source.remaining g.R.Source.step
       l.fn.decoder l.fn.reader first l.lines l.decoder l.reader l.walk l.sink;
 }

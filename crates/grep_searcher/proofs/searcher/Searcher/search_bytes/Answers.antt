@@ -3,7 +3,7 @@ use Rattle.grep_searcher.proofs.FinishLemmas.{searched-finish}
 use Rattle.grep_searcher.proofs.searcher.Searcher.search_bytes.Goals as goal
 
 pub returns-clause-searched : goal.returns-clause-searched
-returns-clause-searched g c =
+returns-clause-searched g c = λ lawful.
     let maker = g.S.Error.SinkError in
     let matcher = g.M.Matcher in
     let errors : ErrorMakers g.row.S-Error.Denot =
@@ -13,5 +13,5 @@ returns-clause-searched g c =
     in
     let finish = rw c.new.ensures at c.finish.ensures.step in
     searched-finish g.S.Sink.step errors facts c.args.self.now.settings c.args.bytes.now c.args.sink.now
-    c.in_ok-count.count c.in_ok-count.ensures.reported.0 c.match_by_line.new.sink c.finish.result c.finish.new.self
-    c.in_ok-count.ensures.reported.1 finish
+    c.in_ok-count.count (c.in_ok-count.ensures.reported lawful).0 c.match_by_line.new.sink c.finish.result c.finish.new.self
+    (c.in_ok-count.ensures.reported lawful).1 finish

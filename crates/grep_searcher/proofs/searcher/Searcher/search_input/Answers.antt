@@ -4,7 +4,7 @@ use Rattle.grep_searcher.proofs.DecodedLemmas.{input-searched, undecoded-unless}
 use Rattle.grep_searcher.proofs.searcher.Searcher.search_input.Goals as goal
 
 pub returns-clause-searched : goal.returns-clause-searched
-returns-clause-searched g c =
+returns-clause-searched g c = λ lawful.
     let maker = g.S.Error.SinkError in
     let matcher = g.M.Matcher in
     let errors : ErrorMakers g.row.S-Error.Denot =
@@ -14,10 +14,10 @@ returns-clause-searched g c =
     in
     input-searched g.S.Sink.step errors facts _ _ (λ s e t fails. fails) c.args.self.now c.args.input.now
     (sym c.is_searched_unchanged.ensures ∙ c.if-is_searched_unchanged.false) _ _ refl c.args.sink.now c.search_source.result
-    c.search_source.new.sink c.search_source.ensures.searched
+    c.search_source.new.sink (c.search_source.ensures.searched lawful)
 
 pub returns-clause-succeeds : goal.returns-clause-succeeds
-returns-clause-succeeds g c = λ never infallible.
+returns-clause-succeeds g c = λ never infallible lawful.
     let maker = g.S.Error.SinkError in
     let matcher = g.M.Matcher in
     let errors : ErrorMakers g.row.S-Error.Denot =
@@ -27,4 +27,4 @@ returns-clause-succeeds g c = λ never infallible.
     in
     undecoded-unless g.S.Sink.step errors facts _ _ (λ s e t fails. fails) c.args.self.now c.args.input.now
     (sym c.is_searched_unchanged.ensures ∙ c.if-is_searched_unchanged.false) _ _ refl c.search_source.result
-    (c.search_source.ensures.succeeds never infallible)
+    (c.search_source.ensures.succeeds never infallible lawful)

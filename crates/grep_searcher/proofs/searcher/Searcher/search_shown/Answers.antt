@@ -6,7 +6,7 @@ use Rattle.grep_searcher.proofs.RollLemmas as rolls
 use Rattle.grep_searcher.proofs.searcher.Searcher.search_shown.Goals as goal
 
 pub returns-then-start-window-clause-ends : goal.returns-then-start-window-clause-ends
-returns-then-start-window-clause-ends g c = λ _.
+returns-then-start-window-clause-ends g c = λ lawful _.
     let shown = c.buffer-window.ensures in
     rolls.ended-nothing c.lines_join.ensures c.lines_append.ensures g.S.Sink.step c.args.self.now.settings
     (g.M.Matcher.meaning c.args.matcher.now) c.args.lines.now c.args.walk.now c.args.sink.now
@@ -18,13 +18,13 @@ pub returns-in_err-search_window-clause-fault : goal.returns-in_err-search_windo
 returns-in_err-search_window-clause-fault g c =
     let p = err_from_is_err_and c.from_residual.result c.from_residual.ensures.1 in
     let fault = rw (c.buffer-window.ensures.value, c.absolute_byte_offset.ensures) at c.in_err-search_window.ensures.fault in
-    rw (p.1, p.2) (λ gone first ready after closes. fault gone _ first (ready after closes))
+    rw (p.1, p.2) (λ lawful gone first ready after closes. fault lawful gone _ first (ready after closes))
 
 pub returns-then-not-branch-clause-ends : goal.returns-then-not-branch-clause-ends
-returns-then-not-branch-clause-ends g c = λ _.
+returns-then-not-branch-clause-ends g c = λ lawful _.
     let shown = c.buffer-window.ensures in
     let searched = c.in_ok-search_window.ensures in
-    let ends = searched.ends c.if-not-branch.true in
+    let ends = searched.ends lawful c.if-not-branch.true in
     rolls.ended-within c.lines_join.ensures c.lines_append.ensures g.S.Sink.step c.args.self.now.settings
     (g.M.Matcher.meaning c.args.matcher.now) c.args.lines.now c.args.walk.now c.args.sink.now
     c.buffer-window.result.now (c.args.walk.now.offset - c.absolute_byte_offset.result) shown.value
@@ -34,7 +34,7 @@ returns-then-not-branch-clause-ends g c = λ _.
     ends.0 ends.1
 
 pub returns-then-not-is_terminated-clause-ends : goal.returns-then-not-is_terminated-clause-ends
-returns-then-not-is_terminated-clause-ends g c = λ _.
+returns-then-not-is_terminated-clause-ends g c = λ lawful _.
     let shown = c.buffer-window.ensures in
     let searched = c.in_ok-search_window.ensures in
     let goes : c.in_ok-search_window.field-0 ≡ true = search rules in
@@ -44,11 +44,11 @@ returns-then-not-is_terminated-clause-ends g c = λ _.
     (ap (λ o. c.args.walk.now.offset - o) c.absolute_byte_offset.ensures)
     c.search_window.new.walk c.search_window.new.sink searched.ahead
     (omega (arith, searched.within, ap (λ xs. length xs) shown.value, c.absolute_byte_offset.ensures, c.requires.low))
-    (searched.goes_on goes)
+    (searched.goes_on lawful goes)
     (λ closed. c.if-not-is_terminated.ensures (subst (IsClosed (byte_of c.args.self.now.settings.line_terminator)) (sym shown.value) closed))
 
 pub returns-clause-goes_on : goal.returns-clause-goes_on
-returns-clause-goes_on g c = λ _.
+returns-clause-goes_on g c = λ lawful _.
     let shown = c.buffer-window.ensures in
     let searched = c.in_ok-search_window.ensures in
     let goes : c.in_ok-search_window.field-0 ≡ true = search rules in
@@ -70,7 +70,7 @@ returns-clause-goes_on g c = λ _.
           (ap (λ o. c.args.walk.now.offset - o) c.absolute_byte_offset.ensures)
           c.search_window.new.walk c.search_window.new.sink searched.ahead
           (omega (arith, searched.within, same, c.absolute_byte_offset.ensures, c.requires.low))
-          (searched.goes_on goes) c.first_kept-count.result (omega (arith, c.first_kept-count.ensures.within, same)) closed
+          (searched.goes_on lawful goes) c.first_kept-count.result (omega (arith, c.first_kept-count.ensures.within, same)) closed
           (λ gone opens. first.closed gone opens closed)
           (λ gone more after opens closes inside. first.kept gone more after opens closed closes inside);
     }

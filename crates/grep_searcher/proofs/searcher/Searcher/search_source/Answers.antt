@@ -1,11 +1,12 @@
-use Rattle.std.proofs.Common.{None}
+use Rattle.std.proofs.Common.{None, subst, sym}
+use Rattle.grep_definitions.specs.Questions.{IsLawfulFor}
 use Rattle.grep_definitions.specs.ReaderSearches.{of_buffers}
 use Rattle.grep_definitions.specs.Searches.{ErrorMakers, MatcherFacts}
 use Rattle.grep_searcher.proofs.DecodedLemmas.{fault-buffers, searched-same, unread-same}
 use Rattle.grep_searcher.proofs.searcher.Searcher.search_source.Goals as goal
 
 pub returns-in-Err-clause-searched : goal.returns-in-Err-clause-searched
-returns-in-Err-clause-searched g c =
+returns-in-Err-clause-searched g c = λ lawful.
     let maker = g.S.Error.SinkError in
     let matcher = g.M.Matcher in
     let errors : ErrorMakers g.row.S-Error.Denot =
@@ -17,11 +18,11 @@ returns-in-Err-clause-searched g c =
     c.in-Err.error c.error_io.result c.in-Err.ensures.none c.in-Err.ensures.memory c.error_io.ensures
 
 pub returns-in-Err-clause-succeeds : goal.returns-in-Err-clause-succeeds
-returns-in-Err-clause-succeeds g c = λ never infallible.
+returns-in-Err-clause-succeeds g c = λ never infallible lawful.
     (None, c.in-Err.error, of_buffers c.in-Err.ensures.none c.in-Err.ensures.memory, c.error_io.ensures)
 
 pub returns-clause-searched : goal.returns-clause-searched
-returns-clause-searched g c =
+returns-clause-searched g c = λ lawful.
     let maker = g.S.Error.SinkError in
     let matcher = g.M.Matcher in
     let errors : ErrorMakers g.row.S-Error.Denot =
@@ -31,10 +32,11 @@ returns-clause-searched g c =
     in
     searched-same g.S.Sink.step errors facts g.R.Source.remaining g.R.Source.step c.take_buffers.new.self.settings c.args.self.now
     c.args.reader.now c.args.sink.now c.search_with-result.result c.search_with-result.new.reader c.search_with-result.new.sink
-    c.in-Ok.ensures.settings c.search_with-result.ensures.searched
+    c.in-Ok.ensures.settings
+    (c.search_with-result.ensures.searched (subst (λ k. IsLawfulFor k facts.meaning facts.is_lawful) (sym c.in-Ok.ensures.settings) lawful))
 
 pub returns-clause-succeeds : goal.returns-clause-succeeds
-returns-clause-succeeds g c = λ never infallible.
+returns-clause-succeeds g c = λ never infallible lawful.
     let maker = g.S.Error.SinkError in
     let matcher = g.M.Matcher in
     let errors : ErrorMakers g.row.S-Error.Denot =
@@ -44,4 +46,5 @@ returns-clause-succeeds g c = λ never infallible.
     in
     unread-same g.S.Sink.step errors facts g.R.Source.remaining g.R.Source.step c.take_buffers.new.self.settings c.args.self.now
     c.args.reader.now c.search_with-result.result c.search_with-result.new.reader c.in-Ok.ensures.settings
-    (c.search_with-result.ensures.succeeds never infallible)
+    (c.search_with-result.ensures.succeeds never infallible
+    (subst (λ k. IsLawfulFor k facts.meaning facts.is_lawful) (sym c.in-Ok.ensures.settings) lawful))

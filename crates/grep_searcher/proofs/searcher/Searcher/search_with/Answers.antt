@@ -12,7 +12,7 @@ returns-clause-searched g c =
     record { meaning = matcher.meaning c.args.matcher.now; fails = matcher.fails c.args.matcher.now; is_lawful = matcher.is_lawful c.args.matcher.now; text_of = g.M.Error.Display.output }
     in
     let finish = rw c.new.ensures at c.finish.ensures.step in
-    λ has_buffers.
+    λ lawful has_buffers.
     source-finished g.S.Sink.step errors facts g.R.Source.remaining g.R.Source.step c.args.self.now.settings has_buffers
     c.args.reader.now c.args.sink.now c.in_ok-count.count c.match_source.new.reader c.match_source.new.sink c.finish.result
-    c.finish.new.self c.in_ok-count.ensures.begun c.in_ok-count.ensures.counted finish
+    c.finish.new.self c.in_ok-count.ensures.begun (c.in_ok-count.ensures.counted lawful) finish
