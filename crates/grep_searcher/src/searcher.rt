@@ -167,7 +167,7 @@ impl<A: Allocator + Copy> Searcher<A> {
     /// two reads it keeps at most as many of them as are reported before a match. It has 65,536 bytes at first, or
     /// the heap limit if that is lower, and grows to the heap limit.
     ///
-    /// A search that is refused reads nothing and makes no call. Any other error of reading comes after the reports
+    /// A search that is refused reads nothing and makes no call. An error of reading comes after the reports
     /// of the lines before it, and nothing follows. It is made of
     /// - the reader's error, unchanged; an interrupted read isn't tried again;
     /// - one of kind `Other`, if the heap limit is reached: a line that is longer than the limit, or as long and
