@@ -10,3 +10,4 @@ pub mod WindowLemmas
 pub mod WindowSearchLemmas
 pub mod FinishLemmas
 pub mod DecodedLemmas
+pub mod LookAheadLemmas

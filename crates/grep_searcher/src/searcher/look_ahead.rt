@@ -12,7 +12,7 @@ ghost use Rattle.grep_searcher.specs.Walks.{IsOrdered};
 
 use crate::searcher::Searcher;
 use crate::searcher::walk::Walk;
-use grep_lines::laws::{lines_append, lines_are_few, lines_join};
+use grep_lines::laws::lines_are_few;
 use grep_lines::{line_count, locate};
 use grep_matcher::{LineMatchKind, LineTerminator, Match, Matcher};
 use grep_report::SinkError;
@@ -108,8 +108,6 @@ impl<A: Allocator + Copy> Searcher<A> {
             → IsLawfulResult self.now.settings.line_terminator meaning (drop start window.now) found
             → IsKnown self.now.settings meaning window.now start result }
     {
-        lines_join();
-        lines_append();
         let Some(found) = found else {
             return Ahead {
                 misses: window.len(),
