@@ -29,7 +29,8 @@ module _ (terminator : LineTerminator) (meaning : Meaning) (bytes : List ℕ) wh
   HoldsPosition i position =
       (line_start (byte_of terminator) bytes i ≤ position)
       × ((position < line_start (byte_of terminator) bytes (i + 1))
-      ⊎ ((position ≡ length bytes) × (slice_index bytes (length bytes - 1) ≢ byte_of terminator)))
+      ⊎ ((i + 1 ≡ length (lines (byte_of terminator) bytes)) × (position ≡ length bytes)
+      × (slice_index bytes (length bytes - 1) ≢ byte_of terminator)))
 
   -- line i ends at the position or before it, and doesn't hold it
   abbrev pub EndsBefore : ℕ → ℕ → Type 0
