@@ -1,12 +1,14 @@
 -- What a matcher's result for the lines from a position on says of a window's lines.
-use Rattle.std.proofs.Common.{◌≡◌, ℕ, ◌+◌, ◌-◌, ◌<◌, ◌≤◌, ◌==◌, cond, List, [], ◌++◌, length, take, drop, slice_index, get_or, is_some, None, refl, sym, ◌∙◌, ap, arith, ⊎_elim, length-append, length-drop}
+use Rattle.std.proofs.Common.{◌≡◌, inl, inr, ℕ, ◌+◌, ◌-◌, ◌<◌, ◌≤◌, ◌==◌, true, false, cond, List, [], ◌++◌, length, take, drop, slice_index, get_or, is_some, Some, None, refl, sym, ◌∙◌, ap, arith, ⊎_elim, length-append, length-drop, take_all}
 use Rattle.std.proofs.lemmas.Bool.{cases_lt, cases_eq, le-ltb}
 use Rattle.std.proofs.lemmas.List.{get_or-drop}
 use Rattle.std.proofs.lemmas.List.Folds.{concat-append}
 use Rattle.std.proofs.lemmas.List.Sums.{sum_by-take-le}
 use Rattle.std.proofs.Math.Seq.{take-add}
 use Rattle.std.specs.List.{concat}
-use Rattle.grep_matcher.specs.Lawful.{matches_at, IsLawfulResult}
+use Rattle.grep_matcher.specs.declared.line_match_kind.LineMatchKind.{LineMatchKind}
+use Rattle.grep_matcher.specs.declared.line_terminator.LineTerminator.{LineTerminator}
+use Rattle.grep_matcher.specs.Lawful.{matches_at, HoldsPosition, IsLawfulResult, position_of, is_confirmed}
 use Rattle.grep_matcher.specs.Lines.{lines, line_start, strip}
 use Rattle.grep_matcher.specs.Matching.{Meaning}
 use Rattle.grep_matcher.specs.Terminators.{byte_of}
@@ -14,7 +16,7 @@ use Rattle.grep_lines.specs.Blocks.{lines_before, block_start, block_end}
 use Rattle.grep_lines.specs.Positions.{slice, IsLine, IsLineStart}
 use Rattle.grep_lines.proofs.LawLemmas.{AreLines-lines}
 use Rattle.grep_lines.proofs.LineLemmas.{count, lines-closed, lines-unclosed}
-use Rattle.grep_lines.proofs.WalkLemmas.{IsAt-start}
+use Rattle.grep_lines.proofs.WalkLemmas.{IsAt-start, IsStep-line, lines-at-most, lines-numbered}
 use Rattle.grep_definitions.specs.LineTurns.{matches_line}
 use Rattle.grep_definitions.specs.Settings.{Settings}
 use Rattle.grep_definitions.proofs.LineStartLemmas.{line_start-last}
@@ -54,6 +56,51 @@ before-few t bytes position = ⊎_elim
   where
     fewer : lines_before t bytes position ≤ count t bytes
     fewer = sum_by-take-le (λ b. cond (b == t) 1 0) bytes position
+
+-- which lines hold a position
+module _ (terminator : LineTerminator) (meaning : Meaning) (bytes : List ℕ) (position : ℕ) (line : ℕ × ℕ)
+    (at : IsLocated (byte_of terminator) bytes position line) where
+  abbrev byte : ℕ
+  byte = byte_of terminator
+
+  abbrev holder : ℕ
+  holder = lines_before byte bytes position
+
+  -- at the end of the bytes all terminators are before it
+  before-all : position ≡ length bytes → holder ≡ count byte bytes
+  before-all end = ap (count byte) (take_all position bytes (omega arith))
+
+  -- a line before its line doesn't
+  unheld : (i : ℕ) → i < holder → HoldsPosition terminator meaning bytes i position → ⊥
+  unheld i before (low, inl below) = omega (arith, line_start-le byte bytes (i + 1) holder (omega arith), at.begins, at.low)
+  unheld i before (low, inr (last, end, other)) =
+      omega (arith, before-all end, lines-unclosed byte bytes (omega (arith, lines-at-most byte bytes)) other)
+
+  -- its line does, if there is one
+  held : holder < length (lines byte bytes) → HoldsPosition terminator meaning bytes holder position
+  held listed = (
+    omega (arith, at.begins, at.low),
+    ⊎_elim (λ below. inl below) (λ over. ⊎_elim
+        (λ more. absurd (omega (arith, lines-numbered byte bytes (holder + 1) more, ap (λ p. count byte (take p bytes)) (same over))))
+        (λ last. inr (
+          omega arith,
+          end over last,
+          λ closed. omega (
+            arith,
+            before-all (end over last),
+            lines-closed byte bytes (λ some. closed),
+          ),
+        ))
+        (cases_lt (holder + 1) (length (lines byte bytes)))) (cases_lt position (line_start byte bytes (holder + 1))),
+  )
+    where
+      same : line_start byte bytes (holder + 1) ≤ position → position ≡ line_start byte bytes (holder + 1)
+      same over = omega (arith, at.ends, at.high)
+
+      end : line_start byte bytes (holder + 1) ≤ position → length (lines byte bytes) ≤ holder + 1 → position ≡ length bytes
+      end over last =
+          let all : holder + 1 ≡ length (lines byte bytes) = omega arith in
+          same over ∙ (ap (line_start byte bytes) all ∙ line_start-last AreLines-lines byte bytes)
 
 -- the lines of what follows the start of a line
 module _ (t : ℕ) (bytes : List ℕ) (start first : ℕ) (here : IsLineStart t bytes start first) where
@@ -121,3 +168,64 @@ module _ (k : Settings) (meaning : Meaning) (window : List ℕ) (start first : �
         matches-later p q (i - first) inside ∙ lawful (i - first) inside.listed;
     hit = λ i p q line low high. absurd (omega arith);
   }
+
+  -- if a line was found
+  module _ (found : LineMatchKind) (lawful : IsLawfulResult k.line_terminator meaning asked (Some found))
+      (line : ℕ × ℕ) (at : IsLocated t asked (position_of found) line) (misses : ℕ) (begins : misses ≡ start + line.0) where
+    abbrev located : ℕ
+    located = lines_before t asked (position_of found)
+
+    start-located : IsLineStart t window misses (first + located)
+    start-located = record {
+      listed = omega (arith, later-count t window start first here, before-few t asked (position_of found));
+      begins = omega (arith, later-start t window start first here located, begins, at.begins);
+    }
+
+    -- no line before it matches
+    miss-before : (i p q : ℕ) → IsLine t window i p q → start ≤ p → p < misses → matches_line k meaning (slice window p q) ≡ false
+    miss-before i p q own after early =
+        let inside = IsLater-line t window start first here i p q own after in
+        let before : i - first < located = ⊎_elim
+        (λ less. less)
+        (λ over. absurd (omega (arith, line_start-le t asked located (i - first) over, inside.begins, begins, at.begins)))
+        (cases_lt (i - first) located) in
+        matches-later p q (i - first) inside ∙ lawful.0 (i - first) inside.listed (
+          omega (arith, line_start-le t asked ((i - first) + 1) located (omega arith), at.begins, at.low),
+          unheld k.line_terminator meaning asked (position_of found) line at (i - first) before,
+        )
+
+    -- if it isn't known whether it matches
+    pub known-candidate : IsKnown k meaning window start (record { misses = misses; hits = misses })
+    known-candidate = record {
+      index = first + located;
+      at = start-located;
+      miss = miss-before;
+      hit = λ i p q line after early. absurd (omega arith);
+    }
+
+    -- if it matches
+    pub known-confirmed : is_confirmed found ≡ true → (hits : ℕ) → hits ≡ start + line.1
+        → IsKnown k meaning window start (record { misses = misses; hits = hits })
+    known-confirmed confirmed hits ends = record {
+      index = first + located;
+      at = start-located;
+      miss = miss-before;
+      hit = λ i p q own after early.
+          let inside = IsLater-line t window start first here i p q own (omega (arith, begins)) in
+          let same = only (i - first) (IsStep-line t asked (i - first) inside.listed).above
+          (omega (arith, inside.begins, begins, at.begins)) (omega (arith, inside.begins, ends, at.ends)) in
+          let listed : located < length (lines t asked) = omega (arith, inside.listed, same) in
+          matches-later p q (i - first) inside ∙ (ap (matches_at k.line_terminator meaning asked) same
+          ∙ lawful.1 located listed (held k.line_terminator meaning asked (position_of found) line at listed) confirmed);
+    }
+      where
+        -- a line that begins in it is the line itself
+        only : (j : ℕ) → line_start t asked j < line_start t asked (j + 1) → line_start t asked located ≤ line_start t asked j
+            → line_start t asked j < line_start t asked (located + 1) → j ≡ located
+        only j above low high = ⊎_elim
+            (λ less. absurd (omega (arith, line_start-le t asked (j + 1) located (omega arith))))
+            (λ over. ⊎_elim
+            (λ more. absurd (omega (arith, line_start-le t asked (located + 1) j (omega arith))))
+            (λ le. omega arith)
+            (cases_lt located j))
+            (cases_lt j located)

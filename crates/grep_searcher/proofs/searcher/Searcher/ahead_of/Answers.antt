@@ -1,10 +1,44 @@
--- If nothing was found, no line from the position on matches.
-use Rattle.std.proofs.Common.{subst}
-use Rattle.grep_matcher.specs.Lawful.{IsLawfulResult}
-use Rattle.grep_searcher.proofs.LookAheadLemmas.{known-none}
+-- The line that was located is the line of the position, and what lies before it is known not to match.
+use Rattle.std.proofs.Common.{◌+◌, ◌-◌, drop, sym, ◌∙◌, ap, subst, arith, take_all, length-drop, length}
+use Rattle.grep_matcher.specs.Lawful.{IsLawfulResult, position_of}
+use Rattle.grep_matcher.specs.Terminators.{byte_of}
+use Rattle.grep_definitions.specs.Settings.{SearcherState}
+use Rattle.grep_searcher.proofs.LookAheadLemmas.{known-none, known-candidate, known-confirmed, IsLocated, IsLocated-empty}
 use Rattle.grep_searcher.proofs.searcher.Searcher.ahead_of.Goals as goal
 
 pub returns-in_default-clause-known : goal.returns-in_default-clause-known
 returns-in_default-clause-known g c = λ meaning i here lawful.
     known-none c.args.self.now.settings meaning c.args.window.now c.args.start i here
     (subst (IsLawfulResult c.args.self.now.settings.line_terminator meaning _) c.in_default.is lawful)
+
+pub returns-then-is_confirmed-clause-known : goal.returns-then-is_confirmed-clause-known
+returns-then-is_confirmed-clause-known g c = λ meaning i here lawful.
+    let settings = c.args.self.now.settings in
+    let rest = drop c.args.start c.args.window.now in
+    let located : IsLocated (byte_of settings.line_terminator) rest (position_of c.in-Some.found) c.locate-line.result =
+    IsLocated-empty (byte_of settings.line_terminator) c.as_byte-terminator.result (position_of c.in-Some.found) rest _ c.zero.result
+    c.locate-line.result
+    (c.as_byte-terminator.ensures ∙ ap (λ (s : SearcherState). byte_of s.settings.line_terminator) c.self.view_is)
+    (take_all (length c.args.window.now - c.args.start) rest (omega (arith, length-drop c.args.start c.args.window.now)))
+    (c.zero.ensures ∙ ap (λ p. (p, p)) c.position.ensures)
+    c.locate-line.ensures.value c.locate-line.ensures.starts c.locate-line.ensures.ends in
+    known-confirmed settings meaning c.args.window.now c.args.start i here c.in-Some.found
+    (subst (IsLawfulResult settings.line_terminator meaning rest) c.in-Some.is lawful) c.locate-line.result located
+    (c.args.start + c.start.result) (ap (λ n. c.args.start + n) c.start.ensures.value)
+    (sym c.is_confirmed.ensures ∙ c.if-is_confirmed.true)
+    (c.args.start + c.end.result) (ap (λ n. c.args.start + n) c.end.ensures.value)
+
+pub returns-else-is_confirmed-clause-known : goal.returns-else-is_confirmed-clause-known
+returns-else-is_confirmed-clause-known g c = λ meaning i here lawful.
+    let settings = c.args.self.now.settings in
+    let rest = drop c.args.start c.args.window.now in
+    let located : IsLocated (byte_of settings.line_terminator) rest (position_of c.in-Some.found) c.locate-line.result =
+    IsLocated-empty (byte_of settings.line_terminator) c.as_byte-terminator.result (position_of c.in-Some.found) rest _ c.zero.result
+    c.locate-line.result
+    (c.as_byte-terminator.ensures ∙ ap (λ (s : SearcherState). byte_of s.settings.line_terminator) c.self.view_is)
+    (take_all (length c.args.window.now - c.args.start) rest (omega (arith, length-drop c.args.start c.args.window.now)))
+    (c.zero.ensures ∙ ap (λ p. (p, p)) c.position.ensures)
+    c.locate-line.ensures.value c.locate-line.ensures.starts c.locate-line.ensures.ends in
+    known-candidate settings meaning c.args.window.now c.args.start i here c.in-Some.found
+    (subst (IsLawfulResult settings.line_terminator meaning rest) c.in-Some.is lawful) c.locate-line.result located
+    (c.args.start + c.start.result) (ap (λ n. c.args.start + n) c.start.ensures.value)
