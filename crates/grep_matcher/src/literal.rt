@@ -82,7 +82,7 @@ impl Matcher for LiteralMatcher<'_> {
 
     ghost fails = { λ _ _ _. ⊥ };
 
-    ghost is_lawful = { λ _ _. ⊥ };
+    ghost is_lawful = { λ _ _. Unit {0} };
 
     #[inline]
     fn find(&self, haystack: &[u8]) -> Result<Option<Match>, io::Error> {
