@@ -1,1 +1,4 @@
+pub mod LineLemmas
 pub mod LiteralLemmas
+pub mod OccurrenceLemmas
+pub mod CandidateLemmas

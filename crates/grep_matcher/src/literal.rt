@@ -16,8 +16,8 @@ use std::marker::Model;
 /// A pattern that matches a literal: some bytes, exactly. The empty literal matches every haystack, at its start.
 ///
 /// It declares no line terminator, its non-matching bytes are all those that don't occur in the literal, and it never
-/// fails. A line that it finds among many is a `Candidate` if the literal has a carriage return, which may be part of the
-/// line's terminator, and `Confirmed` otherwise; it is lawful for every terminator.
+/// fails. A line that it finds among many is a `Candidate` if the literal has a carriage return, which may be part of
+/// the line's terminator, and `Confirmed` otherwise; it is lawful for every terminator.
 #[derive(Drop)]
 pub struct LiteralMatcher<'n> {
     finder: Finder<'n>,

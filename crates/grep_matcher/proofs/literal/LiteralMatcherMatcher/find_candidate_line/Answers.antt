@@ -1,0 +1,17 @@
+use Rattle.std.proofs.Common.{sym, ◌∙◌}
+use Rattle.grep_matcher.specs.declared.line_match_kind.LineMatchKind.TheVariants.{Confirmed, Candidate}
+use Rattle.grep_matcher.proofs.CandidateLemmas.{trusted-none, trusted-some}
+use Rattle.grep_matcher.proofs.literal.LiteralMatcherMatcher.find_candidate_line.Goals as goal
+
+pub returns-in-Some-clause-trusted : goal.returns-in-Some-clause-trusted
+returns-in-Some-clause-trusted c =
+    let lacked = rw c.self.view_is at (sym (c.self.invariant 13) ∙ (sym c.contains.ensures ∙ c.if-contains.true)) in
+    trusted-some c.args.self.now c.args.haystack.now (λ _. Unit {0}) (Confirmed c.in-Some.start)
+    (rw c.self.view_is at c.in-Some.ensures) (λ confirmed. lacked)
+
+pub returns-in-Some-2-clause-trusted : goal.returns-in-Some-2-clause-trusted
+returns-in-Some-2-clause-trusted c = trusted-some c.args.self.now c.args.haystack.now (λ _. Unit {0}) (Candidate c.in-Some.start)
+    (rw c.self.view_is at c.in-Some.ensures) (λ confirmed. absurd (cc))
+
+pub returns-in-None-clause-trusted : goal.returns-in-None-clause-trusted
+returns-in-None-clause-trusted c = trusted-none c.args.self.now c.args.haystack.now (λ _. Unit {0}) (rw c.self.view_is at c.in-None.ensures)
