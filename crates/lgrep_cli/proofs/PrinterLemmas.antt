@@ -134,5 +134,5 @@ module _ {W : Type 0} (contents : W → Option (List ℕ)) (settings : Settings)
       → IsCut old (turns settings matcher.meaning bytes) e new
   fault-written errors matcher bytes infallible old e new (of_sink run) =
       run-written (turns settings matcher.meaning bytes) (byte_count settings matcher.meaning bytes) None old (Err e) new run
-  fault-written errors matcher bytes infallible old e new (of_matcher i error has_turn room fails message reported) =
+  fault-written errors matcher bytes infallible old e new (of_matcher i haystack error has_turn room asked fails message reported) =
       absurd (infallible _ error fails)

@@ -15,7 +15,7 @@ use Rattle.grep_searcher.specs.declared.SearchError.TheVariants.{Io}
 use Rattle.grep_searcher.specs.SearchErrors.{IsOutOfMemory}
 use Rattle.grep_searcher.specs.Settings.{Settings, SearcherState}
 use Rattle.grep_searcher.specs.DecodedInputs.{searched_bytes, IsInput}
-use Rattle.grep_searcher.specs.ReaderSearches.{Taken, IsReaderSearched, IsUnread, of_buffers, of_search, of_reading}
+use Rattle.grep_searcher.specs.ReaderSearches.{Taken, IsReaderFault, IsReaderSearched, IsUnread, of_buffers, of_search, of_reading}
 use Rattle.grep_searcher.specs.Searches.{ErrorMakers, MatcherFacts, HasReported}
 use Rattle.lgrep_cli.specs.OptionSettings.{settings_of_options}
 use Rattle.lgrep_cli.specs.Printers.{Prints}
@@ -145,7 +145,12 @@ module _ {R W : Type 0} (remaining : R → Option (List ℕ)) (read_step : R →
     errors = record { is_message = is_message; is_io = λ error e. e ≡ Io error; is_config = is_config }
 
     abbrev facts : List ℕ → MatcherFacts F
-    facts literal = record { meaning = literal_meaning literal; fails = λ _ _. ⊥; text_of = text_of }
+    facts literal = record {
+      meaning = literal_meaning literal;
+      fails = λ _ _. ⊥;
+      is_lawful = λ _. Unit {0};
+      text_of = text_of;
+    }
 
     -- the lines over which the calls were made
     reported : (seen : Option (List ℕ)) → HasReported (Prints contents) errors (facts (string_bytes options.literal))
@@ -181,13 +186,18 @@ module _ {R W : Type 0} (remaining : R → Option (List ℕ)) (read_step : R →
         → IsReaderSearched remaining read_step (Prints contents) errors (facts (string_bytes options.literal))
         (searcher_of options) reader old result reader' new
         → IsSearched result
-    searched (Ok u) none ok (is_valid, whole) =
+    searched (Ok u) none ok (is_valid, search) =
+        let whole = search (λ _. tt) in
         run whole.taken (λ bytes input. run-written contents (settings_of_options options) (calls_of options bytes) _ None old
         (Ok tt) new (whole.run bytes input)) none
-    searched (Err e) none ok (of_search taken seen fault all) =
-        cut e taken (λ bytes input. fault-written contents (settings_of_options options) errors
-        (facts (string_bytes options.literal)) bytes (λ _ _ h. h) old e new (all bytes input).1)
-    searched (Err e) none ok (of_reading seen error fails io made) = unread seen error e io ok fails (reported seen made)
+    searched (Err e) none ok search = go (search (λ _. tt))
+      where
+        go : IsReaderFault remaining read_step (Prints contents) errors (facts (string_bytes options.literal)) (searcher_of options)
+            reader old e reader' new → IsSearched (Err e)
+        go (of_search taken seen fault all) =
+            cut e taken (λ bytes input. fault-written contents (settings_of_options options) errors
+            (facts (string_bytes options.literal)) bytes (λ _ _ h. h) old e new (all bytes input).1)
+        go (of_reading seen error fails io made) = unread seen error e io ok fails (reported seen made)
 
     -- the same, if the searcher and the matcher are known to be these
     pub reader-searched : (state : SearcherState) (literal : List ℕ) (result : Result (Unit {0}) (SearchError Global))
