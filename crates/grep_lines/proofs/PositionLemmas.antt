@@ -57,7 +57,7 @@ module _ (t : ℕ) (bytes : List ℕ) where
   block_start-is m position start within same last = last_start-count m.0 start within (subst (λ p. IsLastStart t bytes p start) same last)
 
   -- the end of that line, after its terminator
-  end-count : (position at : ℕ) → position ≤ at → at < length bytes → slice_index bytes at ≡ t → IsBare position at
+  pub end-count : (position at : ℕ) → position ≤ at → at < length bytes → slice_index bytes at ≡ t → IsBare position at
       → at + 1 ≡ line_start t bytes (count t (take position bytes) + 1)
   end-count position at low below same bare =
       let back : (at + 1) - 1 ≡ at = omega arith in

@@ -15,4 +15,4 @@ pub use line_iter::LineIter;
 pub use line_step::LineStep;
 pub use preceding_lines::{preceding, preceding_by_pos};
 pub use strip::without_terminator;
-pub use whole_lines::locate;
+pub use whole_lines::{line_of, locate};

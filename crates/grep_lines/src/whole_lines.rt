@@ -1,4 +1,4 @@
-//! The whole lines that a match extends over.
+//! The whole lines that a match extends over, and the line of a position.
 ghost use Rattle.std.specs.Prelude.{◌≡◌, ◌≤◌, ◌+◌, ◌-◌, length};
 ghost use Rattle.grep_matcher.specs.Lines.{line_start};
 ghost use Rattle.grep_lines.specs.Blocks.{block_start, block_end, lines_before};
@@ -26,6 +26,26 @@ pub fn locate(bytes: &[u8], terminator: u8, found: Match) -> Match
         return Match::new(start, end);
     }
     Match::new(start, line_end(bytes, end, terminator))
+}
+
+/// The line of a position, with its terminator. The caller ensures that the position is at most the length.
+///
+/// It starts right after the last terminator before the position, or at 0, and ends right after the first terminator
+/// at the position or later, or at the end of the bytes: as `locate` has it of an empty match. It takes one search for a
+/// terminator if it is the first line.
+#[inline]
+pub fn line_of(bytes: &[u8], terminator: u8, position: usize) -> Match
+    requires { position ≤ length bytes.now }
+    ensures value { result ≡ (block_start terminator bytes.now (position, position),
+        block_end terminator bytes.now (position, position)) }
+    ensures starts { result.0 ≤ position }
+    ensures ends { position ≤ result.1 }
+    ensures within { result.1 ≤ length bytes.now }
+{
+    match memchr(terminator, bytes) {
+        Some(at) if at >= position => Match::new(0, at + 1),
+        _ => locate(bytes, terminator, Match::zero(position)),
+    }
 }
 
 // The last line start up to a position.

@@ -1,5 +1,5 @@
 -- What a matcher's result for the lines from a position on says of a window's lines.
-use Rattle.std.proofs.Common.{◌≡◌, inl, inr, ℕ, ◌+◌, ◌-◌, ◌<◌, ◌≤◌, ◌==◌, true, false, cond, List, [], ◌++◌, length, take, drop, slice_index, get_or, is_some, Some, None, refl, sym, ◌∙◌, ap, arith, ⊎_elim, length-append, length-drop, take_all}
+use Rattle.std.proofs.Common.{◌≡◌, inl, inr, ℕ, ◌+◌, ◌-◌, ◌<◌, ◌≤◌, ◌==◌, true, false, cond, List, [], ◌++◌, length, take, drop, slice_index, get_or, is_some, Some, None, refl, sym, subst, ◌∙◌, ap, arith, ⊎_elim, length-append, length-drop, take_all}
 use Rattle.std.proofs.lemmas.Bool.{cases_lt, cases_eq, le-ltb}
 use Rattle.std.proofs.lemmas.List.{get_or-drop}
 use Rattle.std.proofs.lemmas.List.Folds.{concat-append}
@@ -15,13 +15,15 @@ use Rattle.grep_matcher.specs.Terminators.{byte_of}
 use Rattle.grep_lines.specs.Blocks.{lines_before, block_start, block_end}
 use Rattle.grep_lines.specs.Positions.{slice, IsLine, IsLineStart}
 use Rattle.grep_lines.proofs.LawLemmas.{AreLines-lines}
-use Rattle.grep_lines.proofs.LineLemmas.{count, lines-closed, lines-unclosed}
+use Rattle.grep_lines.proofs.LineLemmas.{count, lines-append, lines-closed, lines-unclosed}
 use Rattle.grep_lines.proofs.WalkLemmas.{IsAt-start, IsStep-line, lines-at-most, lines-numbered}
 use Rattle.grep_definitions.specs.LineTurns.{matches_line}
 use Rattle.grep_definitions.specs.Settings.{Settings}
 use Rattle.grep_definitions.proofs.LineStartLemmas.{line_start-last}
 use Rattle.grep_definitions.proofs.TurnEndLemmas.{line_start-le}
 use Rattle.grep_searcher.specs.LookAheads.{IsKnown}
+use Rattle.grep_searcher.proofs.LineRangeLemmas.{line-at}
+use Rattle.grep_searcher.proofs.WindowLemmas.{start-same}
 
 -- the line of a position extends from one position up to another
 pub record IsLocated (t : ℕ) (bytes : List ℕ) (position : ℕ) (line : ℕ × ℕ) : Type 0 where
@@ -163,6 +165,7 @@ module _ (k : Settings) (meaning : Meaning) (window : List ℕ) (start first : �
   known-none lawful = record {
     index = length (lines t window);
     at = record { listed = omega arith; begins = line_start-last AreLines-lines t window };
+    exact = λ some. absurd (omega (arith, some));
     miss = λ i p q line low high.
         let inside = IsLater-line t window start first here i p q line low in
         matches-later p q (i - first) inside ∙ lawful (i - first) inside.listed;
@@ -199,6 +202,7 @@ module _ (k : Settings) (meaning : Meaning) (window : List ℕ) (start first : �
     known-candidate = record {
       index = first + located;
       at = start-located;
+      exact = λ some. absurd (omega (arith, some));
       miss = miss-before;
       hit = λ i p q line after early. absurd (omega arith);
     }
@@ -209,6 +213,20 @@ module _ (k : Settings) (meaning : Meaning) (window : List ℕ) (start first : �
     known-confirmed confirmed hits ends = record {
       index = first + located;
       at = start-located;
+      exact = λ some i begun.
+          let listed : located < length (lines t asked) = ⊎_elim (λ less. less)
+          (λ over. absurd (omega (arith, some, begins, ends, at.begins, at.ends, none-after over)))
+          (cases_lt located (length (lines t asked))) in
+          let same : i ≡ first + located = start-same AreLines-lines lines-append t window misses i (first + located) begun start-located in
+          let next : (first + located) + 1 ≡ first + (located + 1) = omega arith in
+          let is_start : line_start t window (first + located) ≡ misses = start-located.begins in
+          let is_end : line_start t window ((first + located) + 1) ≡ hits =
+          ap (line_start t window) next ∙ (later-start t window start first here (located + 1)
+          ∙ omega (arith, ends, at.ends)) in
+          subst (λ n. IsLine t window n misses hits) (sym same)
+          (subst (λ p. IsLine t window (first + located) p hits) is_start
+          (subst (IsLine t window (first + located) (line_start t window (first + located))) is_end
+          (line-at t window (first + located) (omega (arith, listed, later-count t window start first here)))));
       miss = miss-before;
       hit = λ i p q own after early.
           let inside = IsLater-line t window start first here i p q own (omega (arith, begins)) in
@@ -219,6 +237,12 @@ module _ (k : Settings) (meaning : Meaning) (window : List ℕ) (start first : �
           ∙ lawful.1 located listed (held k.line_terminator meaning asked (position_of found) line at listed) confirmed);
     }
       where
+        -- after the last line none begins
+        none-after : length (lines t asked) ≤ located → line_start t asked (located + 1) ≡ line_start t asked located
+        none-after over =
+            ap (λ ls. length (concat ls)) (take_all (located + 1) (lines t asked) (omega (arith, over))
+            ∙ sym (take_all located (lines t asked) over))
+
         -- a line that begins in it is the line itself
         only : (j : ℕ) → line_start t asked j < line_start t asked (j + 1) → line_start t asked located ≤ line_start t asked j
             → line_start t asked j < line_start t asked (located + 1) → j ≡ located

@@ -217,6 +217,7 @@ module _ (k : Settings) (meaning : Meaning) (window : List ℕ) where
   known-nothing p = record {
     index = 0;
     at = record { listed = omega arith; begins = refl };
+    exact = λ some. absurd (omega (arith, some));
     miss = λ i a b line low high. absurd (omega (arith, high));
     hit = λ i a b line low high. absurd (omega (arith, high));
   }
@@ -226,6 +227,7 @@ module _ (k : Settings) (meaning : Meaning) (window : List ℕ) where
   known-later p r a low known = record {
     index = known.index;
     at = known.at;
+    exact = known.exact;
     miss = λ i x y line above below. known.miss i x y line (omega (arith, low, above)) below;
     hit = known.hit;
   }

@@ -1,20 +1,21 @@
 //! What a walk knows of the lines from its line on: what a matcher found in many lines at once, and which of them the walk
 //! skips.
-ghost use Rattle.std.specs.Prelude.{◌≡◌, ◌≤◌, ◌<◌, ◌+◌, ◌-◌, ◌^◌, ℕ, true, if◌then◌else◌, length, drop, IfOk, IfErr};
-ghost use Rattle.grep_lines.specs.Positions.{IsLineStart};
+ghost use Rattle.std.specs.Prelude.{◌≡◌, ◌≤◌, ◌<◌, ◌+◌, ◌-◌, ◌^◌, ℕ, true, if◌then◌else◌, length, drop, IfOk, IfErr, IfSome, IfNone};
+ghost use Rattle.grep_lines.specs.Positions.{IsLine, IsLineStart};
+ghost use Rattle.grep_matcher.specs.Lines.{lines};
 ghost use Rattle.grep_matcher.specs.Lawful.{IsInside, IsLawfulResult};
 ghost use Rattle.grep_matcher.specs.Matching.{Meaning};
 ghost use Rattle.grep_matcher.specs.Terminators.{byte_of};
 ghost use Rattle.grep_definitions.specs.Questions.{IsLawfulFor};
-ghost use Rattle.grep_searcher.specs.LookAheads.{known_at, IsBounded, IsKnown, MayAskAhead};
+ghost use Rattle.grep_searcher.specs.LookAheads.{known_at, IsBounded, IsExact, IsKnown, MayAskAhead};
 ghost use Rattle.grep_searcher.specs.LookAheads.{can_skip, skips, skipped};
 ghost use Rattle.grep_searcher.specs.Walks.{IsOrdered};
 
 use crate::searcher::Searcher;
 use crate::searcher::walk::Walk;
 use grep_lines::laws::lines_are_few;
-use grep_lines::{line_count, locate};
-use grep_matcher::{LineMatchKind, LineTerminator, Match, Matcher};
+use grep_lines::{line_count, line_of};
+use grep_matcher::{LineMatchKind, LineTerminator, Matcher};
 use grep_report::SinkError;
 use std::alloc::Allocator;
 
@@ -23,7 +24,7 @@ use std::alloc::Allocator;
 pub(crate) struct Ahead {
     /// The lines that begin before this position don't match.
     pub(crate) misses: usize,
-    /// The lines that begin before this position, and not before `misses`, match.
+    /// The line that begins at `misses`, if this position is after it, ends here and matches.
     pub(crate) hits: usize,
 }
 
@@ -115,7 +116,7 @@ impl<A: Allocator + Copy> Searcher<A> {
             };
         };
         let terminator = self.config.line_terminator.as_byte();
-        let line = locate(&window[start..], terminator, Match::zero(found.position()));
+        let line = line_of(&window[start..], terminator, found.position());
         let misses = start + line.start();
         Ahead {
             misses,
@@ -125,6 +126,27 @@ impl<A: Allocator + Copy> Searcher<A> {
                 misses
             },
         }
+    }
+
+    // Where the line ends that begins at a position; none at the end of the window.
+    pub(crate) fn line_end(&self, window: &[u8], start: usize, ahead: &Ahead) -> Option<usize>
+        requires inside { start ≤ length window.now }
+        requires bounded { IsBounded window.now ahead.now }
+        ensures within { IfSome result (λ end. (start < end) × (end ≤ length window.now)) }
+        ensures bare { self.now.settings.passthru ≡ true
+            → (self.now.settings.after_context ≡ 0) × (self.now.settings.before_context ≡ 0) }
+        ensures line { IfSome result (λ end. IsExact self.now.settings window.now ahead.now
+            → (i : ℕ) → IsLineStart (byte_of self.now.settings.line_terminator) window.now start i
+            → IsLine (byte_of self.now.settings.line_terminator) window.now i start end) }
+        ensures end { IfNone result (start ≡ length window.now) }
+        ensures last { IfNone result ((i : ℕ)
+            → IsLineStart (byte_of self.now.settings.line_terminator) window.now start i
+            → i ≡ length (lines (byte_of self.now.settings.line_terminator) window.now)) }
+    {
+        if start == ahead.misses && start < ahead.hits {
+            return Some(ahead.hits);
+        }
+        self.next_line(window, start)
     }
 
     // Skips the lines from `start` on that are known not to match, if none of them can be reported: moves the walk past

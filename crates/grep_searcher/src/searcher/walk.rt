@@ -166,7 +166,7 @@ impl<A: Allocator + Copy> Searcher<A> {
         'lines: loop {
             ahead = self.look_ahead::<M, S::Error>(matcher, window, start, walk, ahead)?;
             start = self.skip(window, start, &ahead, walk);
-            let Some(end) = self.next_line(window, start) else {
+            let Some(end) = self.line_end(window, start, &ahead) else {
                 return Ok(true);
             };
             let line = &window[start..end];

@@ -1,5 +1,5 @@
 -- The line that was located is the line of the position, and what lies before it is known not to match.
-use Rattle.std.proofs.Common.{◌+◌, ◌-◌, drop, sym, ◌∙◌, ap, subst, arith, take_all, length-drop, length}
+use Rattle.std.proofs.Common.{◌+◌, ◌-◌, drop, refl, sym, ◌∙◌, ap, subst, arith, take_all, length-drop, length}
 use Rattle.grep_matcher.specs.Lawful.{IsLawfulResult, position_of}
 use Rattle.grep_matcher.specs.Terminators.{byte_of}
 use Rattle.grep_definitions.specs.Settings.{SearcherState}
@@ -15,15 +15,15 @@ pub returns-then-is_confirmed-clause-known : goal.returns-then-is_confirmed-clau
 returns-then-is_confirmed-clause-known g c = λ meaning i here lawful.
     let settings = c.args.self.now.settings in
     let rest = drop c.args.start c.args.window.now in
-    let located : IsLocated (byte_of settings.line_terminator) rest (position_of c.in-Some.found) c.locate-line.result =
-    IsLocated-empty (byte_of settings.line_terminator) c.as_byte-terminator.result (position_of c.in-Some.found) rest _ c.zero.result
-    c.locate-line.result
+    let located : IsLocated (byte_of settings.line_terminator) rest (position_of c.in-Some.found) c.line_of-line.result =
+    IsLocated-empty (byte_of settings.line_terminator) c.as_byte-terminator.result (position_of c.in-Some.found) rest _
+    (position_of c.in-Some.found, position_of c.in-Some.found) c.line_of-line.result
     (c.as_byte-terminator.ensures ∙ ap (λ (s : SearcherState). byte_of s.settings.line_terminator) c.self.view_is)
     (take_all (length c.args.window.now - c.args.start) rest (omega (arith, length-drop c.args.start c.args.window.now)))
-    (c.zero.ensures ∙ ap (λ p. (p, p)) c.position.ensures)
-    c.locate-line.ensures.value c.locate-line.ensures.starts c.locate-line.ensures.ends in
+    refl (rw c.position.ensures at c.line_of-line.ensures.value) (rw c.position.ensures at c.line_of-line.ensures.starts)
+    (rw c.position.ensures at c.line_of-line.ensures.ends) in
     known-confirmed settings meaning c.args.window.now c.args.start i here c.in-Some.found
-    (subst (IsLawfulResult settings.line_terminator meaning rest) c.in-Some.is lawful) c.locate-line.result located
+    (subst (IsLawfulResult settings.line_terminator meaning rest) c.in-Some.is lawful) c.line_of-line.result located
     (c.args.start + c.start.result) (ap (λ n. c.args.start + n) c.start.ensures.value)
     (sym c.is_confirmed.ensures ∙ c.if-is_confirmed.true)
     (c.args.start + c.end.result) (ap (λ n. c.args.start + n) c.end.ensures.value)
@@ -32,13 +32,13 @@ pub returns-else-is_confirmed-clause-known : goal.returns-else-is_confirmed-clau
 returns-else-is_confirmed-clause-known g c = λ meaning i here lawful.
     let settings = c.args.self.now.settings in
     let rest = drop c.args.start c.args.window.now in
-    let located : IsLocated (byte_of settings.line_terminator) rest (position_of c.in-Some.found) c.locate-line.result =
-    IsLocated-empty (byte_of settings.line_terminator) c.as_byte-terminator.result (position_of c.in-Some.found) rest _ c.zero.result
-    c.locate-line.result
+    let located : IsLocated (byte_of settings.line_terminator) rest (position_of c.in-Some.found) c.line_of-line.result =
+    IsLocated-empty (byte_of settings.line_terminator) c.as_byte-terminator.result (position_of c.in-Some.found) rest _
+    (position_of c.in-Some.found, position_of c.in-Some.found) c.line_of-line.result
     (c.as_byte-terminator.ensures ∙ ap (λ (s : SearcherState). byte_of s.settings.line_terminator) c.self.view_is)
     (take_all (length c.args.window.now - c.args.start) rest (omega (arith, length-drop c.args.start c.args.window.now)))
-    (c.zero.ensures ∙ ap (λ p. (p, p)) c.position.ensures)
-    c.locate-line.ensures.value c.locate-line.ensures.starts c.locate-line.ensures.ends in
+    refl (rw c.position.ensures at c.line_of-line.ensures.value) (rw c.position.ensures at c.line_of-line.ensures.starts)
+    (rw c.position.ensures at c.line_of-line.ensures.ends) in
     known-candidate settings meaning c.args.window.now c.args.start i here c.in-Some.found
-    (subst (IsLawfulResult settings.line_terminator meaning rest) c.in-Some.is lawful) c.locate-line.result located
+    (subst (IsLawfulResult settings.line_terminator meaning rest) c.in-Some.is lawful) c.line_of-line.result located
     (c.args.start + c.start.result) (ap (λ n. c.args.start + n) c.start.ensures.value)

@@ -76,10 +76,10 @@ returns-in_err-chosen-clause-fault g c =
     c.skip-start.result c.skip-start.new.walk c.skip-start.ensures.position c.skip-start.ensures.walk in
     search.failed-matcher g.S.Sink.step (errors g) (facts g c.args.matcher.now) c.args.self.now.settings gone c.args.window.now input
     first c.in-Some.ensures.bare c.skip-start.result c.in-Some.end c.skip-start.new.walk c.lines.sink here c.in-Some.ensures.within.0
-    c.in-Some.ensures.within.1 c.in-Some.ensures.line c.in_err-chosen.ensures.open _ fault.0 _
+    c.in-Some.ensures.within.1 (c.in-Some.ensures.line known.exact) c.in_err-chosen.ensures.open _ fault.0 _
     (search.asked-line g.S.Sink.step (errors g) (facts g c.args.matcher.now) c.args.self.now.settings gone c.args.window.now input
     first c.in-Some.ensures.bare c.skip-start.result c.in-Some.end c.skip-start.new.walk c.lines.sink here c.in-Some.ensures.within.0
-    c.in-Some.ensures.within.1 c.in-Some.ensures.line) fault.1 fault.2)
+    c.in-Some.ensures.within.1 (c.in-Some.ensures.line known.exact)) fault.1 fault.2)
 
 pub returns-in_err-sink_line-clause-fault : goal.returns-in_err-sink_line-clause-fault
 returns-in_err-sink_line-clause-fault g c =
@@ -96,10 +96,10 @@ returns-in_err-sink_line-clause-fault g c =
     (skips.known-line c.args.self.now.settings (g.M.Matcher.meaning c.args.matcher.now) c.args.window.now c.in_ok-ahead.ahead _
     c.skip-start.result c.in-Some.end (skips.known-later c.args.self.now.settings (g.M.Matcher.meaning c.args.matcher.now)
     c.args.window.now c.lines.start c.skip-start.result c.in_ok-ahead.ahead c.skip-start.ensures.low known)
-    (c.in-Some.ensures.line _ here.inside.line.begins))) in
+    (c.in-Some.ensures.line known.exact _ here.inside.line.begins))) in
     search.failed-line g.S.Sink.step (errors g) (facts g c.args.matcher.now) c.args.self.now.settings gone c.args.window.now input
     first c.in-Some.ensures.bare c.skip-start.result c.in-Some.end c.skip-start.new.walk c.lines.sink here c.in-Some.ensures.within.0
-    c.in-Some.ensures.within.1 c.in-Some.ensures.line c.in_ok-chosen.chosen value _ _
+    c.in-Some.ensures.within.1 (c.in-Some.ensures.line known.exact) c.in_ok-chosen.chosen value _ _
     (c.in_err-sink_line.ensures.reported gone input here.inside))
 
 pub returns-then-not-branch-clause-ends : goal.returns-then-not-branch-clause-ends
@@ -119,10 +119,10 @@ returns-then-not-branch-clause-ends g c = λ lawful ends.
           (skips.known-line c.args.self.now.settings (g.M.Matcher.meaning c.args.matcher.now) c.args.window.now c.in_ok-ahead.ahead _
           c.skip-start.result c.in-Some.end (skips.known-later c.args.self.now.settings (g.M.Matcher.meaning c.args.matcher.now)
           c.args.window.now c.lines.start c.skip-start.result c.in_ok-ahead.ahead c.skip-start.ensures.low known)
-          (c.in-Some.ensures.line _ here.inside.line.begins))) in
+          (c.in-Some.ensures.line known.exact _ here.inside.line.begins))) in
           search.counted-stopped g.S.Sink.step (errors g) (facts g c.args.matcher.now) c.args.self.now.settings gone c.args.window.now
           input first c.in-Some.ensures.bare c.skip-start.result c.in-Some.end c.skip-start.new.walk c.lines.sink here
-          c.in-Some.ensures.within.0 c.in-Some.ensures.within.1 c.in-Some.ensures.line c.in_ok-chosen.chosen value _
+          c.in-Some.ensures.within.0 c.in-Some.ensures.within.1 (c.in-Some.ensures.line known.exact) c.in_ok-chosen.chosen value _
           (reported gone input here.inside),
     )
 
@@ -146,10 +146,10 @@ returns-then-is_over-clause-ends g c = λ lawful ends.
           (skips.known-line c.args.self.now.settings (g.M.Matcher.meaning c.args.matcher.now) c.args.window.now c.in_ok-ahead.ahead _
           c.skip-start.result c.in-Some.end (skips.known-later c.args.self.now.settings (g.M.Matcher.meaning c.args.matcher.now)
           c.args.window.now c.lines.start c.skip-start.result c.in_ok-ahead.ahead c.skip-start.ensures.low known)
-          (c.in-Some.ensures.line _ here.inside.line.begins))) in
+          (c.in-Some.ensures.line known.exact _ here.inside.line.begins))) in
           search.counted-over g.S.Sink.step (errors g) (facts g c.args.matcher.now) c.args.self.now.settings gone c.args.window.now
           input first c.in-Some.ensures.bare c.skip-start.result c.in-Some.end c.skip-start.new.walk c.lines.sink here
-          c.in-Some.ensures.within.0 c.in-Some.ensures.within.1 c.in-Some.ensures.line c.in_ok-chosen.chosen value _
+          c.in-Some.ensures.within.0 c.in-Some.ensures.within.1 (c.in-Some.ensures.line known.exact) c.in_ok-chosen.chosen value _
           (reported gone input here.inside) over,
     )
 
@@ -192,10 +192,10 @@ lines-preserved g c =
           (skips.known-line c.args.self.now.settings (g.M.Matcher.meaning c.args.matcher.now) c.args.window.now c.in_ok-ahead.ahead _
           c.skip-start.result c.in-Some.end (skips.known-later c.args.self.now.settings (g.M.Matcher.meaning c.args.matcher.now)
           c.args.window.now c.lines.start c.skip-start.result c.in_ok-ahead.ahead c.skip-start.ensures.low known)
-          (c.in-Some.ensures.line _ here.inside.line.begins))) in
+          (c.in-Some.ensures.line known.exact _ here.inside.line.begins))) in
           search.searched-next g.S.Sink.step (errors g) (facts g c.args.matcher.now) c.args.self.now.settings gone c.args.window.now
           input first c.in-Some.ensures.bare c.skip-start.result c.in-Some.end c.skip-start.new.walk c.lines.sink here
-          c.in-Some.ensures.within.0 c.in-Some.ensures.within.1 c.in-Some.ensures.line c.in_ok-chosen.chosen value _
+          c.in-Some.ensures.within.0 c.in-Some.ensures.within.1 (c.in-Some.ensures.line known.exact) c.in_ok-chosen.chosen value _
           (reported gone input here.inside) on;
       may_call = c.in_ok-sink_line.ensures.may_call;
     })
