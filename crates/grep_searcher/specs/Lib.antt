@@ -11,6 +11,7 @@ pub use Rattle.grep_definitions.specs.Below
 pub use Rattle.grep_definitions.specs.LineSearch
 pub use Rattle.grep_definitions.specs.SinkRuns
 pub use Rattle.grep_definitions.specs.Refusals
+pub use Rattle.grep_definitions.specs.Questions
 pub use Rattle.grep_definitions.specs.DecodedInputs
 pub use Rattle.grep_definitions.specs.InputFronts
 pub use Rattle.grep_definitions.specs.ReadingFaults
@@ -20,6 +21,7 @@ pub use Rattle.grep_definitions.specs.SearchLaws
 pub use Rattle.grep_definitions.specs.SinkFolds
 pub use Rattle.grep_decode.specs.Labels
 pub use Rattle.grep_decode.specs.Source
+pub use Rattle.grep_matcher.specs.Lawful
 pub use Rattle.grep_matcher.specs.Literals
 pub use Rattle.grep_matcher.specs.Matching
 pub use Rattle.grep_report.specs.ConfigErrors

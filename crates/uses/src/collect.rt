@@ -2,6 +2,7 @@
 ghost use Rattle.std.specs.Prelude.{◌≡◌, ◌⊎◌, true, None, IfOk, IfErr};
 ghost use Rattle.grep_searcher.specs.DecodedInputs.{searched_bytes};
 ghost use Rattle.grep_searcher.specs.Matching.{IsInfallible};
+ghost use Rattle.grep_searcher.specs.Questions.{IsLawfulFor};
 ghost use Rattle.grep_searcher.specs.Refusals.{refusal_of};
 ghost use Rattle.grep_searcher.specs.SearchErrors.{IsOutOfMemory};
 ghost use Rattle.uses.specs.DecodingErrors.{IsDecodingError};
@@ -17,18 +18,22 @@ use std::marker::Model;
 /// An error is made of the matcher's, of a configuration that the searcher refuses, or of being out
 /// of memory. If the bytes have to be decoded, it may also be of the heap limit, or of more than
 /// 2^64 - 1 decoded bytes.
+///
+/// All this is promised for a matcher that is lawful for the searcher's terminator.
 pub fn matching_lines<M: Matcher + Drop>(
     alloc: Global,
     searcher: &mut Searcher,
     matcher: M,
     bytes: &[u8],
 ) -> Result<Vec<u8>, SearchError>
-    ensures lines { IfOk result (λ text.
-        text.items ≡ selected_bytes searcher.old.settings (M.meaning matcher)
+    ensures lines { IsLawfulFor searcher.old.settings (M.meaning matcher) (M.is_lawful matcher)
+        → IfOk result (λ text. text.items
+        ≡ selected_bytes searcher.old.settings (M.meaning matcher)
         (searched_bytes searcher.old.settings bytes.now)) }
     ensures settings { searcher.new.settings ≡ searcher.old.settings }
     ensures buffers { searcher.old.has_buffers ≡ true → searcher.new.has_buffers ≡ true }
     ensures error { IsInfallible (M.fails matcher)
+        → IsLawfulFor searcher.old.settings (M.meaning matcher) (M.is_lawful matcher)
         → refusal_of searcher.old.settings (M.meaning matcher) ≡ None → IfErr result (λ e.
         IsOutOfMemory e ⊎ IsDecodingError searcher.old (M.meaning matcher) bytes.now e) }
 {

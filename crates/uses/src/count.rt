@@ -2,6 +2,7 @@
 ghost use Rattle.std.specs.Prelude.{◌≡◌, ◌-◌, ◌^◌, None, true, min, IfOk, IfErr, IsOk};
 ghost use Rattle.grep_searcher.specs.DecodedInputs.{searched_bytes, is_searched_unchanged};
 ghost use Rattle.grep_searcher.specs.Matching.{IsInfallible};
+ghost use Rattle.grep_searcher.specs.Questions.{IsLawfulFor};
 ghost use Rattle.grep_searcher.specs.Refusals.{refusal_of};
 ghost use Rattle.uses.specs.DecodingErrors.{IsDecodingError};
 ghost use Rattle.uses.specs.SelectedLines.{selected_count};
@@ -18,23 +19,29 @@ use std::alloc::{Allocator, Global};
 /// An error is made of the matcher's, or of a configuration that the searcher refuses. If the bytes
 /// have to be decoded, it may also be of the heap limit, of being out of memory, or of more than
 /// 2^64 - 1 decoded bytes.
+///
+/// All this is promised for a matcher that is lawful for the searcher's terminator.
 pub fn count_matching_lines<M: Matcher + Drop>(
     searcher: &mut Searcher,
     matcher: M,
     bytes: &[u8],
 ) -> Result<u64, SearchError>
-    ensures count { is_searched_unchanged searcher.old.settings bytes.now ≡ true → IfOk result (λ count.
+    ensures count { IsLawfulFor searcher.old.settings (M.meaning matcher) (M.is_lawful matcher)
+        → is_searched_unchanged searcher.old.settings bytes.now ≡ true → IfOk result (λ count.
         count ≡ selected_count searcher.old.settings (M.meaning matcher) bytes.now) }
-    ensures decoded { IfOk result (λ count. count
+    ensures decoded { IsLawfulFor searcher.old.settings (M.meaning matcher) (M.is_lawful matcher)
+        → IfOk result (λ count. count
         ≡ min (selected_count searcher.old.settings (M.meaning matcher)
         (searched_bytes searcher.old.settings bytes.now))
         (2 ^ 64 - 1)) }
     ensures settings { searcher.new.settings ≡ searcher.old.settings }
     ensures buffers { searcher.old.has_buffers ≡ true → searcher.new.has_buffers ≡ true }
     ensures error { IsInfallible (M.fails matcher)
+        → IsLawfulFor searcher.old.settings (M.meaning matcher) (M.is_lawful matcher)
         → refusal_of searcher.old.settings (M.meaning matcher) ≡ None
         → IfErr result (IsDecodingError searcher.old (M.meaning matcher) bytes.now) }
     ensures succeeds { IsInfallible (M.fails matcher)
+        → IsLawfulFor searcher.old.settings (M.meaning matcher) (M.is_lawful matcher)
         → refusal_of searcher.old.settings (M.meaning matcher) ≡ None
         → is_searched_unchanged searcher.old.settings bytes.now ≡ true → IsOk result }
 {

@@ -3,6 +3,7 @@ ghost use Rattle.std.specs.Prelude.{◌≡◌, ℕ, true, Option, None, List, If
 ghost use Rattle.std.specs.declared.io.Error.{Error};
 ghost use Rattle.grep_searcher.specs.DecodedInputs.{IsInput};
 ghost use Rattle.grep_searcher.specs.Matching.{IsInfallible};
+ghost use Rattle.grep_searcher.specs.Questions.{IsLawfulFor};
 ghost use Rattle.grep_searcher.specs.ReaderSearches.{Taken, IsUnread};
 ghost use Rattle.grep_searcher.specs.Refusals.{refusal_of};
 ghost use Rattle.uses.specs.SelectedLines.{first_selected};
@@ -22,18 +23,22 @@ use std::alloc::{Allocator, Global};
 ///
 /// An error is made of the reader's, of the matcher's, of a configuration that the searcher refuses,
 /// of the heap limit, of being out of memory, or of more than 2^64 - 1 decoded bytes.
+///
+/// All this is promised for a matcher that is lawful for the searcher's terminator.
 pub fn first_match<M: Matcher + Drop, R: Source>(
     searcher: &mut Searcher,
     matcher: M,
     reader: &mut R,
 ) -> Result<Option<(u64, u64)>, SearchError>
     requires { searcher.old.settings.line_number ≡ true }
-    ensures first { IfOk result (λ found. (taken : Taken R.remaining R.step reader.old reader.new)
+    ensures first { IsLawfulFor searcher.old.settings (M.meaning matcher) (M.is_lawful matcher)
+        → IfOk result (λ found. (taken : Taken R.remaining R.step reader.old reader.new)
         × ((bytes : List ℕ) → IsInput searcher.old.settings taken.ended taken.pieces bytes
         → found ≡ first_selected searcher.old.settings (M.meaning matcher) bytes)) }
     ensures settings { searcher.new.settings ≡ searcher.old.settings }
     ensures buffers { searcher.old.has_buffers ≡ true → searcher.new.has_buffers ≡ true }
     ensures error { IsInfallible (M.fails matcher)
+        → IsLawfulFor searcher.old.settings (M.meaning matcher) (M.is_lawful matcher)
         → refusal_of searcher.old.settings (M.meaning matcher) ≡ None
         → IfErr result (λ e. (seen : Option (List ℕ)) × (error : Error)
         × IsUnread R.remaining R.step searcher.old (M.meaning matcher) reader.old seen error reader.new
