@@ -25,16 +25,15 @@ pub record IsBounded (window : List ℕ) (ahead : Ahead) : Type 0 where
   pub within : ahead.hits ≤ length window
 
 -- if it has a line that matches, that is the line which begins there
-abbrev pub IsExact : Settings → List ℕ → Ahead → Type 0
-IsExact settings window ahead =
-    ahead.misses < ahead.hits → (i : ℕ) → IsLineStart (byte_of settings.line_terminator) window ahead.misses i
-    → IsLine (byte_of settings.line_terminator) window i ahead.misses ahead.hits
+abbrev pub IsExact : ℕ → List ℕ → Ahead → Type 0
+IsExact t window ahead =
+    ahead.misses < ahead.hits → (i : ℕ) → IsLineStart t window ahead.misses i → IsLine t window i ahead.misses ahead.hits
 
 -- what is known of the lines of a window from `start` on is so
 pub record IsKnown (settings : Settings) (meaning : Meaning) (window : List ℕ) (start : ℕ) (ahead : Ahead) : Type 0 where
   pub index : ℕ
   pub at : IsLineStart (byte_of settings.line_terminator) window ahead.misses index
-  pub exact : IsExact settings window ahead
+  pub exact : IsExact (byte_of settings.line_terminator) window ahead
   pub miss : (i p q : ℕ) → IsLine (byte_of settings.line_terminator) window i p q → start ≤ p → p < ahead.misses
       → matches_line settings meaning (slice window p q) ≡ false
   pub hit : (i p q : ℕ) → IsLine (byte_of settings.line_terminator) window i p q → ahead.misses ≤ p → p < ahead.hits

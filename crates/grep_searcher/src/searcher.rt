@@ -146,6 +146,9 @@ impl<A: Allocator + Copy> Searcher<A> {
               text_of = M.Error.output;
             })
             self.old bytes.now sink.old result sink.new }
+        ensures completes { NeverFails S.step S.may_call → IsInfallible (M.fails matcher)
+            → refusal_of self.old.settings (M.meaning matcher) ≡ None
+            → is_searched_unchanged self.old.settings bytes.now ≡ true → IsOk result }
         ensures succeeds { NeverFails S.step S.may_call → IsInfallible (M.fails matcher)
             → IsLawfulFor self.old.settings (M.meaning matcher) (M.is_lawful matcher)
             → refusal_of self.old.settings (M.meaning matcher) ≡ None
@@ -300,6 +303,8 @@ impl<A: Allocator + Copy> Searcher<A> {
               text_of = M.Error.output;
             })
             self.old input.now sink.old result sink.new }
+        ensures completes { NeverFails S.step S.may_call → IsInfallible (M.fails matcher.now)
+            → is_searched_unchanged self.old.settings input.now ≡ true → IsOk result }
         ensures succeeds { NeverFails S.step S.may_call → IsInfallible (M.fails matcher.now)
             → IsLawfulFor self.old.settings (M.meaning matcher.now) (M.is_lawful matcher.now)
             → IfErr result (λ e. (seen : Option (List ℕ)) × (error : Error)

@@ -14,7 +14,7 @@ ghost use Rattle.grep_searcher.specs.Walks.{IsOrdered};
 use crate::searcher::Searcher;
 use crate::searcher::walk::Walk;
 use grep_lines::laws::lines_are_few;
-use grep_lines::{line_count, line_of};
+use grep_lines::{LineStep, line_count, line_of};
 use grep_matcher::{LineMatchKind, LineTerminator, Matcher};
 use grep_report::SinkError;
 use std::alloc::Allocator;
@@ -43,6 +43,24 @@ impl Ahead {
         } else {
             None
         }
+    }
+
+    // Where the line ends that begins at a position; none at the end of the window.
+    pub(crate) fn line_end(&self, window: &[u8], start: usize, terminator: u8) -> Option<usize>
+        requires inside { start ≤ length window.now }
+        requires bounded { IsBounded window.now self.now }
+        ensures within { IfSome result (λ end. (start < end) × (end ≤ length window.now)) }
+        ensures line { IfSome result (λ end. IsExact terminator window.now self.now → (i : ℕ)
+            → IsLineStart terminator window.now start i → IsLine terminator window.now i start end) }
+        ensures end { IfNone result (start ≡ length window.now) }
+        ensures last { IfNone result ((i : ℕ) → IsLineStart terminator window.now start i
+            → i ≡ length (lines terminator window.now)) }
+    {
+        if start == self.misses && start < self.hits {
+            return Some(self.hits);
+        }
+        let (_, end) = LineStep::new(terminator, start, window.len()).next(window)?;
+        Some(end)
     }
 }
 
@@ -126,27 +144,6 @@ impl<A: Allocator + Copy> Searcher<A> {
                 misses
             },
         }
-    }
-
-    // Where the line ends that begins at a position; none at the end of the window.
-    pub(crate) fn line_end(&self, window: &[u8], start: usize, ahead: &Ahead) -> Option<usize>
-        requires inside { start ≤ length window.now }
-        requires bounded { IsBounded window.now ahead.now }
-        ensures within { IfSome result (λ end. (start < end) × (end ≤ length window.now)) }
-        ensures bare { self.now.settings.passthru ≡ true
-            → (self.now.settings.after_context ≡ 0) × (self.now.settings.before_context ≡ 0) }
-        ensures line { IfSome result (λ end. IsExact self.now.settings window.now ahead.now
-            → (i : ℕ) → IsLineStart (byte_of self.now.settings.line_terminator) window.now start i
-            → IsLine (byte_of self.now.settings.line_terminator) window.now i start end) }
-        ensures end { IfNone result (start ≡ length window.now) }
-        ensures last { IfNone result ((i : ℕ)
-            → IsLineStart (byte_of self.now.settings.line_terminator) window.now start i
-            → i ≡ length (lines (byte_of self.now.settings.line_terminator) window.now)) }
-    {
-        if start == ahead.misses && start < ahead.hits {
-            return Some(ahead.hits);
-        }
-        self.next_line(window, start)
     }
 
     // Skips the lines from `start` on that are known not to match, if none of them can be reported: moves the walk past

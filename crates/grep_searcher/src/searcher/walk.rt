@@ -161,12 +161,13 @@ impl<A: Allocator + Copy> Searcher<A> {
     {
         lines_join();
         lines_append();
+        let terminator = self.config.line_terminator.as_byte();
         let mut start = start;
         let mut ahead = UNKNOWN;
         'lines: loop {
             ahead = self.look_ahead::<M, S::Error>(matcher, window, start, walk, ahead)?;
             start = self.skip(window, start, &ahead, walk);
-            let Some(end) = self.line_end(window, start, &ahead) else {
+            let Some(end) = ahead.line_end(window, start, terminator) else {
                 return Ok(true);
             };
             let line = &window[start..end];
@@ -188,8 +189,6 @@ impl<A: Allocator + Copy> Searcher<A> {
     pub(crate) fn next_line(&self, bytes: &[u8], start: usize) -> Option<usize>
         requires { start ≤ length bytes.now }
         ensures within { IfSome result (λ end. (start < end) × (end ≤ length bytes.now)) }
-        ensures bare { self.now.settings.passthru ≡ true
-            → (self.now.settings.after_context ≡ 0) × (self.now.settings.before_context ≡ 0) }
         ensures line { IfSome result (λ end. (i : ℕ)
             → IsLineStart (byte_of self.now.settings.line_terminator) bytes.now start i
             → IsLine (byte_of self.now.settings.line_terminator) bytes.now i start end) }
