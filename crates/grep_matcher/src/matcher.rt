@@ -75,8 +75,8 @@ pub trait Matcher {
     /// in its terminator is in no line, and says that no line matches.
     ///
     /// A search asks this only if the matcher declares the search's line terminator, or has its byte among the
-    /// non-matching bytes, and trusts it for the terminators of which the matcher is lawful. A matcher that knows no
-    /// better way returns the position of `shortest_match`, as `Confirmed`.
+    /// non-matching bytes, and trusts it for the terminators of which the matcher is lawful. A matcher that does neither
+    /// is never asked, and returns the position of `shortest_match`, as `Confirmed`.
     fn find_candidate_line(&self, haystack: &[u8]) -> Result<Option<LineMatchKind>, Self::Error>
         ensures inside { IfOk result (IsInside haystack.now) }
         ensures trusted { IfOk result

@@ -41,7 +41,6 @@ pub fn count_matching_lines<M: Matcher + Drop>(
         → refusal_of searcher.old.settings (M.meaning matcher) ≡ None
         → IfErr result (IsDecodingError searcher.old (M.meaning matcher) bytes.now) }
     ensures succeeds { IsInfallible (M.fails matcher)
-        → IsLawfulFor searcher.old.settings (M.meaning matcher) (M.is_lawful matcher)
         → refusal_of searcher.old.settings (M.meaning matcher) ≡ None
         → is_searched_unchanged searcher.old.settings bytes.now ≡ true → IsOk result }
 {
