@@ -36,8 +36,10 @@ pub fn locate(bytes: &[u8], terminator: u8, found: Match) -> Match
 #[inline]
 pub fn line_of(bytes: &[u8], terminator: u8, position: usize) -> Match
     requires { position ≤ length bytes.now }
-    ensures value { result ≡ (block_start terminator bytes.now (position, position),
-        block_end terminator bytes.now (position, position)) }
+    ensures value { result ≡ (
+      block_start terminator bytes.now (position, position),
+      block_end terminator bytes.now (position, position),
+    ) }
     ensures starts { result.0 ≤ position }
     ensures ends { position ≤ result.1 }
     ensures within { result.1 ≤ length bytes.now }

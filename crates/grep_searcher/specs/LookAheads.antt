@@ -1,5 +1,5 @@
--- What a walk knows of the lines from its line on, and which of them it may skip. The contracts of private functions cite
--- these definitions; no public contract does.
+-- What a walk knows of the lines from its line on, and which of them it may skip. The contracts of private functions
+-- cite these definitions; no public contract does.
 use Rattle.std.specs.Prelude.{◌≡◌, ℕ, ◌+◌, ◌-◌, ◌<◌, ◌≤◌, Bool, true, false, not, ◌&&◌, ◌==◌, if◌then◌else◌, nat_lt}
 use Rattle.std.specs.Prelude.{List, length, Option, Some, None}
 use Rattle.grep_lines.specs.Positions.{slice, IsLine, IsLineStart}
@@ -27,16 +27,20 @@ pub record IsBounded (window : List ℕ) (ahead : Ahead) : Type 0 where
 -- if it has a line that matches, that is the line which begins there
 abbrev pub IsExact : ℕ → List ℕ → Ahead → Type 0
 IsExact t window ahead =
-    ahead.misses < ahead.hits → (i : ℕ) → IsLineStart t window ahead.misses i → IsLine t window i ahead.misses ahead.hits
+    ahead.misses < ahead.hits → (i : ℕ) → IsLineStart t window ahead.misses i
+    → IsLine t window i ahead.misses ahead.hits
 
 -- what is known of the lines of a window from `start` on is so
-pub record IsKnown (settings : Settings) (meaning : Meaning) (window : List ℕ) (start : ℕ) (ahead : Ahead) : Type 0 where
+pub record IsKnown (settings : Settings) (meaning : Meaning) (window : List ℕ) (start : ℕ) (ahead : Ahead)
+    : Type 0 where
   pub index : ℕ
   pub at : IsLineStart (byte_of settings.line_terminator) window ahead.misses index
   pub exact : IsExact (byte_of settings.line_terminator) window ahead
-  pub miss : (i p q : ℕ) → IsLine (byte_of settings.line_terminator) window i p q → start ≤ p → p < ahead.misses
+  pub miss : (i p q : ℕ) → IsLine (byte_of settings.line_terminator) window i p q
+      → start ≤ p → p < ahead.misses
       → matches_line settings meaning (slice window p q) ≡ false
-  pub hit : (i p q : ℕ) → IsLine (byte_of settings.line_terminator) window i p q → ahead.misses ≤ p → p < ahead.hits
+  pub hit : (i p q : ℕ) → IsLine (byte_of settings.line_terminator) window i p q
+      → ahead.misses ≤ p → p < ahead.hits
       → matches_line settings meaning (slice window p q) ≡ true
 
 -- a walk may ask about many lines at once

@@ -38,8 +38,17 @@ pub fn searches_fail<A: Allocator + Copy, M: Matcher, S: Sink>()
 where
     S::Error: SinkError<A>,
     ensures { (matcher : M) → SearchesFail S.step
-        (record { is_message = S.Error.is_message; is_io = S.Error.is_io; is_config = S.Error.is_config })
-        (record { meaning = M.meaning matcher; fails = M.fails matcher; is_lawful = M.is_lawful matcher; text_of = M.Error.output }) }
+        (record {
+          is_message = S.Error.is_message;
+          is_io = S.Error.is_io;
+          is_config = S.Error.is_config;
+        })
+        (record {
+          meaning = M.meaning matcher;
+          fails = M.fails matcher;
+          is_lawful = M.is_lawful matcher;
+          text_of = M.Error.output;
+        }) }
 {}
 
 /// The same of a search of a reader: an error is that of a step of the sink, or one of reading.
@@ -47,8 +56,17 @@ pub fn reader_searches_fail<A: Allocator + Copy, M: Matcher, R: Source, S: Sink>
 where
     S::Error: SinkError<A>,
     ensures { (matcher : M) → ReaderSearchesFail S.step
-        (record { is_message = S.Error.is_message; is_io = S.Error.is_io; is_config = S.Error.is_config })
-        (record { meaning = M.meaning matcher; fails = M.fails matcher; is_lawful = M.is_lawful matcher; text_of = M.Error.output })
+        (record {
+          is_message = S.Error.is_message;
+          is_io = S.Error.is_io;
+          is_config = S.Error.is_config;
+        })
+        (record {
+          meaning = M.meaning matcher;
+          fails = M.fails matcher;
+          is_lawful = M.is_lawful matcher;
+          text_of = M.Error.output;
+        })
         R.remaining R.step }
 {}
 
@@ -58,7 +76,16 @@ pub fn known_readers_run<A: Allocator + Copy, M: Matcher, R: Source, S: Sink>()
 where
     S::Error: SinkError<A>,
     ensures { (matcher : M) → KnownReadersRun S.step
-        (record { is_message = S.Error.is_message; is_io = S.Error.is_io; is_config = S.Error.is_config })
-        (record { meaning = M.meaning matcher; fails = M.fails matcher; is_lawful = M.is_lawful matcher; text_of = M.Error.output })
+        (record {
+          is_message = S.Error.is_message;
+          is_io = S.Error.is_io;
+          is_config = S.Error.is_config;
+        })
+        (record {
+          meaning = M.meaning matcher;
+          fails = M.fails matcher;
+          is_lawful = M.is_lawful matcher;
+          text_of = M.Error.output;
+        })
         R.remaining R.step }
 {}

@@ -13,7 +13,9 @@ mod sink;
 
 pub use grep_decode::{Reading, Source};
 pub use grep_lines::{LineIter, LineStep};
-pub use grep_matcher::{ByteSet, LineMatchKind, LineTerminator, LiteralMatcher, Match, Matcher, Plain};
+pub use grep_matcher::{
+    ByteSet, LineMatchKind, LineTerminator, LiteralMatcher, Match, Matcher, Plain,
+};
 pub use grep_report::{
     ConfigError, Encoding, Label, MmapChoice, SearchError, SinkContext, SinkContextKind, SinkError,
     SinkFinish, SinkMatch,

@@ -1,5 +1,5 @@
-//! What a walk knows of the lines from its line on: what a matcher found in many lines at once, and which of them the walk
-//! skips.
+//! What a walk knows of the lines from its line on: what a matcher found in many lines at once, and which of them the
+//! walk skips.
 ghost use Rattle.std.specs.Prelude.{◌≡◌, ◌≤◌, ◌<◌, ◌+◌, ◌-◌, ◌^◌, ℕ, true, if◌then◌else◌, length, drop, IfOk, IfErr, IfSome, IfNone};
 ghost use Rattle.grep_lines.specs.Positions.{IsLine, IsLineStart};
 ghost use Rattle.grep_matcher.specs.Lines.{lines};

@@ -11,7 +11,12 @@ returns-in_err-begin-clause-fault g c =
     let errors : ErrorMakers g.row.S-Error.Denot =
     record { is_message = maker.is_message; is_io = maker.is_io; is_config = maker.is_config } in
     let facts : MatcherFacts g.row.M-Error.Denot =
-    record { meaning = matcher.meaning c.args.matcher.now; fails = matcher.fails c.args.matcher.now; is_lawful = matcher.is_lawful c.args.matcher.now; text_of = g.M.Error.Display.output }
+    record {
+      meaning = matcher.meaning c.args.matcher.now;
+      fails = matcher.fails c.args.matcher.now;
+      is_lawful = matcher.is_lawful c.args.matcher.now;
+      text_of = g.M.Error.Display.output;
+    }
     in
     let p = err_from_is_err_and c.from_residual.result c.from_residual.ensures.1 in
     rw (p.1, p.2) (λ lawful has_buffers. sources.fault-begin g.S.Sink.step errors facts g.R.Source.remaining g.R.Source.step
@@ -25,7 +30,12 @@ returns-then-not-branch-clause-counted g c = λ lawful.
     let errors : ErrorMakers g.row.S-Error.Denot =
     record { is_message = maker.is_message; is_io = maker.is_io; is_config = maker.is_config } in
     let facts : MatcherFacts g.row.M-Error.Denot =
-    record { meaning = matcher.meaning c.args.matcher.now; fails = matcher.fails c.args.matcher.now; is_lawful = matcher.is_lawful c.args.matcher.now; text_of = g.M.Error.Display.output }
+    record {
+      meaning = matcher.meaning c.args.matcher.now;
+      fails = matcher.fails c.args.matcher.now;
+      is_lawful = matcher.is_lawful c.args.matcher.now;
+      text_of = g.M.Error.Display.output;
+    }
     in
     sources.counted-unbegun g.S.Sink.step errors facts g.R.Source.remaining g.R.Source.step c.lines_join.ensures c.lines_append.ensures
     c.args.self.now.settings c.args.reader.now c.args.sink.now c.begin.new.self (rw c.if-not-branch.true at c.in_ok-begin.ensures.step)
@@ -37,7 +47,12 @@ returns-then-is_idle-clause-counted g c = λ lawful.
     let errors : ErrorMakers g.row.S-Error.Denot =
     record { is_message = maker.is_message; is_io = maker.is_io; is_config = maker.is_config } in
     let facts : MatcherFacts g.row.M-Error.Denot =
-    record { meaning = matcher.meaning c.args.matcher.now; fails = matcher.fails c.args.matcher.now; is_lawful = matcher.is_lawful c.args.matcher.now; text_of = g.M.Error.Display.output }
+    record {
+      meaning = matcher.meaning c.args.matcher.now;
+      fails = matcher.fails c.args.matcher.now;
+      is_lawful = matcher.is_lawful c.args.matcher.now;
+      text_of = g.M.Error.Display.output;
+    }
     in
     sources.counted-idle g.S.Sink.step errors facts g.R.Source.remaining g.R.Source.step c.lines_join.ensures c.lines_append.ensures
     c.args.self.now.settings c.args.reader.now c.args.sink.now c.begin.new.self (sym c.is_idle.ensures ∙ c.if-is_idle.true)
@@ -50,7 +65,12 @@ returns-clause-begun g c =
     let errors : ErrorMakers g.row.S-Error.Denot =
     record { is_message = maker.is_message; is_io = maker.is_io; is_config = maker.is_config } in
     let facts : MatcherFacts g.row.M-Error.Denot =
-    record { meaning = matcher.meaning c.args.matcher.now; fails = matcher.fails c.args.matcher.now; is_lawful = matcher.is_lawful c.args.matcher.now; text_of = g.M.Error.Display.output }
+    record {
+      meaning = matcher.meaning c.args.matcher.now;
+      fails = matcher.fails c.args.matcher.now;
+      is_lawful = matcher.is_lawful c.args.matcher.now;
+      text_of = g.M.Error.Display.output;
+    }
     in
     let begun = sources.begun-busy g.S.Sink.step errors facts g.R.Source.remaining g.R.Source.step c.args.self.now.settings
     c.args.reader.now c.args.sink.now c.begin.new.self c.read_by_line.new.reader (sym c.is_idle.ensures ∙ c.if-is_idle.false)

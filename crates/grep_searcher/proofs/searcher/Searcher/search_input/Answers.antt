@@ -10,7 +10,12 @@ returns-clause-searched g c = λ lawful.
     let errors : ErrorMakers g.row.S-Error.Denot =
     record { is_message = maker.is_message; is_io = maker.is_io; is_config = maker.is_config } in
     let facts : MatcherFacts g.row.M-Error.Denot =
-    record { meaning = matcher.meaning c.args.matcher.now; fails = matcher.fails c.args.matcher.now; is_lawful = matcher.is_lawful c.args.matcher.now; text_of = g.M.Error.Display.output }
+    record {
+      meaning = matcher.meaning c.args.matcher.now;
+      fails = matcher.fails c.args.matcher.now;
+      is_lawful = matcher.is_lawful c.args.matcher.now;
+      text_of = g.M.Error.Display.output;
+    }
     in
     input-searched g.S.Sink.step errors facts _ _ (λ s e t fails. fails) c.args.self.now c.args.input.now
     (sym c.is_searched_unchanged.ensures ∙ c.if-is_searched_unchanged.false) _ _ refl c.args.sink.now c.search_source.result
@@ -23,7 +28,12 @@ returns-clause-succeeds g c = λ never infallible lawful.
     let errors : ErrorMakers g.row.S-Error.Denot =
     record { is_message = maker.is_message; is_io = maker.is_io; is_config = maker.is_config } in
     let facts : MatcherFacts g.row.M-Error.Denot =
-    record { meaning = matcher.meaning c.args.matcher.now; fails = matcher.fails c.args.matcher.now; is_lawful = matcher.is_lawful c.args.matcher.now; text_of = g.M.Error.Display.output }
+    record {
+      meaning = matcher.meaning c.args.matcher.now;
+      fails = matcher.fails c.args.matcher.now;
+      is_lawful = matcher.is_lawful c.args.matcher.now;
+      text_of = g.M.Error.Display.output;
+    }
     in
     undecoded-unless g.S.Sink.step errors facts _ _ (λ s e t fails. fails) c.args.self.now c.args.input.now
     (sym c.is_searched_unchanged.ensures ∙ c.if-is_searched_unchanged.false) _ _ refl c.search_source.result

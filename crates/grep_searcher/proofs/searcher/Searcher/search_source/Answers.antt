@@ -12,7 +12,12 @@ returns-in-Err-clause-searched g c = λ lawful.
     let errors : ErrorMakers g.row.S-Error.Denot =
     record { is_message = maker.is_message; is_io = maker.is_io; is_config = maker.is_config } in
     let facts : MatcherFacts g.row.M-Error.Denot =
-    record { meaning = matcher.meaning c.args.matcher.now; fails = matcher.fails c.args.matcher.now; is_lawful = matcher.is_lawful c.args.matcher.now; text_of = g.M.Error.Display.output }
+    record {
+      meaning = matcher.meaning c.args.matcher.now;
+      fails = matcher.fails c.args.matcher.now;
+      is_lawful = matcher.is_lawful c.args.matcher.now;
+      text_of = g.M.Error.Display.output;
+    }
     in
     fault-buffers g.S.Sink.step errors facts g.R.Source.remaining g.R.Source.step c.args.self.now c.args.reader.now c.args.sink.now
     c.in-Err.error c.error_io.result c.in-Err.ensures.none c.in-Err.ensures.memory c.error_io.ensures
@@ -28,7 +33,12 @@ returns-clause-searched g c = λ lawful.
     let errors : ErrorMakers g.row.S-Error.Denot =
     record { is_message = maker.is_message; is_io = maker.is_io; is_config = maker.is_config } in
     let facts : MatcherFacts g.row.M-Error.Denot =
-    record { meaning = matcher.meaning c.args.matcher.now; fails = matcher.fails c.args.matcher.now; is_lawful = matcher.is_lawful c.args.matcher.now; text_of = g.M.Error.Display.output }
+    record {
+      meaning = matcher.meaning c.args.matcher.now;
+      fails = matcher.fails c.args.matcher.now;
+      is_lawful = matcher.is_lawful c.args.matcher.now;
+      text_of = g.M.Error.Display.output;
+    }
     in
     searched-same g.S.Sink.step errors facts g.R.Source.remaining g.R.Source.step c.take_buffers.new.self.settings c.args.self.now
     c.args.reader.now c.args.sink.now c.search_with-result.result c.search_with-result.new.reader c.search_with-result.new.sink
@@ -42,7 +52,12 @@ returns-clause-succeeds g c = λ never infallible lawful.
     let errors : ErrorMakers g.row.S-Error.Denot =
     record { is_message = maker.is_message; is_io = maker.is_io; is_config = maker.is_config } in
     let facts : MatcherFacts g.row.M-Error.Denot =
-    record { meaning = matcher.meaning c.args.matcher.now; fails = matcher.fails c.args.matcher.now; is_lawful = matcher.is_lawful c.args.matcher.now; text_of = g.M.Error.Display.output }
+    record {
+      meaning = matcher.meaning c.args.matcher.now;
+      fails = matcher.fails c.args.matcher.now;
+      is_lawful = matcher.is_lawful c.args.matcher.now;
+      text_of = g.M.Error.Display.output;
+    }
     in
     unread-same g.S.Sink.step errors facts g.R.Source.remaining g.R.Source.step c.take_buffers.new.self.settings c.args.self.now
     c.args.reader.now c.search_with-result.result c.search_with-result.new.reader c.in-Ok.ensures.settings

@@ -7,7 +7,7 @@ use Rattle.grep_matcher.specs.Lines.{lines}
 use Rattle.grep_matcher.specs.Terminators.{byte_of}
 use Rattle.grep_definitions.specs.LineTurns.{matches_line}
 use Rattle.grep_definitions.specs.Searches.{ErrorMakers, MatcherFacts}
-use Rattle.grep_definitions.specs.Settings.{SearcherState}
+use Rattle.grep_definitions.specs.Settings.{SearcherState, Settings}
 use Rattle.grep_definitions.specs.SinkRuns.{all_true, stopped}
 use Rattle.grep_searcher.specs.LookAheads.{IsExact}
 use Rattle.grep_searcher.specs.Walks.{is_over, line_end}
@@ -16,6 +16,10 @@ use Rattle.grep_searcher.proofs.WindowSearchLemmas as search
 use Rattle.grep_searcher.proofs.WindowSearchLemmas.{ordered-next}
 use Rattle.grep_searcher.proofs.searcher.Searcher.search_window.Given.{Over}
 use Rattle.grep_searcher.proofs.searcher.Searcher.search_window.Goals as goal
+
+-- under passthru there are no contexts
+abbrev Bare : Settings → Type 0
+Bare settings = settings.passthru ≡ true → (settings.after_context ≡ 0) × (settings.before_context ≡ 0)
 
 abbrev errors : (g : Over) → ErrorMakers g.row.S-Error.Denot
 errors g = record {
@@ -58,7 +62,7 @@ returns-in_err-ahead-clause-fault g c =
 
 pub returns-in_default-clause-goes_on : goal.returns-in_default-clause-goes_on
 returns-in_default-clause-goes_on g c = λ lawful goes gone input first so_far.
-    let bare = subst (λ (s : SearcherState). s.settings.passthru ≡ true → (s.settings.after_context ≡ 0) × (s.settings.before_context ≡ 0))
+    let bare = subst (λ (s : SearcherState). Bare s.settings)
     c.self.view_is c.self.invariant.0 in
     let now = c.lines.invariant.searched lawful gone input first so_far in
     let known = c.in_ok-ahead.ensures.known lawful _ now.inside.line.begins (c.lines.invariant.known lawful gone input first so_far) in
@@ -78,7 +82,7 @@ returns-in_err-chosen-clause-fault g c =
     let p = err_from_is_err_and c.from_residual-in_err-chosen.result c.from_residual-in_err-chosen.ensures.1 in
     let fault = c.in_err-chosen.ensures.fault in
     rw (p.1, p.2) (λ lawful gone input first so_far.
-    let bare = subst (λ (s : SearcherState). s.settings.passthru ≡ true → (s.settings.after_context ≡ 0) × (s.settings.before_context ≡ 0))
+    let bare = subst (λ (s : SearcherState). Bare s.settings)
     c.self.view_is c.self.invariant.0 in
     let now = c.lines.invariant.searched lawful gone input first so_far in
     let known = c.in_ok-ahead.ensures.known lawful _ now.inside.line.begins (c.lines.invariant.known lawful gone input first so_far) in
@@ -102,7 +106,7 @@ pub returns-in_err-sink_line-clause-fault : goal.returns-in_err-sink_line-clause
 returns-in_err-sink_line-clause-fault g c =
     let p = err_from_is_err_and c.from_residual-in_err-sink_line.result c.from_residual-in_err-sink_line.ensures.1 in
     rw (p.1, p.2) (λ lawful gone input first so_far.
-    let bare = subst (λ (s : SearcherState). s.settings.passthru ≡ true → (s.settings.after_context ≡ 0) × (s.settings.before_context ≡ 0))
+    let bare = subst (λ (s : SearcherState). Bare s.settings)
     c.self.view_is c.self.invariant.0 in
     let now = c.lines.invariant.searched lawful gone input first so_far in
     let known = c.in_ok-ahead.ensures.known lawful _ now.inside.line.begins (c.lines.invariant.known lawful gone input first so_far) in
@@ -132,7 +136,7 @@ returns-then-not-branch-clause-ends g c = λ lawful ends.
     let reported = rw stops at c.in_ok-sink_line.ensures.reported in (
       stopped (line_end c.skip-start.new.walk (slice c.args.window.now c.skip-start.result c.in-Some.end)),
       λ gone input first so_far.
-          let bare = subst (λ (s : SearcherState). s.settings.passthru ≡ true → (s.settings.after_context ≡ 0) × (s.settings.before_context ≡ 0))
+          let bare = subst (λ (s : SearcherState). Bare s.settings)
           c.self.view_is c.self.invariant.0 in
           let now = c.lines.invariant.searched lawful gone input first so_far in
           let known = c.in_ok-ahead.ensures.known lawful _ now.inside.line.begins (c.lines.invariant.known lawful gone input first so_far) in
@@ -166,7 +170,7 @@ returns-then-is_over-clause-ends g c = λ lawful ends.
     rw c.advance.ensures (
       all_true,
       λ gone input first so_far.
-          let bare = subst (λ (s : SearcherState). s.settings.passthru ≡ true → (s.settings.after_context ≡ 0) × (s.settings.before_context ≡ 0))
+          let bare = subst (λ (s : SearcherState). Bare s.settings)
           c.self.view_is c.self.invariant.0 in
           let now = c.lines.invariant.searched lawful gone input first so_far in
           let known = c.in_ok-ahead.ensures.known lawful _ now.inside.line.begins (c.lines.invariant.known lawful gone input first so_far) in
@@ -214,14 +218,14 @@ lines-preserved g c =
           c.in_ok-chosen.chosen c.in-Some.ensures.within.0 c.in-Some.ensures.within.1 c.skip-start.ensures.ordered;
       bounded = c.in_ok-ahead.ensures.bounded;
       known = λ lawful gone input first so_far.
-          let bare = subst (λ (s : SearcherState). s.settings.passthru ≡ true → (s.settings.after_context ≡ 0) × (s.settings.before_context ≡ 0))
+          let bare = subst (λ (s : SearcherState). Bare s.settings)
           c.self.view_is c.self.invariant.0 in
           let now = c.lines.invariant.searched lawful gone input first so_far in
           skips.known-later c.args.self.now.settings (g.M.Matcher.meaning c.args.matcher.now) c.args.window.now c.lines.start
           c.in-Some.end c.in_ok-ahead.ahead (omega (arith, c.skip-start.ensures.low, c.in-Some.ensures.within.0))
           (c.in_ok-ahead.ensures.known lawful _ now.inside.line.begins (c.lines.invariant.known lawful gone input first so_far));
       searched = λ lawful gone input first so_far.
-          let bare = subst (λ (s : SearcherState). s.settings.passthru ≡ true → (s.settings.after_context ≡ 0) × (s.settings.before_context ≡ 0))
+          let bare = subst (λ (s : SearcherState). Bare s.settings)
           c.self.view_is c.self.invariant.0 in
           let now = c.lines.invariant.searched lawful gone input first so_far in
           let known = c.in_ok-ahead.ensures.known lawful _ now.inside.line.begins (c.lines.invariant.known lawful gone input first so_far) in

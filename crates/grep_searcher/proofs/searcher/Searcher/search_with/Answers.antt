@@ -9,7 +9,12 @@ returns-clause-searched g c =
     let errors : ErrorMakers g.row.S-Error.Denot =
     record { is_message = maker.is_message; is_io = maker.is_io; is_config = maker.is_config } in
     let facts : MatcherFacts g.row.M-Error.Denot =
-    record { meaning = matcher.meaning c.args.matcher.now; fails = matcher.fails c.args.matcher.now; is_lawful = matcher.is_lawful c.args.matcher.now; text_of = g.M.Error.Display.output }
+    record {
+      meaning = matcher.meaning c.args.matcher.now;
+      fails = matcher.fails c.args.matcher.now;
+      is_lawful = matcher.is_lawful c.args.matcher.now;
+      text_of = g.M.Error.Display.output;
+    }
     in
     let finish = rw c.new.ensures at c.finish.ensures.step in
     λ lawful has_buffers.

@@ -12,7 +12,7 @@ overflow_add-walk-2 g c = omega (
   c.requires.bounded.within,
   c.line_count.ensures,
   c.lines_are_few.ensures (byte_of c.args.self.now.settings.line_terminator)
-  (slice c.args.window.now c.args.start c.args.ahead.now.misses),
+      (slice c.args.window.now c.args.start c.args.ahead.now.misses),
   length-take (c.args.ahead.now.misses - c.args.start) (drop c.args.start c.args.window.now),
   length-drop c.args.start c.args.window.now,
 )
@@ -24,7 +24,7 @@ returns-clause-ordered g c = record {
     c.requires.ordered.few,
     c.line_count.ensures,
     c.lines_are_few.ensures (byte_of c.args.self.now.settings.line_terminator)
-    (slice c.args.window.now c.args.start c.args.ahead.now.misses),
+        (slice c.args.window.now c.args.start c.args.ahead.now.misses),
   );
   low = omega (arith, c.requires.ordered.low);
   chosen = omega (arith, c.requires.ordered.chosen);
