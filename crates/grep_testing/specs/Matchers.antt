@@ -5,11 +5,7 @@ use Rattle.grep_matcher.specs.declared.line_terminator.LineTerminator.{LineTermi
 use Rattle.grep_matcher.specs.Matching.{Meaning}
 use Rattle.grep_matcher.specs.Literals.{literal_match}
 
--- some first matches, with no terminator and no byte set
-abbrev pub plain : (List ℕ → Option (ℕ × ℕ)) → Meaning
-plain first = record { first = first; terminator = None; absent = λ _. false }
-
--- the same, with a terminator that is named
+-- some first matches, with a terminator that is named and no byte set
 abbrev pub naming : LineTerminator → (List ℕ → Option (ℕ × ℕ)) → Meaning
 naming terminator first = record { first = first; terminator = Some terminator; absent = λ _. false }
 

@@ -2,12 +2,25 @@
 ghost use Rattle.std.specs.Prelude.{◌≡◌, Some, IfErr};
 ghost use Rattle.std.specs.Option.{option_map};
 
-use grep_matcher::{ByteSet, LineTerminator, Match, Matcher};
+use grep_matcher::{ByteSet, LineMatchKind, LineTerminator, Match, Matcher};
 use std::cell::Cell;
 use std::io;
 
-/// Another matcher, whose calls of `find`, `shortest_match` and `is_match` are counted; each is passed on as the same
-/// call. A call whose haystack isn't the expected one is counted as a stray, and one of the calls may fail.
+/// How many calls of each kind there were.
+#[derive(Clone, Copy, PartialEq, Eq)]
+pub struct Counts {
+    /// Those of `find`.
+    pub finds: u64,
+    /// Those of `shortest_match`.
+    pub shortest_matches: u64,
+    /// Those of `is_match`.
+    pub is_matches: u64,
+    /// Those of `find_candidate_line`.
+    pub candidates: u64,
+}
+
+/// Another matcher, whose calls with a haystack are counted; each is passed on as the same call. A call whose haystack
+/// isn't the expected one is counted as a stray, and one of the calls may fail.
 #[derive(Drop)]
 pub struct Counting<'a, M> {
     matcher: M,
@@ -16,6 +29,7 @@ pub struct Counting<'a, M> {
     finds: Cell<u64>,
     shortest_matches: Cell<u64>,
     is_matches: Cell<u64>,
+    candidates: Cell<u64>,
     strays: Cell<u64>,
 }
 
@@ -26,7 +40,10 @@ impl<'a, M> Counting<'a, M> {
         matcher: M,
         expected: &'a [&'a [u8]],
         fault: Option<(u64, io::Error)>,
-    ) -> Counting<'a, M> {
+    ) -> Counting<'a, M>
+        ensures matcher { result.matcher ≡ matcher }
+        ensures fault { result.fault ≡ fault }
+    {
         Counting {
             matcher,
             expected,
@@ -34,25 +51,29 @@ impl<'a, M> Counting<'a, M> {
             finds: Cell::new(0),
             shortest_matches: Cell::new(0),
             is_matches: Cell::new(0),
+            candidates: Cell::new(0),
             strays: Cell::new(0),
         }
     }
 
-    /// How many calls of `find`, of `shortest_match` and of `is_match` there were.
-    pub fn counts(&self) -> (u64, u64, u64) {
-        (
-            self.finds.get(),
-            self.shortest_matches.get(),
-            self.is_matches.get(),
-        )
+    /// How many calls of each kind there were.
+    pub fn counts(&self) -> Counts {
+        Counts {
+            finds: self.finds.get(),
+            shortest_matches: self.shortest_matches.get(),
+            is_matches: self.is_matches.get(),
+            candidates: self.candidates.get(),
+        }
     }
 
     /// How many calls there were.
     pub fn calls(&self) -> u64 {
-        let (finds, shortest_matches, is_matches) = self.counts();
-        finds
-            .saturating_add(shortest_matches)
-            .saturating_add(is_matches)
+        let counts = self.counts();
+        counts
+            .finds
+            .saturating_add(counts.shortest_matches)
+            .saturating_add(counts.is_matches)
+            .saturating_add(counts.candidates)
     }
 
     /// How many calls had another haystack than the expected one, or came after all that were expected.
@@ -94,6 +115,8 @@ impl<M: Matcher<Error = io::Error>> Matcher for Counting<'_, M> {
     ghost fails = { λ m haystack error.
         (option_map (λ fault. fault.1) m.fault ≡ Some error) ⊎ M.fails m.matcher haystack error };
 
+    ghost is_lawful = { λ m. M.is_lawful m.matcher };
+
     fn find(&self, haystack: &[u8]) -> io::Result<Option<Match>> {
         self.count(&self.finds, haystack)?;
         self.matcher.find(haystack)
@@ -107,6 +130,11 @@ impl<M: Matcher<Error = io::Error>> Matcher for Counting<'_, M> {
     fn is_match(&self, haystack: &[u8]) -> io::Result<bool> {
         self.count(&self.is_matches, haystack)?;
         self.matcher.is_match(haystack)
+    }
+
+    fn find_candidate_line(&self, haystack: &[u8]) -> io::Result<Option<LineMatchKind>> {
+        self.count(&self.candidates, haystack)?;
+        self.matcher.find_candidate_line(haystack)
     }
 
     fn line_terminator(&self) -> Option<LineTerminator> {

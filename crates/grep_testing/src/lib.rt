@@ -2,12 +2,14 @@
 //! matchers that do what no literal matcher does.
 #![tactic(auto)]
 
+mod candidates;
 mod counting;
 mod matchers;
 mod pieces;
 mod recorder;
 
-pub use counting::Counting;
-pub use matchers::{Either, Empty, FAILING_MESSAGE, Failing, Naming, Plain};
+pub use candidates::{CANDIDATES_ONLY_MESSAGE, CandidatesOnly, ConfirmsEnd, Contrary};
+pub use counting::{Counting, Counts};
+pub use matchers::{Either, Empty, FAILING_MESSAGE, Failing, Naming};
 pub use pieces::Pieces;
 pub use recorder::{RECORDER_MESSAGE, Recorder};

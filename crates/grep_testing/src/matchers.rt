@@ -1,34 +1,9 @@
 //! Matchers for tests, each with one thing that the literal matcher doesn't do.
-use grep_matcher::{ByteSet, LineTerminator, LiteralMatcher, Match, Matcher};
+use grep_matcher::{ByteSet, LineMatchKind, LineTerminator, LiteralMatcher, Match, Matcher};
 use std::io;
 
-/// The matches of a matcher, with no terminator and no byte set. `shortest_match` and `is_match` are the defaults.
-#[derive(Drop)]
-pub struct Plain<M>(pub M);
-
-impl<M: Matcher> Matcher for Plain<M> {
-    type Error = M::Error;
-
-    ghost use Rattle.grep_testing.specs.Matchers.{plain};
-
-    ghost meaning = { λ m. plain (M.meaning m.0).first };
-
-    ghost fails = { λ m. M.fails m.0 };
-
-    fn find(&self, haystack: &[u8]) -> Result<Option<Match>, M::Error> {
-        self.0.find(haystack)
-    }
-
-    fn line_terminator(&self) -> Option<LineTerminator> {
-        None
-    }
-
-    fn non_matching_bytes(&self) -> Option<&ByteSet> {
-        None
-    }
-}
-
-/// The matches of a matcher, with a terminator that it names and no byte set.
+/// The matches of a matcher, with a terminator that it names and no byte set. Of many lines it finds the matcher's
+/// candidates.
 #[derive(Drop)]
 pub struct Naming<M> {
     /// Whose matches these are.
@@ -40,14 +15,23 @@ pub struct Naming<M> {
 impl<M: Matcher> Matcher for Naming<M> {
     type Error = M::Error;
 
+    ghost use Rattle.std.specs.Prelude.{◌×◌};
+    ghost use Rattle.grep_matcher.specs.Lawful.{ExcludesTerminator};
     ghost use Rattle.grep_testing.specs.Matchers.{naming};
 
     ghost meaning = { λ m. naming m.terminator (M.meaning m.matcher).first };
 
     ghost fails = { λ m. M.fails m.matcher };
 
+    ghost is_lawful = { λ m terminator. M.is_lawful m.matcher terminator
+        × ExcludesTerminator terminator (M.meaning m.matcher) };
+
     fn find(&self, haystack: &[u8]) -> Result<Option<Match>, M::Error> {
         self.matcher.find(haystack)
+    }
+
+    fn find_candidate_line(&self, haystack: &[u8]) -> Result<Option<LineMatchKind>, M::Error> {
+        self.matcher.find_candidate_line(haystack)
     }
 
     fn line_terminator(&self) -> Option<LineTerminator> {
@@ -66,17 +50,27 @@ pub struct Empty;
 impl Matcher for Empty {
     type Error = io::Error;
 
-    ghost use Rattle.grep_testing.specs.Matchers.{plain, empty_match};
+    ghost use Rattle.grep_matcher.specs.Matching.{plain};
+    ghost use Rattle.grep_testing.specs.Matchers.{empty_match};
 
     ghost meaning = { λ _. plain empty_match };
 
     ghost fails = { λ _ _ _. ⊥ };
+
+    ghost is_lawful = { λ _ _. Unit {0} };
 
     fn find(&self, haystack: &[u8]) -> Result<Option<Match>, io::Error> {
         if haystack.is_empty() {
             Ok(Some(Match::zero(0)))
         } else {
             Ok(None)
+        }
+    }
+
+    fn find_candidate_line(&self, haystack: &[u8]) -> Result<Option<LineMatchKind>, io::Error> {
+        match self.shortest_match(haystack)? {
+            Some(position) => Ok(Some(LineMatchKind::Confirmed(position))),
+            None => Ok(None),
         }
     }
 
@@ -102,16 +96,26 @@ pub struct Either {
 impl Matcher for Either {
     type Error = io::Error;
 
-    ghost use Rattle.grep_testing.specs.Matchers.{plain, either_match};
+    ghost use Rattle.grep_matcher.specs.Matching.{plain};
+    ghost use Rattle.grep_testing.specs.Matchers.{either_match};
 
     ghost meaning = { λ m. plain (either_match m.first m.second) };
 
     ghost fails = { λ _ _ _. ⊥ };
 
+    ghost is_lawful = { λ _ _. Unit {0} };
+
     fn find(&self, haystack: &[u8]) -> Result<Option<Match>, io::Error> {
         match self.first.find(haystack)? {
             Some(found) => Ok(Some(found)),
             None => self.second.find(haystack),
+        }
+    }
+
+    fn find_candidate_line(&self, haystack: &[u8]) -> Result<Option<LineMatchKind>, io::Error> {
+        match self.shortest_match(haystack)? {
+            Some(position) => Ok(Some(LineMatchKind::Confirmed(position))),
+            None => Ok(None),
         }
     }
 
@@ -135,17 +139,26 @@ impl Matcher for Failing {
     type Error = &'static str;
 
     ghost use Rattle.std.specs.Prelude.{Some, Contains};
-    ghost use Rattle.grep_testing.specs.Matchers.{plain};
+    ghost use Rattle.grep_matcher.specs.Matching.{plain};
 
     ghost meaning = { λ _. plain (λ _. Some (0, 0)) };
 
     ghost fails = { λ _ haystack _. Contains haystack 33 };
+
+    ghost is_lawful = { λ _ _. Unit {0} };
 
     fn find(&self, haystack: &[u8]) -> Result<Option<Match>, &'static str> {
         if haystack.contains(&b'!') {
             Err(FAILING_MESSAGE)
         } else {
             Ok(Some(Match::zero(0)))
+        }
+    }
+
+    fn find_candidate_line(&self, haystack: &[u8]) -> Result<Option<LineMatchKind>, &'static str> {
+        match self.shortest_match(haystack)? {
+            Some(position) => Ok(Some(LineMatchKind::Confirmed(position))),
+            None => Ok(None),
         }
     }
 

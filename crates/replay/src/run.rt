@@ -1,8 +1,8 @@
 //! The search of a case, and how its outcome is written.
 use crate::case::{Case, CaseError, Mode, Pattern};
-use grep_matcher::{LiteralMatcher, Matcher};
+use grep_matcher::{LiteralMatcher, Matcher, Plain};
 use grep_searcher::{ConfigError, SearchError, Searcher};
-use grep_testing::{Either, Empty, Failing, Naming, Pieces, Plain, RECORDER_MESSAGE, Recorder};
+use grep_testing::{Either, Empty, Failing, Naming, Pieces, RECORDER_MESSAGE, Recorder};
 use std::alloc::{AllocError, Global};
 use std::io;
 

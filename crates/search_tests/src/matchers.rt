@@ -1,8 +1,8 @@
 //! Which calls are made of a matcher.
 use crate::searches::{search_reader, search_slice};
-use grep_matcher::{LiteralMatcher, Matcher};
+use grep_matcher::{LineMatchKind, LiteralMatcher, Matcher, Plain};
 use grep_searcher::{ConfigError, Searcher, SearcherBuilder};
-use grep_testing::{Counting, Pieces, Plain, Recorder};
+use grep_testing::{Counting, Counts, Pieces, Recorder};
 use std::alloc::Global;
 use std::io;
 use std::io::ErrorKind;
@@ -173,10 +173,10 @@ fn lines_of_a_reader(rt: HostRuntime) -> Result<(), Fail> {
     Ok(())
 }
 
-// A haystack of the literal `ab`, and the haystacks of three calls.
+// A haystack of the literal `ab`, and the haystacks of four calls.
 const HAYSTACK: &[u8] = b"xabab";
 
-const HAYSTACKS: &[&[u8]] = &[HAYSTACK, HAYSTACK, HAYSTACK];
+const HAYSTACKS: &[&[u8]] = &[HAYSTACK, HAYSTACK, HAYSTACK, HAYSTACK];
 
 // The counted calls of the matcher of the literal `ab`, of which one fails, counted from 1, or none at 0.
 type Counted<'a> = Counting<'a, LiteralMatcher<'a>>;
@@ -186,17 +186,13 @@ fn counted(fails_at: u64) -> Counted<'static> {
     Counting::new(literal, HAYSTACKS, Some(fault(fails_at)))
 }
 
-// Whether there were so many calls of `find`, `shortest_match` and `is_match`, each for the haystack.
-fn has_counts(counted: &Counted<'_>, counts: (u64, u64, u64)) -> bool {
-    let (finds, shortest_matches, is_matches) = counted.counts();
-    finds == counts.0
-        && shortest_matches == counts.1
-        && is_matches == counts.2
-        && counted.strays() == 0
+// Whether there were these calls, each for the haystack.
+fn has_counts(counted: &Counted<'_>, counts: Counts) -> bool {
+    counted.counts() == counts && counted.strays() == 0
 }
 
 // Whether `find`, `shortest_match` and `is_match` find the literal, but for the one that fails, counted from 1.
-fn finds<M: Matcher<Error = io::Error> + Drop>(matcher: M, fails_at: u64) -> bool {
+fn finds<M: Matcher<Error = io::Error> + Drop>(matcher: &M, fails_at: u64) -> bool {
     let found = match matcher.find(HAYSTACK) {
         Ok(Some(found)) => fails_at != 1 && found.start() == 1 && found.end() == 3,
         Ok(None) => false,
@@ -213,16 +209,42 @@ fn finds<M: Matcher<Error = io::Error> + Drop>(matcher: M, fails_at: u64) -> boo
     found && shortest && is_match
 }
 
+// Whether `find_candidate_line` confirms a position, but if it is the fourth call that fails.
+fn confirms<M: Matcher<Error = io::Error> + Drop>(
+    matcher: &M,
+    position: usize,
+    fails_at: u64,
+) -> bool {
+    match matcher.find_candidate_line(HAYSTACK) {
+        Ok(Some(LineMatchKind::Confirmed(found))) => fails_at != 4 && found == position,
+        Ok(_) => false,
+        Err(error) => fails_at == 4 && error.kind() == ErrorKind::TimedOut,
+    }
+}
+
 // Whether each call of a reference is passed on once as itself, and the error of one is passed on.
 fn reference_asks(fails_at: u64) -> bool {
     let counted = counted(fails_at);
-    finds(&counted, fails_at) && has_counts(&counted, (1, 1, 1))
+    let counts = Counts {
+        finds: 1,
+        shortest_matches: 1,
+        is_matches: 1,
+        candidates: 1,
+    };
+    finds(&&counted, fails_at) && confirms(&&counted, 1, fails_at) && has_counts(&counted, counts)
 }
 
 // Whether each call of the defaults is passed on once as `find`.
 fn defaults_ask(fails_at: u64) -> bool {
     let counted = counted(fails_at);
-    finds(Plain(&counted), fails_at) && has_counts(&counted, (3, 0, 0))
+    let plain = Plain(&counted);
+    let counts = Counts {
+        finds: 4,
+        shortest_matches: 0,
+        is_matches: 0,
+        candidates: 0,
+    };
+    finds(&plain, fails_at) && confirms(&plain, 3, fails_at) && has_counts(&counted, counts)
 }
 
 #[test]
@@ -235,10 +257,10 @@ fn defaults_ask_find_once(rt: HostRuntime) {
     assert!(rt; defaults_ask(0));
 }
 
-// One of three calls fails: it is passed on from the call that asked it, and isn't asked again.
+// One of four calls fails: it is passed on from the call that asked it, and isn't asked again.
 #[test]
 fn faults_are_passed_on(rt: HostRuntime) {
-    for call in 1..=3 {
+    for call in 1..=4 {
         assert!(rt; reference_asks(call), "call {call} by a reference");
         assert!(rt; defaults_ask(call), "call {call} by the defaults");
     }

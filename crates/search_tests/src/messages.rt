@@ -1,6 +1,6 @@
 //! Long messages of matchers.
 use crate::searches::search_slice;
-use grep_matcher::{ByteSet, LineTerminator, Match, Matcher};
+use grep_matcher::{ByteSet, LineMatchKind, LineTerminator, Match, Matcher};
 use grep_searcher::{SearchError, Searcher};
 use grep_testing::Recorder;
 use std::fmt;
@@ -31,13 +31,20 @@ struct Verbose;
 impl Matcher for Verbose {
     type Error = Message;
 
-    ghost use Rattle.std.specs.Prelude.{None, false};
+    ghost use Rattle.std.specs.Prelude.{None};
+    ghost use Rattle.grep_matcher.specs.Matching.{plain};
 
-    ghost meaning = { λ _. record { first = λ _. None; terminator = None; absent = λ _. false } };
+    ghost meaning = { λ _. plain (λ _. None) };
 
     ghost fails = { λ _ _ _. Unit {0} };
 
+    ghost is_lawful = { λ _ _. Unit {0} };
+
     fn find(&self, _haystack: &[u8]) -> Result<Option<Match>, Message> {
+        Err(Message)
+    }
+
+    fn find_candidate_line(&self, _haystack: &[u8]) -> Result<Option<LineMatchKind>, Message> {
         Err(Message)
     }
 

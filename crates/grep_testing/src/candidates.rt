@@ -1,0 +1,125 @@
+//! Matchers for tests of what a search asks about many lines at once.
+use grep_matcher::{ByteSet, LineMatchKind, LineTerminator, LiteralMatcher, Match, Matcher};
+use std::io;
+
+/// The error of `CandidatesOnly`.
+pub const CANDIDATES_ONLY_MESSAGE: &str = "asked about one line";
+
+/// The matches of a literal. Its candidates among many lines and its byte set are the literal matcher's, and any other
+/// call fails with `CANDIDATES_ONLY_MESSAGE`.
+#[derive(Drop)]
+pub struct CandidatesOnly(pub LiteralMatcher<'static>);
+
+impl Matcher for CandidatesOnly {
+    type Error = &'static str;
+
+    ghost meaning = { λ m. LiteralMatcher.meaning m.0 };
+
+    ghost fails = { λ _ _ _. Unit {0} };
+
+    ghost is_lawful = { λ m. LiteralMatcher.is_lawful m.0 };
+
+    fn find(&self, _haystack: &[u8]) -> Result<Option<Match>, &'static str> {
+        Err(CANDIDATES_ONLY_MESSAGE)
+    }
+
+    fn find_candidate_line(&self, haystack: &[u8]) -> Result<Option<LineMatchKind>, &'static str> {
+        match self.0.find_candidate_line(haystack) {
+            Ok(found) => Ok(found),
+            Err(_) => Err(CANDIDATES_ONLY_MESSAGE),
+        }
+    }
+
+    fn line_terminator(&self) -> Option<LineTerminator> {
+        None
+    }
+
+    fn non_matching_bytes(&self) -> Option<&ByteSet> {
+        self.0.non_matching_bytes()
+    }
+}
+
+/// Matches nothing, and declares a line feed. Of lines that end in one it confirms the position at their end, which is
+/// in no line. It never fails.
+#[derive(Drop)]
+pub struct ConfirmsEnd;
+
+impl Matcher for ConfirmsEnd {
+    type Error = io::Error;
+
+    ghost use Rattle.std.specs.Prelude.{None};
+    ghost use Rattle.grep_matcher.specs.declared.line_terminator.LineTerminator.TheVariants.{Byte};
+    ghost use Rattle.grep_testing.specs.Matchers.{naming};
+
+    ghost meaning = { λ _. naming (Byte 10) (λ _. None) };
+
+    ghost fails = { λ _ _ _. ⊥ };
+
+    ghost is_lawful = { λ _ _. ⊥ };
+
+    fn find(&self, _haystack: &[u8]) -> Result<Option<Match>, io::Error> {
+        Ok(None)
+    }
+
+    fn find_candidate_line(&self, haystack: &[u8]) -> Result<Option<LineMatchKind>, io::Error> {
+        if haystack.ends_with(b"\n") {
+            Ok(Some(LineMatchKind::Confirmed(haystack.len())))
+        } else {
+            Ok(None)
+        }
+    }
+
+    fn line_terminator(&self) -> Option<LineTerminator> {
+        Some(LineTerminator::Byte(b'\n'))
+    }
+
+    fn non_matching_bytes(&self) -> Option<&ByteSet> {
+        None
+    }
+}
+
+/// Matches every haystack or none, declares a line feed, and says the contrary of many lines: that none of them matches,
+/// or surely the first. So it is lawful for no terminator. It never fails.
+#[derive(Drop)]
+pub struct Contrary {
+    /// Whether every haystack matches, at its start.
+    pub matches: bool,
+}
+
+impl Matcher for Contrary {
+    type Error = io::Error;
+
+    ghost use Rattle.std.specs.Prelude.{Some, None, if◌then◌else◌};
+    ghost use Rattle.grep_matcher.specs.declared.line_terminator.LineTerminator.TheVariants.{Byte};
+    ghost use Rattle.grep_testing.specs.Matchers.{naming};
+
+    ghost meaning = { λ m. naming (Byte 10) (λ _. if m.matches then Some (0, 0) else None) };
+
+    ghost fails = { λ _ _ _. ⊥ };
+
+    ghost is_lawful = { λ _ _. ⊥ };
+
+    fn find(&self, _haystack: &[u8]) -> Result<Option<Match>, io::Error> {
+        if self.matches {
+            Ok(Some(Match::zero(0)))
+        } else {
+            Ok(None)
+        }
+    }
+
+    fn find_candidate_line(&self, _haystack: &[u8]) -> Result<Option<LineMatchKind>, io::Error> {
+        if self.matches {
+            Ok(None)
+        } else {
+            Ok(Some(LineMatchKind::Confirmed(0)))
+        }
+    }
+
+    fn line_terminator(&self) -> Option<LineTerminator> {
+        Some(LineTerminator::Byte(b'\n'))
+    }
+
+    fn non_matching_bytes(&self) -> Option<&ByteSet> {
+        None
+    }
+}
