@@ -3,8 +3,8 @@ use grep_matcher::LineTerminator;
 use grep_searcher::{ConfigError, Encoding, SearcherBuilder};
 use hex::{FromHex, FromHexError};
 use std::alloc::{AllocError, Global};
-use std::str;
 use std::str::FromStr;
+use std::{slice, str};
 
 /// Why a line is no case that can be run.
 #[derive(Clone, Copy)]
@@ -40,8 +40,10 @@ impl From<FromHexError> for CaseError {
 pub(crate) enum Pattern {
     /// The matcher of the literal.
     Literal,
-    /// One with the same matches and no byte set.
-    Plain,
+    /// One with its candidates, of which any other call fails.
+    Candidates,
+    /// One that matches nothing, and confirms the position at the end of lines.
+    End,
     /// One of the literal or the other literal.
     Either,
     /// One that the empty haystack alone matches.
@@ -55,8 +57,9 @@ impl FromStr for Pattern {
 
     fn from_str(text: &str) -> Result<Pattern, CaseError> {
         match text {
-            "lit" => Ok(Pattern::Literal),
-            "plain" => Ok(Pattern::Plain),
+            "lit" | "plain" => Ok(Pattern::Literal),
+            "candidates" => Ok(Pattern::Candidates),
+            "end" => Ok(Pattern::End),
             "either" => Ok(Pattern::Either),
             "empty" => Ok(Pattern::Empty),
             "fail" => Ok(Pattern::Failing),
@@ -86,6 +89,40 @@ impl FromStr for Mode {
     }
 }
 
+/// Where the input is, for a search.
+#[derive(Clone, Copy)]
+pub(crate) struct Place {
+    /// How it is given.
+    pub(crate) mode: Mode,
+    /// How many bytes a reader gives at most at a read; 0: as many as are asked for.
+    pub(crate) piece: usize,
+}
+
+/// The places of the searches that a case is repeated by.
+const PLACES: &[Place] = &[
+    Place {
+        mode: Mode::Slice,
+        piece: 0,
+    },
+    Place {
+        mode: Mode::Reader,
+        piece: 0,
+    },
+    Place {
+        mode: Mode::Reader,
+        piece: 1,
+    },
+];
+
+/// A way to make the search of a case.
+#[derive(Clone, Copy)]
+pub(crate) struct Way {
+    /// Whether the matcher has neither terminator nor byte set, so that it is asked about one line at a time.
+    pub(crate) plain: bool,
+    /// Where the input is.
+    pub(crate) place: Place,
+}
+
 /// What a case says beside its input and its literals.
 #[derive(Drop)]
 pub(crate) struct Options {
@@ -93,14 +130,12 @@ pub(crate) struct Options {
     pub(crate) pattern: Pattern,
     /// The terminator that the matcher names.
     pub(crate) names: Option<LineTerminator>,
-    /// How the input is given.
-    pub(crate) mode: Mode,
+    /// The way of the search.
+    pub(crate) way: Way,
     /// Whether the searcher is written in its debug form in place of the search.
     pub(crate) debug: bool,
     /// How often the input that was given is repeated.
     pub(crate) times: usize,
-    /// How many bytes the reader gives at most at a read; 0: as many as are asked for.
-    pub(crate) piece: usize,
     /// Which read fails, counted from 1.
     pub(crate) error_at: Option<u64>,
     /// Which call of the sink returns false, counted from 1.
@@ -209,10 +244,12 @@ impl Options {
         Options {
             pattern: Pattern::Literal,
             names: None,
-            mode: Mode::Slice,
+            way: Way {
+                plain: false,
+                place: PLACES[0],
+            },
             debug: false,
             times: 1,
-            piece: 0,
             error_at: None,
             false_at: None,
             fail_at: None,
@@ -238,14 +275,21 @@ impl Options {
     // Sets what is searched with, and how.
     fn set_search(&mut self, key: &str, value: &str) -> Result<(), CaseError> {
         match key {
-            "matcher" => self.pattern = value.parse()?,
+            "matcher" => self.choose(value)?,
             "names" => self.names = Some(terminator(value)?),
-            "mode" => self.mode = value.parse()?,
+            "mode" => self.way.place.mode = value.parse()?,
             "debug" => self.debug = flag(value)?,
             "times" => self.times = number(value)?,
-            "piece" => self.piece = number(value)?,
+            "piece" => self.way.place.piece = number(value)?,
             _ => configure(&mut self.settings, key, value)?,
         }
+        Ok(())
+    }
+
+    // Sets which matcher searches.
+    fn choose(&mut self, name: &str) -> Result<(), CaseError> {
+        self.pattern = name.parse()?;
+        self.way.plain = name == "plain";
         Ok(())
     }
 
@@ -255,6 +299,19 @@ impl Options {
 
     fn support(&mut self, is_supported: bool) {
         self.is_supported = self.is_supported && is_supported;
+    }
+
+    /// Where the same search makes the same calls, plain or not: a slice, a reader in one piece and one in single bytes,
+    /// or just the case's own place if a reader fails or there is a heap limit. Nowhere if the matcher's terminator is
+    /// named, or if it can't be asked about one line at a time.
+    pub(crate) fn places(&self, heap_limit: Option<usize>) -> &[Place] {
+        if self.names.is_some() || matches!(self.pattern, Pattern::Candidates) {
+            &[]
+        } else if self.error_at.is_some() || heap_limit.is_some() {
+            slice::from_ref(&self.way.place)
+        } else {
+            PLACES
+        }
     }
 
     // Refuses what can't be run yet.

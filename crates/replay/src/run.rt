@@ -1,8 +1,10 @@
 //! The search of a case, and how its outcome is written.
-use crate::case::{Case, CaseError, Mode, Pattern};
+use crate::case::{Case, CaseError, Mode, Pattern, Place, Way};
 use grep_matcher::{LiteralMatcher, Matcher, Plain};
 use grep_searcher::{ConfigError, SearchError, Searcher};
-use grep_testing::{Either, Empty, Failing, Naming, Pieces, RECORDER_MESSAGE, Recorder};
+use grep_testing::{
+    CandidatesOnly, ConfirmsEnd, Either, Empty, Failing, Naming, Pieces, RECORDER_MESSAGE, Recorder,
+};
 use std::alloc::{AllocError, Global};
 use std::io;
 
@@ -11,18 +13,65 @@ use std::io;
 pub(crate) fn replay<W: io::Write>(alloc: Global, line: &[u8], output: &mut W) -> io::Result<()> {
     let case = match Case::parse(alloc, line) {
         Ok(case) => case,
-        Err(error) => return writeln!(output, "err {}", case_fault(error)),
+        Err(error) => return writeln!(output, "{}", case_fault(error)),
     };
     if case.options.debug {
         return write_forms(alloc, &case, output);
     }
-    let mut recorder = Recorder::new(alloc, case.options.false_at, case.options.fail_at);
-    let ended = search(alloc, &case, &mut recorder);
-    let calls = recorder.text();
-    match &ended {
-        Ok(()) => writeln!(output, "{calls}ok"),
-        Err(error) => writeln!(output, "{calls}err {}", search_fault(error)),
+    match build(alloc, &case) {
+        Ok(mut searcher) => write_calls(alloc, &mut searcher, &case, output),
+        Err(error) => writeln!(output, "{}", search_fault(&SearchError::Config(error))),
     }
+}
+
+// Writes the calls of a case and how it ended, and whether the same search differs elsewhere.
+fn write_calls<W: io::Write>(
+    alloc: Global,
+    searcher: &mut Searcher,
+    case: &Case,
+    output: &mut W,
+) -> io::Result<()> {
+    let mut recorder = Recorder::new(alloc, case.options.false_at, case.options.fail_at);
+    let end = end_of(search(alloc, searcher, case, case.options.way, &mut recorder));
+    let calls = recorder.text();
+    write!(output, "{calls}{end}")?;
+    for place in case.options.places(searcher.heap_limit()) {
+        if !repeats(alloc, searcher, case, *place, calls, end) {
+            write!(output, ";differs")?;
+        }
+    }
+    writeln!(output)
+}
+
+// Whether the search of a case makes the same calls at a place and ends so, plain or not.
+fn repeats(
+    alloc: Global,
+    searcher: &mut Searcher,
+    case: &Case,
+    place: Place,
+    calls: &str,
+    end: &str,
+) -> bool {
+    for plain in [false, true] {
+        if !has_calls(alloc, searcher, case, Way { plain, place }, calls, end) {
+            return false;
+        }
+    }
+    true
+}
+
+// Whether it does in one way.
+fn has_calls(
+    alloc: Global,
+    searcher: &mut Searcher,
+    case: &Case,
+    way: Way,
+    calls: &str,
+    end: &str,
+) -> bool {
+    let mut recorder = Recorder::new(alloc, case.options.false_at, case.options.fail_at);
+    let ended = search(alloc, searcher, case, way, &mut recorder);
+    end_of(ended) == end && recorder.text() == calls
 }
 
 // Writes the debug forms of the case's searcher and of its clone.
@@ -48,51 +97,69 @@ fn build(alloc: Global, case: &Case) -> Result<Searcher, ConfigError> {
 // Why a line is no case that can be run.
 fn case_fault(error: CaseError) -> &'static str {
     match error {
-        CaseError::Malformed => "case",
-        CaseError::UnknownEncoding => "encoding",
-        CaseError::Unsupported => "unsupported",
-        CaseError::OutOfMemory => "memory",
+        CaseError::Malformed => "err case",
+        CaseError::UnknownEncoding => "err encoding",
+        CaseError::Unsupported => "err unsupported",
+        CaseError::OutOfMemory => "err memory",
+    }
+}
+
+// How a search ended.
+fn end_of(ended: Result<(), SearchError>) -> &'static str {
+    match ended {
+        Ok(()) => "ok",
+        Err(error) => search_fault(&error),
     }
 }
 
 // Why a search failed.
 fn search_fault(error: &SearchError) -> &'static str {
     match error {
-        SearchError::Message(text) if text.as_str() == RECORDER_MESSAGE => "sink",
-        SearchError::Message(_) => "matcher",
+        SearchError::Message(text) if text.as_str() == RECORDER_MESSAGE => "err sink",
+        SearchError::Message(_) => "err matcher",
         SearchError::Io(error) => io_fault(error.kind()),
-        SearchError::Config(ConfigError::SearchUnavailable) => "unavailable",
-        SearchError::Config(ConfigError::MismatchedLineTerminators { .. }) => "mismatch",
-        SearchError::Config(ConfigError::Memory) => "memory",
-        SearchError::Config(_) => "unsupported",
+        SearchError::Config(ConfigError::SearchUnavailable) => "err unavailable",
+        SearchError::Config(ConfigError::MismatchedLineTerminators { .. }) => "err mismatch",
+        SearchError::Config(ConfigError::Memory) => "err memory",
+        SearchError::Config(_) => "err unsupported",
     }
 }
 
 // Why a search failed that ended in an error of this kind. The error of a reader has another kind than these.
 fn io_fault(kind: io::ErrorKind) -> &'static str {
     match kind {
-        io::ErrorKind::Other => "heap",
-        io::ErrorKind::InvalidData => "offset",
-        io::ErrorKind::OutOfMemory => "memory",
-        _ => "read",
+        io::ErrorKind::Other => "err heap",
+        io::ErrorKind::InvalidData => "err offset",
+        io::ErrorKind::OutOfMemory => "err memory",
+        _ => "err read",
     }
 }
 
 // Searches with the matcher of the case.
-fn search(alloc: Global, case: &Case, recorder: &mut Recorder) -> Result<(), SearchError> {
+fn search(
+    alloc: Global,
+    searcher: &mut Searcher,
+    case: &Case,
+    way: Way,
+    recorder: &mut Recorder,
+) -> Result<(), SearchError> {
     match case.options.pattern {
-        Pattern::Literal => search_named(alloc, literal(alloc, &case.literal)?, case, recorder),
-        Pattern::Plain => {
-            let matcher = Plain(literal(alloc, &case.literal)?);
-            search_named(alloc, matcher, case, recorder)
+        Pattern::Literal => {
+            let matcher = literal(alloc, &case.literal)?;
+            search_by(matcher, searcher, case, way, recorder)
+        }
+        Pattern::Candidates => {
+            let matcher = CandidatesOnly(literal(alloc, &case.literal)?);
+            search_by(matcher, searcher, case, way, recorder)
         }
         Pattern::Either => {
             let first = literal(alloc, &case.literal)?;
             let second = literal(alloc, &case.other)?;
-            search_named(alloc, Either { first, second }, case, recorder)
+            search_by(Either { first, second }, searcher, case, way, recorder)
         }
-        Pattern::Empty => search_named(alloc, Empty, case, recorder),
-        Pattern::Failing => search_named(alloc, Failing, case, recorder),
+        Pattern::End => search_by(ConfirmsEnd, searcher, case, way, recorder),
+        Pattern::Empty => search_by(Empty, searcher, case, way, recorder),
+        Pattern::Failing => search_by(Failing, searcher, case, way, recorder),
     }
 }
 
@@ -106,11 +173,27 @@ fn no_memory(error: AllocError) -> SearchError {
     SearchError::Io(io::Error::from(error))
 }
 
+// Searches with a matcher, plain or not.
+fn search_by<M: Matcher + Drop>(
+    matcher: M,
+    searcher: &mut Searcher,
+    case: &Case,
+    way: Way,
+    recorder: &mut Recorder,
+) -> Result<(), SearchError> {
+    if way.plain {
+        search_named(Plain(matcher), searcher, case, way.place, recorder)
+    } else {
+        search_named(matcher, searcher, case, way.place, recorder)
+    }
+}
+
 // Searches with a matcher, which names the terminator of the case, if there is one.
 fn search_named<M: Matcher + Drop>(
-    alloc: Global,
     matcher: M,
+    searcher: &mut Searcher,
     case: &Case,
+    place: Place,
     recorder: &mut Recorder,
 ) -> Result<(), SearchError> {
     match case.options.names {
@@ -119,29 +202,29 @@ fn search_named<M: Matcher + Drop>(
                 matcher,
                 terminator,
             };
-            search_with(alloc, matcher, case, recorder)
+            search_with(matcher, searcher, case, place, recorder)
         }
-        None => search_with(alloc, matcher, case, recorder),
+        None => search_with(matcher, searcher, case, place, recorder),
     }
 }
 
 // Searches the slice or the reader of the case.
 fn search_with<M: Matcher + Drop>(
-    alloc: Global,
     matcher: M,
+    searcher: &mut Searcher,
     case: &Case,
+    place: Place,
     recorder: &mut Recorder,
 ) -> Result<(), SearchError> {
     let input = case.input.as_slice();
-    let options = &case.options;
-    let mut searcher = build(alloc, case).map_err(|error| SearchError::Config(error))?;
-    match options.mode {
+    match place.mode {
         Mode::Slice => searcher.search_slice(matcher, input, recorder),
         Mode::Reader => {
-            let fault = options
+            let fault = case
+                .options
                 .error_at
                 .map(|read| (read, io::Error::from(io::ErrorKind::TimedOut)));
-            let mut reader = Pieces::new(input, options.piece, fault);
+            let mut reader = Pieces::new(input, place.piece, fault);
             searcher.search_reader(matcher, &mut reader, recorder)
         }
     }

@@ -71,6 +71,31 @@ fn literals(rt: HostRuntime) {
     }
 }
 
+// A literal, lines, and the position that its matcher finds in them, with whether it is confirmed.
+const CANDIDATE_ROWS: &[(&[u8], &[u8], Option<(usize, bool)>)] = &[
+    (b"ab", b"b\nxab\nab\n", Some((3, true))),
+    (b"ab", b"ab", Some((0, true))),
+    (b"ab", b"a\nb\n", None),
+    (b"", b"\n", Some((0, true))),
+    (b"a\r", b"b\na\r\n", Some((2, false))),
+];
+
+// Whether the matcher of a literal finds this in lines.
+fn points(literal: &[u8], lines: &[u8], position: Option<(usize, bool)>) -> bool {
+    match LiteralMatcher::borrowed(literal).find_candidate_line(lines) {
+        Ok(Some(found)) => position == Some((found.position(), found.is_confirmed())),
+        Ok(None) => position.is_none(),
+        Err(_) => false,
+    }
+}
+
+#[test]
+fn candidates(rt: HostRuntime) {
+    for row in CANDIDATE_ROWS {
+        assert!(rt; points(row.0, row.1, row.2), "{row:?}");
+    }
+}
+
 // Whether a byte alone is in a set, or if `has` is false, each byte but that one.
 fn splits(set: &ByteSet, byte: u8, has: bool) -> bool {
     for other in 0..=255 {
