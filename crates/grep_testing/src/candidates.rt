@@ -1,37 +1,38 @@
 //! Matchers for tests of what a search asks about many lines at once.
-use grep_matcher::{ByteSet, LineMatchKind, LineTerminator, LiteralMatcher, Match, Matcher};
+use grep_lines::laws::lines_join;
+use grep_matcher::{ByteSet, LineMatchKind, LineTerminator, Match, Matcher};
 use std::io;
 
-/// The error of `CandidatesOnly`.
-pub const CANDIDATES_ONLY_MESSAGE: &str = "asked about one line";
+// The error of `CandidatesOnly`.
+const CANDIDATES_ONLY: &str = "only candidates are found";
 
-/// The matches of a literal. Its candidates among many lines and its byte set are the literal matcher's, and any other
-/// call fails with `CANDIDATES_ONLY_MESSAGE`.
+/// Another matcher, of which only candidates among many lines are found: any other question about a haystack fails. Its
+/// meaning is the other's.
 #[derive(Drop)]
-pub struct CandidatesOnly(pub LiteralMatcher<'static>);
+pub struct CandidatesOnly<M>(pub M);
 
-impl Matcher for CandidatesOnly {
+impl<M: Matcher> Matcher for CandidatesOnly<M> {
     type Error = &'static str;
 
-    ghost meaning = { λ m. LiteralMatcher.meaning m.0 };
+    ghost meaning = { λ m. M.meaning m.0 };
 
     ghost fails = { λ _ _ _. Unit {0} };
 
-    ghost is_lawful = { λ m. LiteralMatcher.is_lawful m.0 };
+    ghost is_lawful = { λ m. M.is_lawful m.0 };
 
     fn find(&self, _haystack: &[u8]) -> Result<Option<Match>, &'static str> {
-        Err(CANDIDATES_ONLY_MESSAGE)
+        Err(CANDIDATES_ONLY)
     }
 
     fn find_candidate_line(&self, haystack: &[u8]) -> Result<Option<LineMatchKind>, &'static str> {
         match self.0.find_candidate_line(haystack) {
             Ok(found) => Ok(found),
-            Err(_) => Err(CANDIDATES_ONLY_MESSAGE),
+            Err(_) => Err(CANDIDATES_ONLY),
         }
     }
 
     fn line_terminator(&self) -> Option<LineTerminator> {
-        None
+        self.0.line_terminator()
     }
 
     fn non_matching_bytes(&self) -> Option<&ByteSet> {
@@ -55,17 +56,17 @@ impl Matcher for ConfirmsEnd {
 
     ghost fails = { λ _ _ _. ⊥ };
 
-    ghost is_lawful = { λ _ _. ⊥ };
+    ghost is_lawful = { λ _ _. Unit {0} };
 
     fn find(&self, _haystack: &[u8]) -> Result<Option<Match>, io::Error> {
         Ok(None)
     }
 
     fn find_candidate_line(&self, haystack: &[u8]) -> Result<Option<LineMatchKind>, io::Error> {
-        if haystack.ends_with(b"\n") {
-            Ok(Some(LineMatchKind::Confirmed(haystack.len())))
-        } else {
-            Ok(None)
+        lines_join();
+        match haystack.last() {
+            Some(b'\n') => Ok(Some(LineMatchKind::Confirmed(haystack.len()))),
+            _ => Ok(None),
         }
     }
 

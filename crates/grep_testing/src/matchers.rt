@@ -15,7 +15,6 @@ pub struct Naming<M> {
 impl<M: Matcher> Matcher for Naming<M> {
     type Error = M::Error;
 
-    ghost use Rattle.std.specs.Prelude.{◌×◌};
     ghost use Rattle.grep_matcher.specs.Lawful.{ExcludesTerminator};
     ghost use Rattle.grep_testing.specs.Matchers.{naming};
 
