@@ -5,7 +5,7 @@ use Rattle.std.specs.Option.{option_map}
 use Rattle.std.specs.List.Sorted.{IsStrictlyIncreasing}
 use Rattle.grep_decode.specs.Marks.{marked}
 use Rattle.grep_matcher.specs.Terminators.{byte_of}
-use Rattle.grep_matcher.specs.Matching.{Meaning}
+use Rattle.grep_matcher.specs.Matching.{Meaning, plain}
 use Rattle.grep_report.specs.declared.sink_context.SinkContextKind.TheVariants.{After}
 use Rattle.grep_definitions.specs.Settings.{Settings}
 use Rattle.grep_definitions.specs.SinkCalls.{Call, Turn, begins, matches, context, breaks, binary_data, finishes}
@@ -105,6 +105,14 @@ WholeCount =
     (settings : Settings) (meaning : Meaning) (bytes : List ℕ)
     → turn_count settings meaning bytes ≡ line_count settings meaning bytes
     → byte_count settings meaning bytes ≡ length bytes
+
+-- the calls depend on a matcher's matches alone, not on what it says of terminators: a search with `Plain` of it makes the
+-- same
+abbrev pub MatchesDecide : Type 0
+MatchesDecide =
+    (settings : Settings) (meaning : Meaning) (bytes : List ℕ)
+    → (turns settings (plain meaning.first) bytes ≡ turns settings meaning bytes)
+    × (byte_count settings (plain meaning.first) bytes ≡ byte_count settings meaning bytes)
 
 -- line i has the number i + 1, if lines are numbered
 abbrev pub LinesAreNumbered : Type 0

@@ -2,7 +2,7 @@
 //! nothing.
 ghost use Rattle.grep_definitions.specs.SearchLaws.{UnchangedIsInput, UnsniffedIsUnchanged, UnmarkedIsUnchanged};
 ghost use Rattle.grep_definitions.specs.SearchLaws.{ReportsAscend, AfterWins, InversionComplements, FirstLinesBegin, AtMostLimit, WholeCount};
-ghost use Rattle.grep_definitions.specs.SearchLaws.{LinesAreNumbered, MatchesAreSelected};
+ghost use Rattle.grep_definitions.specs.SearchLaws.{LinesAreNumbered, MatchesAreSelected, MatchesDecide};
 ghost use Rattle.grep_definitions.specs.SearchLaws.{MatchesAreCounted, FirstMatchIsFirst, MatchesAreFew};
 
 use grep_decode::laws::unchanged_is_decoded;
@@ -53,6 +53,12 @@ pub fn whole_count()
 {
     lines_join();
 }
+
+/// The calls depend on a matcher's matches alone, not on the terminator or the bytes that it excludes: a search with
+/// `Plain` of a matcher, which asks about one line at a time, makes the same calls as one with the matcher.
+pub fn matches_decide()
+    ensures { MatchesDecide }
+{}
 
 /// Line `i`, counted from 0, has the number `i + 1` if lines are numbered, and none if not.
 pub fn lines_are_numbered()

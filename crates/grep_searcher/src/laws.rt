@@ -7,8 +7,8 @@ use crate::sink::Sink;
 use grep_decode::Source;
 pub use grep_definitions::laws::{
     after_wins, at_most_limit, first_lines_begin, first_match_is_first, inversion_complements,
-    lines_are_numbered, matches_are_counted, matches_are_few, matches_are_selected, reports_ascend,
-    unchanged_is_searched, whole_count,
+    lines_are_numbered, matches_are_counted, matches_are_few, matches_are_selected, matches_decide,
+    reports_ascend, unchanged_is_searched, whole_count,
 };
 use grep_matcher::Matcher;
 use grep_report::SinkError;
