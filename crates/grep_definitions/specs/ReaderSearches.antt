@@ -44,7 +44,8 @@ module _ {R : Type 0} (remaining : R → Option (List ℕ)) (read_step : R → R
     pub takes : Consumes (remaining old) (remaining new) (concat pieces)
 
   -- why a reader's input wasn't searched to its end: after the lines that were seen, or before `begin`
-  pub data IsUnread (state : SearcherState) (meaning : Meaning) (reader : R) : Option (List ℕ) → Error → R → Type 0 where
+  pub data IsUnread (state : SearcherState) (meaning : Meaning) (reader : R)
+      : Option (List ℕ) → Error → R → Type 0 where
     of_cut : {seen : List ℕ} {error : Error} {reader' : R} (taken : Taken reader reader')
         → ((bytes : List ℕ) → IsInput state.settings taken.ended taken.pieces bytes
         → GoesOnAfter state.settings meaning bytes seen × CutsShort state.settings meaning bytes seen error)
@@ -76,8 +77,8 @@ module _ {R : Type 0} (remaining : R → Option (List ℕ)) (read_step : R → R
       pub finished : IsFinished step settings outcome mid (byte_count settings matcher.meaning seen) None (Ok tt) new
       pub front : (bytes : List ℕ) → IsInput settings taken.ended taken.pieces bytes → IsFront settings bytes seen
       pub run : (bytes : List ℕ) → IsInput settings taken.ended taken.pieces bytes
-          → IsRun step settings old (turns settings matcher.meaning bytes) (byte_count settings matcher.meaning bytes) None
-          (Ok tt) new
+          → IsRun step settings old (turns settings matcher.meaning bytes)
+          (byte_count settings matcher.meaning bytes) None (Ok tt) new
       pub all : (bytes : List ℕ) → IsInput settings taken.ended taken.pieces bytes → outcome ≡ all_true
           → turn_count settings matcher.meaning bytes ≤ length (lines (byte_of settings.line_terminator) seen)
       -- nothing was read unless `begin` returned true and a line may have a turn
@@ -112,8 +113,8 @@ module _ {R : Type 0} (remaining : R → Option (List ℕ)) (read_step : R → R
     IsReaderFaultUnless None state reader old e reader' new =
         IsLawful matcher state.settings → IsReaderFault state reader old e reader' new
 
-    -- a search of a reader: it isn't refused and, if the matcher is lawful, runs along the calls for its input, or it ends
-    -- in an error
+    -- a search of a reader: it isn't refused and, if the matcher is lawful, runs along the calls for its input, or it
+    -- ends in an error
     abbrev pub IsReaderSearched : SearcherState → R → S → Result (Unit {0}) E → R → S → Type 0
     IsReaderSearched state reader old (Ok u) reader' new =
         (refusal_of state.settings matcher.meaning ≡ None)

@@ -88,12 +88,13 @@ module _ {S E : Type 0} (step : Steps S E) where
       → new ≡ fold_while goes next old (match_calls turns)
 
 module _ {S E F : Type 0} (step : Steps S E) (errors : ErrorMakers E) (matcher : MatcherFacts F) where
-  -- if the matcher never fails and is lawful, and the search isn't refused, an error is that of a step of the sink, or the
-  -- input wasn't decoded to its end
+  -- if the matcher never fails and is lawful, and the search isn't refused, an error is that of a step of the sink, or
+  -- the input wasn't decoded to its end
   abbrev pub SearchesFail : Type 0
   SearchesFail =
       (state : SearcherState) (input : List ℕ) (old : S) (e : E) (new : S)
-      → IsInfallible matcher.fails → IsLawful matcher state.settings → refusal_of state.settings matcher.meaning ≡ None
+      → IsInfallible matcher.fails → IsLawful matcher state.settings
+      → refusal_of state.settings matcher.meaning ≡ None
       → IsSearched step errors matcher state input old (Err e) new
       → ((mid : S) × (call : Call) × step mid state.settings call (Err e) new)
       ⊎ ((seen : Option (List ℕ)) × (error : Error) × IsUndecoded state matcher.meaning input seen error
@@ -105,16 +106,19 @@ module _ {S E F : Type 0} (step : Steps S E) (errors : ErrorMakers E) (matcher :
   abbrev pub ReaderSearchesFail : Type 0
   ReaderSearchesFail =
       (state : SearcherState) (reader : R) (old : S) (e : E) (reader' : R) (new : S)
-      → IsInfallible matcher.fails → IsLawful matcher state.settings → refusal_of state.settings matcher.meaning ≡ None
+      → IsInfallible matcher.fails → IsLawful matcher state.settings
+      → refusal_of state.settings matcher.meaning ≡ None
       → IsReaderSearched remaining read_step step errors matcher state reader old (Err e) reader' new
       → ((mid : S) × (call : Call) × step mid state.settings call (Err e) new)
       ⊎ ((seen : Option (List ℕ)) × (error : Error)
       × IsUnread remaining read_step state matcher.meaning reader seen error reader' × errors.is_io error e)
 
-  -- a search of a reader that says which bytes remain, if it ended in `Ok`, is a run along the calls for its decoded bytes
+  -- a search of a reader that says which bytes remain, with a lawful matcher, if it ended in `Ok`, is a run along the
+  -- calls for its decoded bytes
   abbrev pub KnownReadersRun : Type 0
   KnownReadersRun =
-      (state : SearcherState) (reader : R) (input : List ℕ) (old : S) (reader' : R) (new : S) → remaining reader ≡ Some input
+      (state : SearcherState) (reader : R) (input : List ℕ) (old : S) (reader' : R) (new : S)
+      → remaining reader ≡ Some input
       → IsLawful matcher state.settings
       → IsReaderSearched remaining read_step step errors matcher state reader old (Ok tt) reader' new
       → IsRun step state.settings old (turns state.settings matcher.meaning (searched_bytes state.settings input))

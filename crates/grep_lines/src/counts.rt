@@ -39,7 +39,7 @@ pub fn line_count(bytes: &[u8], terminator: u8) -> u64
     }
 }
 
-// The same for fewer bytes than a wide part.
+// How many of the bytes are `terminator`, for fewer bytes than a wide part.
 #[inline(always)]
 fn count_rest(bytes: &[u8], terminator: u8) -> u64
     ensures { result ≡ count_by (λ b. b == terminator) bytes.now }

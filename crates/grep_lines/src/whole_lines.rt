@@ -31,8 +31,8 @@ pub fn locate(bytes: &[u8], terminator: u8, found: Match) -> Match
 /// The line of a position, with its terminator. The caller ensures that the position is at most the length.
 ///
 /// It starts right after the last terminator before the position, or at 0, and ends right after the first terminator
-/// at the position or later, or at the end of the bytes: as `locate` has it of an empty match. It takes one search for a
-/// terminator if it is the first line.
+/// at the position or later, or at the end of the bytes: as `locate` has it of an empty match. At the end of bytes that
+/// end in the terminator it is empty. It takes one search for a terminator if it is the first line and has one.
 #[inline]
 pub fn line_of(bytes: &[u8], terminator: u8, position: usize) -> Match
     requires { position ≤ length bytes.now }

@@ -26,7 +26,7 @@ pub trait Matcher {
     ghost fails: { Self → List ℕ → Self.Error → Type 0 };
 
     /// For which line terminators `find_candidate_line` can be trusted. A search with another one is safe and
-    /// returns, and nothing more is promised of it if the search asks about many lines at once.
+    /// returns, but which calls it makes isn't promised if it may ask about many lines at once.
     ghost is_lawful: { Self → LineTerminator → Type 0 };
 
     /// The first match of a haystack, as positions in it, or `None` if it has no match. The match lies within the
@@ -75,8 +75,8 @@ pub trait Matcher {
     /// in its terminator is in no line, and says that no line matches.
     ///
     /// A search asks this only if the matcher declares the search's line terminator, or has its byte among the
-    /// non-matching bytes, and trusts it for the terminators of which the matcher is lawful. A matcher that does neither
-    /// is never asked, and returns the position of `shortest_match`, as `Confirmed`.
+    /// non-matching bytes, and trusts it for the terminators for which the matcher is lawful. A matcher that does neither
+    /// is never asked.
     fn find_candidate_line(&self, haystack: &[u8]) -> Result<Option<LineMatchKind>, Self::Error>
         ensures inside { IfOk result (IsInside haystack.now) }
         ensures trusted { IfOk result

@@ -32,7 +32,7 @@ pub fn runs_fold_matches<S: Sink>()
     ensures { RunsFoldMatches S.step }
 {}
 
-/// If the matcher never fails and the search isn't refused, an error that a search of a slice ended in
+/// If the matcher never fails and is lawful, and the search isn't refused, an error that a search of a slice ended in
 /// is that of a step of the sink, or the slice has to be decoded and wasn't to its end.
 pub fn searches_fail<A: Allocator + Copy, M: Matcher, S: Sink>()
 where
@@ -70,7 +70,7 @@ where
         R.remaining R.step }
 {}
 
-/// A search of a reader that says which bytes remain, if it ended in `Ok`, is a run along the calls for
+/// A search of a reader that says which bytes remain, with a lawful matcher, if it ended in `Ok`, is a run along the calls for
 /// the decoded bytes of them all, as a search of a slice is.
 pub fn known_readers_run<A: Allocator + Copy, M: Matcher, R: Source, S: Sink>()
 where

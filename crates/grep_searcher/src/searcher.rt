@@ -116,6 +116,9 @@ impl<A: Allocator + Copy> Searcher<A> {
     /// the calls that are defined, up to the first that doesn't return true, and after a false `finish` with the end of
     /// that turn. It ends in the sink's error, or in an error made of the matcher's; then `finish` isn't called.
     ///
+    /// If the search may ask the matcher about many lines at once, these calls are promised of a matcher that is lawful
+    /// for the searcher's terminator. With any other matcher the search is safe and returns.
+    ///
     /// What is searched are the decoded bytes. If a label is set, or a mark is looked for and is there, the bytes
     /// are searched as a reader's are, as `search_reader` says, with its errors but the reader's own. Any other
     /// slice is searched as it is: that takes no memory, the heap limit is none for it, and it fails in no other
