@@ -77,11 +77,17 @@ pub trait Matcher {
     /// A search asks this only if the matcher declares the search's line terminator, or has its byte among the
     /// non-matching bytes, and trusts it for the terminators for which the matcher is lawful. A matcher that does neither
     /// is never asked.
+    ///
+    /// The default finds the first line as a `Candidate`, which says nothing of any line. It asks nothing and never
+    /// fails.
     fn find_candidate_line(&self, haystack: &[u8]) -> Result<Option<LineMatchKind>, Self::Error>
         ensures inside { IfOk result (IsInside haystack.now) }
         ensures trusted { IfOk result
             (IsTrusted (meaning self.now) (is_lawful self.now) haystack.now) }
-        ensures error { IfErr result (λ e. fails self.now haystack.now e) };
+        ensures error { IfErr result (λ e. fails self.now haystack.now e) }
+    {
+        Ok(Some(LineMatchKind::Candidate(0)))
+    }
 
     /// The line terminator that the matcher declares, if any. A search with another line terminator is refused.
     fn line_terminator(&self) -> Option<LineTerminator>

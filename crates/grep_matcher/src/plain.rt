@@ -1,12 +1,11 @@
 //! The matches of a matcher, without what makes a search fast.
 use crate::byte_set::ByteSet;
-use crate::line_match_kind::LineMatchKind;
 use crate::line_terminator::LineTerminator;
 use crate::matcher::Matcher;
 use crate::range::Match;
 
 /// The matches of another matcher, with no line terminator and no non-matching bytes, so that a search asks about one
-/// line at a time. `shortest_match` and `is_match` are the defaults.
+/// line at a time. `shortest_match`, `is_match` and `find_candidate_line` are the defaults.
 #[derive(Drop)]
 pub struct Plain<M>(pub M);
 
@@ -23,13 +22,6 @@ impl<M: Matcher> Matcher for Plain<M> {
 
     fn find(&self, haystack: &[u8]) -> Result<Option<Match>, M::Error> {
         self.0.find(haystack)
-    }
-
-    fn find_candidate_line(&self, haystack: &[u8]) -> Result<Option<LineMatchKind>, M::Error> {
-        match self.shortest_match(haystack)? {
-            Some(position) => Ok(Some(LineMatchKind::Confirmed(position))),
-            None => Ok(None),
-        }
     }
 
     fn line_terminator(&self) -> Option<LineTerminator> {

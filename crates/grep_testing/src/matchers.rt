@@ -66,13 +66,6 @@ impl Matcher for Empty {
         }
     }
 
-    fn find_candidate_line(&self, haystack: &[u8]) -> Result<Option<LineMatchKind>, io::Error> {
-        match self.shortest_match(haystack)? {
-            Some(position) => Ok(Some(LineMatchKind::Confirmed(position))),
-            None => Ok(None),
-        }
-    }
-
     fn line_terminator(&self) -> Option<LineTerminator> {
         None
     }
@@ -111,13 +104,6 @@ impl Matcher for Either {
         }
     }
 
-    fn find_candidate_line(&self, haystack: &[u8]) -> Result<Option<LineMatchKind>, io::Error> {
-        match self.shortest_match(haystack)? {
-            Some(position) => Ok(Some(LineMatchKind::Confirmed(position))),
-            None => Ok(None),
-        }
-    }
-
     fn line_terminator(&self) -> Option<LineTerminator> {
         None
     }
@@ -151,13 +137,6 @@ impl Matcher for Failing {
             Err(FAILING_MESSAGE)
         } else {
             Ok(Some(Match::zero(0)))
-        }
-    }
-
-    fn find_candidate_line(&self, haystack: &[u8]) -> Result<Option<LineMatchKind>, &'static str> {
-        match self.shortest_match(haystack)? {
-            Some(position) => Ok(Some(LineMatchKind::Confirmed(position))),
-            None => Ok(None),
         }
     }
 
