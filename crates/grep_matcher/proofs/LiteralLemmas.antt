@@ -1,13 +1,19 @@
--- A search for a literal finds its first occurrence, whose bytes are the literal's.
-use Rattle.std.proofs.Common.{◌≡◌, ℕ, ◌+◌, ◌-◌, ◌<◌, ◌≤◌, false, List, length, slice_index, Option, Some, None, ap, sym, ◌∙◌, arith}
+-- A search for a literal finds its first occurrence, whose bytes are the literal's, and gives its start for many lines.
+use Rattle.std.proofs.Common.{◌≡◌, ℕ, Bool, ◌+◌, ◌-◌, ◌<◌, ◌≤◌, false, List, length, slice_index, Option, Some, None, ap, sym, ◌∙◌, arith}
 use Rattle.std.proofs.Math.Bool.{and-false}
 use Rattle.std.proofs.lemmas.Bool.{eq-eqb}
 use Rattle.std.proofs.lemmas.List.Folds.{list_any_at}
 use Rattle.std.specs.Option.{option_map}
-use Rattle.std.specs.Prelude.{◌==◌, nat_lt}
+use Rattle.std.specs.Prelude.{◌==◌, nat_lt, if◌then◌else◌}
 use Rattle.memchr.specs.Find.{OccursAt, FindsNeedle}
 use Rattle.memchr.proofs.lemmas.ValueLemmas.{FindsNeedle-value}
-use Rattle.grep_matcher.specs.Literals.{literal_match, lacks}
+use Rattle.grep_matcher.specs.declared.line_match_kind.LineMatchKind.{LineMatchKind}
+use Rattle.grep_matcher.specs.declared.line_match_kind.LineMatchKind.TheVariants.{Confirmed, Candidate}
+use Rattle.grep_matcher.specs.Literals.{literal_match, literal_candidate, lacks}
+
+-- a position of which it is sure or not that its line matches
+abbrev kind : Bool → ℕ → LineMatchKind
+kind sure position = if sure then Confirmed position else Candidate position
 
 module _ (hay literal : List ℕ) where
   with_end : ℕ → ℕ × ℕ
@@ -21,6 +27,14 @@ module _ (hay literal : List ℕ) where
   pub match-none : FindsNeedle hay literal 0 None → ◌≡◌ {A = Option (ℕ × ℕ)} None (literal_match literal hay)
   unfolding with_end
   match-none none = ap (option_map with_end) (FindsNeedle-value hay literal None none)
+
+  pub candidate-found : (start : ℕ) (sure : Bool) → lacks literal 13 ≡ sure → FindsNeedle hay literal 0 (Some start)
+      → Some (kind sure start) ≡ literal_candidate literal hay
+  candidate-found start sure same found = ap (λ s. Some (kind s start)) (sym same)
+      ∙ ap (option_map (λ m. kind (lacks literal 13) m.0)) (match-found start found)
+
+  pub candidate-none : FindsNeedle hay literal 0 None → None ≡ literal_candidate literal hay
+  candidate-none none = ap (option_map (λ m. kind (lacks literal 13) m.0)) (match-none none)
 
   pub match-avoids : (start : ℕ) → OccursAt hay literal start → (i : ℕ) → start ≤ i → i < start + length literal
       → lacks literal (slice_index hay i) ≡ false

@@ -76,7 +76,9 @@ fn absent_from(literal: &[u8]) -> ByteSet
 impl Matcher for LiteralMatcher<'_> {
     type Error = io::Error;
 
-    ghost use Rattle.grep_matcher.specs.Literals.{literal_meaning};
+    ghost use Rattle.std.specs.Prelude.{IfErr};
+    ghost use Rattle.grep_matcher.specs.Lawful.{IsInside, IsTrusted};
+    ghost use Rattle.grep_matcher.specs.Literals.{literal_meaning, literal_candidate};
 
     ghost meaning = { literal_meaning };
 
@@ -93,7 +95,13 @@ impl Matcher for LiteralMatcher<'_> {
     }
 
     #[inline]
-    fn find_candidate_line(&self, haystack: &[u8]) -> Result<Option<LineMatchKind>, io::Error> {
+    fn find_candidate_line(&self, haystack: &[u8]) -> Result<Option<LineMatchKind>, io::Error>
+        ensures value { IfOk result (λ found. found ≡ literal_candidate self.now haystack.now) }
+        ensures inside { IfOk result (IsInside haystack.now) }
+        ensures trusted { IfOk result
+            (IsTrusted (literal_meaning self.now) (λ _. Unit {0}) haystack.now) }
+        ensures error { IfErr result (λ e. ⊥) }
+    {
         match self.finder.find(haystack) {
             Some(start) if self.absent.contains(b'\r') => Ok(Some(LineMatchKind::Confirmed(start))),
             Some(start) => Ok(Some(LineMatchKind::Candidate(start))),
