@@ -106,12 +106,13 @@ WholeCount =
     → turn_count settings meaning bytes ≡ line_count settings meaning bytes
     → byte_count settings meaning bytes ≡ length bytes
 
--- the calls depend on a matcher's matches alone, not on what it says of terminators: a search with `Plain` of it makes the
--- same
+-- the calls, how many lines have a turn, and the byte count depend on a matcher's matches alone, not on what it says
+-- of terminators: a search with `Plain` of it has the same
 abbrev pub MatchesDecide : Type 0
 MatchesDecide =
     (settings : Settings) (meaning : Meaning) (bytes : List ℕ)
     → (turns settings (plain meaning.first) bytes ≡ turns settings meaning bytes)
+    × (turn_count settings (plain meaning.first) bytes ≡ turn_count settings meaning bytes)
     × (byte_count settings (plain meaning.first) bytes ≡ byte_count settings meaning bytes)
 
 -- line i has the number i + 1, if lines are numbered

@@ -55,7 +55,8 @@ pub fn whole_count()
 }
 
 /// The calls depend on a matcher's matches alone, not on the terminator or the bytes that it excludes: a search with
-/// `Plain` of a matcher, which asks about one line at a time, makes the same calls as one with the matcher.
+/// `Plain` of a matcher, which asks about one line at a time, makes the same calls as one with the matcher. It has as
+/// many turns and the same byte count.
 pub fn matches_decide()
     ensures { MatchesDecide }
 {}
