@@ -8,7 +8,7 @@ mod matchers;
 mod pieces;
 mod recorder;
 
-pub use candidates::{CandidatesOnly, ConfirmsEnd, Contrary};
+pub use candidates::{CandidatesOnly, ConfirmsEnd, Contrary, EveryLine};
 pub use counting::{Counting, Counts};
 pub use matchers::{Either, Empty, FAILING_MESSAGE, Failing, Naming};
 pub use pieces::Pieces;

@@ -2,7 +2,7 @@
 use crate::searches::{search_reader, search_slice};
 use grep_matcher::{LiteralMatcher, Matcher};
 use grep_searcher::{ConfigError, SearchError, Searcher, SearcherBuilder};
-use grep_testing::{Contrary, Counting, Pieces, Recorder};
+use grep_testing::{Contrary, Counting, EveryLine, Pieces, Recorder};
 use std::alloc::Global;
 use std::io;
 use std::io::ErrorKind;
@@ -176,6 +176,48 @@ fn after_wrong_candidates(rt: HostRuntime) -> Result<(), Fail> {
                 "{matches}, {piece:?}"
             );
         }
+    }
+    Ok(())
+}
+
+// Whether a search makes these calls of its sink.
+fn makes<M: Matcher + Drop>(
+    alloc: Global,
+    matcher: M,
+    invert: bool,
+    piece: Option<usize>,
+    calls: &str,
+) -> Result<bool, SearchError> {
+    let mut searcher = SearcherBuilder::new().invert_match(invert).build(alloc)?;
+    let mut recorder = Recorder::new(alloc, None, None);
+    search(&mut searcher, matcher, INPUT, piece, &mut recorder)?;
+    Ok(recorder.text() == calls)
+}
+
+// Whether a search for the literal `a` makes these calls, also if every line is a candidate.
+fn both_make(
+    alloc: Global,
+    invert: bool,
+    piece: Option<usize>,
+    calls: &str,
+) -> Result<bool, SearchError> {
+    let literal = LiteralMatcher::borrowed(b"a");
+    let is_made = makes(alloc, &literal, invert, piece, calls)?;
+    Ok(is_made && makes(alloc, EveryLine(&literal), invert, piece, calls)?)
+}
+
+const CALLS: &str = "begin;match 2 2 610a;match 4 6 610a;finish 8 -;";
+
+const INVERTED_CALLS: &str = "begin;match 1 0 620a;match 3 4 620a;finish 8 -;";
+
+#[test]
+fn every_line_is_a_candidate(rt: HostRuntime) -> Result<(), Fail> {
+    for piece in [None, Some(0), Some(1)] {
+        assert!(rt; both_make(rt.alloc(), false, piece, CALLS)?, "{piece:?}");
+        assert!(rt;
+            both_make(rt.alloc(), true, piece, INVERTED_CALLS)?,
+            "{piece:?}"
+        );
     }
     Ok(())
 }
