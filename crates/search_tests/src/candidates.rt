@@ -32,6 +32,7 @@ const INPUT: &[u8] = b"b\na\nb\na\n";
 struct Row {
     // no slice, but a reader that gives a byte at a read
     bytes: bool,
+    invert: bool,
     stop: bool,
     // how many lines are selected at most
     max: Option<u64>,
@@ -46,6 +47,7 @@ struct Row {
 // A search of the whole input. Each question finds a line that matches.
 const WHOLE: Row = Row {
     bytes: false,
+    invert: false,
     stop: false,
     max: None,
     near: 0,
@@ -56,6 +58,11 @@ const WHOLE: Row = Row {
 
 const ROWS: &[Row] = &[
     WHOLE,
+    Row {
+        invert: true,
+        calls: "begin;match 1 0 620a;match 3 4 620a;finish 8 -;",
+        ..WHOLE
+    },
     Row {
         fails: true,
         calls: "begin;match 2 2 610a;",
@@ -98,6 +105,7 @@ const ROWS: &[Row] = &[
 fn searcher(alloc: Global, row: &Row) -> Result<Searcher, ConfigError> {
     SearcherBuilder::new()
         .bom_sniffing(false)
+        .invert_match(row.invert)
         .stop_on_nonmatch(row.stop)
         .max_matches(row.max)
         .before_context(row.near)
@@ -180,44 +188,23 @@ fn after_wrong_candidates(rt: HostRuntime) -> Result<(), Fail> {
     Ok(())
 }
 
-// Whether a search makes these calls of its sink.
-fn makes<M: Matcher + Drop>(
-    alloc: Global,
-    matcher: M,
-    invert: bool,
-    piece: Option<usize>,
-    calls: &str,
-) -> Result<bool, SearchError> {
-    let mut searcher = SearcherBuilder::new().invert_match(invert).build(alloc)?;
+// Whether the search of a row makes its calls if every line is a candidate.
+fn makes(alloc: Global, row: &Row, piece: Option<usize>) -> Result<bool, SearchError> {
+    let mut searcher = searcher(alloc, row)?;
     let mut recorder = Recorder::new(alloc, None, None);
+    let matcher = EveryLine(LiteralMatcher::borrowed(b"a"));
     search(&mut searcher, matcher, INPUT, piece, &mut recorder)?;
-    Ok(recorder.text() == calls)
+    Ok(recorder.text() == row.calls)
 }
-
-// Whether a search for the literal `a` makes these calls, also if every line is a candidate.
-fn both_make(
-    alloc: Global,
-    invert: bool,
-    piece: Option<usize>,
-    calls: &str,
-) -> Result<bool, SearchError> {
-    let literal = LiteralMatcher::borrowed(b"a");
-    let is_made = makes(alloc, &literal, invert, piece, calls)?;
-    Ok(is_made && makes(alloc, EveryLine(&literal), invert, piece, calls)?)
-}
-
-const CALLS: &str = "begin;match 2 2 610a;match 4 6 610a;finish 8 -;";
-
-const INVERTED_CALLS: &str = "begin;match 1 0 620a;match 3 4 620a;finish 8 -;";
 
 #[test]
 fn every_line_is_a_candidate(rt: HostRuntime) -> Result<(), Fail> {
-    for piece in [None, Some(0), Some(1)] {
-        assert!(rt; both_make(rt.alloc(), false, piece, CALLS)?, "{piece:?}");
-        assert!(rt;
-            both_make(rt.alloc(), true, piece, INVERTED_CALLS)?,
-            "{piece:?}"
-        );
+    for (index, row) in ROWS.iter().enumerate() {
+        if !row.fails {
+            for piece in [None, Some(0), Some(1)] {
+                assert!(rt; makes(rt.alloc(), row, piece)?, "row {index}, {piece:?}");
+            }
+        }
     }
     Ok(())
 }
