@@ -4,6 +4,7 @@ pub mod BelowLemmas
 pub mod SinkRunLemmas
 pub mod SinkFoldLemmas
 pub mod KnownReaderLemmas
+pub mod ReaderViewLemmas
 pub mod LimitLemmas
 pub mod ContextLemmas
 pub mod LineStartLemmas

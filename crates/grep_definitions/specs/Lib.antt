@@ -1,5 +1,6 @@
 pub mod Below
 pub mod DecodedInputs
+pub mod FileSearches
 pub mod InputFronts
 pub mod LineSearch
 pub mod LineTurns

@@ -77,6 +77,34 @@ impl<A: Allocator + Copy> SinkError<A> for SearchError<A> {
     }
 }
 
+/// An `io::Error` is kept as it is. Of a message, and of a configuration that no search can run with, the error is of the
+/// kind `Other` and has the text; std keeps the first 80 bytes of it.
+impl<A: Allocator + Copy> SinkError<A> for io::Error {
+    ghost use Rattle.std.specs.IoError.{error_kind};
+    ghost use Rattle.std.specs.declared.io.ErrorKind.TheVariants.{Other};
+
+    ghost is_message = { λ _ e. error_kind e ≡ Other };
+
+    ghost is_io = { λ error e. e ≡ error };
+
+    ghost is_config = { λ _ e. error_kind e ≡ Other };
+
+    fn error_message<T: Display + Drop>(alloc: A, message: T) -> io::Error {
+        match message.to_string(alloc) {
+            Ok(text) => io::Error::other(text.as_str()),
+            Err(_) => io::Error::from(io::ErrorKind::Other),
+        }
+    }
+
+    fn error_io(_alloc: A, error: io::Error) -> io::Error {
+        error
+    }
+
+    fn error_config(alloc: A, error: ConfigError) -> io::Error {
+        <io::Error as SinkError<A>>::error_message(alloc, error)
+    }
+}
+
 /// Out of memory, as an `io::Error` of the kind `OutOfMemory`.
 impl<A: Allocator> From<AllocError> for SearchError<A> {
     ghost use Rattle.grep_report.specs.SearchErrors.{IsOutOfMemory};

@@ -1,3 +1,4 @@
+pub mod ClosureSinks
 pub mod Configs
 pub mod InputSearches
 pub mod LookAheads
@@ -17,6 +18,7 @@ pub use Rattle.grep_definitions.specs.InputFronts
 pub use Rattle.grep_definitions.specs.ReadingFaults
 pub use Rattle.grep_definitions.specs.Searches
 pub use Rattle.grep_definitions.specs.ReaderSearches
+pub use Rattle.grep_definitions.specs.FileSearches
 pub use Rattle.grep_definitions.specs.SearchLaws
 pub use Rattle.grep_definitions.specs.SinkFolds
 pub use Rattle.grep_decode.specs.Labels

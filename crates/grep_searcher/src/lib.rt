@@ -10,6 +10,7 @@ mod config;
 pub mod laws;
 mod searcher;
 mod sink;
+pub mod sinks;
 
 pub use grep_decode::{Reading, Source};
 pub use grep_lines::{LineIter, LineStep};

@@ -20,6 +20,7 @@ ghost use Rattle.grep_searcher.specs.SearchBuffers.{AreFitting};
 
 mod buffers;
 mod builder;
+mod files;
 mod look_ahead;
 mod queries;
 mod read_by_line;
@@ -222,6 +223,11 @@ impl<A: Allocator + Copy> Searcher<A> {
             return Err(S::Error::error_config(self.alloc, refusal));
         }
         self.search_source(&matcher, reader, sink)
+    }
+
+    // The allocator, for what a sink makes.
+    pub(crate) fn alloc(&self) -> A {
+        self.alloc
     }
 
     // Takes out the buffers, or makes them now if there are none. An error is one of kind `OutOfMemory`.

@@ -6,6 +6,8 @@ ghost use Rattle.grep_report.specs.SinkReports.{match_bytes};
 ghost use Rattle.grep_definitions.specs.SinkCalls.{Call, begins, breaks, match_call, context_call, finish_call};
 ghost use Rattle.grep_definitions.specs.SinkRuns.{finish_result};
 
+mod boxes;
+
 use crate::searcher::Searcher;
 use grep_report::{SinkContext, SinkFinish, SinkMatch};
 use std::alloc::Allocator;

@@ -1,4 +1,4 @@
-use Rattle.std.proofs.Common.{rules, ◌≡◌, ◌++◌, ap, arith, length, length-drop, Bool, Ok, Some, true}
+use Rattle.std.proofs.Common.{rules, ◌≡◌, ◌++◌, ap, arith, length, Bool, Ok, Some, true}
 use Rattle.std.proofs.lemmas.Result.{err_from_is_err_and}
 use Rattle.grep_matcher.specs.Terminators.{byte_of}
 use Rattle.grep_definitions.specs.Questions.{IsLawfulFor}

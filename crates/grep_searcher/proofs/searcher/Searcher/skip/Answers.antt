@@ -1,4 +1,4 @@
-use Rattle.std.proofs.Common.{◌-◌, ap, arith, drop, length-drop, length-take, subst}
+use Rattle.std.proofs.Common.{◌-◌, arith, drop, length-drop, length-take}
 use Rattle.grep_matcher.specs.Terminators.{byte_of}
 use Rattle.grep_lines.specs.Positions.{slice}
 use Rattle.grep_searcher.proofs.searcher.Searcher.skip.Goals as goal

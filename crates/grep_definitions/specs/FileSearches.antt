@@ -1,0 +1,30 @@
+-- What a search of a file does.
+use Rattle.std.specs.Prelude.{◌≡◌, ◌⊎◌, ℕ, List, Option, Result, Ok, Err}
+use Rattle.std.specs.Io.KnownBytes.{Consumes, Keeps}
+use Rattle.std.specs.declared.io.Error.{Error}
+use Rattle.grep_decode.specs.Source.{ReadResult}
+use Rattle.grep_definitions.specs.ReaderSearches.{IsReaderSearched}
+use Rattle.grep_definitions.specs.Searches.{ErrorMakers, MatcherFacts}
+use Rattle.grep_definitions.specs.Settings.{SearcherState}
+use Rattle.grep_definitions.specs.SinkRuns.{Steps}
+
+-- a read of a file, if it says which bytes remain: what it returned was their front, and an error took none
+abbrev pub IsFileRead : {F : Type 0} → (F → Option (List ℕ)) → F → ReadResult → F → Type 0
+IsFileRead remaining old (Ok bytes) new = Consumes (remaining old) (remaining new) bytes
+IsFileRead remaining old (Err e) new = Keeps (remaining old) (remaining new)
+
+module _ {F : Type 0} (remaining : F → Option (List ℕ))
+    {S E G : Type 0} (step : Steps S E) (errors : ErrorMakers E) (matcher : MatcherFacts G) where
+  -- a search of a file from where it is: that of a reader
+  abbrev pub IsFileSearched : SearcherState → F → S → Result (Unit {0}) E → F → S → Type 0
+  IsFileSearched state file old result file' new =
+      IsReaderSearched remaining (IsFileRead remaining) step errors matcher state file old result file' new
+
+  -- the error is that of opening a file, and the sink had no call
+  abbrev pub IsUnopened : S → Result (Unit {0}) E → S → Type 0
+  IsUnopened old result new = (error : Error) × (e : E) × (result ≡ Err e) × errors.is_io error e × (new ≡ old)
+
+  -- a search of a path: its file couldn't be opened, or a file was opened first, and searched
+  abbrev pub IsPathSearched : SearcherState → S → Result (Unit {0}) E → S → Type 0
+  IsPathSearched state old result new =
+      IsUnopened old result new ⊎ ((file : F) × (file' : F) × IsFileSearched state file old result file' new)

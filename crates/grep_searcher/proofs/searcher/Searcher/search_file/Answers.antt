@@ -1,0 +1,40 @@
+use Rattle.std.specs.Prelude.{Result, Ok, Err, IfErr}
+use Rattle.grep_definitions.specs.FileSearches.{IsFileRead}
+use Rattle.grep_definitions.proofs.ReaderViewLemmas.{IsReaderSearched-seen, IsUnread-seen}
+use Rattle.grep_searcher.specs.declared.searcher.files.Opened.{Opened}
+use Rattle.grep_searcher.proofs.searcher.Searcher.search_file.Goals as goal
+
+pub returns-clause-searched : goal.returns-clause-searched
+returns-clause-searched g c =
+    IsReaderSearched-seen (λ (reader : Opened g.row.F.Denot). reader.file.now) (λ reader. reader.file.ghost_name)
+    g.F.Read.remaining _ (IsFileRead g.F.Read.remaining) (λ s result t read. read)
+    c.args.self.now _ c.search_reader.new.reader c.file-1.given.0 c.file-1.given.1 g.S.Sink.step
+    (record {
+      is_message = g.S.Error.SinkError.is_message;
+      is_io = g.S.Error.SinkError.is_io;
+      is_config = g.S.Error.SinkError.is_config;
+    })
+    (record {
+      meaning = g.M.Matcher.meaning c.args.matcher;
+      fails = g.M.Matcher.fails c.args.matcher;
+      is_lawful = g.M.Matcher.is_lawful c.args.matcher;
+      text_of = g.M.Error.Display.output;
+    })
+    c.args.sink.now c.search_reader.result c.search_reader.new.sink c.search_reader.ensures.searched
+
+pub returns-clause-succeeds : goal.returns-clause-succeeds
+returns-clause-succeeds g c = λ never_fails infallible lawful allowed.
+    err-seen c.search_reader.result (λ e unread. (
+      unread.0,
+      unread.1,
+      IsUnread-seen (λ (reader : Opened g.row.F.Denot). reader.file.now) (λ reader. reader.file.ghost_name)
+          g.F.Read.remaining _ (IsFileRead g.F.Read.remaining) (λ s result t read. read)
+          c.args.self.now _ c.search_reader.new.reader c.file-1.given.0 c.file-1.given.1 (g.M.Matcher.meaning c.args.matcher)
+          unread.0 unread.1 unread.2,
+      unread.3,
+    )) (c.search_reader.ensures.succeeds never_fails infallible lawful allowed)
+  where
+    err-seen : {T E : Type 0} {P Q : E → Type 0} (result : Result T E) → ((e : E) → P e → Q e) → IfErr result P
+        → IfErr result Q
+    err-seen (Ok u) seen unread = tt
+    err-seen (Err e) seen unread = seen e unread

@@ -1,0 +1,54 @@
+-- What a sink that calls a closure makes of a call.
+use Rattle.std.specs.Prelude.{◌≡◌, ◌⊎◌, ℕ, Bool, true, List, Option, Some, None, Result, Ok, Err}
+use Rattle.std.specs.Borrow.{Bor}
+use Rattle.std.specs.IoError.{error_kind}
+use Rattle.std.specs.Str.{IsUtf8}
+use Rattle.std.specs.Str.Lossy.{utf8_lossy}
+use Rattle.std.specs.declared.io.Error.{Error}
+use Rattle.std.specs.declared.io.ErrorKind.TheVariants.{Other, OutOfMemory}
+use Rattle.grep_definitions.specs.SinkCalls.{Call, begins, matches, context, breaks, binary_data, finishes}
+
+-- The text of a match as the closure gets it, or the error if it gets none.
+
+-- the bytes as they are
+abbrev pub IsWholeText : List ℕ → Result (List ℕ) Error → Type 0
+IsWholeText bytes (Ok text) = text ≡ bytes
+IsWholeText bytes (Err e) = ⊥
+
+-- the bytes as they are, if they are UTF-8
+abbrev pub IsUtf8Text : List ℕ → Result (List ℕ) Error → Type 0
+IsUtf8Text bytes (Ok text) = (text ≡ bytes) × IsUtf8 bytes
+IsUtf8Text bytes (Err e) = (IsUtf8 bytes → ⊥) × (error_kind e ≡ Other)
+
+-- the bytes with each part that isn't UTF-8 replaced, for which there may be no memory if there is one
+abbrev pub IsLossyText : List ℕ → Result (List ℕ) Error → Type 0
+IsLossyText bytes (Ok text) = text ≡ utf8_lossy bytes
+IsLossyText bytes (Err e) = (IsUtf8 bytes → ⊥) × (error_kind e ≡ OutOfMemory)
+
+module _ {F : Type 0} (call : F → ℕ → Bor (List ℕ) → Result Bool Error → F → Type 0)
+    (is_text : List ℕ → Result (List ℕ) Error → Type 0) where
+  -- the closure isn't called, and the search goes on
+  abbrev pub IsPassedOver : F → Result Bool Error → F → Type 0
+  IsPassedOver old result new = (result ≡ Ok true) × (new ≡ old)
+
+  -- the closure isn't called, by this error
+  abbrev pub IsRefusedBy : (Error → Type 0) → F → Result Bool Error → F → Type 0
+  IsRefusedBy is_error old result new = (e : Error) × is_error e × (result ≡ Err e) × (new ≡ old)
+
+  -- a match with this text: the closure is called once, with its number and the text, and its result is returned; without a
+  -- number the error is of the kind `Other`
+  abbrev pub IsCalled : Option ℕ → List ℕ → F → Result Bool Error → F → Type 0
+  IsCalled None text old result new = IsRefusedBy (λ e. error_kind e ≡ Other) old result new
+  IsCalled (Some number) text old result new =
+      (passed : Bor (List ℕ)) × (passed.now ≡ text) × call old number passed result new
+
+  -- a match: there is no text for the closure, or it is called with the text; any other call passes it over
+  abbrev pub IsClosureStep : F → Call → Result Bool Error → F → Type 0
+  IsClosureStep old begins result new = IsPassedOver old result new
+  IsClosureStep old (matches number offset bytes) result new =
+      IsRefusedBy (λ e. is_text bytes (Err e)) old result new
+      ⊎ ((text : List ℕ) × is_text bytes (Ok text) × IsCalled number text old result new)
+  IsClosureStep old (context kind number offset bytes) result new = IsPassedOver old result new
+  IsClosureStep old breaks result new = IsPassedOver old result new
+  IsClosureStep old (binary_data offset) result new = IsPassedOver old result new
+  IsClosureStep old (finishes count binary) result new = IsPassedOver old result new

@@ -1,0 +1,130 @@
+//! Searches of files.
+ghost use Rattle.std.specs.Prelude.{◌≡◌, true, ℕ, List, Option, None, IfErr, OnOk};
+ghost use Rattle.std.specs.declared.io.Error.{Error};
+ghost use Rattle.grep_definitions.specs.FileSearches.{IsFileRead, IsFileSearched, IsPathSearched};
+ghost use Rattle.grep_definitions.specs.Questions.{IsLawfulFor};
+ghost use Rattle.grep_definitions.specs.ReaderSearches.{IsUnread};
+ghost use Rattle.grep_definitions.specs.Refusals.{refusal_of};
+ghost use Rattle.grep_definitions.specs.SinkRuns.{NeverFails};
+ghost use Rattle.grep_matcher.specs.Matching.{IsInfallible};
+
+use crate::searcher::Searcher;
+use crate::sink::Sink;
+use grep_decode::Source;
+use grep_matcher::Matcher;
+use grep_report::SinkError;
+use std::alloc::Allocator;
+use std::fs::File;
+use std::io;
+use std::io::Read;
+use std::path::AsPath;
+use std::rt::Files;
+
+impl<A: Allocator + Copy> Searcher<A> {
+    /// Searches a file from its position on, as `search_reader` searches a reader, with the same errors. It is read
+    /// straight into the searcher's line buffer, with no buffer between. The caller ensures that the sink may be called.
+    ///
+    /// What is promised of the calls is promised of a file that says which bytes remain. Of one of the system nobody
+    /// knows that; it holds while nobody writes the file and the disk returns what was written.
+    pub fn search_file<M: Matcher, F: Read, S: Sink>(
+        &mut self,
+        matcher: M,
+        file: &mut F,
+        sink: &mut S,
+    ) -> Result<(), S::Error>
+    where
+        M: Drop,
+        S::Error: SinkError<A>,
+        requires { S.may_call sink.old }
+        ensures settings { self.new.settings ≡ self.old.settings }
+        ensures buffers { self.old.has_buffers ≡ true → self.new.has_buffers ≡ true }
+        ensures gets { OnOk result (self.new.has_buffers ≡ true) }
+        ensures searched { IsFileSearched F.remaining S.step
+            (record {
+              is_message = S.Error.is_message;
+              is_io = S.Error.is_io;
+              is_config = S.Error.is_config;
+            })
+            (record {
+              meaning = M.meaning matcher;
+              fails = M.fails matcher;
+              is_lawful = M.is_lawful matcher;
+              text_of = M.Error.output;
+            })
+            self.old file.old sink.old result file.new sink.new }
+        ensures succeeds { NeverFails S.step S.may_call → IsInfallible (M.fails matcher)
+            → IsLawfulFor self.old.settings (M.meaning matcher) (M.is_lawful matcher)
+            → refusal_of self.old.settings (M.meaning matcher) ≡ None
+            → IfErr result (λ e. (seen : Option (List ℕ)) × (error : Error)
+            × IsUnread F.remaining (IsFileRead F.remaining) self.old (M.meaning matcher)
+            file.old seen error file.new × S.Error.is_io error e) }
+        ensures may_call { S.may_call sink.new }
+    {
+        self.search_reader(matcher, &mut Opened { file }, sink)
+    }
+
+    /// Opens the file at a path and searches it from its start, as `search_file` does. If it can't be opened, the error is
+    /// made of that of opening, by `error_io`, and the sink has no call; that comes before any other error. The caller
+    /// ensures that the sink may be called.
+    pub fn search_path<R: Files, M: Matcher, P: AsPath, S: Sink>(
+        &mut self,
+        rt: &R,
+        matcher: M,
+        path: P,
+        sink: &mut S,
+    ) -> Result<(), S::Error>
+    where
+        M: Drop,
+        S::Error: SinkError<A>,
+        requires { S.may_call sink.old }
+        ensures settings { self.new.settings ≡ self.old.settings }
+        ensures buffers { self.old.has_buffers ≡ true → self.new.has_buffers ≡ true }
+        ensures gets { OnOk result (self.new.has_buffers ≡ true) }
+        ensures searched { IsPathSearched R.File.remaining S.step
+            (record {
+              is_message = S.Error.is_message;
+              is_io = S.Error.is_io;
+              is_config = S.Error.is_config;
+            })
+            (record {
+              meaning = M.meaning matcher;
+              fails = M.fails matcher;
+              is_lawful = M.is_lawful matcher;
+              text_of = M.Error.output;
+            })
+            self.old sink.old result sink.new }
+        ensures succeeds { NeverFails S.step S.may_call → IsInfallible (M.fails matcher)
+            → IsLawfulFor self.old.settings (M.meaning matcher) (M.is_lawful matcher)
+            → refusal_of self.old.settings (M.meaning matcher) ≡ None
+            → IfErr result (λ e. (error : Error) × S.Error.is_io error e) }
+        ensures may_call { S.may_call sink.new }
+    {
+        match File::open(rt, path) {
+            Ok(mut file) => self.search_file(matcher, &mut file, sink),
+            Err(error) => Err(S::Error::error_io(self.alloc, error)),
+        }
+    }
+}
+
+// A file as a source.
+#[derive(Drop)]
+struct Opened<'f, F> {
+    file: &'f mut F,
+}
+
+impl<'f, F: Read> Source for Opened<'f, F> {
+    ghost use Rattle.grep_definitions.specs.FileSearches.{IsFileRead};
+
+    ghost remaining = { λ s. F.remaining s.file.now };
+
+    ghost step = { λ s result t. (t.file.ghost_name ≡ s.file.ghost_name)
+        × IsFileRead F.remaining s.file.now result t.file.now };
+
+    ghost gives = { λ s t bytes h. h.1 };
+
+    ghost keeps = { λ s t e h. h.1 };
+
+    fn pull(&mut self, buffer: &mut [u8]) -> io::Result<usize> {
+        self.file.read(buffer)
+    }
+}
