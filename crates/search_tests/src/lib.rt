@@ -7,7 +7,11 @@
 #[cfg(test)]
 mod candidates;
 #[cfg(test)]
+mod closures;
+#[cfg(test)]
 mod copies;
+#[cfg(test)]
+mod files;
 #[cfg(test)]
 mod matchers;
 #[cfg(test)]

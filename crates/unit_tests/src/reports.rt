@@ -113,6 +113,19 @@ fn search_errors(rt: HostRuntime) {
             form
         )
     );
-    let message = SearchError::error_message(alloc, "no match");
-    assert!(rt; has_forms(alloc, message, "no match", "Message(\"no match\")"));
+    let message = SearchError::error_message(alloc, "oops");
+    assert!(rt; has_forms(alloc, message, "oops", "Message(\"oops\")"));
+}
+
+// Whether an error of std is of the kind `Other` and has this text.
+fn is_other(alloc: Global, error: io::Error, text: &str) -> bool {
+    error.kind() == io::ErrorKind::Other && displays(alloc, &error, text)
+}
+
+#[test]
+fn io_errors(rt: HostRuntime) {
+    let alloc = rt.alloc();
+    assert!(rt; is_other(alloc, io::Error::error_message(alloc, "oops"), "oops"));
+    let refused = io::Error::error_config(alloc, ConfigError::SearchUnavailable);
+    assert!(rt; is_other(alloc, refused, UNAVAILABLE_TEXT));
 }

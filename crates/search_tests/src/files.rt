@@ -1,0 +1,134 @@
+//! Searches of files, and of paths.
+use grep_matcher::{LineTerminator, LiteralMatcher};
+use grep_searcher::{ConfigError, SearchError, Searcher, SearcherBuilder};
+use grep_testing::{Naming, Recorder};
+use std::alloc::Global;
+use std::fs::File;
+use std::io::{ErrorKind, Read};
+use std::path::{Path, PathBuf};
+use std::test::Fail;
+use std::{env, fs, io, process};
+
+// A path of this process alone, in the directory for temporary files.
+fn temporary_path(rt: &HostRuntime, name: &str) -> io::Result<PathBuf> {
+    let alloc = rt.alloc();
+    let name = format!(in alloc; "search_tests-{}-{name}", process::id(rt.process()))?;
+    Ok(env::temp_dir(rt)?.join(alloc, name.as_str())?)
+}
+
+const INPUT: &[u8] = b"a\nx\nx\nx\na\n";
+
+const CALLS: &str = "begin;match 1 0 610a;after 2 2 780a;break;match 5 8 610a;finish 10 -;";
+
+// A searcher that reports a line after each match.
+fn searcher(alloc: Global) -> Result<Searcher, ConfigError> {
+    SearcherBuilder::new().after_context(1).build(alloc)
+}
+
+// Whether a search of a path, twice with one searcher, makes the calls.
+fn finds_in_path(rt: &HostRuntime, path: Path<'_>) -> Result<bool, SearchError> {
+    let mut searcher = searcher(rt.alloc())?;
+    for _ in 0..2 {
+        let mut recorder = Recorder::new(rt.alloc(), None, None);
+        let matcher = LiteralMatcher::borrowed(b"a");
+        searcher.search_path(rt, matcher, path, &mut recorder)?;
+        if recorder.text() != CALLS {
+            return Ok(false);
+        }
+    }
+    Ok(true)
+}
+
+// Whether a search of an open file makes the calls, and another at its end none but the first and the last.
+fn finds_in_file(rt: &HostRuntime, path: Path<'_>) -> Result<bool, SearchError> {
+    let mut file = File::open(rt, path)?;
+    let mut searcher = searcher(rt.alloc())?;
+    let mut recorder = Recorder::new(rt.alloc(), None, None);
+    searcher.search_file(LiteralMatcher::borrowed(b"a"), &mut file, &mut recorder)?;
+    let mut at_end = Recorder::new(rt.alloc(), None, None);
+    searcher.search_file(LiteralMatcher::borrowed(b"a"), &mut file, &mut at_end)?;
+    Ok(recorder.text() == CALLS && at_end.text() == "begin;finish 0 -;")
+}
+
+#[test]
+fn files(rt: HostRuntime) -> Result<(), Fail> {
+    let path = temporary_path(&rt, "files")?;
+    fs::write(&rt, path.as_path(), INPUT)?;
+    let by_path = finds_in_path(&rt, path.as_path());
+    let by_file = finds_in_file(&rt, path.as_path());
+    fs::remove_file(&rt, path.as_path())?;
+    assert!(rt; by_path?);
+    assert!(rt; by_file?);
+    Ok(())
+}
+
+// The error of a search of a path that doesn't exist, by a searcher that refuses each search, if the sink had no call.
+fn unopened(rt: &HostRuntime, path: Path<'_>) -> Result<Option<ErrorKind>, ConfigError> {
+    let mut searcher = SearcherBuilder::new()
+        .heap_limit(Some(0))
+        .build(rt.alloc())?;
+    let mut recorder = Recorder::new(rt.alloc(), None, None);
+    let matcher = LiteralMatcher::borrowed(b"a");
+    let ended = searcher.search_path(rt, matcher, path, &mut recorder);
+    match ended {
+        Err(SearchError::Io(error)) if recorder.text().is_empty() => Ok(Some(error.kind())),
+        _ => Ok(None),
+    }
+}
+
+#[test]
+fn opens_before_anything_else(rt: HostRuntime) -> Result<(), Fail> {
+    let path = temporary_path(&rt, "nowhere")?;
+    assert!(rt; unopened(&rt, path.as_path())? == Some(ErrorKind::NotFound));
+    Ok(())
+}
+
+// Counts its reads, each of which is at the end.
+#[derive(Drop)]
+struct Unread {
+    reads: u64,
+}
+
+impl Read for Unread {
+    fn read(&mut self, _buffer: &mut [u8]) -> io::Result<usize> {
+        self.reads = self.reads.saturating_add(1);
+        Ok(0)
+    }
+}
+
+// The configuration that a search of a file is refused for, if nothing was read or called.
+fn refused(
+    alloc: Global,
+    heap_limit: Option<usize>,
+    terminator: LineTerminator,
+) -> Result<Option<ConfigError>, ConfigError> {
+    let mut searcher = SearcherBuilder::new()
+        .heap_limit(heap_limit)
+        .build(alloc)?;
+    let mut file = Unread { reads: 0 };
+    let mut recorder = Recorder::new(alloc, None, None);
+    let matcher = Naming {
+        terminator,
+        matcher: LiteralMatcher::borrowed(b"a"),
+    };
+    let ended = searcher.search_file(matcher, &mut file, &mut recorder);
+    match ended {
+        Err(SearchError::Config(error)) if file.reads == 0 && recorder.text().is_empty() => {
+            Ok(Some(error))
+        }
+        _ => Ok(None),
+    }
+}
+
+#[test]
+fn refuses_before_any_read(rt: HostRuntime) -> Result<(), Fail> {
+    let (named, searcher) = (LineTerminator::byte(b'z'), LineTerminator::default());
+    let limit = refused(rt.alloc(), Some(0), named)?;
+    assert!(rt; limit == Some(ConfigError::SearchUnavailable));
+    let mismatch = ConfigError::MismatchedLineTerminators {
+        matcher: named,
+        searcher,
+    };
+    assert!(rt; refused(rt.alloc(), None, named)? == Some(mismatch));
+    Ok(())
+}
