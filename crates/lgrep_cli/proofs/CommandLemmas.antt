@@ -1,6 +1,6 @@
 -- Arguments that are read one after another.
 use Rattle.std.proofs.Common.{◌≡◌, ℕ, List, [], ◌∷◌, length, refl, sym, ap, subst, ◌∙◌, inl, inr, Iter}
-use Rattle.std.specs.Prelude.{Bool, true, false, ◌||◌, ◌⊎◌, ◌↔◌, codes, String, Option, Some, None, Result, Ok, Err, IfOk, if◌then◌else◌, IsNone, IsSome, MatchOption, string_bytes}
+use Rattle.std.specs.Prelude.{Bool, true, false, ◌||◌, ◌⊎◌, ◌↔◌, codes, String, Option, Some, None, Result, Ok, Err, IfOk, if◌then◌else◌, MatchOption, string_bytes}
 use Rattle.std.specs.Bool.{Decides}
 use Rattle.std.specs.Borrow.{Bor}
 use Rattle.std.specs.Global.{Global}
@@ -11,7 +11,7 @@ use Rattle.std.proofs.lemmas.Slice.Eq.{bytes_eq-Decides}
 use Rattle.lgrep_cli.specs.declared.options.Options.{Options}
 use Rattle.lgrep_cli.specs.declared.options.OptionsFault.{OptionsFault}
 use Rattle.lgrep_cli.specs.declared.options.OptionsFault.TheVariants.{Usage, Memory}
-use Rattle.lgrep_cli.specs.CommandLine.{Request, AreOptionsOf, AskFor, IsLast, bare, is_dashed, literal_only, with_number, request_of, text_of, texts, with_invert, with_passthru, with_after, with_before, with_max}
+use Rattle.lgrep_cli.specs.CommandLine.{Request, AreLast, AreOptionsOf, AskFor, bare, is_dashed, operands, operands_in, operands_of, with_number, request_of, text_of, texts, with_invert, with_passthru, with_after, with_before, with_max}
 use Rattle.lgrep_cli.specs.Numerals.{number_of}
 
 -- what a request comes to
@@ -22,6 +22,7 @@ pub record Values : Type 0 where
   pub passthru : Bool
   pub max : Option ℕ
   pub literal : List ℕ
+  pub path : Option (List ℕ)
 
 abbrev pub settled : Request → Values
 settled request = record {
@@ -31,6 +32,7 @@ settled request = record {
   passthru = request.passthru;
   max = request.max;
   literal = request.literal;
+  path = request.path;
 }
 
 -- what it comes to over options that come before it
@@ -42,6 +44,7 @@ over options request = record {
   passthru = request.passthru || options.passthru;
   max = option_or request.max options.max;
   literal = request.literal;
+  path = request.path;
 }
 
 -- what all arguments ask for is what the later ones ask for, over these options
@@ -253,192 +256,207 @@ pub record IsNoOption (argument : List ℕ) : Type 0 where
   pub max : argument ≡ codes "-m" → ⊥
   pub end : argument ≡ codes "--" → ⊥
 
-other-more : (argument next : List ℕ) (later : List (List ℕ)) → IsNoOption argument → request_of (argument ∷ next ∷ later) ≡ None
-other-more argument next later otherwise =
+no-option : (argument : List ℕ) (later : List (List ℕ)) → IsNoOption argument
+    → request_of (argument ∷ later) ≡ (if is_dashed argument then None else operands_of (argument ∷ later))
+no-option argument [] otherwise = refl
+no-option argument (next ∷ later) otherwise =
     rw (
       other argument (codes "-v") otherwise.invert,
       other argument (codes "--passthru") otherwise.passthru,
-      other argument
-          (codes "-A") otherwise.after,
+      other argument (codes "-A") otherwise.after,
       other argument (codes "-B") otherwise.before,
       other argument (codes "-m") otherwise.max,
       other argument (codes "--") otherwise.end,
     ) refl
 
-dashed-none : (argument : List ℕ) (later : List (List ℕ)) → is_dashed argument ≡ true → IsNoOption argument
-    → request_of (argument ∷ later) ≡ None
-dashed-none argument [] dashed otherwise = rw dashed refl
-dashed-none argument (next ∷ later) dashed otherwise = other-more argument next later otherwise
-
 pub dashed-usage : (all before later : List (String Global)) (argument : String Global) (options : Options) → before ≡ argument ∷ later
     → is_dashed (string_bytes argument) ≡ true → IsNoOption (string_bytes argument) → IsRead all before options → IsUsage all (Err Usage)
 dashed-usage all before later argument options split dashed otherwise reading =
-    read-usage all before options (Err Usage) reading (ap (λ xs. request_of (texts xs)) split ∙ dashed-none (string_bytes argument)
-    (texts later) dashed otherwise) refl
+    read-usage all before options (Err Usage) reading (ap (λ xs. request_of (texts xs)) split
+    ∙ (no-option (string_bytes argument) (texts later) otherwise ∙ rw dashed refl)) refl
 
-undashed-only : (argument : List ℕ) (later : List (List ℕ)) → is_dashed argument ≡ false → IsNoOption argument
-    → request_of (argument ∷ later) ≡ literal_only (argument ∷ later)
-undashed-only argument [] undashed otherwise = rw undashed refl
-undashed-only argument (next ∷ later) undashed otherwise = other-more argument next later otherwise
-
-end-only : (later : List (List ℕ)) → request_of (codes "--" ∷ later) ≡ literal_only later
-end-only [] = refl
-end-only (next ∷ []) = refl
-end-only (next ∷ other ∷ later) = refl
+marked-operands : (later : List (List ℕ)) → request_of (codes "--" ∷ later) ≡ operands_of later
+marked-operands [] = refl
+marked-operands (next ∷ later) = refl
 
 -- what the end of a command line gives
 pub record IsEnd (all : List (String Global)) (result : Result Options OptionsFault) : Type 0 where
   pub options : IfOk result (AskFor all)
   pub usage : IsUsage all result
 
--- what `with_last` ensures
-pub record IsWithLast (options : Options) (literal later : Option (Bor (String Global))) (result : Result Options OptionsFault) : Type
-    0 where
-  pub same : IfOk result (λ new. new ≡ record options { literal = new.literal })
-  pub is : IfOk result (λ new. text_of literal ≡ Some (string_bytes new.literal))
-  pub usage : (result ≡ Err Usage) ↔ (IsNone literal ⊎ IsSome later)
+-- what `with_operands` ensures, if these are the arguments after the options
+pub record IsWithOperands (options : Options) (given : List (List ℕ)) (result : Result Options OptionsFault) : Type 0 where
+  pub same : IfOk result (λ new. new ≡ record options { literal = new.literal; path = new.path })
+  pub are : IfOk result (λ new. operands_in new ≡ given)
+  pub usage : (result ≡ Err Usage) ↔ (operands_of given ≡ None)
 
-none-end : (all : List (String Global)) (literal later : Option (Bor (String Global))) (options : Options)
-    (result : Result Options OptionsFault) → request_of (texts all) ≡ None → (IsNone literal ⊎ IsSome later)
-    → IsWithLast options literal later result → IsEnd all result
-none-end all literal later options result none bad ends = let is = ends.usage.1 bad in
-    record { options = rw is tt; usage = (λ _. none, λ _. is) }
+operands-request : (literal : List ℕ) (path : Option (List ℕ))
+    → operands_of (operands literal path) ≡ Some (record (bare literal) { path = path })
+operands-request literal None = refl
+operands-request literal (Some path) = refl
 
-unended : (literal : Bor (String Global)) → (IsNone (Some literal) ⊎ IsSome {T = Bor (String Global)} None) → ⊥
-unended literal (inl h) = cc
-unended literal (inr h) = cc
-
-some-end : (all : List (String Global)) (literal : Bor (String Global)) (options : Options) (asked : Option Request)
-    (result : Result Options OptionsFault) → request_of (texts all) ≡ asked → option_map settled asked ≡ Some
-    (over options (bare (string_bytes literal.now)))
-    → IsWithLast options (Some literal) None result → IsEnd all result
-some-end all literal options None result asks is ends = absurd (cc)
-some-end all literal options (Some request) (Err Usage) asks is ends = absurd (unended literal (ends.usage.0 refl))
-some-end all literal options (Some request) (Err Memory) asks is ends = record {
-  options = tt;
-  usage = (λ e. absurd (cc), λ none. absurd (cc));
+-- the options are those of a request that comes to their values
+same-options : (request : Request) (options new : Options) → new ≡ record options { literal = new.literal; path = new.path }
+    → settled request ≡ over options (record (bare (string_bytes new.literal)) { path = option_map string_bytes new.path })
+    → AreOptionsOf request new
+same-options request options new same values = record {
+  invert = ap (λ (o : Options). o.invert) same ∙ sym (ap (λ (v : Values). v.invert) values);
+  after = ap (λ (o : Options). o.after) same ∙ sym (ap (λ (v : Values). v.after) values);
+  before = ap (λ (o : Options). o.before) same ∙ sym (ap (λ (v : Values). v.before) values);
+  passthru = ap (λ (o : Options). o.passthru) same ∙ sym (ap (λ (v : Values). v.passthru) values);
+  max = ap (λ (o : Options). o.max) same ∙ sym (ap (λ (v : Values). v.max) values);
+  literal = sym (ap (λ (v : Values). v.literal) values);
+  path = sym (ap (λ (v : Values). v.path) values);
 }
-some-end all literal options (Some request) (Ok new) asks is ends =
-    let values : settled request ≡ over options (bare (string_bytes literal.now)) = cc in
-    let texts_are : string_bytes literal.now ≡ string_bytes new.literal = let h = ends.is in cc in
+
+settled-asked : (asked : Option Request) (values : Values) → option_map settled asked ≡ Some values
+    → (request : Request) × (asked ≡ Some request) × (settled request ≡ values)
+settled-asked None values is = absurd (cc)
+settled-asked (Some request) values is = (request, refl, let same : settled request ≡ values = cc in same)
+
+-- the arguments after the options end the command line
+operands-end : (all : List (String Global)) (given : List (List ℕ)) (options : Options) (result : Result Options OptionsFault)
+    → option_map settled (request_of (texts all)) ≡ option_map (over options) (operands_of given)
+    → IsWithOperands options given result → IsEnd all result
+operands-end all given options (Err Usage) same ends =
+    let none = map-none settled (request_of (texts all))
+        (same ∙ ap (λ o. option_map (over options) o) (ends.usage.0 refl)) in
+    record { options = tt; usage = (λ _. none, λ _. refl) }
+operands-end all given options (Err Memory) same ends =
     record {
-      options = (
-        request,
-        asks,
-        record {
-          invert = ap (λ (o : Options). o.invert) ends.same ∙ sym (ap (λ (v : Values). v.invert) values);
-          after = ap (λ (o : Options). o.after) ends.same ∙ sym (ap (λ (v : Values). v.after) values);
-          before = ap (λ (o : Options). o.before) ends.same ∙ sym (ap (λ (v : Values). v.before) values);
-          passthru = ap (λ (o : Options). o.passthru) ends.same ∙ sym (ap (λ (v : Values). v.passthru) values);
-          max = ap (λ (o : Options). o.max) ends.same ∙ sym (ap (λ (v : Values). v.max) values);
-          literal = sym texts_are ∙ sym (ap (λ (v : Values). v.literal) values);
-        },
+      options = tt;
+      usage = (
+        λ e. absurd (cc),
+        λ none. ends.usage.1 (map-none (over options) (operands_of given)
+            (sym same ∙ ap (λ o. option_map settled o) none)),
       );
-      usage = (λ e. absurd (cc), λ none. absurd (cc));
+    }
+operands-end all given options (Ok new) same ends =
+    let path = option_map string_bytes new.path in
+    let values = over options (record (bare (string_bytes new.literal)) { path = path }) in
+    let asked = settled-asked (request_of (texts all)) values (same ∙ ap (λ o. option_map (over options) o)
+        (sym (ap operands_of ends.are) ∙ operands-request (string_bytes new.literal) path)) in
+    record {
+      options = (asked.0, asked.1, same-options asked.0 options new ends.same asked.2);
+      usage = (λ e. absurd (cc), λ none. let never : Some asked.0 ≡ None = sym asked.1 ∙ none in absurd (cc));
     }
 
--- the literal, and what is after it
-literal-end : (all : List (String Global)) (literal : Bor (String Global)) (mid after : Iter (String Global))
-    (later : Option (Bor (String Global))) (options : Options) (result : Result Options OptionsFault)
-    → option_map settled (request_of (texts all)) ≡ option_map (over options) (literal_only (texts (literal.now ∷ mid.rest.now)))
-    → IsNext mid later after → IsWithLast options (Some literal) later result → IsEnd all result
-literal-end all literal mid after None options result same next ends =
-    some-end all literal options (request_of (texts all)) result refl
-    (same ∙ ap (λ xs. option_map (over options) (literal_only (texts (literal.now ∷ xs)))) (empty mid.rest.now next.0)) ends
-literal-end all literal mid after (Some text) options result same next ends =
-    none-end all (Some literal) (Some text) options result
-    (map-none settled (request_of (texts all))
-    (same ∙ ap (λ xs. option_map (over options) (literal_only (texts (literal.now ∷ xs)))) next)) (inr refl) ends
+pub undashed-end : (all before later rest : List (String Global)) (argument : Bor (String Global)) (options : Options)
+    (result : Result Options OptionsFault) → before ≡ argument.now ∷ later → is_dashed (string_bytes argument.now) ≡ false
+    → IsNoOption (string_bytes argument.now) → IsRead all before options → rest ≡ later
+    → IsWithOperands options (texts (argument.now ∷ rest)) result → IsEnd all result
+undashed-end all before later rest argument options result split undashed otherwise reading same ends =
+    operands-end all (texts (argument.now ∷ rest)) options result
+    (reading.same ∙ ap (λ r. option_map (over options) r) (ap (λ xs. request_of (texts xs))
+    (split ∙ ap (λ xs. argument.now ∷ xs) (sym same))
+    ∙ (no-option (string_bytes argument.now) (texts rest) otherwise ∙ rw undashed refl))) ends
 
-pub undashed-end : (all before : List (String Global)) (argument : Bor (String Global)) (mid after : Iter (String Global))
-    (later : Option (Bor (String Global))) (options : Options) (result : Result Options OptionsFault)
-    → before ≡ argument.now ∷ mid.rest.now → is_dashed (string_bytes argument.now) ≡ false → IsNoOption (string_bytes argument.now)
-    → IsRead all before options → IsNext mid later after → IsWithLast options (Some argument) later result → IsEnd all result
-undashed-end all before argument mid after later options result split undashed otherwise reading next ends =
-    literal-end all argument mid after later options result
-    (reading.same ∙ ap (λ r. option_map (over options) r) (ap (λ xs. request_of (texts xs)) split
-    ∙ undashed-only (string_bytes argument.now) (texts mid.rest.now) undashed otherwise)) next ends
+marked-asked : (all before later : List (String Global)) (argument : String Global) (options : Options)
+    → before ≡ argument ∷ later → string_bytes argument ≡ codes "--" → IsRead all before options
+    → option_map settled (request_of (texts all)) ≡ option_map (over options) (operands_of (texts later))
+marked-asked all before later argument options split marked reading =
+    reading.same ∙ ap (λ r. option_map (over options) r) (ap (λ xs. request_of (texts xs)) split
+    ∙ (ap (λ a. request_of (a ∷ texts later)) marked ∙ marked-operands (texts later)))
 
-pub marked-end : (all before : List (String Global)) (argument : String Global) (first second third : Iter (String Global))
-    (literal later : Option (Bor (String Global))) (options : Options) (result : Result Options OptionsFault)
-    → before ≡ argument ∷ first.rest.now → string_bytes argument ≡ codes "--" → IsRead all before options → IsNext first literal second
-    → IsNext second later third → IsWithLast options literal later result → IsEnd all result
-marked-end all before argument first second third None later options result split marked reading next next_later ends =
-    none-end all None later options result
-    (map-none settled (request_of (texts all)) (reading.same ∙ ap (λ r. option_map (over options) r) none)) (inl refl) ends
-  where
-    none : request_of (texts before) ≡ None
-    none = ap (λ xs. request_of (texts xs)) (split ∙ ap (λ xs. argument ∷ xs) (empty first.rest.now next.0))
-        ∙ ap (λ a. request_of (a ∷ [])) marked
-marked-end all before argument first second third (Some literal) later options result split marked reading next next_later ends =
-    literal-end all literal second third later options result (reading.same ∙ ap (λ r. option_map (over options) r) only) next_later ends
-  where
-    only : request_of (texts before) ≡ literal_only (texts (literal.now ∷ second.rest.now))
-    only = ap (λ xs. request_of (texts xs)) (split ∙ ap (λ xs. argument ∷ xs) next)
-        ∙ (ap (λ a. request_of (a ∷ texts (literal.now ∷ second.rest.now))) marked ∙ end-only (texts (literal.now ∷ second.rest.now)))
+pub marked-end : (all before later rest : List (String Global)) (argument : String Global) (mid : List (String Global))
+    (literal : Bor (String Global)) (options : Options) (result : Result Options OptionsFault)
+    → before ≡ argument ∷ mid → string_bytes argument ≡ codes "--" → IsRead all before options
+    → mid ≡ literal.now ∷ later → rest ≡ later
+    → IsWithOperands options (texts (literal.now ∷ rest)) result → IsEnd all result
+marked-end all before later rest argument mid literal options result split marked reading next same ends =
+    operands-end all (texts (literal.now ∷ rest)) options result
+    (marked-asked all before mid argument options split marked reading
+    ∙ ap (λ xs. option_map (over options) (operands_of (texts xs))) (next ∙ ap (λ xs. literal.now ∷ xs) (sym same))) ends
 
--- the literal is the last argument
+pub marked-usage : (all before : List (String Global)) (argument : String Global) (mid after : Iter (String Global))
+    (options : Options) → before ≡ argument ∷ mid.rest.now → string_bytes argument ≡ codes "--" → IsRead all before options
+    → IsNext mid None after → IsUsage all (Err Usage)
+marked-usage all before argument mid after options split marked reading ended =
+    let none = map-none settled (request_of (texts all)) (marked-asked all before mid.rest.now argument options split marked reading
+        ∙ ap (λ xs. option_map (over options) (operands_of (texts xs))) (empty mid.rest.now ended.0)) in
+    (λ _. none, λ _. refl)
+
+-- the literal and the path are the last arguments
 either : (b : Bool) (x y : Option Request) (request : Request) → (if b then x else y) ≡ Some request
     → (x ≡ Some request) ⊎ (y ≡ Some request)
 either true x y request is = inl is
 either false x y request is = inr is
 
-last-more : (argument literal : List ℕ) (later : List (List ℕ)) → IsLast literal later → IsLast literal (argument ∷ later)
-last-more argument literal later last = record { front = argument ∷ last.front; split = ap (λ xs. argument ∷ xs) last.split }
+abbrev asked_operands : Request → List (List ℕ)
+asked_operands request = operands request.literal request.path
 
-last-set : (set : Request → Request) (arguments : List (List ℕ)) → ((request : Request) → (set request).literal ≡ request.literal)
-    → (asked : Option Request) → ((request : Request) → asked ≡ Some request → IsLast request.literal arguments)
-    → (request : Request) → option_map set asked ≡ Some request → IsLast request.literal arguments
+last-more : (argument : List ℕ) (last later : List (List ℕ)) → AreLast last later → AreLast last (argument ∷ later)
+last-more argument last later are = record { front = argument ∷ are.front; split = ap (λ xs. argument ∷ xs) are.split }
+
+last-set : (set : Request → Request) (arguments : List (List ℕ))
+    → ((request : Request) → asked_operands (set request) ≡ asked_operands request)
+    → (asked : Option Request) → ((request : Request) → asked ≡ Some request → AreLast (asked_operands request) arguments)
+    → (request : Request) → option_map set asked ≡ Some request → AreLast (asked_operands request) arguments
 last-set set arguments keeps None last request is = absurd (cc)
 last-set set arguments keeps (Some later) last request is =
     let same : set later ≡ request = cc in
-    subst (λ literal. IsLast literal arguments) (sym (keeps later) ∙ ap (λ (r : Request). r.literal) same) (last later refl)
+    subst (λ given. AreLast given arguments) (sym (keeps later) ∙ ap asked_operands same) (last later refl)
 
 last-numbered : (set : ℕ → Request → Request) (arguments : List (List ℕ))
-    → ((n : ℕ) (request : Request) → (set n request).literal ≡ request.literal) → (number : Option ℕ) (asked : Option Request)
-    → ((request : Request) → asked ≡ Some request → IsLast request.literal arguments) → (request : Request)
-    → with_number set number asked ≡ Some request → IsLast request.literal arguments
+    → ((n : ℕ) (request : Request) → asked_operands (set n request) ≡ asked_operands request) → (number : Option ℕ)
+    → (asked : Option Request) → ((request : Request) → asked ≡ Some request → AreLast (asked_operands request) arguments)
+    → (request : Request) → with_number set number asked ≡ Some request → AreLast (asked_operands request) arguments
 last-numbered set arguments keeps None asked last request is = absurd (cc)
 last-numbered set arguments keeps (Some n) asked last request is = last-set (set n) arguments (keeps n) asked last request is
 
-last-only : (arguments : List (List ℕ)) (request : Request) → literal_only arguments ≡ Some request → IsLast request.literal arguments
-last-only [] request is = absurd (cc)
-last-only (literal ∷ []) request is =
-    let same : bare literal ≡ request = cc in record { front = []; split = ap (λ (r : Request). r.literal ∷ []) same }
-last-only (literal ∷ next ∷ later) request is = absurd (cc)
+operands-last : (arguments : List (List ℕ)) (request : Request) → operands_of arguments ≡ Some request
+    → AreLast (asked_operands request) arguments
+operands-last [] request is = absurd (cc)
+operands-last (literal ∷ []) request is =
+    let same : bare literal ≡ request = cc in record { front = []; split = ap asked_operands same }
+operands-last (literal ∷ path ∷ []) request is =
+    let same : record (bare literal) { path = Some path } ≡ request = cc in
+    record { front = []; split = ap asked_operands same }
+operands-last (literal ∷ path ∷ next ∷ later) request is = absurd (cc)
 
-request-last : (arguments : List (List ℕ)) (request : Request) → request_of arguments ≡ Some request → IsLast request.literal arguments
-request-last [] request is = absurd (cc)
-request-last (argument ∷ []) request is = elim (either (is_dashed argument) None (Some (bare argument)) request is) [
+undashed-last : (argument : List ℕ) (later : List (List ℕ)) (request : Request)
+    → (if is_dashed argument then None else operands_of (argument ∷ later)) ≡ Some request
+    → AreLast (asked_operands request) (argument ∷ later)
+undashed-last argument later request is = elim (either (is_dashed argument) None _ request is) [
   | inl never ↦ absurd (cc)
-  | inr is ↦ last-only (argument ∷ []) request is
+  | inr is ↦ operands-last (argument ∷ later) request is
 ]
+
+request-last : (arguments : List (List ℕ)) (request : Request) → request_of arguments ≡ Some request
+    → AreLast (asked_operands request) arguments
+request-last [] request is = absurd (cc)
+request-last (argument ∷ []) request is = undashed-last argument [] request is
 request-last (argument ∷ next ∷ later) request is =
-    last-more argument request.literal (next ∷ later) (elim (either (bytes_eq argument (codes "-v")) _ _ request is) [
-      | inl is ↦ last-set with_invert (next ∷ later) (λ r. refl) (request_of (next ∷ later)) (request-last (next ∷ later)) request is
+    let more = last-more argument (asked_operands request) (next ∷ later) in
+    let numbered = λ (are : AreLast (asked_operands request) later).
+        more (last-more next (asked_operands request) later are) in
+    elim (either (bytes_eq argument (codes "-v")) _ _ request is) [
+      | inl is ↦ more (last-set with_invert (next ∷ later) (λ r. refl) (request_of (next ∷ later)) (request-last (next ∷ later))
+          request is)
       | inr is ↦ elim (either (bytes_eq argument (codes "--passthru")) _ _ request is) [
-        | inl is ↦ last-set with_passthru (next ∷ later) (λ r. refl) (request_of (next ∷ later)) (request-last (next ∷ later)) request is
+        | inl is ↦ more (last-set with_passthru (next ∷ later) (λ r. refl) (request_of (next ∷ later))
+            (request-last (next ∷ later)) request is)
         | inr is ↦ elim (either (bytes_eq argument (codes "-A")) _ _ request is) [
-          | inl is ↦ last-more next request.literal later (last-numbered with_after later (λ n r. refl) (number_of next)
-              (request_of later) (request-last later) request is)
+          | inl is ↦ numbered (last-numbered with_after later (λ n r. refl) (number_of next) (request_of later)
+              (request-last later) request is)
           | inr is ↦ elim (either (bytes_eq argument (codes "-B")) _ _ request is) [
-            | inl is ↦ last-more next request.literal later (last-numbered with_before later (λ n r. refl) (number_of next)
-                (request_of later) (request-last later) request is)
+            | inl is ↦ numbered (last-numbered with_before later (λ n r. refl) (number_of next) (request_of later)
+                (request-last later) request is)
             | inr is ↦ elim (either (bytes_eq argument (codes "-m")) _ _ request is) [
-              | inl is ↦ last-more next request.literal later (last-numbered with_max later (λ n r. refl) (number_of next)
-                  (request_of later) (request-last later) request is)
+              | inl is ↦ numbered (last-numbered with_max later (λ n r. refl) (number_of next) (request_of later)
+                  (request-last later) request is)
               | inr is ↦ elim (either (bytes_eq argument (codes "--")) _ _ request is) [
-                | inl is ↦ last-only (next ∷ later) request is
-                | inr never ↦ absurd (cc)
+                | inl is ↦ more (operands-last (next ∷ later) request is)
+                | inr is ↦ undashed-last argument (next ∷ later) request is
               ]
             ]
           ]
         ]
       ]
-    ])
+    ]
 
--- the literal of what is asked for is the last argument
+-- the literal and the path of what is asked for are the last arguments
 pub asked-last : (arguments : List (String Global)) (options : Options) → AskFor arguments options
-    → IsLast (string_bytes options.literal) (texts arguments)
-asked-last arguments options (request, is, are) = subst (λ literal. IsLast literal (texts arguments)) (sym are.literal)
-    (request-last (texts arguments) request is)
+    → AreLast (operands_in options) (texts arguments)
+asked-last arguments options (request, is, are) = subst (λ given. AreLast given (texts arguments))
+    (rw (are.literal, are.path) refl) (request-last (texts arguments) request is)

@@ -50,9 +50,31 @@ large_number = refl
 pub unknown_option : request_of (codes "-x" ∷ []) ≡ None
 unknown_option = refl
 
+-- lgrep a b
+pub path : request_of (codes "a" ∷ codes "b" ∷ []) ≡ Some (record (bare (codes "a")) { path = Some (codes "b") })
+path = refl
+
 -- lgrep a -v
-pub late_option : request_of (codes "a" ∷ codes "-v" ∷ []) ≡ None
-late_option = refl
+pub dashed_path : request_of (codes "a" ∷ codes "-v" ∷ []) ≡ Some (record (bare (codes "a")) { path = Some (codes "-v") })
+dashed_path = refl
+
+-- lgrep -- a b
+pub path_after_end : request_of (codes "--" ∷ codes "a" ∷ codes "b" ∷ []) ≡ Some
+    (record (bare (codes "a")) { path = Some (codes "b") })
+path_after_end = refl
+
+-- lgrep -- -v b
+pub dashed_literal : request_of (codes "--" ∷ codes "-v" ∷ codes "b" ∷ []) ≡ Some
+    (record (bare (codes "-v")) { path = Some (codes "b") })
+dashed_literal = refl
+
+-- lgrep a b c
+pub after_path : request_of (codes "a" ∷ codes "b" ∷ codes "c" ∷ []) ≡ None
+after_path = refl
+
+-- lgrep -- a b c
+pub after_path_after_end : request_of (codes "--" ∷ codes "a" ∷ codes "b" ∷ codes "c" ∷ []) ≡ None
+after_path_after_end = refl
 
 -- lgrep
 pub nothing : request_of [] ≡ None

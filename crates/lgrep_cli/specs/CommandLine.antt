@@ -1,5 +1,5 @@
 -- What the arguments of a program ask for.
-use Rattle.std.specs.Prelude.{◌≡◌, ℕ, Bool, true, false, ◌&&◌, ◌==◌, codes, if◌then◌else◌, List, [], ◌∷◌, ◌++◌, map, length, nat_lt, slice_index, Option, Some, None, String, string_bytes}
+use Rattle.std.specs.Prelude.{◌≡◌, ℕ, Bool, true, false, ◌&&◌, ◌==◌, codes, if◌then◌else◌, List, [], ◌∷◌, ◌++◌, map, length, nat_lt, slice_index, Option, Some, None, option_to_list, String, string_bytes}
 use Rattle.std.specs.Borrow.{Bor}
 use Rattle.std.specs.Global.{Global}
 use Rattle.std.specs.Option.{option_map, unwrap_or}
@@ -7,7 +7,7 @@ use Rattle.std.specs.Str.{bytes_eq}
 use Rattle.lgrep_cli.specs.Numerals.{number_of}
 use Rattle.lgrep_cli.specs.declared.options.Options.{Options}
 
--- what a command line asks for; `None` is a number that it leaves open
+-- what a command line asks for; `None` is a number that it leaves open, or no path
 pub record Request : Type 0 where
   pub invert : Bool
   pub after : Option ℕ
@@ -15,11 +15,19 @@ pub record Request : Type 0 where
   pub passthru : Bool
   pub max : Option ℕ
   pub literal : List ℕ
+  pub path : Option (List ℕ)
 
--- a literal without options
+-- a literal without options and without a path
 abbrev pub bare : List ℕ → Request
-bare literal =
-    record { invert = false; after = None; before = None; passthru = false; max = None; literal = literal }
+bare literal = record {
+  invert = false;
+  after = None;
+  before = None;
+  passthru = false;
+  max = None;
+  literal = literal;
+  path = None;
+}
 
 -- an option in front of a command line, which sets what the rest of the line leaves open
 abbrev pub with_invert : Request → Request
@@ -46,25 +54,27 @@ with_number set (Some number) later = option_map (set number) later
 abbrev pub is_dashed : List ℕ → Bool
 is_dashed argument = (slice_index argument 0 == 45) && nat_lt 1 (length argument)
 
--- the literal, and nothing after it
-abbrev pub literal_only : List (List ℕ) → Option Request
-literal_only [] = None
-literal_only (literal ∷ []) = Some (bare literal)
-literal_only (literal ∷ next ∷ later) = None
+-- what the arguments after the options ask for: the literal, then a path or nothing
+abbrev pub operands_of : List (List ℕ) → Option Request
+operands_of [] = None
+operands_of (literal ∷ []) = Some (bare literal)
+operands_of (literal ∷ path ∷ []) = Some (record (bare literal) { path = Some path })
+operands_of (literal ∷ path ∷ next ∷ later) = None
 
--- what some arguments ask for; `None` is a usage error. The last argument is the literal, and each one before
--- it is an option, the number of one, or the `--` that ends the options
+-- what some arguments ask for; `None` is a usage error. The options come first, each with its number if it needs
+-- one, and `--` ends them; the others are the literal and the path
 abbrev pub request_of : List (List ℕ) → Option Request
 request_of [] = None
-request_of (argument ∷ []) = if is_dashed argument then None else Some (bare argument)
+request_of (argument ∷ []) = if is_dashed argument then None else operands_of (argument ∷ [])
 request_of (argument ∷ next ∷ later) =
     if bytes_eq argument (codes "-v") then option_map with_invert (request_of (next ∷ later))
     else if bytes_eq argument (codes "--passthru") then option_map with_passthru (request_of (next ∷ later))
     else if bytes_eq argument (codes "-A") then with_number with_after (number_of next) (request_of later)
     else if bytes_eq argument (codes "-B") then with_number with_before (number_of next) (request_of later)
     else if bytes_eq argument (codes "-m") then with_number with_max (number_of next) (request_of later)
-    else if bytes_eq argument (codes "--") then literal_only (next ∷ later)
-    else None
+    else if bytes_eq argument (codes "--") then operands_of (next ∷ later)
+    else if is_dashed argument then None
+    else operands_of (argument ∷ next ∷ later)
 
 -- the text of an argument, if there is one
 abbrev pub text_of : Option (Bor (String Global)) → Option (List ℕ)
@@ -74,10 +84,18 @@ text_of argument = option_map (λ text. string_bytes text.now) argument
 abbrev pub texts : List (String Global) → List (List ℕ)
 texts arguments = map string_bytes arguments
 
--- the literal is the last argument
-pub record IsLast (literal : List ℕ) (arguments : List (List ℕ)) : Type 0 where
+-- the literal, and the path if there is one
+abbrev pub operands : List ℕ → Option (List ℕ) → List (List ℕ)
+operands literal path = literal ∷ option_to_list path
+
+-- the same of some options
+abbrev pub operands_in : Options → List (List ℕ)
+operands_in options = operands (string_bytes options.literal) (option_map string_bytes options.path)
+
+-- these are the last arguments, in order
+pub record AreLast (last arguments : List (List ℕ)) : Type 0 where
   pub front : List (List ℕ)
-  pub split : arguments ≡ front ++ literal ∷ []
+  pub split : arguments ≡ front ++ last
 
 -- these options are what is asked for; a context that is left open is 0
 pub record AreOptionsOf (request : Request) (options : Options) : Type 0 where
@@ -87,6 +105,7 @@ pub record AreOptionsOf (request : Request) (options : Options) : Type 0 where
   pub passthru : options.passthru ≡ request.passthru
   pub max : options.max ≡ request.max
   pub literal : string_bytes options.literal ≡ request.literal
+  pub path : option_map string_bytes options.path ≡ request.path
 
 -- the arguments ask for these options
 abbrev pub AskFor : List (String Global) → Options → Type 0

@@ -1,15 +1,15 @@
 //! The options that a program's arguments ask for.
-ghost use Rattle.std.specs.Prelude.{◌≡◌, ◌↔◌, ◌⊎◌, [], Some, None, Err, IfOk, IsNone, IsSome, string_bytes};
+ghost use Rattle.std.specs.Prelude.{◌≡◌, ◌↔◌, [], ◌∷◌, None, Err, IfOk, IfErr, string_bytes};
 ghost use Rattle.std.specs.Option.{ok_or, option_and_then};
 ghost use Rattle.std.specs.Char.{is_ascii_digit};
 ghost use Rattle.std.specs.List.{list_all};
-ghost use Rattle.lgrep_cli.specs.CommandLine.{bare, is_dashed, text_of, texts, AreOptionsOf, AskFor, AskForNothing, IsLast};
+ghost use Rattle.lgrep_cli.specs.CommandLine.{bare, is_dashed, operands_in, operands_of, text_of, texts, AreLast, AreOptionsOf, AskFor, AskForNothing};
 ghost use Rattle.lgrep_cli.specs.Numerals.{is_numeral, number_of};
 
 use std::alloc::Global;
 use thiserror::Error;
 
-/// How the program is called. `-U`, `-c` and a path aren't supported yet: they are usage errors.
+/// How the program is called. `-U` and `-c` aren't supported yet: they are usage errors.
 pub const USAGE: &str =
     "usage: lgrep [-v] [-A N] [-B N] [-m N] [-U] [--passthru] [-c] LITERAL [PATH]";
 
@@ -28,6 +28,8 @@ pub struct Options {
     pub max: Option<u64>,
     /// The text that lines are searched for. The empty text is in each line.
     pub literal: String,
+    /// The path of the file that is searched; `None` is standard input.
+    pub path: Option<String>,
 }
 
 /// Why arguments give no options.
@@ -36,22 +38,23 @@ pub enum OptionsFault {
     /// They aren't as `USAGE` says, or ask for what isn't supported yet.
     #[error("the arguments are not as the usage says")]
     Usage,
-    /// There was no memory for the literal.
+    /// There was no memory for the literal or the path.
     #[error("out of memory")]
     Memory,
 }
 
 impl Options {
-    /// The options that some arguments, which are without the program's name, ask for: options, then the literal, and
-    /// nothing after it. `--` ends the options, and `-` alone is a literal. If an option is repeated, the last one
-    /// counts. A number has one to ten decimal digits, and is below 2 ^ 32.
+    /// The options that some arguments, which are without the program's name, ask for: options, then the literal, then
+    /// a path or nothing. `--` ends the options, and `-` alone is a literal. After the literal an argument is the path,
+    /// whatever its first byte is. If an option is repeated, the last one counts. A number has one to ten decimal
+    /// digits, and is below 2 ^ 32.
     ///
     /// An error is `Usage` exactly if the arguments aren't a command line (`request_of` of `specs/CommandLine.antt` has
-    /// nothing for them); any other error is `Memory`.
+    /// nothing for them); any other error is `Memory`: there is no memory for the literal or the path.
     pub fn parse(alloc: Global, arguments: &[String]) -> Result<Options, OptionsFault>
         ensures options { IfOk result (AskFor arguments.now) }
-        ensures literal { IfOk result (λ options.
-            IsLast (string_bytes options.literal) (texts arguments.now)) }
+        ensures operands { IfOk result (λ options.
+            AreLast (operands_in options) (texts arguments.now)) }
         ensures usage { (result ≡ Err OptionsFault.Usage) ↔ AskForNothing arguments.now }
     {
         let mut options = Options::without_literal(alloc);
@@ -63,15 +66,20 @@ impl Options {
                 "-A" => options.after = number_in(later.next())? as usize,
                 "-B" => options.before = number_in(later.next())? as usize,
                 "-m" => options.max = Some(u64::from(number_in(later.next())?)),
-                "--" => return options.with_last(later.next(), later.next()),
+                "--" => {
+                    let Some(literal) = later.next() else {
+                        return Err(OptionsFault::Usage);
+                    };
+                    return options.with_operands(literal, later.as_slice());
+                }
                 option if is_dashed(option) => return Err(OptionsFault::Usage),
-                _ => return options.with_last(Some(argument), later.next()),
+                _ => return options.with_operands(argument, later.as_slice()),
             }
         }
         Err(OptionsFault::Usage)
     }
 
-    // No option, and the empty literal.
+    // No option, the empty literal and no path.
     fn without_literal(alloc: Global) -> Options
         ensures { AreOptionsOf (bare []) result }
     {
@@ -82,30 +90,39 @@ impl Options {
             passthru: false,
             max: None,
             literal: String::new(alloc),
+            path: None,
         }
     }
 
-    // The options with the literal, if there is one and no argument follows it.
-    fn with_last(
+    // The options with the literal and the path, if nothing but a path follows the literal.
+    fn with_operands(
         mut self,
-        literal: Option<&String>,
-        later: Option<&String>,
+        literal: &String,
+        later: &[String],
     ) -> Result<Options, OptionsFault>
         ensures options { IfOk result (λ options.
-            options ≡ record self { literal = options.literal }) }
-        ensures literal { IfOk result (λ options.
-            text_of literal.entry ≡ Some (string_bytes options.literal)) }
+            options ≡ record self { literal = options.literal; path = options.path }) }
+        ensures operands { IfOk result (λ options.
+            operands_in options ≡ texts (literal.now ∷ later.now)) }
         ensures usage { (result ≡ Err OptionsFault.Usage)
-            ↔ (IsNone literal.entry ⊎ IsSome later.entry) }
+            ↔ (operands_of (texts (literal.now ∷ later.now)) ≡ None) }
     {
-        match (literal, later) {
-            (Some(literal), None) => {
-                self.literal = literal.clone().map_err(|_| OptionsFault::Memory)?;
-                Ok(self)
-            }
-            _ => Err(OptionsFault::Usage),
-        }
+        self.path = match later {
+            [] => None,
+            [path] => Some(copy_of(path)?),
+            _ => return Err(OptionsFault::Usage),
+        };
+        self.literal = copy_of(literal)?;
+        Ok(self)
     }
+}
+
+// A copy of an argument.
+fn copy_of(argument: &String) -> Result<String, OptionsFault>
+    ensures copied { IfOk result (λ copy. string_bytes copy ≡ string_bytes argument.now) }
+    ensures memory { IfErr result (λ error. error ≡ OptionsFault.Memory) }
+{
+    argument.clone().map_err(|_| OptionsFault::Memory)
 }
 
 // Whether an argument is a dash and more.

@@ -4,7 +4,7 @@ use Rattle.lgrep_cli.proofs.CommandLemmas as command
 use Rattle.lgrep_cli.proofs.CommandLemmas.{IsNoOption, IsEnd, after-needs, before-needs, max-needs}
 use Rattle.lgrep_cli.specs.CommandLine.{AskFor, with_after, with_before, with_max}
 use Rattle.lgrep_cli.proofs.options.Options.parse.Goals as goal
-use Rattle.lgrep_cli.proofs.options.Options.parse.Goals.{After-with_last, After-with_last-in_default-2}
+use Rattle.lgrep_cli.proofs.options.Options.parse.Goals.{After-with_operands, After-with_operands-in_default-2}
 
 pub loop-argument-init : goal.loop-argument-init
 loop-argument-init c = rw c.iter-later.ensures.rest
@@ -70,21 +70,20 @@ returns-in_err-number_in-in-text-5-clause-usage c =
     c.in-Some.ensures.steps (sym c.as_str.ensures.value ∙ c.in-text-5.is) c.next-in-text-5.ensures.steps
     (sym c.number_in-in-text-5.ensures ∙ (c.in_err-number_in-in-text-5.was ∙ ap Err (sym error.2))) error.1 c.loop-argument.invariant
 
-marked : (c : After-with_last) → IsEnd c.args.arguments.now c.with_last.result
+marked : (c : After-with_operands) → IsEnd c.args.arguments.now c.with_operands.result
 marked c =
-    command.marked-end c.args.arguments.now c.loop-argument.later.rest.now c.in-Some.argument.now c.next.new.self
-    c.next-in-text-6.new.self c.next-in-text-6-2.new.self c.next-in-text-6.result c.next-in-text-6-2.result c.loop-argument.options
-    c.with_last.result
-    c.in-Some.ensures.steps (sym c.as_str.ensures.value ∙ c.in-text-6.is) c.loop-argument.invariant c.next-in-text-6.ensures.steps
-    c.next-in-text-6-2.ensures.steps
-    (record { same = c.with_last.ensures.options; is = c.with_last.ensures.literal; usage = c.with_last.ensures.usage })
+    let call = c.with_operands.ensures in
+    command.marked-end c.args.arguments.now c.loop-argument.later.rest.now c.next-in-text-6.new.self.rest.now c.as_slice.result.now
+    c.in-Some.argument.now c.next.new.self.rest.now c.in-Some-next.literal c.loop-argument.options c.with_operands.result
+    c.in-Some.ensures.steps (sym c.as_str.ensures.value ∙ c.in-text-6.is) c.loop-argument.invariant c.in-Some-next.ensures.steps
+    c.as_slice.ensures.value (record { same = call.options; are = call.operands; usage = call.usage })
 
 pub returns-in-text-6-clause-options : goal.returns-in-text-6-clause-options
 returns-in-text-6-clause-options c = (marked c).options
 
-pub returns-in-text-6-clause-literal : goal.returns-in-text-6-clause-literal
-returns-in-text-6-clause-literal c =
-    IfOk-weaker c.with_last.result (AskFor c.args.arguments.now) _ (command.asked-last c.args.arguments.now) (marked c).options
+pub returns-in-text-6-clause-operands : goal.returns-in-text-6-clause-operands
+returns-in-text-6-clause-operands c =
+    IfOk-weaker c.with_operands.result (AskFor c.args.arguments.now) _ (command.asked-last c.args.arguments.now) (marked c).options
 
 pub returns-in-text-6-clause-usage : goal.returns-in-text-6-clause-usage
 returns-in-text-6-clause-usage c = (marked c).usage
@@ -104,7 +103,7 @@ returns-in_default-as_str-clause-usage c =
     c.loop-argument.options c.in-Some.ensures.steps
     (rw c.as_str.ensures.value at (sym c.is_dashed.ensures ∙ c.if-is_dashed.true)) otherwise c.loop-argument.invariant
 
-undashed : (c : After-with_last-in_default-2) → IsEnd c.args.arguments.now c.with_last-in_default-2.result
+undashed : (c : After-with_operands-in_default-2) → IsEnd c.args.arguments.now c.with_operands-in_default-2.result
 undashed c =
     let is = c.in_default-as_str in
     let otherwise : IsNoOption (string_bytes c.in-Some.argument.now) = record {
@@ -115,19 +114,20 @@ undashed c =
       max = λ h. is.not-text-5 (c.as_str.ensures.value ∙ h);
       end = λ h. is.not-text-6 (c.as_str.ensures.value ∙ h);
     } in
-    let call = c.with_last-in_default-2 in
-    command.undashed-end c.args.arguments.now c.loop-argument.later.rest.now c.in-Some.argument c.next.new.self
-    c.next-in_default-2.new.self c.next-in_default-2.result c.loop-argument.options call.result c.in-Some.ensures.steps
+    let call = c.with_operands-in_default-2 in
+    command.undashed-end c.args.arguments.now c.loop-argument.later.rest.now c.next.new.self.rest.now
+    c.as_slice-in_default-2.result.now c.in-Some.argument
+    c.loop-argument.options call.result c.in-Some.ensures.steps
     (rw c.as_str.ensures.value at (sym c.is_dashed.ensures ∙ c.if-is_dashed.false)) otherwise c.loop-argument.invariant
-    c.next-in_default-2.ensures.steps
-    (record { same = call.ensures.options; is = call.ensures.literal; usage = call.ensures.usage })
+    c.as_slice-in_default-2.ensures.value
+    (record { same = call.ensures.options; are = call.ensures.operands; usage = call.ensures.usage })
 
 pub returns-in_default-2-clause-options : goal.returns-in_default-2-clause-options
 returns-in_default-2-clause-options c = (undashed c).options
 
-pub returns-in_default-2-clause-literal : goal.returns-in_default-2-clause-literal
-returns-in_default-2-clause-literal c =
-    IfOk-weaker c.with_last-in_default-2.result (AskFor c.args.arguments.now) _ (command.asked-last c.args.arguments.now)
+pub returns-in_default-2-clause-operands : goal.returns-in_default-2-clause-operands
+returns-in_default-2-clause-operands c =
+    IfOk-weaker c.with_operands-in_default-2.result (AskFor c.args.arguments.now) _ (command.asked-last c.args.arguments.now)
     (undashed c).options
 
 pub returns-in_default-2-clause-usage : goal.returns-in_default-2-clause-usage
