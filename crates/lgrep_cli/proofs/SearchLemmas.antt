@@ -19,7 +19,7 @@ use Rattle.grep_searcher.specs.ReaderSearches.{Taken, IsReaderFault, IsReaderSea
 use Rattle.grep_searcher.specs.Searches.{ErrorMakers, MatcherFacts, HasReported}
 use Rattle.lgrep_cli.specs.OptionSettings.{settings_of_options}
 use Rattle.lgrep_cli.specs.Printers.{Prints}
-use Rattle.lgrep_cli.specs.ProgramRuns.{searcher_of, meaning_of, calls_of, Input, IsPrinted, IsPrintedWhole}
+use Rattle.lgrep_cli.specs.ProgramRuns.{searcher_of, meaning_of, calls_of, Input, IsPrinted, IsPrintedWhole, IsProgramRun}
 use Rattle.lgrep_cli.specs.ProgramRuns.{IsFailure, of_memory, of_reader, of_write}
 use Rattle.lgrep_cli.specs.Texts.{text, has_match}
 use Rattle.lgrep_cli.specs.Writing.{Writer, Writes}
@@ -69,7 +69,7 @@ module _ {R W : Type 0} (remaining : R → Option (List ℕ)) (read_step : R →
       go true pieces calls (Some rest) is takes = (rest, (λ ended. subst IsAtEnd is calls.3), ap (searched_bytes settings) takes)
 
   -- what is printed for each input that begins with what was taken is printed for the reader's whole input
-  pub printed-whole : (options : Options) (reader : R) (writer : Writer W) (found : Bool) (reader' : R) (writer' : Writer W)
+  printed-whole : (options : Options) (reader : R) (writer : Writer W) (found : Bool) (reader' : R) (writer' : Writer W)
       → IsPrinted remaining read_step contents options reader writer found reader' writer'
       → IsPrintedWhole contents options (remaining reader) writer found writer'
   printed-whole options reader writer found reader' writer' printed = go (remaining reader) refl
@@ -81,6 +81,17 @@ module _ {R W : Type 0} (remaining : R → Option (List ℕ)) (read_step : R →
             printed.written (searched_bytes (settings_of_options options) input) whole,
             printed.is_found (searched_bytes (settings_of_options options) input) whole,
           )
+
+  -- a run that wrote all, and whose last call was a flush that succeeded
+  pub printed-run : (options : Options) (reader : R) (writer : Writer W) (found : Bool) (reader' : R) (writer' : Writer W)
+      → IsPrinted remaining read_step contents options reader writer found reader' writer' → writer'.last ≡ Flush (Ok tt)
+      → IsProgramRun remaining read_step contents options reader writer (Ok found) reader' writer'
+  printed-run options reader writer found reader' writer' printed flushed = record {
+    printed = printed;
+    whole = printed-whole options reader writer found reader' writer' printed;
+    flushed = flushed;
+    failed = tt;
+  }
 
 module _ {R W : Type 0} (remaining : R → Option (List ℕ)) (read_step : R → ReadResult → R → Type 0) (contents : W
     → Option (List ℕ)) (options : Options) (reader reader' : R) (old new : Printer W) where

@@ -1,9 +1,10 @@
--- What a run of lgrep does: it searches what a reader gives, and writes the text of the calls.
-use Rattle.std.specs.Prelude.{◌≡◌, ℕ, Bool, true, List, Option, Some, None, Result, Ok, Err, string_bytes}
+-- What a run of lgrep does: it searches what a reader or a file gives, and writes the text of the calls.
+use Rattle.std.specs.Prelude.{◌≡◌, ℕ, Bool, true, false, List, Option, Some, None, Result, Ok, Err, IfOk, IfErr, OnOk, string_bytes}
 use Rattle.std.specs.Global.{Global}
 use Rattle.std.specs.IoError.{error_kind}
 use Rattle.std.specs.declared.io.Error.{Error}
 use Rattle.std.specs.declared.io.ErrorKind.TheVariants.{OutOfMemory}
+use Rattle.grep_decode.specs.Reading.{Reader}
 use Rattle.grep_decode.specs.Source.{ReadResult}
 use Rattle.grep_matcher.specs.Literals.{literal_meaning}
 use Rattle.grep_matcher.specs.Matching.{Meaning}
@@ -83,3 +84,27 @@ module _ {R W : Type 0} (remaining : R → Option (List ℕ)) (read_step : R →
         → Writes contents writer (text (calls_of options bytes)) (Ok tt) writer')
         → writer'.last ≡ Flush (Err error)
         → IsFailure options reader writer (Io error) reader' writer'
+
+  -- what a run over a reader does, by its result
+  pub record IsProgramRun (options : Options) (reader : R) (writer : Writer W) (result : Result Bool (SearchError Global))
+      (reader' : R) (writer' : Writer W) : Type 0 where
+    -- a run that succeeds wrote the text of the calls, and returns whether one of them reports a match
+    pub printed : IfOk result (λ found. IsPrinted options reader writer found reader' writer')
+    -- the same of the whole input, if the reader says which bytes remain
+    pub whole : IfOk result (λ found. IsPrintedWhole contents options (remaining reader) writer found writer')
+    -- its last call was a flush that succeeded
+    pub flushed : OnOk result (writer'.last ≡ Flush (Ok tt))
+    -- a run that fails does so for one of these reasons
+    pub failed : IfErr result (λ error. IsFailure options reader writer error reader' writer')
+
+module _ {F W : Type 0} (remaining : Reader F → Option (List ℕ)) (read_step : Reader F → ReadResult → Reader F → Type 0)
+    (contents : W → Option (List ℕ)) where
+  -- what a run over a path does, by its result
+  pub data IsPathRun (options : Options) (writer : Writer W) : Result Bool (SearchError Global) → Writer W → Type 0 where
+    -- the file wasn't opened, for this error, and the writer had no call
+    of_opening : {error : Error} → IsPathRun options writer (Err (Io error)) writer
+    -- this file was opened, and a run over it did all else
+    of_file : {result : Result Bool (SearchError Global)} {writer' : Writer W} (file : F) (reader' : Reader F)
+        → IsProgramRun remaining read_step contents options (record { inner = file; failed = false }) writer result reader'
+        writer'
+        → IsPathRun options writer result writer'

@@ -15,5 +15,5 @@ mod writing;
 
 pub use exit::status;
 pub use options::{Options, OptionsFault, USAGE};
-pub use search::run;
+pub use search::{run, run_path};
 pub use writing::{LastCall, Writing};

@@ -1,17 +1,20 @@
-//! A search of a reader, with the text of its lines written.
+//! A search of a reader or a file, with the text of its lines written.
 ghost use Rattle.std.specs.Prelude.{◌≡◌, true, false, Ok, OnOk, IfOk, IfErr, string_bytes};
 ghost use Rattle.lgrep_cli.specs.OptionSettings.{settings_of_options};
 ghost use Rattle.grep_searcher.specs.SearchErrors.{IsOutOfMemory};
-ghost use Rattle.lgrep_cli.specs.ProgramRuns.{IsPrinted, IsPrintedWhole, IsFailure};
+ghost use Rattle.lgrep_cli.specs.ProgramRuns.{IsPrinted, IsFailure, IsProgramRun, IsPathRun};
 
 use crate::options::Options;
 use crate::printer::Printer;
 use crate::writing::{LastCall, Writing};
 use grep_matcher::LiteralMatcher;
-use grep_searcher::{SearchError, Searcher, SearcherBuilder, Source};
+use grep_searcher::{Reading, SearchError, Searcher, SearcherBuilder, Source};
 use std::alloc::Global;
+use std::fs::File;
 use std::io;
 use std::io::Write;
+use std::path::Path;
+use std::rt::Files;
 
 /// Searches what a reader gives, line by line as it comes, writes the text of what is found, flushes the writer, and
 /// returns whether a match was reported. The reader is read no further than the search needs.
@@ -29,19 +32,35 @@ pub fn run<R: Source, W: Write>(
     reader: &mut R,
     writer: &mut Writing<W>,
 ) -> Result<bool, SearchError>
-    ensures printed { IfOk result (λ found. IsPrinted R.remaining R.step W.contents options.now
-        reader.old writer.old found reader.new writer.new) }
-    ensures whole { IfOk result (λ found. IsPrintedWhole W.contents options.now (R.remaining reader.old)
-        writer.old found writer.new) }
-    ensures flushed { OnOk result (writer.new.last ≡ LastCall.Flush (Ok tt)) }
-    ensures failed { IfErr result (λ error. IsFailure R.remaining R.step W.contents options.now
-        reader.old writer.old error reader.new writer.new) }
+    ensures { IsProgramRun R.remaining R.step W.contents options.now
+        reader.old writer.old result reader.new writer.new }
 {
     let mut printer = Printer::new(writer);
     print(alloc, options, reader, &mut printer)?;
     let found = printer.found;
     match writer.flush() {
         Ok(()) => Ok(found),
+        Err(error) => Err(SearchError::Io(error)),
+    }
+}
+
+/// Opens the file at a path for reading, and searches it as `run` searches a reader, with no buffer between. The path
+/// of the options isn't read.
+///
+/// If the file can't be opened, the error is a `SearchError::Io` with that error, and nothing is written or flushed. Any
+/// other error is one of `run`.
+pub fn run_path<R: Files, W: Write>(
+    rt: &R,
+    alloc: Global,
+    options: &Options,
+    path: Path<'_>,
+    writer: &mut Writing<W>,
+) -> Result<bool, SearchError>
+    ensures { IsPathRun ⟦<Reading<R::File> as Source>⟧.remaining ⟦<Reading<R::File> as Source>⟧.step
+        W.contents options.now writer.old result writer.new }
+{
+    match File::open(rt, path) {
+        Ok(file) => run(alloc, options, &mut Reading::new(file), writer),
         Err(error) => Err(SearchError::Io(error)),
     }
 }
