@@ -1,11 +1,11 @@
-//! Searches standard input for a literal, line by line.
+//! Searches a file or standard input for a literal, line by line.
 #![tactic(auto)]
 
 use grep_searcher::{Reading, SearchError};
-use lgrep_cli::{Options, OptionsFault, USAGE, Writing, run, status};
-use std::alloc::Global;
+use lgrep_cli::{Options, OptionsFault, USAGE, Writing, run, run_path, status};
 use std::env::Env;
-use std::io::{BufWriter, Read, Write};
+use std::io::BufWriter;
+use std::path::Path;
 use std::process::ExitCode;
 use std::{env, io};
 
@@ -24,7 +24,7 @@ fn main(rt: HostRuntime) -> ExitCode {
         Err(OptionsFault::Usage) => return stop(&rt, USAGE),
         Err(OptionsFault::Memory) => return stop(&rt, FAILED),
     };
-    let outcome = search(rt.alloc(), &options, rt.stdin(), rt.stdout());
+    let outcome = search(&rt, &options);
     if outcome.is_err() {
         let _ = rt.eprintln(FAILED);
     }
@@ -38,21 +38,17 @@ fn arguments(rt: &(impl Env + AllocGlobal)) -> io::Result<Vec<String>> {
     Ok(arguments.collect(rt.alloc())?)
 }
 
-// Searches some input, and keeps the output in a buffer until it is written.
-fn search<R: Read + Drop, W: Write + Drop>(
-    alloc: Global,
-    options: &Options,
-    input: R,
-    output: W,
-) -> Result<bool, SearchError> {
-    match BufWriter::with_capacity(alloc, OUTPUT_LEN, output) {
-        Ok(writer) => run(
-            alloc,
-            options,
-            &mut Reading::new(input),
-            &mut Writing::new(writer),
-        ),
-        Err(error) => Err(SearchError::Io(error)),
+// Searches the file at the options' path, or standard input if there is none. The output is kept in a buffer until it
+// is written.
+fn search(rt: &HostRuntime, options: &Options) -> Result<bool, SearchError> {
+    let alloc = rt.alloc();
+    let mut writer = match BufWriter::with_capacity(alloc, OUTPUT_LEN, rt.stdout()) {
+        Ok(writer) => Writing::new(writer),
+        Err(error) => return Err(SearchError::Io(error)),
+    };
+    match &options.path {
+        Some(path) => run_path(rt, alloc, options, Path::new(path.as_str()), &mut writer),
+        None => run(alloc, options, &mut Reading::new(rt.stdin()), &mut writer),
     }
 }
 

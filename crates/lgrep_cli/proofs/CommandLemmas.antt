@@ -320,7 +320,7 @@ operands-end : (all : List (String Global)) (given : List (List ℕ)) (options :
     → IsWithOperands options given result → IsEnd all result
 operands-end all given options (Err Usage) same ends =
     let none = map-none settled (request_of (texts all))
-        (same ∙ ap (λ o. option_map (over options) o) (ends.usage.0 refl)) in
+    (same ∙ ap (λ o. option_map (over options) o) (ends.usage.0 refl)) in
     record { options = tt; usage = (λ _. none, λ _. refl) }
 operands-end all given options (Err Memory) same ends =
     record {
@@ -335,7 +335,7 @@ operands-end all given options (Ok new) same ends =
     let path = option_map string_bytes new.path in
     let values = over options (record (bare (string_bytes new.literal)) { path = path }) in
     let asked = settled-asked (request_of (texts all)) values (same ∙ ap (λ o. option_map (over options) o)
-        (sym (ap operands_of ends.are) ∙ operands-request (string_bytes new.literal) path)) in
+    (sym (ap operands_of ends.are) ∙ operands-request (string_bytes new.literal) path)) in
     record {
       options = (asked.0, asked.1, same-options asked.0 options new ends.same asked.2);
       usage = (λ e. absurd (cc), λ none. let never : Some asked.0 ≡ None = sym asked.1 ∙ none in absurd (cc));
@@ -373,7 +373,7 @@ pub marked-usage : (all before : List (String Global)) (argument : String Global
     → IsNext mid None after → IsUsage all (Err Usage)
 marked-usage all before argument mid after options split marked reading ended =
     let none = map-none settled (request_of (texts all)) (marked-asked all before mid.rest.now argument options split marked reading
-        ∙ ap (λ xs. option_map (over options) (operands_of (texts xs))) (empty mid.rest.now ended.0)) in
+    ∙ ap (λ xs. option_map (over options) (operands_of (texts xs))) (empty mid.rest.now ended.0)) in
     (λ _. none, λ _. refl)
 
 -- the literal and the path are the last arguments
@@ -429,7 +429,7 @@ request-last (argument ∷ []) request is = undashed-last argument [] request is
 request-last (argument ∷ next ∷ later) request is =
     let more = last-more argument (asked_operands request) (next ∷ later) in
     let numbered = λ (are : AreLast (asked_operands request) later).
-        more (last-more next (asked_operands request) later are) in
+    more (last-more next (asked_operands request) later are) in
     elim (either (bytes_eq argument (codes "-v")) _ _ request is) [
       | inl is ↦ more (last-set with_invert (next ∷ later) (λ r. refl) (request_of (next ∷ later)) (request-last (next ∷ later))
           request is)

@@ -95,11 +95,7 @@ impl Options {
     }
 
     // The options with the literal and the path, if nothing but a path follows the literal.
-    fn with_operands(
-        mut self,
-        literal: &String,
-        later: &[String],
-    ) -> Result<Options, OptionsFault>
+    fn with_operands(mut self, literal: &String, later: &[String]) -> Result<Options, OptionsFault>
         ensures options { IfOk result (λ options.
             options ≡ record self { literal = options.literal; path = options.path }) }
         ensures operands { IfOk result (λ options.

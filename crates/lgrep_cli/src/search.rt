@@ -59,10 +59,11 @@ pub fn run_path<R: Files, W: Write>(
     ensures { IsPathRun ⟦<Reading<R::File> as Source>⟧.remaining ⟦<Reading<R::File> as Source>⟧.step
         W.contents options.now writer.old result writer.new }
 {
-    match File::open(rt, path) {
-        Ok(file) => run(alloc, options, &mut Reading::new(file), writer),
-        Err(error) => Err(SearchError::Io(error)),
-    }
+    let file = match File::open(rt, path) {
+        Ok(file) => file,
+        Err(error) => return Err(SearchError::Io(error)),
+    };
+    run(alloc, options, &mut Reading::new(file), writer)
 }
 
 // Searches what a reader gives with a printer to which nothing is reported yet. After an error of reading the writer is

@@ -1,10 +1,11 @@
 //! What arguments, runs and errors come to.
-use crate::{Options, OptionsFault, USAGE, Writing, run};
+use crate::{Options, OptionsFault, USAGE, Writing, run, run_path};
 use grep_searcher::{SearchError, Source};
 use std::alloc::{AllocError, Global};
-use std::io;
 use std::io::Write;
+use std::path::{Path, PathBuf};
 use std::test::Fail;
+use std::{env, fs, io, process};
 
 // The arguments of a line, which one space each keeps apart.
 fn arguments(alloc: Global, line: &str) -> Result<Vec<String>, AllocError> {
@@ -48,10 +49,10 @@ fn refuses_arguments(rt: HostRuntime) {
         "-x a",
         "-U a",
         "-v",
-        "a b",
-        "a -v",
+        "a b c",
+        "a b -v",
         "--",
-        "-- a b",
+        "-- a b c",
     ] {
         let parsed = options(rt.alloc(), line);
         assert!(rt; matches!(parsed, Err(OptionsFault::Usage)), "at {line}");
@@ -63,7 +64,7 @@ fn refuses_arguments(rt: HostRuntime) {
     );
 }
 
-// A line, and its options: `invert`, `after`, `before`, `passthru`, `max` and `literal`.
+// A line, and its options: `invert`, `after`, `before`, `passthru`, `max`, `literal` and `path`.
 type OptionsRow = (
     &'static str,
     bool,
@@ -72,17 +73,41 @@ type OptionsRow = (
     bool,
     Option<u64>,
     &'static str,
+    Option<&'static str>,
 );
 
 const OPTIONS_ROWS: &[OptionsRow] = &[
-    ("a", false, 0, 0, false, None, "a"),
-    ("", false, 0, 0, false, None, ""),
-    ("-v -v ", true, 0, 0, false, None, ""),
-    ("-B 4294967295 a", false, 0, 4294967295, false, None, "a"),
-    ("-m 1 --passthru a", false, 0, 0, true, Some(1), "a"),
-    ("-m 1 -A 3 -m 2 -A 4 a", false, 4, 0, false, Some(2), "a"),
-    ("-v -- --", true, 0, 0, false, None, "--"),
-    ("-", false, 0, 0, false, None, "-"),
+    ("a", false, 0, 0, false, None, "a", None),
+    ("", false, 0, 0, false, None, "", None),
+    ("-v -v ", true, 0, 0, false, None, "", None),
+    (
+        "-B 4294967295 a",
+        false,
+        0,
+        4294967295,
+        false,
+        None,
+        "a",
+        None,
+    ),
+    ("-m 1 --passthru a", false, 0, 0, true, Some(1), "a", None),
+    (
+        "-m 1 -A 3 -m 2 -A 4 a",
+        false,
+        4,
+        0,
+        false,
+        Some(2),
+        "a",
+        None,
+    ),
+    ("-v -- --", true, 0, 0, false, None, "--", None),
+    ("-", false, 0, 0, false, None, "-", None),
+    ("-A 1 a b", false, 1, 0, false, None, "a", Some("b")),
+    ("a -v", false, 0, 0, false, None, "a", Some("-v")),
+    ("a -", false, 0, 0, false, None, "a", Some("-")),
+    ("a ", false, 0, 0, false, None, "a", Some("")),
+    ("-- -v --", false, 0, 0, false, None, "-v", Some("--")),
 ];
 
 // Whether options are those of a row.
@@ -93,6 +118,7 @@ fn has_options(options: &Options, row: &OptionsRow) -> bool {
         && options.passthru == row.4
         && options.max == row.5
         && options.literal.as_str() == row.6
+        && options.path.as_ref().map(|path| path.as_str()) == row.7
 }
 
 #[test]
@@ -266,4 +292,75 @@ fn writes_the_lines_before_a_read_that_fails(rt: HostRuntime) {
     let ended = search(rt.alloc(), "a", &mut Cut { is_read: false }, &mut writer);
     assert!(rt; is_fault(ended, io::ErrorKind::ConnectionReset));
     assert!(rt; writer.into_inner().as_slice() == b"1:a\n".as_slice());
+}
+
+// A path of this process alone, in the directory for temporary files.
+fn temporary_path(rt: &HostRuntime, name: &str) -> io::Result<PathBuf> {
+    let alloc = rt.alloc();
+    let name = format!(in alloc; "lgrep_cli-{}-{name}", process::id(rt.process()))?;
+    Ok(env::temp_dir(rt)?.join(alloc, name.as_str())?)
+}
+
+// Searches the file at a path by the options of a line, and returns whether a match was reported.
+fn search_path(
+    rt: &HostRuntime,
+    line: &str,
+    path: Path<'_>,
+    writer: &mut Writing<Vec<u8>>,
+) -> Result<bool, SearchError> {
+    let Ok(options) = options(rt.alloc(), line) else {
+        return Err(SearchError::Io(io::Error::from(io::ErrorKind::InvalidInput)));
+    };
+    run_path(rt, rt.alloc(), &options, path, writer)
+}
+
+// Whether a search of a file with this input writes this, and reports a match or not.
+fn writes_of_file(
+    rt: &HostRuntime,
+    path: Path<'_>,
+    line: &str,
+    input: &[u8],
+    text: &str,
+    found: bool,
+) -> Result<bool, Fail> {
+    fs::write(rt, path, input)?;
+    let mut writer = Writing::new(Vec::new(rt.alloc()));
+    let outcome = search_path(rt, line, path, &mut writer);
+    fs::remove_file(rt, path)?;
+    Ok(outcome? == found && writer.into_inner().as_slice() == text.as_bytes())
+}
+
+#[test]
+fn writes_what_it_finds_in_a_file(rt: HostRuntime) -> Result<(), Fail> {
+    let path = temporary_path(&rt, "rows")?;
+    for (line, input, text, found) in SEARCH_ROWS {
+        assert!(rt;
+            writes_of_file(&rt, path.as_path(), line, input, text, *found)?,
+            "at {line}"
+        );
+    }
+    Ok(())
+}
+
+#[test]
+fn reads_a_large_file_to_its_end(rt: HostRuntime) -> Result<(), Fail> {
+    let path = temporary_path(&rt, "large")?;
+    let mut input = vec![in rt.alloc(); b'\n'; 200 * 1024 - 1]?;
+    input.push(b'a')?;
+    assert!(rt; writes_of_file(&rt, path.as_path(), "a", &input, "204800:a\n", true)?);
+    Ok(())
+}
+
+// Whether a search of the file at a path finds no file, and writes nothing.
+fn finds_no_file(rt: &HostRuntime, path: Path<'_>) -> bool {
+    let mut writer = Writing::new(Vec::new(rt.alloc()));
+    let ended = search_path(rt, "-v a", path, &mut writer);
+    is_fault(ended, io::ErrorKind::NotFound) && writer.into_inner().is_empty()
+}
+
+#[test]
+fn returns_the_error_of_opening(rt: HostRuntime) -> Result<(), Fail> {
+    let path = temporary_path(&rt, "missing")?;
+    assert!(rt; finds_no_file(&rt, path.as_path()));
+    Ok(())
 }
