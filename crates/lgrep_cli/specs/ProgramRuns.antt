@@ -1,5 +1,6 @@
 -- What a run of lgrep does: it searches what a reader or a file gives, and writes the text of the calls.
-use Rattle.std.specs.Prelude.{◌≡◌, ℕ, Bool, true, false, List, Option, Some, None, Result, Ok, Err, IfOk, IfErr, OnOk, string_bytes}
+use Rattle.std.specs.Prelude.{◌≡◌, ℕ, Bool, true, false, List, Option, Some, None, string_bytes}
+use Rattle.std.specs.Prelude.{Result, Ok, Err, IfOk, IfErr, OnOk}
 use Rattle.std.specs.Global.{Global}
 use Rattle.std.specs.IoError.{error_kind}
 use Rattle.std.specs.declared.io.Error.{Error}
@@ -28,6 +29,14 @@ searcher_of options = record { settings = settings_of_options options; has_buffe
 -- what the options' literal means
 abbrev pub meaning_of : Options → Meaning
 meaning_of options = literal_meaning (string_bytes options.literal)
+
+-- whether a match was reported, or why the run failed
+abbrev pub RunResult : Type 0
+RunResult = Result Bool (SearchError Global)
+
+-- a file as a reader, of which no call has failed
+abbrev pub opened : {F : Type 0} → F → Reader F
+opened file = record { inner = file; failed = false }
 
 -- the calls that are defined for some input, of the literal under the options' settings
 abbrev pub calls_of : Options → List ℕ → List Turn
@@ -86,25 +95,25 @@ module _ {R W : Type 0} (remaining : R → Option (List ℕ)) (read_step : R →
         → IsFailure options reader writer (Io error) reader' writer'
 
   -- what a run over a reader does, by its result
-  pub record IsProgramRun (options : Options) (reader : R) (writer : Writer W) (result : Result Bool (SearchError Global))
+  pub record IsProgramRun (options : Options) (reader : R) (writer : Writer W) (result : RunResult)
       (reader' : R) (writer' : Writer W) : Type 0 where
     -- a run that succeeds wrote the text of the calls, and returns whether one of them reports a match
     pub printed : IfOk result (λ found. IsPrinted options reader writer found reader' writer')
     -- the same of the whole input, if the reader says which bytes remain
-    pub whole : IfOk result (λ found. IsPrintedWhole contents options (remaining reader) writer found writer')
+    pub whole : IfOk result (λ found.
+        IsPrintedWhole contents options (remaining reader) writer found writer')
     -- its last call was a flush that succeeded
     pub flushed : OnOk result (writer'.last ≡ Flush (Ok tt))
     -- a run that fails does so for one of these reasons
     pub failed : IfErr result (λ error. IsFailure options reader writer error reader' writer')
 
-module _ {F W : Type 0} (remaining : Reader F → Option (List ℕ)) (read_step : Reader F → ReadResult → Reader F → Type 0)
-    (contents : W → Option (List ℕ)) where
+module _ {F W : Type 0} (remaining : Reader F → Option (List ℕ))
+    (read_step : Reader F → ReadResult → Reader F → Type 0) (contents : W → Option (List ℕ)) where
   -- what a run over a path does, by its result
-  pub data IsPathRun (options : Options) (writer : Writer W) : Result Bool (SearchError Global) → Writer W → Type 0 where
+  pub data IsPathRun (options : Options) (writer : Writer W) : RunResult → Writer W → Type 0 where
     -- the file wasn't opened, for this error, and the writer had no call
     of_opening : {error : Error} → IsPathRun options writer (Err (Io error)) writer
-    -- this file was opened, and a run over it did all else
-    of_file : {result : Result Bool (SearchError Global)} {writer' : Writer W} (file : F) (reader' : Reader F)
-        → IsProgramRun remaining read_step contents options (record { inner = file; failed = false }) writer result reader'
-        writer'
+    -- this file was opened, and all else is what a run over it does
+    of_file : {result : RunResult} {writer' : Writer W} (file : F) (reader' : Reader F)
+        → IsProgramRun remaining read_step contents options (opened file) writer result reader' writer'
         → IsPathRun options writer result writer'

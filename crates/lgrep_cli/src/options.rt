@@ -3,7 +3,8 @@ ghost use Rattle.std.specs.Prelude.{◌≡◌, ◌↔◌, [], ◌∷◌, None, E
 ghost use Rattle.std.specs.Option.{ok_or, option_and_then};
 ghost use Rattle.std.specs.Char.{is_ascii_digit};
 ghost use Rattle.std.specs.List.{list_all};
-ghost use Rattle.lgrep_cli.specs.CommandLine.{bare, is_dashed, operands_in, operands_of, text_of, texts, AreLast, AreOptionsOf, AskFor, AskForNothing};
+ghost use Rattle.lgrep_cli.specs.CommandLine.{bare, is_dashed, operands_in, operands_of, text_of, texts};
+ghost use Rattle.lgrep_cli.specs.CommandLine.{AreLast, AreOptionsOf, AskFor, AskForNothing};
 ghost use Rattle.lgrep_cli.specs.Numerals.{is_numeral, number_of};
 
 use std::alloc::Global;

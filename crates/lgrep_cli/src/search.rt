@@ -44,11 +44,11 @@ pub fn run<R: Source, W: Write>(
     }
 }
 
-/// Opens the file at a path for reading, and searches it as `run` searches a reader, with no buffer between. The path
-/// of the options isn't read.
+/// Opens the file at `path` for reading, and searches it as `run` searches a reader, with no buffer between: it writes
+/// the same text, and returns the same. The options' own path isn't read.
 ///
-/// If the file can't be opened, the error is a `SearchError::Io` with that error, and nothing is written or flushed. Any
-/// other error is one of `run`.
+/// If the file can't be opened, the error is a `SearchError::Io` with the error of opening it, and the writer has no
+/// call. Any other error is one of `run`.
 pub fn run_path<R: Files, W: Write>(
     rt: &R,
     alloc: Global,
