@@ -115,5 +115,6 @@ module _ {F W : Type 0} (remaining : Reader F → Option (List ℕ))
     of_opening : {error : Error} → IsPathRun options writer (Err (Io error)) writer
     -- this file was opened, and all else is what a run over it does
     of_file : {result : RunResult} {writer' : Writer W} (file : F) (reader' : Reader F)
-        → IsProgramRun remaining read_step contents options (opened file) writer result reader' writer'
+        → IsProgramRun remaining read_step contents options (opened file) writer result reader'
+        writer'
         → IsPathRun options writer result writer'
