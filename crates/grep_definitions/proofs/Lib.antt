@@ -16,3 +16,4 @@ pub mod SearchLawLemmas
 pub mod MatchCallLemmas
 pub mod DecodedLemmas
 pub mod WorkedExamples
+pub mod AcrossExamples

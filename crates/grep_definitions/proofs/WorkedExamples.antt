@@ -14,7 +14,7 @@ use Rattle.grep_definitions.specs.LineSearch.{turns, byte_count}
 use Rattle.grep_definitions.specs.SinkRuns.{Steps, stopped, finish_result, AreReported, IsFinished, IsRun}
 
 -- a matcher of one byte
-abbrev has : ℕ → Meaning
+abbrev pub has : ℕ → Meaning
 has byte = record {
   first = λ hay. if list_any (λ x. nat_eq x byte) hay then Some
       (0, 1) else None;
@@ -23,23 +23,23 @@ has byte = record {
 }
 
 -- a matcher of the letter a
-abbrev has_a : Meaning
+abbrev pub has_a : Meaning
 has_a = has 97
 
 -- the turn that begins a search
-abbrev begun : Turn
+abbrev pub begun : Turn
 begun = record { call = begins; end = 0 }
 
 -- a turn that reports a match
-abbrev match_turn : ℕ → ℕ → List ℕ → ℕ → Turn
+abbrev pub match_turn : ℕ → ℕ → List ℕ → ℕ → Turn
 match_turn number offset line end = record { call = matches (Some number) offset line; end = end }
 
 -- a turn that reports a context line
-abbrev context_turn : SinkContextKind → ℕ → ℕ → List ℕ → ℕ → Turn
+abbrev pub context_turn : SinkContextKind → ℕ → ℕ → List ℕ → ℕ → Turn
 context_turn kind number offset line end = record { call = context kind (Some number) offset line; end = end }
 
 -- a turn that makes a break
-abbrev break_turn : ℕ → Turn
+abbrev pub break_turn : ℕ → Turn
 break_turn end = record { call = breaks; end = end }
 
 -- an empty input has no line to report

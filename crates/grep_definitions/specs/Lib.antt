@@ -1,3 +1,4 @@
+pub mod AcrossLines
 pub mod Below
 pub mod DecodedInputs
 pub mod FileSearches
@@ -5,11 +6,13 @@ pub mod InputFronts
 pub mod LineSearch
 pub mod LineTurns
 pub mod LineWalks
+pub mod Modes
 pub mod Questions
 pub mod ReaderSearches
 pub mod ReadingFaults
 pub mod Refusals
 pub mod SearchLaws
+pub mod SearchTurns
 pub mod Searches
 pub mod Settings
 pub mod SinkCalls

@@ -1,0 +1,162 @@
+-- Which calls a search across lines makes, said of the successive matches and of the whole list of lines, which is that of a
+-- search by line. Lines are counted from 0 here, and the numbers that are reported from 1. No search uses these
+-- definitions yet.
+use Rattle.std.specs.Prelude.{ℕ, zero, suc, ◌+◌, ◌-◌, Bool, not, ◌&&◌, if◌then◌else◌, nat_lt, nat_le, List, [], ◌∷◌, length, take, drop, filter, Option, Some, None, is_some}
+use Rattle.std.specs.List.{list_any}
+use Rattle.std.specs.Option.{option_map}
+use Rattle.grep_matcher.specs.Terminators.{byte_of}
+use Rattle.grep_matcher.specs.Matching.{Meaning}
+use Rattle.grep_lines.specs.Blocks.{block_start, block_end}
+use Rattle.grep_lines.specs.Positions.{slice}
+use Rattle.grep_report.specs.declared.sink_context.SinkContextKind.TheVariants.{Before, After, Other}
+use Rattle.grep_definitions.specs.Settings.{Settings}
+use Rattle.grep_definitions.specs.SinkCalls.{Turn, begins, matches, context, breaks}
+use Rattle.grep_definitions.specs.Below.{some_below, count_below, first_below, is_below, joined_from}
+use Rattle.grep_definitions.specs.LineSearch.{Kind, matched, in_context, line_count, line, start, number, can_break}
+
+-- the first of a list, as many as a limit has
+abbrev pub up_to : {X : Type 0} → Option ℕ → List X → List X
+up_to None xs = xs
+up_to (Some limit) xs = take limit xs
+
+module _ (settings : Settings) (meaning : Meaning) (bytes : List ℕ) where
+  -- the first match in the bytes from a position on, if there are bytes
+  abbrev pub match_from : ℕ → Option (ℕ × ℕ)
+  match_from position =
+      if nat_lt position (length bytes)
+      then option_map (λ m. (position + m.0, position + m.1)) (meaning.first (drop position bytes))
+      else None
+
+  -- the next match is looked for from a match's end, and after an empty match from one byte later
+  abbrev pub position_after : ℕ × ℕ → ℕ
+  position_after m = if nat_lt m.0 m.1 then m.1 else m.1 + 1
+
+  -- the successive matches from a position on, the first n
+  abbrev pub matches_from : ℕ → ℕ → List (ℕ × ℕ)
+  matches_from position zero = []
+  matches_from position (suc n) = elim (match_from position) [
+    None ↦ []
+    | Some m ↦ m ∷ matches_from (position_after m) n
+  ]
+
+  -- all of them: there are at most as many as bytes
+  abbrev pub all_matches : List (ℕ × ℕ)
+  all_matches = matches_from 0 (length bytes)
+
+  -- whether a line is within the whole lines that a match extends over, its block. The block of an empty match at the
+  -- end of bytes that end in a terminator has no line
+  abbrev pub touches : ℕ → ℕ × ℕ → Bool
+  touches i m =
+      nat_le (block_start (byte_of settings.line_terminator) bytes m) (start settings meaning bytes i)
+      && nat_le (start settings meaning bytes (i + 1)) (block_end (byte_of settings.line_terminator) bytes m)
+
+  -- whether one of some matches touches the line
+  abbrev pub is_touched : List (ℕ × ℕ) → ℕ → Bool
+  is_touched found i = nat_lt i (line_count settings meaning bytes) && list_any (touches i) found
+
+  -- whether no match at all touches it
+  abbrev pub is_free : ℕ → Bool
+  is_free i = nat_lt i (line_count settings meaning bytes) && not (is_touched all_matches i)
+
+  -- the lines that as many matches touch as the limit has; under inversion as many free lines
+  abbrev pub is_selected : ℕ → Bool
+  is_selected i =
+      if settings.invert_match
+      then is_free i && is_below (count_below is_free i) settings.max_matches
+      else is_touched (up_to settings.max_matches all_matches) i
+
+  -- a unit is a longest run of selected lines, and under inversion one selected line: whether a line is in the unit of
+  -- the line before it
+  abbrev pub continues_unit : ℕ → Bool
+  continues_unit i = not settings.invert_match && nat_lt 0 i && is_selected (i - 1)
+
+  -- one more than the last line of the unit that begins at line i
+  abbrev pub unit_end : ℕ → ℕ
+  unit_end i =
+      if settings.invert_match
+      then i + 1
+      else through (first_below (λ j. nat_lt i j && not (is_selected j)) (line_count settings meaning bytes))
+    where
+      through : Option ℕ → ℕ
+      through None = line_count settings meaning bytes
+      through (Some j) = j
+
+  -- each line has a turn
+  abbrev pub turn_count : ℕ
+  turn_count = line_count settings meaning bytes
+
+  -- whether a selected line is at most so many lines before line i, or after it
+  abbrev pub follows_selected : ℕ → Bool
+  follows_selected i = some_below (λ j. nat_le (i - j) settings.after_context && is_selected j) i
+
+  abbrev pub precedes_selected : ℕ → Bool
+  precedes_selected i =
+      some_below (λ j. nat_lt i j && nat_le (j - i) settings.before_context && is_selected j) turn_count
+
+  abbrev pub kind : ℕ → Option Kind
+  kind i =
+      if is_selected i then Some matched
+      else (if follows_selected i then Some (in_context After)
+      else (if precedes_selected i then Some (in_context Before)
+      else (if settings.passthru then Some (in_context Other) else None)))
+
+  abbrev pub is_reported : ℕ → Bool
+  is_reported i = nat_lt i turn_count && is_some (kind i)
+
+  -- how many lines there are up to the next unit after line i, and with it
+  abbrev pub lines_through_next : ℕ → ℕ
+  lines_through_next i = through (first_below (λ j. nat_lt i j && is_selected j) turn_count)
+    where
+      through : Option ℕ → ℕ
+      through None = i + 1
+      through (Some j) = unit_end j
+
+  -- where the turn of line i ends: with the line, or with its unit; a line before a match belongs to the turn of that match
+  abbrev pub turn_end : ℕ → Option Kind → ℕ
+  turn_end i None = start settings meaning bytes (i + 1)
+  turn_end i (Some matched) = start settings meaning bytes (unit_end i)
+  turn_end i (Some (in_context Before)) = start settings meaning bytes (lines_through_next i)
+  turn_end i (Some (in_context After)) = start settings meaning bytes (i + 1)
+  turn_end i (Some (in_context Other)) = start settings meaning bytes (i + 1)
+
+  -- a break comes before a match or a line before one, if lines were left out since the last report
+  abbrev pub breaks_before : ℕ → Bool
+  breaks_before i =
+      nat_lt 0 (settings.after_context + settings.before_context)
+      && can_break settings meaning bytes (kind i) && not (is_reported (i - 1)) && some_below is_reported i
+
+  -- the bytes of the unit that begins at line i
+  abbrev pub unit : ℕ → List ℕ
+  unit i = slice bytes (start settings meaning bytes i) (start settings meaning bytes (unit_end i))
+
+  -- a unit is reported at its first line
+  abbrev pub report : ℕ → Option Kind → List Turn
+  report i None = []
+  report i (Some matched) =
+      if continues_unit i
+      then []
+      else record {
+        call = matches (number settings meaning bytes i) (start settings meaning bytes i) (unit i);
+        end = turn_end i (Some matched);
+      } ∷ []
+  report i (Some (in_context c)) =
+      record {
+        call = context c (number settings meaning bytes i) (start settings meaning bytes i)
+            (line settings meaning bytes i);
+        end = turn_end i (Some (in_context c));
+      } ∷ []
+
+  -- the calls that belong to line i
+  abbrev pub turns_at : ℕ → List Turn
+  turns_at i =
+      if breaks_before i
+      then record { call = breaks; end = turn_end i (kind i) } ∷ report i (kind i)
+      else report i (kind i)
+
+  -- the calls before the last: `begin`, and those of all lines, in order
+  abbrev pub turns : List Turn
+  turns = record { call = begins; end = 0 } ∷ joined_from turns_at 0 turn_count
+
+  -- the byte count if every call returns true
+  abbrev pub byte_count : ℕ
+  byte_count = start settings meaning bytes turn_count
