@@ -8,7 +8,7 @@ use Rattle.grep_matcher.specs.Matching.{Meaning, plain}
 use Rattle.grep_report.specs.declared.sink_context.SinkContextKind.TheVariants.{Before, After, Other}
 use Rattle.grep_definitions.specs.Settings.{Settings, default_settings}
 use Rattle.grep_definitions.specs.SinkCalls.{Turn}
-use Rattle.grep_definitions.specs.AcrossLines.{all_matches}
+use Rattle.grep_definitions.specs.SuccessiveMatches.{all_matches}
 use Rattle.grep_definitions.specs.Modes.{is_across}
 use Rattle.grep_definitions.specs.SearchTurns.{search_turns, search_byte_count}
 use Rattle.grep_definitions.proofs.WorkedExamples.{has_a, begun, match_turn, context_turn, break_turn}
@@ -88,7 +88,7 @@ empty_literal : search_turns wide (literal []) (codes "a\nb\n") ≡ begun ∷ ma
 empty_literal = refl
 
 -- a match before each byte, and none at the end
-empty_literal_matches : all_matches wide (literal []) (codes "a\nb\n") ≡ (0, 0) ∷ (1, 1) ∷ (2, 2) ∷ (3, 3) ∷ []
+empty_literal_matches : all_matches (literal []) (codes "a\nb\n") ≡ (0, 0) ∷ (1, 1) ∷ (2, 2) ∷ (3, 3) ∷ []
 empty_literal_matches = refl
 
 empty_literal_count : search_byte_count wide (literal []) (codes "a\nb\n") ≡ 4

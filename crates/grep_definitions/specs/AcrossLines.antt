@@ -1,9 +1,8 @@
 -- Which calls a search across lines makes, said of the successive matches and of the whole list of lines, which is that of a
 -- search by line. Lines are counted from 0 here, and the numbers that are reported from 1. No search uses these
 -- definitions yet.
-use Rattle.std.specs.Prelude.{ℕ, zero, suc, ◌+◌, ◌-◌, Bool, not, ◌&&◌, if◌then◌else◌, nat_lt, nat_le, List, [], ◌∷◌, length, take, drop, filter, Option, Some, None, is_some}
+use Rattle.std.specs.Prelude.{ℕ, ◌+◌, ◌-◌, Bool, not, ◌&&◌, if◌then◌else◌, nat_lt, nat_le, List, [], ◌∷◌, Option, Some, None, is_some}
 use Rattle.std.specs.List.{list_any}
-use Rattle.std.specs.Option.{option_map}
 use Rattle.grep_matcher.specs.Terminators.{byte_of}
 use Rattle.grep_matcher.specs.Matching.{Meaning}
 use Rattle.grep_lines.specs.Blocks.{block_start, block_end}
@@ -11,38 +10,11 @@ use Rattle.grep_lines.specs.Positions.{slice}
 use Rattle.grep_report.specs.declared.sink_context.SinkContextKind.TheVariants.{Before, After, Other}
 use Rattle.grep_definitions.specs.Settings.{Settings}
 use Rattle.grep_definitions.specs.SinkCalls.{Turn, begins, matches, context, breaks}
+use Rattle.grep_definitions.specs.SuccessiveMatches.{all_matches, matches_up_to}
 use Rattle.grep_definitions.specs.Below.{some_below, count_below, first_below, is_below, joined_from}
 use Rattle.grep_definitions.specs.LineSearch.{Kind, matched, in_context, line_count, line, start, number, can_break}
 
--- the first of a list, as many as a limit has
-abbrev pub up_to : {X : Type 0} → Option ℕ → List X → List X
-up_to None xs = xs
-up_to (Some limit) xs = take limit xs
-
 module _ (settings : Settings) (meaning : Meaning) (bytes : List ℕ) where
-  -- the first match in the bytes from a position on, if there are bytes
-  abbrev pub match_from : ℕ → Option (ℕ × ℕ)
-  match_from position =
-      if nat_lt position (length bytes)
-      then option_map (λ m. (position + m.0, position + m.1)) (meaning.first (drop position bytes))
-      else None
-
-  -- the next match is looked for from a match's end, and after an empty match from one byte later
-  abbrev pub position_after : ℕ × ℕ → ℕ
-  position_after m = if nat_lt m.0 m.1 then m.1 else m.1 + 1
-
-  -- the successive matches from a position on, the first n
-  abbrev pub matches_from : ℕ → ℕ → List (ℕ × ℕ)
-  matches_from position zero = []
-  matches_from position (suc n) = elim (match_from position) [
-    None ↦ []
-    | Some m ↦ m ∷ matches_from (position_after m) n
-  ]
-
-  -- all of them: there are at most as many as bytes
-  abbrev pub all_matches : List (ℕ × ℕ)
-  all_matches = matches_from 0 (length bytes)
-
   -- whether a line is within the whole lines that a match extends over, its block. The block of an empty match at the
   -- end of bytes that end in a terminator has no line
   abbrev pub touches : ℕ → ℕ × ℕ → Bool
@@ -56,14 +28,14 @@ module _ (settings : Settings) (meaning : Meaning) (bytes : List ℕ) where
 
   -- whether no match at all touches it
   abbrev pub is_free : ℕ → Bool
-  is_free i = nat_lt i (line_count settings meaning bytes) && not (is_touched all_matches i)
+  is_free i = nat_lt i (line_count settings meaning bytes) && not (is_touched (all_matches meaning bytes) i)
 
   -- the lines that as many matches touch as the limit has; under inversion as many free lines
   abbrev pub is_selected : ℕ → Bool
   is_selected i =
       if settings.invert_match
       then is_free i && is_below (count_below is_free i) settings.max_matches
-      else is_touched (up_to settings.max_matches all_matches) i
+      else is_touched (matches_up_to meaning bytes settings.max_matches) i
 
   -- a unit is a longest run of selected lines, and under inversion one selected line: whether a line is in the unit of
   -- the line before it

@@ -1,3 +1,4 @@
+pub mod AcrossLaws
 pub mod AcrossLines
 pub mod Below
 pub mod DecodedInputs
@@ -18,3 +19,4 @@ pub mod Settings
 pub mod SinkCalls
 pub mod SinkFolds
 pub mod SinkRuns
+pub mod SuccessiveMatches

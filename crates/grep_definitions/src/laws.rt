@@ -4,6 +4,8 @@ ghost use Rattle.grep_definitions.specs.SearchLaws.{UnchangedIsInput, UnsniffedI
 ghost use Rattle.grep_definitions.specs.SearchLaws.{ReportsAscend, AfterWins, InversionComplements, FirstLinesBegin, AtMostLimit, WholeCount};
 ghost use Rattle.grep_definitions.specs.SearchLaws.{LinesAreNumbered, MatchesAreSelected, MatchesDecide};
 ghost use Rattle.grep_definitions.specs.SearchLaws.{MatchesAreCounted, FirstMatchIsFirst, MatchesAreFew};
+ghost use Rattle.grep_definitions.specs.AcrossLaws;
+ghost use Rattle.grep_definitions.specs.AcrossLaws.{SearchesByLine, SearchesAcrossLines, MatchesAreAll};
 
 use grep_decode::laws::unchanged_is_decoded;
 use grep_lines::laws::{lines_append, lines_are_few, lines_join};
@@ -98,3 +100,47 @@ pub fn matches_are_few()
     grep_lines::laws::lines_are_numbered();
     lines_are_few();
 }
+
+/// Without `multi_line`, or with a matcher that excludes the line terminator, a search is by line.
+pub fn searches_by_line()
+    ensures { SearchesByLine }
+{}
+
+/// With `multi_line`, and a matcher that doesn't exclude the line terminator, a search is across lines.
+pub fn searches_across_lines()
+    ensures { SearchesAcrossLines }
+{}
+
+/// Of a matcher whose matches are within their haystacks no match is left out.
+pub fn matches_are_all()
+    ensures { MatchesAreAll }
+{}
+
+/// Across lines too, without limit a search and its inversion select complementary lines.
+pub fn inversion_complements_across()
+    ensures { AcrossLaws.InversionComplements }
+{}
+
+/// Across lines too, the reports ascend, and no line begins two of them.
+pub fn reports_ascend_across()
+    ensures { AcrossLaws.ReportsAscend }
+{
+    lines_join();
+}
+
+/// Across lines too, no more matches are reported than the limit has.
+pub fn at_most_limit_across()
+    ensures { AcrossLaws.AtMostLimit }
+{}
+
+/// Across lines every byte counts, whatever the limit is.
+pub fn whole_count_across()
+    ensures { AcrossLaws.WholeCount }
+{
+    lines_join();
+}
+
+/// Across lines `stop_on_nonmatch` is ignored.
+pub fn stop_is_ignored_across()
+    ensures { AcrossLaws.StopIsIgnored }
+{}

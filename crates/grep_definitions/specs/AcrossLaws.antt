@@ -1,0 +1,72 @@
+-- Laws of the defined calls across lines, and of the mode.
+use Rattle.std.specs.Prelude.{◌≡◌, ℕ, ◌+◌, ◌<◌, ◌≤◌, Bool, true, false, not, ◌⊎◌}
+use Rattle.std.specs.Prelude.{List, length, count_by, Contains, Some, None}
+use Rattle.std.specs.List.Sorted.{IsStrictlyIncreasing}
+use Rattle.grep_matcher.specs.Lawful.{ExcludesTerminator}
+use Rattle.grep_matcher.specs.Matching.{Meaning, IsWithin}
+use Rattle.grep_definitions.specs.Settings.{Settings}
+use Rattle.grep_definitions.specs.LineSearch
+use Rattle.grep_definitions.specs.LineSearch.{line_count}
+use Rattle.grep_definitions.specs.AcrossLines
+use Rattle.grep_definitions.specs.AcrossLines.{turns, byte_count, is_selected}
+use Rattle.grep_definitions.specs.SuccessiveMatches.{matches_from, all_matches}
+use Rattle.grep_definitions.specs.SearchLaws.{report_offsets, is_match}
+use Rattle.grep_definitions.specs.SearchTurns.{search_turns, search_turn_count, search_byte_count}
+
+-- without `multi_line`, or with a matcher that excludes the terminator, a search is by line
+abbrev pub SearchesByLine : Type 0
+SearchesByLine =
+    (settings : Settings) (meaning : Meaning) (bytes : List ℕ)
+    → (settings.multi_line ≡ false) ⊎ ExcludesTerminator settings.line_terminator meaning
+    → (search_turns settings meaning bytes ≡ LineSearch.turns settings meaning bytes)
+    × (search_turn_count settings meaning bytes ≡ LineSearch.turn_count settings meaning bytes)
+    × (search_byte_count settings meaning bytes ≡ LineSearch.byte_count settings meaning bytes)
+
+-- any other search is across lines
+abbrev pub SearchesAcrossLines : Type 0
+SearchesAcrossLines =
+    (settings : Settings) (meaning : Meaning) (bytes : List ℕ)
+    → settings.multi_line ≡ true → (ExcludesTerminator settings.line_terminator meaning → ⊥)
+    → (search_turns settings meaning bytes ≡ AcrossLines.turns settings meaning bytes)
+    × (search_turn_count settings meaning bytes ≡ AcrossLines.turn_count settings meaning bytes)
+    × (search_byte_count settings meaning bytes ≡ AcrossLines.byte_count settings meaning bytes)
+
+-- if a matcher's matches are within their haystacks, no match is left out: from no position are there more of them than
+-- bytes
+abbrev pub MatchesAreAll : Type 0
+MatchesAreAll =
+    (meaning : Meaning) (bytes : List ℕ) (n : ℕ)
+    → ((haystack : List ℕ) → IsWithin haystack (meaning.first haystack)) → length bytes ≤ n
+    → matches_from meaning bytes 0 n ≡ all_matches meaning bytes
+
+-- without limit, a search across lines and its inversion select complementary lines
+abbrev pub InversionComplements : Type 0
+InversionComplements =
+    (settings : Settings) (meaning : Meaning) (bytes : List ℕ) (i : ℕ)
+    → settings.max_matches ≡ None → i < line_count settings meaning bytes
+    → is_selected (record settings { invert_match = not settings.invert_match }) meaning bytes i
+    ≡ not (is_selected settings meaning bytes i)
+
+-- the reports ascend, and no line begins two of them
+abbrev pub ReportsAscend : Type 0
+ReportsAscend =
+    (settings : Settings) (meaning : Meaning) (bytes : List ℕ)
+    → IsStrictlyIncreasing (report_offsets (turns settings meaning bytes))
+
+-- no more matches are reported than the limit has, also if the lines of many matches are one report
+abbrev pub AtMostLimit : Type 0
+AtMostLimit =
+    (settings : Settings) (meaning : Meaning) (bytes : List ℕ) (limit : ℕ) → settings.max_matches ≡ Some limit
+    → count_by (λ turn. is_match turn.call) (turns settings meaning bytes) ≤ limit
+
+-- each byte counts
+abbrev pub WholeCount : Type 0
+WholeCount =
+    (settings : Settings) (meaning : Meaning) (bytes : List ℕ) → byte_count settings meaning bytes ≡ length bytes
+
+-- whether a search would stop at a line that doesn't match makes no difference
+abbrev pub StopIsIgnored : Type 0
+StopIsIgnored =
+    (settings : Settings) (meaning : Meaning) (bytes : List ℕ) (stop : Bool)
+    → (turns (record settings { stop_on_nonmatch = stop }) meaning bytes ≡ turns settings meaning bytes)
+    × (byte_count (record settings { stop_on_nonmatch = stop }) meaning bytes ≡ byte_count settings meaning bytes)
