@@ -14,6 +14,8 @@ pub mod FirstLineLemmas
 pub mod FirstTurnLemmas
 pub mod SearchLawLemmas
 pub mod MatchCallLemmas
+pub mod SuccessiveMatchLemmas
+pub mod AcrossLemmas
 pub mod DecodedLemmas
 pub mod WorkedExamples
 pub mod AcrossExamples

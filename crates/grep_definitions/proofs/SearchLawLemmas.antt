@@ -3,7 +3,7 @@ use Rattle.std.proofs.Common.{◌≡◌, ℕ, zero, suc, ◌+◌, ◌-◌, ◌<�
 use Rattle.std.proofs.Math.Bool.{and-false}
 use Rattle.std.proofs.lemmas.Bool.{le-leb, ltb-true}
 use Rattle.std.proofs.lemmas.List.Sums.{sum_by-append}
-use Rattle.std.specs.Prelude.{nat_lt, count_by, cond}
+use Rattle.std.specs.Prelude.{nat_lt, ◌&&◌, count_by, cond}
 use Rattle.std.specs.List.Sorted.{IsStrictlyIncreasing}
 use Rattle.grep_matcher.specs.Terminators.{byte_of}
 use Rattle.grep_matcher.specs.Matching.{Meaning}
@@ -49,6 +49,76 @@ report_offsets-append [] back = refl
 report_offsets-append (turn ∷ front) back =
     ap (λ rest. offset_of turn.call ++ rest) (report_offsets-append front back)
     ∙ sym (append_assoc (offset_of turn.call) (report_offsets front) (report_offsets back))
+
+-- offsets that ascend, from a bound on
+abbrev pub AscendFrom : ℕ → List ℕ → Type 0
+AscendFrom low offsets = IsStrictlyIncreasing offsets × (0 < length offsets → low ≤ slice_index offsets 0)
+
+-- the reports of some lines ascend, if each line has one at most, at its start
+pub offsets-joined : (f : ℕ → List Turn) (start : ℕ → ℕ) (n : ℕ) → ((i : ℕ) → i < n → start i < start (i + 1))
+    → ((i : ℕ) → (report_offsets (f i) ≡ []) ⊎ (report_offsets (f i) ≡ start i ∷ [])) → (i m : ℕ) → i + m ≤ n
+    → AscendFrom (start i) (report_offsets (joined_from f i m))
+offsets-joined f start n rises one i zero inside = (λ j below. absurd (omega arith), λ some. absurd (omega arith))
+offsets-joined f start n rises one i (suc m) inside =
+    let later = offsets-joined f start n rises one (i + 1) m (omega arith) in
+    let here : start i < start (i + 1) = rises i (omega arith) in
+    rw (report_offsets-append (f i) (joined_from f (i + 1) m))
+    (⊎_elim
+    (λ none. rw none (later.0, λ some. let low = later.1 some in omega arith))
+    (λ at. rw at (IsStrictlyIncreasing-cons (start i) _ later.0 (λ some. let low = later.1 some in omega arith), λ some. omega arith))
+    (one i))
+
+-- how many matches some calls report
+abbrev pub matches_in : List Turn → ℕ
+matches_in = count_by (λ turn. is_match turn.call)
+
+-- some first lines report no more matches than numbers pass, if a line reports one at most, and only if its number passes
+pub matches-joined : (f : ℕ → List Turn) (p : ℕ → Bool) → ((i : ℕ) → matches_in (f i) ≤ (if p i then 1 else 0)) → (m : ℕ)
+    → matches_in (joined_from f 0 m) ≤ count_below p m
+matches-joined f p one zero = omega arith
+matches-joined f p one (suc m) =
+    let next : suc m ≡ m + 1 = omega arith in
+    let sum : 0 + m ≡ m = omega arith in
+    let more : matches_in (joined_from f 0 (suc m)) ≡ matches_in (joined_from f 0 m) + matches_in (f m) =
+    ap (λ x. matches_in (joined_from f 0 x)) next ∙ ap matches_in (joined_from-more f 0 m)
+    ∙ sum_by-append (λ turn. cond (is_match turn.call) 1 0) (joined_from f 0 m) (f (0 + m))
+    ∙ ap (λ x. matches_in (joined_from f 0 m) + matches_in (f x)) sum in
+    let P : ℕ → Type 0 = λ x. x ≤ count_below p (suc m) in
+    subst P (sym more) (go (p m) (one m) (matches-joined f p one m))
+  where
+    go : (b : Bool) → matches_in (f m) ≤ (if b then 1 else 0) → matches_in (joined_from f 0 m) ≤ count_below p m
+        → matches_in (joined_from f 0 m) + matches_in (f m) ≤ (if b then count_below p m + 1 else count_below p m)
+    go true here before = omega arith
+    go false here before = omega arith
+
+-- no more numbers pass than a limit has, if each passes only while fewer before it do
+pub count_below-limited : (p : ℕ → Bool) (limit m : ℕ) → count_below (λ i. p i && nat_lt (count_below p i) limit) m ≤ limit
+count_below-limited p limit zero = omega arith
+count_below-limited p limit (suc m) =
+    go (p m) (nat_lt (count_below p m) limit) refl (count_below-limited p limit m)
+  where
+    few : count_below (λ i. p i && nat_lt (count_below p i) limit) m ≤ count_below p m
+    few = count_below-weaker (λ i. p i && nat_lt (count_below p i) limit) p m
+        (λ j yes. (both_true (p j) (nat_lt (count_below p j) limit) yes).0)
+
+    go : (a b : Bool) → nat_lt (count_below p m) limit ≡ b
+        → count_below (λ i. p i && nat_lt (count_below p i) limit) m ≤ limit
+        → (if a && b then count_below (λ i. p i && nat_lt (count_below p i) limit) m + 1
+        else count_below (λ i. p i && nat_lt (count_below p i) limit) m) ≤ limit
+    go true true room before = omega (arith, ltb-true _ _ room, few)
+    go true false room before = before
+    go false b room before = before
+
+-- which kind of report a line has
+pub kind-matched : (a b c d : Bool)
+    → (if a then Some matched
+    else (if b then Some (in_context After)
+    else (if c then Some (in_context Before) else (if d then Some (in_context Other) else None)))) ≡ Some matched → a ≡ true
+kind-matched true b c d is = refl
+kind-matched false true c d is = absurd (cc)
+kind-matched false false true d is = absurd (cc)
+kind-matched false false false true is = absurd (cc)
+kind-matched false false false false is = absurd (cc)
 
 module _ (k : Settings) (meaning : Meaning) (bytes : List ℕ) where
   -- how many lines there are, where each starts, whether it is chosen, and its calls
@@ -110,48 +180,18 @@ module _ (k : Settings) (meaning : Meaning) (bytes : List ℕ) where
       go true = offsets-report i (LineSearch.kind k meaning bytes i)
       go false = offsets-report i (LineSearch.kind k meaning bytes i)
 
-  -- offsets that ascend, from a bound on
-  abbrev AscendFrom : ℕ → List ℕ → Type 0
-  AscendFrom low offsets = IsStrictlyIncreasing offsets × (0 < length offsets → low ≤ slice_index offsets 0)
-
   -- the reports of some lines ascend
   pub offsets-ascend : LinesJoin → (i m : ℕ) → i + m ≤ n → AscendFrom (start i) (report_offsets (joined_from T i m))
-  offsets-ascend join i zero inside = (λ j below. absurd (omega arith), λ some. absurd (omega arith))
-  offsets-ascend join i (suc m) inside =
-      let P : List ℕ → Type 0 = AscendFrom (start i) in
-      let later = offsets-ascend join (i + 1) m (omega arith) in
-      let rises : start i < start (i + 1) = line_start-ascends join (byte_of k.line_terminator) bytes i (omega arith) in
-      rw (report_offsets-append (T i) (joined_from T (i + 1) m))
-      (⊎_elim
-      (λ none. rw none (later.0, λ some. let low = later.1 some in omega arith))
-      (λ one. rw one (IsStrictlyIncreasing-cons (start i) _ later.0 (λ some. let low = later.1 some in omega arith), λ some. omega arith))
-      (offsets-line i))
-
-  -- how many matches some calls tell
-  abbrev matches_in : List Turn → ℕ
-  matches_in = count_by (λ turn. is_match turn.call)
-
-  -- a line reported as a match is selected
-  kind-matched : (i : ℕ) → LineSearch.kind k meaning bytes i ≡ Some matched → LineSearch.is_selected k meaning bytes i ≡ true
-  kind-matched i is = go (LineSearch.is_selected k meaning bytes i) (LineSearch.follows_selected k meaning bytes i)
-      (LineSearch.precedes_selected k meaning bytes i) k.passthru is
-    where
-      go : (a b c d : Bool)
-          → (if a then Some matched
-          else (if b then Some (in_context After)
-          else (if c then Some (in_context Before) else (if d then Some (in_context Other) else None)))) ≡ Some matched → a ≡ true
-      go true b c d is = refl
-      go false true c d is = absurd (cc)
-      go false false true d is = absurd (cc)
-      go false false false true is = absurd (cc)
-      go false false false false is = absurd (cc)
+  offsets-ascend join = offsets-joined T start n (line_start-ascends join (byte_of k.line_terminator) bytes) offsets-line
 
   -- a report tells one match at most, and only where its line is chosen
   matches-report : (i : ℕ) (kind : Option Kind) → LineSearch.kind k meaning bytes i ≡ kind
       → matches_in (LineSearch.report k meaning bytes i kind) ≤ (if chosen i then 1 else 0)
   matches-report i None is = omega arith
   matches-report i (Some matched) is =
-      let here : chosen i ≡ true = (both_true (chosen i) _ (kind-matched i is)).0 in
+      let selected = kind-matched _ (LineSearch.follows_selected k meaning bytes i) (LineSearch.precedes_selected k meaning bytes i)
+      k.passthru is in
+      let here : chosen i ≡ true = (both_true (chosen i) _ selected).0 in
       rw here (omega arith)
   matches-report i (Some (in_context c)) is = omega arith
 
@@ -166,39 +206,11 @@ module _ (k : Settings) (meaning : Meaning) (bytes : List ℕ) where
       go true = matches-report i (LineSearch.kind k meaning bytes i) refl
       go false = matches-report i (LineSearch.kind k meaning bytes i) refl
 
-  -- some first lines tell no more matches than lines are chosen there
-  matches-lines : (m : ℕ) → matches_in (joined_from T 0 m) ≤ count_below chosen m
-  matches-lines zero = omega arith
-  matches-lines (suc m) =
-      let next : suc m ≡ m + 1 = omega arith in
-      let sum : 0 + m ≡ m = omega arith in
-      let more : matches_in (joined_from T 0 (suc m)) ≡ matches_in (joined_from T 0 m) + matches_in (T m) =
-      ap (λ x. matches_in (joined_from T 0 x)) next ∙ ap matches_in (joined_from-more T 0 m)
-      ∙ sum_by-append (λ turn. cond (is_match turn.call) 1 0) (joined_from T 0 m) (T (0 + m))
-      ∙ ap (λ x. matches_in (joined_from T 0 m) + matches_in (T x)) sum in
-      let P : ℕ → Type 0 = λ x. x ≤ count_below chosen (suc m) in
-      subst P (sym more) (go (chosen m) (matches-line m) (matches-lines m))
-    where
-      go : (b : Bool) → matches_in (T m) ≤ (if b then 1 else 0) → matches_in (joined_from T 0 m) ≤ count_below chosen m
-          → matches_in (joined_from T 0 m) + matches_in (T m) ≤ (if b then count_below chosen m + 1 else count_below chosen m)
-      go true here before = omega arith
-      go false here before = omega arith
-
-  -- no more lines are chosen than the limit has
-  chosen-few : (limit m : ℕ) → k.max_matches ≡ Some limit → count_below chosen m ≤ limit
-  chosen-few limit zero is = omega arith
-  chosen-few limit (suc m) is = go (chosen m) refl (chosen-few limit m is)
-    where
-      go : (b : Bool) → chosen m ≡ b → count_below chosen m ≤ limit
-          → (if b then count_below chosen m + 1 else count_below chosen m) ≤ limit
-      go true here before =
-          let room = (both_true (LineSearch.hits k meaning bytes m) _ here).1 in
-          let less : nat_lt (count_below (LineSearch.hits k meaning bytes) m) limit ≡ true = rw is at room in
-          let fewer = count_below-weaker chosen (LineSearch.hits k meaning bytes) m
-          (λ j yes. (both_true (LineSearch.hits k meaning bytes j) _ yes).0) in
-          omega (arith, ltb-true _ _ less)
-      go false here before = before
-
   -- the calls tell no more matches than the limit has
   pub matches-few : (limit m : ℕ) → k.max_matches ≡ Some limit → matches_in (joined_from T 0 m) ≤ limit
-  matches-few limit m is = omega (arith, matches-lines m, chosen-few limit m is)
+  matches-few limit m is = omega (arith, matches-joined T chosen matches-line m, chosen-few)
+    where
+      chosen-few : count_below chosen m ≤ limit
+      chosen-few =
+          let few = count_below-limited (LineSearch.hits k meaning bytes) limit m in
+          rw is few
