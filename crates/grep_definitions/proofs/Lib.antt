@@ -15,6 +15,7 @@ pub mod FirstTurnLemmas
 pub mod SearchLawLemmas
 pub mod MatchCallLemmas
 pub mod SuccessiveMatchLemmas
+pub mod TouchLemmas
 pub mod AcrossLemmas
 pub mod DecodedLemmas
 pub mod WorkedExamples

@@ -1,14 +1,14 @@
 -- Laws of the defined calls across lines, and of the mode.
-use Rattle.std.specs.Prelude.{◌≡◌, ℕ, ◌+◌, ◌<◌, ◌≤◌, Bool, true, false, not, ◌⊎◌}
-use Rattle.std.specs.Prelude.{List, length, count_by, Contains, Some, None}
+use Rattle.std.specs.Prelude.{◌≡◌, ℕ, ◌+◌, ◌<◌, ◌≤◌, Bool, true, false, not, ◌&&◌, ◌⊎◌}
+use Rattle.std.specs.Prelude.{nat_lt, List, length, count_by, Some, None}
 use Rattle.std.specs.List.Sorted.{IsStrictlyIncreasing}
-use Rattle.grep_matcher.specs.Lawful.{ExcludesTerminator}
+use Rattle.grep_matcher.specs.Lawful.{ExcludesTerminator, HoldsPosition}
 use Rattle.grep_matcher.specs.Matching.{Meaning, IsWithin}
 use Rattle.grep_definitions.specs.Settings.{Settings}
 use Rattle.grep_definitions.specs.LineSearch
-use Rattle.grep_definitions.specs.LineSearch.{line_count}
+use Rattle.grep_definitions.specs.LineSearch.{line_count, start}
 use Rattle.grep_definitions.specs.AcrossLines
-use Rattle.grep_definitions.specs.AcrossLines.{turns, byte_count, is_selected}
+use Rattle.grep_definitions.specs.AcrossLines.{turns, byte_count, is_selected, touches}
 use Rattle.grep_definitions.specs.SuccessiveMatches.{matches_from, all_matches}
 use Rattle.grep_definitions.specs.SearchLaws.{report_offsets, is_match}
 use Rattle.grep_definitions.specs.SearchTurns.{search_turns, search_turn_count, search_byte_count}
@@ -38,6 +38,25 @@ MatchesAreAll =
     (meaning : Meaning) (bytes : List ℕ) (n : ℕ)
     → ((haystack : List ℕ) → IsWithin haystack (meaning.first haystack)) → length bytes ≤ n
     → matches_from meaning bytes 0 n ≡ all_matches meaning bytes
+
+-- a match that isn't empty touches the lines that it has a byte of, and no other line
+abbrev pub MatchTouchesItsLines : Type 0
+MatchTouchesItsLines =
+    (settings : Settings) (meaning : Meaning) (bytes : List ℕ) (m : ℕ × ℕ) (i : ℕ)
+    → m.0 < m.1 → m.1 ≤ length bytes → i < line_count settings meaning bytes
+    → touches settings meaning bytes i m
+    ≡ (nat_lt m.0 (start settings meaning bytes (i + 1)) && nat_lt (start settings meaning bytes i) m.1)
+
+-- an empty match touches the line that holds its position, and no other line: at the end of the bytes the last line, unless
+-- it has its terminator
+abbrev pub EmptyMatchTouchesItsLine : Type 0
+EmptyMatchTouchesItsLine =
+    (settings : Settings) (meaning : Meaning) (bytes : List ℕ) (position i : ℕ)
+    → position ≤ length bytes → i < line_count settings meaning bytes
+    → (touches settings meaning bytes i (position, position) ≡ true
+    → HoldsPosition settings.line_terminator meaning bytes i position)
+    × (HoldsPosition settings.line_terminator meaning bytes i position
+    → touches settings meaning bytes i (position, position) ≡ true)
 
 -- without limit, a search across lines and its inversion select complementary lines
 abbrev pub InversionComplements : Type 0

@@ -6,6 +6,7 @@ ghost use Rattle.grep_definitions.specs.SearchLaws.{LinesAreNumbered, MatchesAre
 ghost use Rattle.grep_definitions.specs.SearchLaws.{MatchesAreCounted, FirstMatchIsFirst, MatchesAreFew};
 ghost use Rattle.grep_definitions.specs.AcrossLaws;
 ghost use Rattle.grep_definitions.specs.AcrossLaws.{SearchesByLine, SearchesAcrossLines, MatchesAreAll};
+ghost use Rattle.grep_definitions.specs.AcrossLaws.{MatchTouchesItsLines, EmptyMatchTouchesItsLine};
 
 use grep_decode::laws::unchanged_is_decoded;
 use grep_lines::laws::{lines_append, lines_are_few, lines_join};
@@ -114,6 +115,12 @@ pub fn searches_across_lines()
 /// Of a matcher whose matches are within their haystacks no match is left out.
 pub fn matches_are_all()
     ensures { MatchesAreAll }
+{}
+
+/// A match touches the lines that it has a byte of, and an empty match the line that holds its position.
+pub fn matches_touch_their_lines()
+    ensures some { MatchTouchesItsLines }
+    ensures empty { EmptyMatchTouchesItsLine }
 {}
 
 /// Across lines too, without limit a search and its inversion select complementary lines.
