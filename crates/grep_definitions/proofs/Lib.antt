@@ -16,7 +16,9 @@ pub mod SearchLawLemmas
 pub mod MatchCallLemmas
 pub mod SuccessiveMatchLemmas
 pub mod TouchLemmas
+pub mod RunLemmas
 pub mod AcrossLemmas
+pub mod UnitLemmas
 pub mod DecodedLemmas
 pub mod WorkedExamples
 pub mod AcrossExamples

@@ -1,12 +1,14 @@
 -- Laws of the defined calls across lines, and of the mode.
 use Rattle.std.specs.Prelude.{◌≡◌, ℕ, ◌+◌, ◌<◌, ◌≤◌, Bool, true, false, not, ◌&&◌, ◌⊎◌}
-use Rattle.std.specs.Prelude.{nat_lt, List, length, count_by, Some, None}
+use Rattle.std.specs.Prelude.{if◌then◌else◌, nat_lt, List, [], ◌∷◌, ◌++◌, length, count_by, Some, None}
 use Rattle.std.specs.List.Sorted.{IsStrictlyIncreasing}
 use Rattle.grep_matcher.specs.Lawful.{ExcludesTerminator, HoldsPosition}
 use Rattle.grep_matcher.specs.Matching.{Meaning, IsWithin}
 use Rattle.grep_definitions.specs.Settings.{Settings}
+use Rattle.grep_definitions.specs.SinkCalls.{Call, Turn, begins, matches, context, breaks, binary_data, finishes}
+use Rattle.grep_definitions.specs.Below.{joined_from}
 use Rattle.grep_definitions.specs.LineSearch
-use Rattle.grep_definitions.specs.LineSearch.{line_count, start}
+use Rattle.grep_definitions.specs.LineSearch.{line_count, line, start}
 use Rattle.grep_definitions.specs.AcrossLines
 use Rattle.grep_definitions.specs.AcrossLines.{turns, byte_count, is_selected, touches}
 use Rattle.grep_definitions.specs.SuccessiveMatches.{matches_from, all_matches}
@@ -77,6 +79,27 @@ abbrev pub AtMostLimit : Type 0
 AtMostLimit =
     (settings : Settings) (meaning : Meaning) (bytes : List ℕ) (limit : ℕ) → settings.max_matches ≡ Some limit
     → count_by (λ turn. is_match turn.call) (turns settings meaning bytes) ≤ limit
+
+-- the bytes of the match reports, joined
+abbrev pub match_report : Call → List ℕ
+match_report begins = []
+match_report (matches number offset bytes) = bytes
+match_report (context kind number offset line) = []
+match_report breaks = []
+match_report (binary_data offset) = []
+match_report (finishes count binary) = []
+
+abbrev pub match_reports : List Turn → List ℕ
+match_reports [] = []
+match_reports (turn ∷ later) = match_report turn.call ++ match_reports later
+
+-- the match reports, joined, are the selected lines, joined: each selected line is in one report, and no other line is
+abbrev pub SelectedAreReported : Type 0
+SelectedAreReported =
+    (settings : Settings) (meaning : Meaning) (bytes : List ℕ)
+    → match_reports (turns settings meaning bytes)
+    ≡ joined_from (λ i. if is_selected settings meaning bytes i then line settings meaning bytes i else []) 0
+    (line_count settings meaning bytes)
 
 -- each byte counts
 abbrev pub WholeCount : Type 0

@@ -3,6 +3,7 @@
 -- definitions yet.
 use Rattle.std.specs.Prelude.{ℕ, ◌+◌, ◌-◌, Bool, not, ◌&&◌, if◌then◌else◌, nat_lt, nat_le, List, [], ◌∷◌, Option, Some, None, is_some}
 use Rattle.std.specs.List.{list_any}
+use Rattle.std.specs.Option.{option_map, unwrap_or}
 use Rattle.grep_matcher.specs.Terminators.{byte_of}
 use Rattle.grep_matcher.specs.Matching.{Meaning}
 use Rattle.grep_lines.specs.Blocks.{block_start, block_end}
@@ -47,11 +48,8 @@ module _ (settings : Settings) (meaning : Meaning) (bytes : List ℕ) where
   unit_end i =
       if settings.invert_match
       then i + 1
-      else through (first_below (λ j. nat_lt i j && not (is_selected j)) (line_count settings meaning bytes))
-    where
-      through : Option ℕ → ℕ
-      through None = line_count settings meaning bytes
-      through (Some j) = j
+      else unwrap_or (first_below (λ j. nat_lt i j && not (is_selected j)) (line_count settings meaning bytes))
+      (line_count settings meaning bytes)
 
   -- each line has a turn
   abbrev pub turn_count : ℕ
@@ -77,11 +75,8 @@ module _ (settings : Settings) (meaning : Meaning) (bytes : List ℕ) where
 
   -- how many lines there are up to the next unit after line i, and with it
   abbrev pub lines_through_next : ℕ → ℕ
-  lines_through_next i = through (first_below (λ j. nat_lt i j && is_selected j) turn_count)
-    where
-      through : Option ℕ → ℕ
-      through None = i + 1
-      through (Some j) = unit_end j
+  lines_through_next i =
+      unwrap_or (option_map unit_end (first_below (λ j. nat_lt i j && is_selected j) turn_count)) (i + 1)
 
   -- where the turn of line i ends: with the line, or with its unit; a line before a match belongs to the turn of that match
   abbrev pub turn_end : ℕ → Option Kind → ℕ

@@ -6,7 +6,7 @@ ghost use Rattle.grep_definitions.specs.SearchLaws.{LinesAreNumbered, MatchesAre
 ghost use Rattle.grep_definitions.specs.SearchLaws.{MatchesAreCounted, FirstMatchIsFirst, MatchesAreFew};
 ghost use Rattle.grep_definitions.specs.AcrossLaws;
 ghost use Rattle.grep_definitions.specs.AcrossLaws.{SearchesByLine, SearchesAcrossLines, MatchesAreAll};
-ghost use Rattle.grep_definitions.specs.AcrossLaws.{MatchTouchesItsLines, EmptyMatchTouchesItsLine};
+ghost use Rattle.grep_definitions.specs.AcrossLaws.{MatchTouchesItsLines, EmptyMatchTouchesItsLine, SelectedAreReported};
 
 use grep_decode::laws::unchanged_is_decoded;
 use grep_lines::laws::{lines_append, lines_are_few, lines_join};
@@ -138,6 +138,12 @@ pub fn reports_ascend_across()
 /// Across lines too, no more matches are reported than the limit has.
 pub fn at_most_limit_across()
     ensures { AcrossLaws.AtMostLimit }
+{}
+
+/// Across lines the match reports, joined, are the selected lines, joined: each selected line is in one report, and no
+/// other line is.
+pub fn selected_are_reported_across()
+    ensures { SelectedAreReported }
 {}
 
 /// Across lines every byte counts, whatever the limit is.
