@@ -7,7 +7,6 @@ use Rattle.grep_matcher.specs.Literals.{literal_meaning}
 use Rattle.grep_matcher.specs.Matching.{Meaning, plain}
 use Rattle.grep_report.specs.declared.sink_context.SinkContextKind.TheVariants.{Before, After, Other}
 use Rattle.grep_definitions.specs.Settings.{Settings, default_settings}
-use Rattle.grep_definitions.specs.SinkCalls.{Turn}
 use Rattle.grep_definitions.specs.SuccessiveMatches.{all_matches}
 use Rattle.grep_definitions.specs.Modes.{is_across}
 use Rattle.grep_definitions.specs.SearchTurns.{search_turns, search_byte_count}
@@ -175,7 +174,8 @@ known_present : is_across wide (literal_meaning (codes "a\nb")) ≡ true
 known_present = refl
 
 -- a stop ends a search by line, and none across lines
-stop_by_line : search_byte_count (record wide { stop_on_nonmatch = true }) (record has_a { terminator = Some (Byte 10) }) (codes "a\nb\nc\n") ≡ 4
+stop_by_line : search_byte_count (record wide { stop_on_nonmatch = true }) (record has_a { terminator = Some (Byte 10) })
+    (codes "a\nb\nc\n") ≡ 4
 stop_by_line = refl
 
 stop_across_lines : search_byte_count (record wide { stop_on_nonmatch = true }) has_a (codes "a\nb\nc\n") ≡ 6

@@ -1,6 +1,6 @@
 -- What the calls across lines report.
-use Rattle.std.proofs.Common.{◌≡◌, ℕ, zero, suc, ◌+◌, ◌-◌, ◌<◌, ◌≤◌, Bool, true, false, not, ◌&&◌, ◌||◌, List, [], ◌∷◌, length, take}
-use Rattle.std.proofs.Common.{refl, sym, ap, ◌∙◌, arith, ◌⊎◌, ⊎_elim, inl, inr, Option, Some, None, if◌then◌else◌}
+use Rattle.std.proofs.Common.{◌≡◌, ℕ, zero, suc, ◌+◌, ◌-◌, ◌<◌, ◌≤◌, Bool, true, false, not, ◌&&◌, ◌||◌, List, [], ◌∷◌, length}
+use Rattle.std.proofs.Common.{refl, ap, arith, ◌⊎◌, ⊎_elim, inl, inr, Option, Some, None, if◌then◌else◌}
 use Rattle.std.proofs.Math.Bool.{and-false, or-true}
 use Rattle.std.proofs.lemmas.Bool.{le-leb, leb-true, lt-ltb, ltb-true, cases_Bool}
 use Rattle.std.proofs.lemmas.List.{length-take}
@@ -11,10 +11,9 @@ use Rattle.grep_matcher.specs.Terminators.{byte_of}
 use Rattle.grep_matcher.specs.Matching.{Meaning}
 use Rattle.grep_lines.specs.Blocks.{block_start, block_end}
 use Rattle.grep_lines.specs.LineLaws.{LinesJoin}
-use Rattle.grep_report.specs.declared.sink_context.SinkContextKind.TheVariants.{Before, After, Other}
 use Rattle.grep_definitions.specs.Settings.{Settings}
 use Rattle.grep_definitions.specs.SinkCalls.{Turn, breaks}
-use Rattle.grep_definitions.specs.Below.{count_below, is_below, joined_from}
+use Rattle.grep_definitions.specs.Below.{count_below, is_below}
 use Rattle.grep_definitions.specs.LineSearch.{Kind, matched, in_context, line_count, start}
 use Rattle.grep_definitions.specs.SuccessiveMatches.{all_matches, matches_up_to}
 use Rattle.grep_definitions.specs.AcrossLines
@@ -23,7 +22,7 @@ use Rattle.grep_definitions.specs.SearchLaws.{report_offsets}
 use Rattle.grep_definitions.proofs.BoolLemmas.{both_true, and-both, or-cases, not_false, clash}
 use Rattle.grep_definitions.proofs.LineStartLemmas.{line_start-ascends}
 use Rattle.grep_definitions.proofs.TurnEndLemmas.{line_start-le}
-use Rattle.grep_definitions.proofs.SearchLawLemmas.{AscendFrom, offsets-joined, matches_in, matches-joined, kind-matched}
+use Rattle.grep_definitions.proofs.SearchLawLemmas.{offsets-joined, matches_in, matches-joined, kind-matched}
 use Rattle.grep_definitions.proofs.SearchLawLemmas.{count_below-weaker, count_below-limited}
 
 -- if none of the first numbers passes, none of them counts
@@ -145,7 +144,8 @@ module _ (k : Settings) (meaning : Meaning) (bytes : List ℕ) where
         arith,
         count_below-either (begins_run (touched_by x)) (begins_run (is_touched k meaning bytes found))
             (begins_run (is_touched k meaning bytes (x ∷ found))) m
-            (begins_run-either (touched_by x) (is_touched k meaning bytes found) (is_touched k meaning bytes (x ∷ found)) either first second),
+            (begins_run-either (touched_by x) (is_touched k meaning bytes found) (is_touched k meaning bytes (x ∷ found))
+            either first second),
         count_below-once (begins_run (touched_by x)) m (touched_by-run x),
         touched-runs found m,
       )

@@ -1,5 +1,5 @@
 -- Longest runs of numbers that pass a test, and lists joined over them.
-use Rattle.std.proofs.Common.{◌≡◌, ℕ, zero, suc, ◌+◌, ◌-◌, ◌<◌, ◌≤◌, Bool, true, false, not, ◌&&◌, List, [], ◌∷◌, ◌++◌}
+use Rattle.std.proofs.Common.{◌≡◌, ℕ, zero, suc, ◌+◌, ◌-◌, ◌<◌, ◌≤◌, Bool, true, false, not, ◌&&◌, List, [], ◌++◌}
 use Rattle.std.proofs.Common.{refl, sym, ap, ◌∙◌, arith, ⊎_elim, Option, Some, None}
 use Rattle.std.proofs.lemmas.Bool.{lt-ltb, ltb-true, cases_Bool, cases_lt}
 use Rattle.std.specs.Prelude.{nat_lt}
@@ -99,28 +99,29 @@ module _ (p : ℕ → Bool) (n : ℕ) where
     joined-from (suc m) i all =
         let rest = joined-from m (i + 1) (omega arith) in
         ⊎_elim
-        (λ yes.
-        (
+        (λ yes. (
           λ begins.
-          let run = IsRunEnd-run_end i (omega arith) yes in
-          let next = IsRunEnd-next i (run_end i) (omega arith) yes run in
-          let cut : suc m ≡ (run_end i - i) + (n - run_end i) = omega (arith, run.low, run.high) in
-          let on : i + (run_end i - i) ≡ run_end i = omega (arith, run.low) in
-          let split : joined_from each i (suc m) ≡ joined_from each i (run_end i - i) ++ joined_from each (run_end i) (n - run_end i) =
-          ap (joined_from each i) cut ∙ joined_from-add each i (run_end i - i) (n - run_end i)
-          ∙ ap (λ x. joined_from each i (run_end i - i) ++ joined_from each x (n - run_end i)) on in
-          rw (first i (omega arith) yes begins, rest.1 (run_end i) next (continues-next i ∙ yes)) (sym split),
+              let run = IsRunEnd-run_end i (omega arith) yes in
+              let next = IsRunEnd-next i (run_end i) (omega arith) yes run in
+              let cut : suc m ≡ (run_end i - i) + (n - run_end i) = omega (arith, run.low, run.high) in
+              let on : i + (run_end i - i) ≡ run_end i = omega (arith, run.low) in
+              let split : joined_from each i (suc m) ≡ joined_from each i (run_end i - i) ++ joined_from each (run_end i) (n - run_end i) =
+              ap (joined_from each i) cut ∙ joined_from-add each i (run_end i - i) (n - run_end i)
+              ∙ ap (λ x. joined_from each i (run_end i - i) ++ joined_from each x (n - run_end i)) on in
+              rw (first i (omega arith) yes begins, rest.1 (run_end i) next (continues-next i ∙ yes)) (sym split),
           λ e run goes_on. rw (later i yes goes_on) (rest.1 e (IsRunEnd-next i e (omega arith) yes run) (continues-next i ∙ yes)),
         ))
         (λ no.
         let same : joined_from whole i (suc m) ≡ joined_from each i (suc m) =
-        rw (skipped i no, none i no) (rest.0 (continues-next i ∙ no)) in
-        (
+        rw (skipped i no, none i no) (rest.0 (continues-next i ∙ no)) in (
           λ _. same,
           λ e run _.
-          let here : e ≡ i = ⊎_elim (λ less. absurd (clash (run.inner i (omega arith) less) no)) (λ over. omega (arith, run.low)) (cases_lt i e) in
-          let count : suc m ≡ n - i = omega arith in
-          same ∙ (rw (here, ← count) refl),
+              let here : e ≡ i = ⊎_elim
+              (λ less. absurd (clash (run.inner i (omega arith) less) no))
+              (λ over. omega (arith, run.low))
+              (cases_lt i e) in
+              let count : suc m ≡ n - i = omega arith in
+              same ∙ (rw (here, ← count) refl),
         ))
         (cases_Bool (p i))
 

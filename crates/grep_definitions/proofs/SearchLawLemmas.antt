@@ -72,7 +72,8 @@ offsets-joined f start n rises one i (suc m) inside =
 abbrev pub matches_in : List Turn → ℕ
 matches_in = count_by (λ turn. is_match turn.call)
 
--- some first lines report no more matches than numbers pass, if a line reports one at most, and only if its number passes
+-- some first lines report no more matches than numbers pass, if a line reports one at most, and only if its number
+-- passes
 pub matches-joined : (f : ℕ → List Turn) (p : ℕ → Bool) → ((i : ℕ) → matches_in (f i) ≤ (if p i then 1 else 0)) → (m : ℕ)
     → matches_in (joined_from f 0 m) ≤ count_below p m
 matches-joined f p one zero = omega arith

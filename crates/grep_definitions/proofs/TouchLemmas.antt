@@ -1,8 +1,7 @@
 -- Which lines a match touches: those that it has a byte of, and an empty match the line that holds its position.
-use Rattle.std.proofs.Common.{◌≡◌, ◌≢◌, ℕ, zero, suc, ◌+◌, ◌-◌, ◌<◌, ◌≤◌, ◌==◌, Bool, true, false, ◌&&◌, List, length, take, slice_index}
-use Rattle.std.proofs.Common.{refl, sym, ap, ◌∙◌, arith, ◌⊎◌, ⊎_elim, inl, inr, take_all}
-use Rattle.std.proofs.Math.Bool.{and-false}
-use Rattle.std.proofs.lemmas.Bool.{le-leb, lt-leb, leb-true, lt-ltb, le-ltb, ltb-true, cases_lt, cases_eq, ne_eqb}
+use Rattle.std.proofs.Common.{◌≡◌, ◌≢◌, ℕ, zero, suc, ◌+◌, ◌-◌, ◌<◌, ◌≤◌, ◌==◌, Bool, true, ◌&&◌, List, length, slice_index}
+use Rattle.std.proofs.Common.{refl, sym, ap, ◌∙◌, arith, ⊎_elim, inl, inr, take_all}
+use Rattle.std.proofs.lemmas.Bool.{le-leb, lt-leb, leb-true, lt-ltb, le-ltb, cases_lt, cases_eq, ne_eqb}
 use Rattle.std.proofs.lemmas.List.Sums.{count_by_more_no}
 use Rattle.std.specs.Prelude.{nat_lt, nat_le}
 use Rattle.grep_matcher.specs.declared.line_terminator.LineTerminator.{LineTerminator}
@@ -86,8 +85,8 @@ module _ (t : ℕ) (bytes : List ℕ) where
   block_end-line : (m : ℕ × ℕ) (b : ℕ) → m.0 < m.1 → b < n → from b < m.1 → m.1 ≤ from (b + 1) → from (b + 1) ≡ block_end t bytes m
   block_end-line m b some inside low below = ⊎_elim
       (λ less.
-      let open_end : slice_index bytes (m.1 - 1) ≢ t = (IsLastStart-line t bytes b m.1 inside (omega arith) less).inner (m.1 - 1) (omega arith)
-      (omega arith) in
+      let open_end : slice_index bytes (m.1 - 1) ≢ t =
+      (IsLastStart-line t bytes b m.1 inside (omega arith) less).inner (m.1 - 1) (omega arith) (omega arith) in
       block_end-open t bytes m (from (b + 1)) (λ _. open_end) (next (lines_before-line m.1 b inside (omega arith) less)))
       (λ over. ⊎_elim
       (λ same. let whole : from (b + 1) ≡ m.1 = omega arith in whole ∙ block_end-closed t bytes m some within same)
@@ -182,14 +181,24 @@ module _ (terminator : LineTerminator) (meaning : Meaning) (bytes : List ℕ) (p
       (λ below.
       let line = holder t bytes p below in
       let same : i ≡ line.0 = ⊎_elim
-          (λ less. absurd (omega (arith, rises t bytes i here, line_start-le t bytes (i + 1) line.0 (omega (arith, less)), first,
-          block_start-line t bytes (p, p) line.0 line.1 line.2 line.3)))
-          (λ over. ⊎_elim
-          (λ more. absurd (omega (arith, rises t bytes i here, line_start-le t bytes (line.0 + 1) i (omega (arith, more)), second,
-          block_end-empty t bytes p line.0 line.1 line.2 line.3)))
-          (λ few. omega (arith, over, few))
-          (cases_lt line.0 i))
-          (cases_lt i line.0) in
+      (λ less. absurd (omega (
+        arith,
+        rises t bytes i here,
+        line_start-le t bytes (i + 1) line.0 (omega (arith, less)),
+        first,
+        block_start-line t bytes (p, p) line.0 line.1 line.2 line.3,
+      )))
+      (λ over. ⊎_elim
+      (λ more. absurd (omega (
+        arith,
+        rises t bytes i here,
+        line_start-le t bytes (line.0 + 1) i (omega (arith, more)),
+        second,
+        block_end-empty t bytes p line.0 line.1 line.2 line.3,
+      )))
+      (λ few. omega (arith, over, few))
+      (cases_lt line.0 i))
+      (cases_lt i line.0) in
       (omega (arith, ap starts same, line.2), inl (omega (arith, ap (λ x. starts (x + 1)) same, line.3))))
       (λ over. ⊎_elim
       (λ closed. absurd (omega (
@@ -205,7 +214,12 @@ module _ (terminator : LineTerminator) (meaning : Meaning) (bytes : List ℕ) (p
       (λ other.
       let last = last-before over other in
       ⊎_elim
-      (λ less. absurd (omega (arith, first, rises t bytes i here, line_start-le t bytes (i + 1) (lines_before t bytes p) (omega (arith, less)))))
+      (λ less. absurd (omega (
+        arith,
+        first,
+        rises t bytes i here,
+        line_start-le t bytes (i + 1) (lines_before t bytes p) (omega (arith, less)),
+      )))
       (λ more. (omega (arith, high t bytes i, over), inr (omega (arith, more, last, here), omega (arith, inside, over), other)))
       (cases_lt i (lines_before t bytes p)))
       (cases_eq (slice_index bytes (length bytes - 1)) t))

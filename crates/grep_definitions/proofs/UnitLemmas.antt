@@ -1,5 +1,5 @@
 -- The bytes that the match reports across lines have.
-use Rattle.std.proofs.Common.{◌≡◌, ℕ, zero, suc, ◌+◌, ◌-◌, ◌<◌, ◌≤◌, Bool, true, false, not, ◌&&◌, List, [], ◌∷◌, ◌++◌, length, take, drop}
+use Rattle.std.proofs.Common.{◌≡◌, ℕ, zero, suc, ◌+◌, ◌-◌, ◌<◌, ◌≤◌, Bool, true, false, not, ◌&&◌, List, [], ◌∷◌, ◌++◌, take, drop}
 use Rattle.std.proofs.Common.{refl, sym, ap, ◌∙◌, arith, ⊎_elim, Option, Some, None, if◌then◌else◌, append_assoc}
 use Rattle.std.proofs.Math.Seq.{take-add}
 use Rattle.std.proofs.lemmas.Bool.{cases_Bool}
@@ -87,7 +87,8 @@ module _ (k : Settings) (meaning : Meaning) (bytes : List ℕ) where
       let sum : i + suc m ≡ (i + 1) + m = omega arith in
       let here = all i (omega arith) (omega arith) in
       ap (λ x. slice bytes (at i) (at x)) sum
-      ∙ sym (slice-join bytes (at i) (at (i + 1)) (at ((i + 1) + m)) (line_start-le (byte_of k.line_terminator) bytes i (i + 1) (omega arith))
+      ∙ sym (slice-join bytes (at i) (at (i + 1)) (at ((i + 1) + m))
+      (line_start-le (byte_of k.line_terminator) bytes i (i + 1) (omega arith))
       (line_start-le (byte_of k.line_terminator) bytes (i + 1) ((i + 1) + m) (omega arith)))
       ∙ (rw (line-slice i (omega arith), lines-slice (i + 1) m (omega arith) (λ j low below. all j (omega arith) (omega arith)), here) refl)
 

@@ -1,11 +1,13 @@
 -- Laws of the defined calls across lines, and of the mode.
 use Rattle.std.specs.Prelude.{◌≡◌, ℕ, ◌+◌, ◌<◌, ◌≤◌, Bool, true, false, not, ◌&&◌, ◌⊎◌}
-use Rattle.std.specs.Prelude.{if◌then◌else◌, nat_lt, List, [], ◌∷◌, ◌++◌, length, count_by, Some, None}
+use Rattle.std.specs.Prelude.{if◌then◌else◌, nat_lt}
+use Rattle.std.specs.Prelude.{List, [], ◌∷◌, ◌++◌, length, count_by, Some, None}
 use Rattle.std.specs.List.Sorted.{IsStrictlyIncreasing}
 use Rattle.grep_matcher.specs.Lawful.{ExcludesTerminator, HoldsPosition}
 use Rattle.grep_matcher.specs.Matching.{Meaning, IsWithin}
 use Rattle.grep_definitions.specs.Settings.{Settings}
-use Rattle.grep_definitions.specs.SinkCalls.{Call, Turn, begins, matches, context, breaks, binary_data, finishes}
+use Rattle.grep_definitions.specs.SinkCalls.{Call, Turn, begins, matches, context, breaks}
+use Rattle.grep_definitions.specs.SinkCalls.{binary_data, finishes}
 use Rattle.grep_definitions.specs.Below.{joined_from}
 use Rattle.grep_definitions.specs.LineSearch
 use Rattle.grep_definitions.specs.LineSearch.{line_count, line, start}
@@ -47,10 +49,11 @@ MatchTouchesItsLines =
     (settings : Settings) (meaning : Meaning) (bytes : List ℕ) (m : ℕ × ℕ) (i : ℕ)
     → m.0 < m.1 → m.1 ≤ length bytes → i < line_count settings meaning bytes
     → touches settings meaning bytes i m
-    ≡ (nat_lt m.0 (start settings meaning bytes (i + 1)) && nat_lt (start settings meaning bytes i) m.1)
+    ≡ (nat_lt m.0 (start settings meaning bytes (i + 1))
+    && nat_lt (start settings meaning bytes i) m.1)
 
--- an empty match touches the line that holds its position, and no other line: at the end of the bytes the last line, unless
--- it has its terminator
+-- an empty match touches the line that holds its position, and no other line: at the end of the bytes the last line,
+-- unless that has its terminator
 abbrev pub EmptyMatchTouchesItsLine : Type 0
 EmptyMatchTouchesItsLine =
     (settings : Settings) (meaning : Meaning) (bytes : List ℕ) (position i : ℕ)
@@ -77,7 +80,8 @@ ReportsAscend =
 -- no more matches are reported than the limit has, also if the lines of many matches are one report
 abbrev pub AtMostLimit : Type 0
 AtMostLimit =
-    (settings : Settings) (meaning : Meaning) (bytes : List ℕ) (limit : ℕ) → settings.max_matches ≡ Some limit
+    (settings : Settings) (meaning : Meaning) (bytes : List ℕ) (limit : ℕ)
+    → settings.max_matches ≡ Some limit
     → count_by (λ turn. is_match turn.call) (turns settings meaning bytes) ≤ limit
 
 -- the bytes of the match reports, joined
@@ -98,17 +102,21 @@ abbrev pub SelectedAreReported : Type 0
 SelectedAreReported =
     (settings : Settings) (meaning : Meaning) (bytes : List ℕ)
     → match_reports (turns settings meaning bytes)
-    ≡ joined_from (λ i. if is_selected settings meaning bytes i then line settings meaning bytes i else []) 0
-    (line_count settings meaning bytes)
+    ≡ joined_from
+    (λ i. if is_selected settings meaning bytes i then line settings meaning bytes i else [])
+    0 (line_count settings meaning bytes)
 
 -- each byte counts
 abbrev pub WholeCount : Type 0
 WholeCount =
-    (settings : Settings) (meaning : Meaning) (bytes : List ℕ) → byte_count settings meaning bytes ≡ length bytes
+    (settings : Settings) (meaning : Meaning) (bytes : List ℕ)
+    → byte_count settings meaning bytes ≡ length bytes
 
 -- whether a search would stop at a line that doesn't match makes no difference
 abbrev pub StopIsIgnored : Type 0
 StopIsIgnored =
     (settings : Settings) (meaning : Meaning) (bytes : List ℕ) (stop : Bool)
-    → (turns (record settings { stop_on_nonmatch = stop }) meaning bytes ≡ turns settings meaning bytes)
-    × (byte_count (record settings { stop_on_nonmatch = stop }) meaning bytes ≡ byte_count settings meaning bytes)
+    → (turns (record settings { stop_on_nonmatch = stop }) meaning bytes
+    ≡ turns settings meaning bytes)
+    × (byte_count (record settings { stop_on_nonmatch = stop }) meaning bytes
+    ≡ byte_count settings meaning bytes)

@@ -1,7 +1,8 @@
--- Which calls a search across lines makes, said of the successive matches and of the whole list of lines, which is that of a
--- search by line. Lines are counted from 0 here, and the numbers that are reported from 1. No search uses these
--- definitions yet.
-use Rattle.std.specs.Prelude.{ℕ, ◌+◌, ◌-◌, Bool, not, ◌&&◌, if◌then◌else◌, nat_lt, nat_le, List, [], ◌∷◌, Option, Some, None, is_some}
+-- Which calls a search across lines makes, said of the successive matches and of the whole list of lines, by offsets and
+-- distances alone. The lines are those of a search by line. They are counted from 0 here, and the numbers that are
+-- reported from 1. No search uses these definitions yet.
+use Rattle.std.specs.Prelude.{ℕ, ◌+◌, ◌-◌, Bool, not, ◌&&◌, if◌then◌else◌, nat_lt, nat_le}
+use Rattle.std.specs.Prelude.{List, [], ◌∷◌, Option, Some, None, is_some}
 use Rattle.std.specs.List.{list_any}
 use Rattle.std.specs.Option.{option_map, unwrap_or}
 use Rattle.grep_matcher.specs.Terminators.{byte_of}
@@ -12,16 +13,21 @@ use Rattle.grep_report.specs.declared.sink_context.SinkContextKind.TheVariants.{
 use Rattle.grep_definitions.specs.Settings.{Settings}
 use Rattle.grep_definitions.specs.SinkCalls.{Turn, begins, matches, context, breaks}
 use Rattle.grep_definitions.specs.SuccessiveMatches.{all_matches, matches_up_to}
-use Rattle.grep_definitions.specs.Below.{some_below, count_below, first_below, is_below, joined_from}
-use Rattle.grep_definitions.specs.LineSearch.{Kind, matched, in_context, line_count, line, start, number, can_break}
+use Rattle.grep_definitions.specs.Below.{some_below, count_below, first_below, is_below}
+use Rattle.grep_definitions.specs.Below.{joined_from}
+use Rattle.grep_definitions.specs.LineSearch.{Kind, matched, in_context}
+use Rattle.grep_definitions.specs.LineSearch.{line_count, line, start, number, can_break}
 
 module _ (settings : Settings) (meaning : Meaning) (bytes : List ℕ) where
-  -- whether a line is within the whole lines that a match extends over, its block. The block of an empty match at the
-  -- end of bytes that end in a terminator has no line
+  abbrev pub terminator : ℕ
+  terminator = byte_of settings.line_terminator
+
+  -- whether a line is within the block of a match: the whole lines that it extends over, as `locate` returns them. The
+  -- block of an empty match at the end of bytes that end in a terminator has no line
   abbrev pub touches : ℕ → ℕ × ℕ → Bool
   touches i m =
-      nat_le (block_start (byte_of settings.line_terminator) bytes m) (start settings meaning bytes i)
-      && nat_le (start settings meaning bytes (i + 1)) (block_end (byte_of settings.line_terminator) bytes m)
+      nat_le (block_start terminator bytes m) (start settings meaning bytes i)
+      && nat_le (start settings meaning bytes (i + 1)) (block_end terminator bytes m)
 
   -- whether one of some matches touches the line
   abbrev pub is_touched : List (ℕ × ℕ) → ℕ → Bool
@@ -29,17 +35,24 @@ module _ (settings : Settings) (meaning : Meaning) (bytes : List ℕ) where
 
   -- whether no match at all touches it
   abbrev pub is_free : ℕ → Bool
-  is_free i = nat_lt i (line_count settings meaning bytes) && not (is_touched (all_matches meaning bytes) i)
+  is_free i =
+      nat_lt i (line_count settings meaning bytes)
+      && not (is_touched (all_matches meaning bytes) i)
 
-  -- the lines that as many matches touch as the limit has; under inversion as many free lines
+  -- the lines that the first matches touch, as many matches as the limit has; under inversion the first free lines, as
+  -- many lines
   abbrev pub is_selected : ℕ → Bool
   is_selected i =
       if settings.invert_match
       then is_free i && is_below (count_below is_free i) settings.max_matches
       else is_touched (matches_up_to meaning bytes settings.max_matches) i
 
-  -- a unit is a longest run of selected lines, and under inversion one selected line: whether a line is in the unit of
-  -- the line before it
+  -- each line has a turn
+  abbrev pub turn_count : ℕ
+  turn_count = line_count settings meaning bytes
+
+  -- a unit is a longest run of selected lines, and under inversion one selected line: whether a selected line is in the
+  -- unit of the line before it
   abbrev pub continues_unit : ℕ → Bool
   continues_unit i = not settings.invert_match && nat_lt 0 i && is_selected (i - 1)
 
@@ -48,12 +61,7 @@ module _ (settings : Settings) (meaning : Meaning) (bytes : List ℕ) where
   unit_end i =
       if settings.invert_match
       then i + 1
-      else unwrap_or (first_below (λ j. nat_lt i j && not (is_selected j)) (line_count settings meaning bytes))
-      (line_count settings meaning bytes)
-
-  -- each line has a turn
-  abbrev pub turn_count : ℕ
-  turn_count = line_count settings meaning bytes
+      else unwrap_or (first_below (λ j. nat_lt i j && not (is_selected j)) turn_count) turn_count
 
   -- whether a selected line is at most so many lines before line i, or after it
   abbrev pub follows_selected : ℕ → Bool
@@ -61,7 +69,9 @@ module _ (settings : Settings) (meaning : Meaning) (bytes : List ℕ) where
 
   abbrev pub precedes_selected : ℕ → Bool
   precedes_selected i =
-      some_below (λ j. nat_lt i j && nat_le (j - i) settings.before_context && is_selected j) turn_count
+      some_below
+      (λ j. nat_lt i j && nat_le (j - i) settings.before_context && is_selected j)
+      turn_count
 
   abbrev pub kind : ℕ → Option Kind
   kind i =
@@ -76,9 +86,12 @@ module _ (settings : Settings) (meaning : Meaning) (bytes : List ℕ) where
   -- how many lines there are up to the next unit after line i, and with it
   abbrev pub lines_through_next : ℕ → ℕ
   lines_through_next i =
-      unwrap_or (option_map unit_end (first_below (λ j. nat_lt i j && is_selected j) turn_count)) (i + 1)
+      unwrap_or
+      (option_map unit_end (first_below (λ j. nat_lt i j && is_selected j) turn_count))
+      (i + 1)
 
-  -- where the turn of line i ends: with the line, or with its unit; a line before a match belongs to the turn of that match
+  -- where the turn of line i ends: with the line, or with its unit; a line before a match belongs to the turn of that
+  -- match
   abbrev pub turn_end : ℕ → Option Kind → ℕ
   turn_end i None = start settings meaning bytes (i + 1)
   turn_end i (Some matched) = start settings meaning bytes (unit_end i)
@@ -90,7 +103,8 @@ module _ (settings : Settings) (meaning : Meaning) (bytes : List ℕ) where
   abbrev pub breaks_before : ℕ → Bool
   breaks_before i =
       nat_lt 0 (settings.after_context + settings.before_context)
-      && can_break settings meaning bytes (kind i) && not (is_reported (i - 1)) && some_below is_reported i
+      && can_break settings meaning bytes (kind i)
+      && not (is_reported (i - 1)) && some_below is_reported i
 
   -- the bytes of the unit that begins at line i
   abbrev pub unit : ℕ → List ℕ

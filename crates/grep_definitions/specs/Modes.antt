@@ -11,8 +11,8 @@ abbrev pub is_declared : Option LineTerminator → LineTerminator → Bool
 is_declared None terminator = false
 is_declared (Some declared) terminator = is_same declared terminator
 
--- across lines if `multi_line` is set, and the matcher doesn't say that no match contains the line terminator: it doesn't
--- declare it, and its byte isn't one that no match contains
+-- across lines if `multi_line` is set, and the matcher doesn't say that no match contains the line terminator: it
+-- doesn't declare it, and its byte isn't one that no match contains
 abbrev pub is_across : Settings → Meaning → Bool
 is_across settings meaning =
     settings.multi_line && not (is_declared meaning.terminator settings.line_terminator)

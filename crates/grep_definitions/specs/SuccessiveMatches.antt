@@ -1,5 +1,6 @@
 -- The successive matches in some bytes. No search uses these definitions yet.
-use Rattle.std.specs.Prelude.{ℕ, zero, suc, ◌+◌, if◌then◌else◌, nat_lt, List, [], ◌∷◌, length, take, drop, Option, Some, None}
+use Rattle.std.specs.Prelude.{ℕ, zero, suc, ◌+◌, if◌then◌else◌, nat_lt}
+use Rattle.std.specs.Prelude.{List, [], ◌∷◌, length, take, drop, Option, Some, None}
 use Rattle.std.specs.Option.{option_map}
 use Rattle.grep_matcher.specs.Matching.{Meaning}
 
@@ -19,7 +20,7 @@ module _ (meaning : Meaning) (bytes : List ℕ) where
   abbrev pub matches_from : ℕ → ℕ → List (ℕ × ℕ)
   matches_from position zero = []
   matches_from position (suc n) = elim (match_from position) [
-    None ↦ []
+    | None ↦ []
     | Some m ↦ m ∷ matches_from (position_after m) n
   ]
 

@@ -5,8 +5,9 @@ ghost use Rattle.grep_definitions.specs.SearchLaws.{ReportsAscend, AfterWins, In
 ghost use Rattle.grep_definitions.specs.SearchLaws.{LinesAreNumbered, MatchesAreSelected, MatchesDecide};
 ghost use Rattle.grep_definitions.specs.SearchLaws.{MatchesAreCounted, FirstMatchIsFirst, MatchesAreFew};
 ghost use Rattle.grep_definitions.specs.AcrossLaws;
-ghost use Rattle.grep_definitions.specs.AcrossLaws.{SearchesByLine, SearchesAcrossLines, MatchesAreAll};
-ghost use Rattle.grep_definitions.specs.AcrossLaws.{MatchTouchesItsLines, EmptyMatchTouchesItsLine, SelectedAreReported};
+ghost use Rattle.grep_definitions.specs.AcrossLaws.{SearchesByLine, SearchesAcrossLines};
+ghost use Rattle.grep_definitions.specs.AcrossLaws.{MatchTouchesItsLines, EmptyMatchTouchesItsLine};
+ghost use Rattle.grep_definitions.specs.AcrossLaws.{MatchesAreAll, SelectedAreReported};
 
 use grep_decode::laws::unchanged_is_decoded;
 use grep_lines::laws::{lines_append, lines_are_few, lines_join};

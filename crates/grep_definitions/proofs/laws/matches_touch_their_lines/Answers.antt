@@ -7,6 +7,6 @@ returns-clause-some c = λ settings meaning bytes m i. is_within-some (byte_of s
 
 pub returns-clause-empty : goal.returns-clause-empty
 returns-clause-empty c = λ settings meaning bytes position i inside here. (
-    is_within-holds settings.line_terminator meaning bytes position i inside here,
-    holds-is_within settings.line_terminator meaning bytes position i inside here,
-  )
+  is_within-holds settings.line_terminator meaning bytes position i inside here,
+  holds-is_within settings.line_terminator meaning bytes position i inside here,
+)
