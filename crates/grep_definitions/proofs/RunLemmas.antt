@@ -1,12 +1,14 @@
 -- Longest runs of numbers that pass a test, and lists joined over them.
-use Rattle.std.proofs.Common.{◌≡◌, ℕ, zero, suc, ◌+◌, ◌-◌, ◌<◌, ◌≤◌, Bool, true, false, not, ◌&&◌, List, [], ◌++◌}
+use Rattle.std.proofs.Common.{◌≡◌, ℕ, zero, suc, ◌+◌, ◌-◌, ◌<◌, ◌≤◌, Bool, true, false, not, ◌&&◌, List, [], ◌∷◌, ◌++◌, if◌then◌else◌}
 use Rattle.std.proofs.Common.{refl, sym, ap, ◌∙◌, arith, ⊎_elim, Option, Some, None}
 use Rattle.std.proofs.lemmas.Bool.{lt-ltb, ltb-true, cases_Bool, cases_lt}
 use Rattle.std.specs.Prelude.{nat_lt}
 use Rattle.std.specs.Option.{unwrap_or}
+use Rattle.std.specs.List.Sorted.{IsStrictlyIncreasing}
 use Rattle.grep_definitions.specs.Below.{first_below, joined_from}
 use Rattle.grep_definitions.proofs.BelowLemmas.{some_below-false, first_below-of, first_below-more, first_below-none, joined_from-add}
 use Rattle.grep_definitions.proofs.BoolLemmas.{both_true, and-both, not_false, clash}
+use Rattle.grep_definitions.proofs.SearchLawLemmas.{AscendFrom, IsStrictlyIncreasing-cons}
 
 -- no number before the first that passes does
 pub first_below-before : (p : ℕ → Bool) (n q j : ℕ) → first_below p n ≡ Some q → j < q → p j ≡ false
@@ -127,3 +129,48 @@ module _ (p : ℕ → Bool) (n : ℕ) where
 
     pub joined-runs : joined_from whole 0 n ≡ joined_from each 0 n
     joined-runs = (joined-from n 0 (omega arith)).0 refl
+
+  -- if what f gives rises with the number, so does what it gives for the first number of each run and for its end
+  module _ (f : ℕ → ℕ) (rises : (i : ℕ) → i < n → f i < f (i + 1)) (higher : (i j : ℕ) → i ≤ j → f i ≤ f j) where
+    abbrev pub edges : ℕ → List ℕ
+    edges i = if p i && not (continues i) then f i ∷ f (run_end i) ∷ [] else []
+
+    edges-ascend : (m i : ℕ) → i + m ≡ n
+        → (continues i ≡ false → AscendFrom (f i) (joined_from edges i m))
+        × ((e : ℕ) → IsRunEnd i e → continues i ≡ true → AscendFrom (suc (f e)) (joined_from edges i m))
+    edges-ascend zero i all = (
+      λ _. (λ j below. absurd (omega arith), λ some. absurd (omega arith)),
+      λ e run _. (λ j below. absurd (omega arith), λ some. absurd (omega arith)),
+    )
+    edges-ascend (suc m) i all =
+        let rest = edges-ascend m (i + 1) (omega arith) in
+        let up : f i < f (i + 1) = rises i (omega arith) in
+        ⊎_elim
+        (λ here. (
+          λ begins.
+              let run = IsRunEnd-run_end i (omega arith) here in
+              let next = IsRunEnd-next i (run_end i) (omega arith) here run in
+              let later = rest.1 (run_end i) next (continues-next i ∙ here) in
+              let wide : f i < f (run_end i) = omega (arith, higher (i + 1) (run_end i) next.low) in
+              rw (here, begins) (
+                IsStrictlyIncreasing-cons (f i) (f (run_end i) ∷ joined_from edges (i + 1) m)
+                (IsStrictlyIncreasing-cons (f (run_end i)) (joined_from edges (i + 1) m) later.0 (λ some. let low = later.1 some in omega arith))
+                (λ some. wide),
+                λ some. omega arith,
+              ),
+          λ e run goes_on. rw (here, goes_on) (rest.1 e (IsRunEnd-next i e (omega arith) here run) (continues-next i ∙ here)),
+        ))
+        (λ none.
+        let later = rest.0 (continues-next i ∙ none) in (
+          λ _. rw none (later.0, λ some. let low = later.1 some in omega arith),
+          λ e run _.
+              let same : e ≡ i = ⊎_elim
+              (λ less. absurd (clash (run.inner i (omega arith) less) none))
+              (λ over. omega (arith, run.low))
+              (cases_lt i e) in
+              rw (none, same) (later.0, λ some. let low = later.1 some in omega arith),
+        ))
+        (cases_Bool (p i))
+
+    pub edges-rise : IsStrictlyIncreasing (joined_from edges 0 n)
+    edges-rise = ((edges-ascend n 0 (omega arith)).0 refl).0

@@ -1,24 +1,30 @@
 -- The bytes that the match reports across lines have.
-use Rattle.std.proofs.Common.{◌≡◌, ℕ, zero, suc, ◌+◌, ◌-◌, ◌<◌, ◌≤◌, Bool, true, false, not, ◌&&◌, List, [], ◌∷◌, ◌++◌, take, drop}
-use Rattle.std.proofs.Common.{refl, sym, ap, ◌∙◌, arith, ⊎_elim, Option, Some, None, if◌then◌else◌, append_assoc}
+use Rattle.std.proofs.Common.{◌≡◌, ℕ, zero, suc, ◌+◌, ◌-◌, ◌<◌, ◌≤◌, Bool, true, false, not, ◌&&◌, List, [], ◌∷◌, ◌++◌, length, take, drop}
+use Rattle.std.proofs.Common.{refl, sym, ap, subst, ◌∙◌, arith, ⊎_elim, Option, Some, None, if◌then◌else◌}
 use Rattle.std.proofs.Math.Seq.{take-add}
 use Rattle.std.proofs.lemmas.Bool.{cases_Bool}
-use Rattle.std.proofs.lemmas.List.{append-nil, drop-drop}
+use Rattle.std.proofs.lemmas.Grind.{flat_map-append}
+use Rattle.std.proofs.lemmas.List.{append-nil, drop-drop, length-take, length-drop}
 use Rattle.std.specs.Prelude.{nat_lt}
+use Rattle.std.specs.List.{flat_map}
+use Rattle.std.specs.List.Sorted.{IsStrictlyIncreasing}
 use Rattle.grep_matcher.specs.Matching.{Meaning}
 use Rattle.grep_matcher.specs.Terminators.{byte_of}
 use Rattle.grep_lines.specs.Positions.{slice}
+use Rattle.grep_lines.proofs.LawLemmas.{AreLines-lines}
 use Rattle.grep_lines.proofs.WalkLemmas.{IsStep-line}
+use Rattle.grep_report.specs.declared.sink_context.SinkContextKind.{SinkContextKind}
 use Rattle.grep_report.specs.declared.sink_context.SinkContextKind.TheVariants.{Before, After, Other}
 use Rattle.grep_definitions.specs.Settings.{Settings}
-use Rattle.grep_definitions.specs.SinkCalls.{Turn, breaks}
+use Rattle.grep_definitions.specs.SinkCalls.{Call, Turn, matches, context, breaks}
 use Rattle.grep_definitions.specs.Below.{joined_from}
-use Rattle.grep_definitions.specs.LineSearch.{Kind, matched, in_context, line_count, line, start}
+use Rattle.grep_definitions.specs.LineSearch.{Kind, matched, in_context, line_count, line, start, number}
 use Rattle.grep_definitions.specs.AcrossLines
 use Rattle.grep_definitions.specs.AcrossLines.{is_selected, continues_unit, turns_at}
-use Rattle.grep_definitions.specs.AcrossLaws.{match_report, match_reports}
+use Rattle.grep_definitions.specs.AcrossLaws.{report_bytes, report_edges}
 use Rattle.grep_definitions.proofs.BelowLemmas.{joined_from-equal}
-use Rattle.grep_definitions.proofs.RunLemmas.{run_end, IsRunEnd-run_end, continues, joined-runs}
+use Rattle.grep_definitions.proofs.RunLemmas.{run_end, IsRunEnd-run_end, continues, joined-runs, edges, edges-rise}
+use Rattle.grep_definitions.proofs.LineStartLemmas.{line_start-ascends, line_start-within}
 use Rattle.grep_definitions.proofs.SearchLawLemmas.{kind-matched}
 use Rattle.grep_definitions.proofs.TurnEndLemmas.{line_start-le}
 
@@ -31,17 +37,12 @@ kind-other : (a b c d : Bool) (kind : Option Kind)
 kind-other true b c d kind is other = absurd (other (sym is))
 kind-other false b c d kind is other = refl
 
--- the reports of joined calls
-match_reports-append : (front back : List Turn) → match_reports (front ++ back) ≡ match_reports front ++ match_reports back
-match_reports-append [] back = refl
-match_reports-append (turn ∷ front) back =
-    ap (λ rest. match_report turn.call ++ rest) (match_reports-append front back)
-    ∙ sym (append_assoc (match_report turn.call) (match_reports front) (match_reports back))
-
-match_reports-joined : (f : ℕ → List Turn) (i n : ℕ) → match_reports (joined_from f i n) ≡ joined_from (λ j. match_reports (f j)) i n
-match_reports-joined f i zero = refl
-match_reports-joined f i (suc n) =
-    match_reports-append (f i) (joined_from f (i + 1) n) ∙ ap (λ xs. match_reports (f i) ++ xs) (match_reports-joined f (i + 1) n)
+-- what is gathered of joined calls
+flat_map-joined : (g : Turn → List ℕ) (f : ℕ → List Turn) (i n : ℕ)
+    → flat_map g (joined_from f i n) ≡ joined_from (λ j. flat_map g (f j)) i n
+flat_map-joined g f i zero = refl
+flat_map-joined g f i (suc n) =
+    flat_map-append g (f i) (joined_from f (i + 1) n) ∙ ap (λ xs. flat_map g (f i) ++ xs) (flat_map-joined g f (i + 1) n)
 
 -- two slices, one after the other, are one
 slice-join : (bytes : List ℕ) (a b c : ℕ) → a ≤ b → b ≤ c → slice bytes a b ++ slice bytes b c ≡ slice bytes a c
@@ -92,35 +93,50 @@ module _ (k : Settings) (meaning : Meaning) (bytes : List ℕ) where
       (line_start-le (byte_of k.line_terminator) bytes (i + 1) ((i + 1) + m) (omega arith)))
       ∙ (rw (line-slice i (omega arith), lines-slice (i + 1) m (omega arith) (λ j low below. all j (omega arith) (omega arith)), here) refl)
 
-  -- what a line's report has
-  reported : (i : ℕ) (kind : Option Kind) → AcrossLines.kind k meaning bytes i ≡ kind
-      → match_reports (AcrossLines.report k meaning bytes i kind) ≡ whole i
-  reported i None is =
-      let none = kind-other (selected i) (AcrossLines.follows_selected k meaning bytes i)
-      (AcrossLines.precedes_selected k meaning bytes i) k.passthru None is (λ same. cc) in
-      rw none refl
-  reported i (Some matched) is =
-      let here = kind-matched (selected i) (AcrossLines.follows_selected k meaning bytes i)
-      (AcrossLines.precedes_selected k meaning bytes i) k.passthru is in
-      ⊎_elim
-      (λ (later : goes_on i ≡ true). rw (here, later) refl)
-      (λ (first : goes_on i ≡ false). rw (here, first) (append-nil (AcrossLines.unit k meaning bytes i)))
-      (cases_Bool (goes_on i))
-  reported i (Some (in_context c)) is =
-      let none = kind-other (selected i) (AcrossLines.follows_selected k meaning bytes i)
-      (AcrossLines.precedes_selected k meaning bytes i) k.passthru (Some (in_context c)) is (λ same. cc) in
-      rw none refl
+  -- the match report of the unit that begins at a line
+  abbrev report_at : ℕ → Call
+  report_at i = matches (number k meaning bytes i) (at i) (AcrossLines.unit k meaning bytes i)
 
-  -- and so has what is reported at the line
-  reported-line : (i : ℕ) → match_reports (turns_at k meaning bytes i) ≡ whole i
-  reported-line i =
-      go (AcrossLines.breaks_before k meaning bytes i) (AcrossLines.turn_end k meaning bytes i (AcrossLines.kind k meaning bytes i))
-    where
-      go : (b : Bool) (end : ℕ) → match_reports
-          (if b then record { call = breaks; end = end } ∷ AcrossLines.report k meaning bytes i (AcrossLines.kind k meaning bytes i)
-          else AcrossLines.report k meaning bytes i (AcrossLines.kind k meaning bytes i)) ≡ whole i
-      go true end = reported i (AcrossLines.kind k meaning bytes i) refl
-      go false end = reported i (AcrossLines.kind k meaning bytes i) refl
+  -- what is gathered of the match reports alone
+  module _ (g : Call → List ℕ) (in_context_none : (c : SinkContextKind) (o : Option ℕ) (offset : ℕ) (bytes : List ℕ)
+      → g (context c o offset bytes) ≡ []) (in_breaks_none : g breaks ≡ []) where
+    abbrev gathered : ℕ → List ℕ
+    gathered i = if selected i && not (goes_on i) then g (report_at i) else []
+
+    gathered-report : (i : ℕ) (kind : Option Kind) → AcrossLines.kind k meaning bytes i ≡ kind
+        → flat_map (λ turn. g turn.call) (AcrossLines.report k meaning bytes i kind) ≡ gathered i
+    gathered-report i None is =
+        let none = kind-other (selected i) (AcrossLines.follows_selected k meaning bytes i)
+        (AcrossLines.precedes_selected k meaning bytes i) k.passthru None is (λ same. cc) in
+        rw none refl
+    gathered-report i (Some matched) is =
+        let here = kind-matched (selected i) (AcrossLines.follows_selected k meaning bytes i)
+        (AcrossLines.precedes_selected k meaning bytes i) k.passthru is in
+        ⊎_elim
+        (λ (later : goes_on i ≡ true). rw (here, later) refl)
+        (λ (first : goes_on i ≡ false). rw (here, first) (append-nil (g (report_at i))))
+        (cases_Bool (goes_on i))
+    gathered-report i (Some (in_context c)) is =
+        let none = kind-other (selected i) (AcrossLines.follows_selected k meaning bytes i)
+        (AcrossLines.precedes_selected k meaning bytes i) k.passthru (Some (in_context c)) is (λ same. cc) in
+        rw (none, in_context_none c (number k meaning bytes i) (at i) (line k meaning bytes i)) refl
+
+    gathered-line : (i : ℕ) → flat_map (λ turn. g turn.call) (turns_at k meaning bytes i) ≡ gathered i
+    gathered-line i =
+        go (AcrossLines.breaks_before k meaning bytes i)
+        (AcrossLines.turn_end k meaning bytes i (AcrossLines.kind k meaning bytes i))
+      where
+        go : (b : Bool) (end : ℕ) → flat_map (λ turn. g turn.call)
+            (if b then record { call = breaks; end = end } ∷ AcrossLines.report k meaning bytes i (AcrossLines.kind k meaning bytes i)
+            else AcrossLines.report k meaning bytes i (AcrossLines.kind k meaning bytes i)) ≡ gathered i
+        go true end = rw in_breaks_none (gathered-report i (AcrossLines.kind k meaning bytes i) refl)
+        go false end = gathered-report i (AcrossLines.kind k meaning bytes i) refl
+
+    gathered-lines : flat_map (λ turn. g turn.call) (joined_from (turns_at k meaning bytes) 0 n) ≡ joined_from gathered 0 n
+    gathered-lines =
+        flat_map-joined (λ turn. g turn.call) (turns_at k meaning bytes) 0 n
+        ∙ joined_from-equal (λ j. flat_map (λ turn. g turn.call) (turns_at k meaning bytes j)) gathered 0 n
+        (λ j low high. gathered-line j)
 
   -- under inversion a report has one line
   alone : k.invert_match ≡ true → (i : ℕ) → i < n → whole i ≡ each i
@@ -150,11 +166,54 @@ module _ (k : Settings) (meaning : Meaning) (bytes : List ℕ) where
       same i plain = ap (λ b. not b && nat_lt 0 i && selected (i - 1)) plain
 
   -- the match reports are the selected lines
-  pub match_reports-turns : match_reports (AcrossLines.turns k meaning bytes) ≡ joined_from each 0 n
-  match_reports-turns =
-      match_reports-joined (turns_at k meaning bytes) 0 n
-      ∙ joined_from-equal (λ j. match_reports (turns_at k meaning bytes j)) whole 0 n (λ j low high. reported-line j)
+  pub bytes-turns : flat_map (λ turn. report_bytes turn.call) (AcrossLines.turns k meaning bytes) ≡ joined_from each 0 n
+  bytes-turns =
+      gathered-lines report_bytes (λ c o offset bytes. refl) refl
       ∙ ⊎_elim
       (λ inverted. joined_from-equal whole each 0 n (λ j low high. alone inverted j (omega arith)))
       (λ plain. together plain)
       (cases_Bool k.invert_match)
+
+  -- a unit's bytes end where its last line ends
+  unit-end : (i : ℕ) → i < n → selected i ≡ true → k.invert_match ≡ false
+      → at i + length (AcrossLines.unit k meaning bytes i) ≡ at (run_end selected n i)
+  unit-end i inside here plain =
+      let end : AcrossLines.unit_end k meaning bytes i ≡ run_end selected n i =
+      ap (λ b. if b then i + 1 else run_end selected n i) plain in
+      let run = IsRunEnd-run_end selected n i inside here in
+      omega (
+        arith,
+        ap (λ e. length (slice bytes (at i) (at e))) end,
+        length-take (at (run_end selected n i) - at i) (drop (at i) bytes),
+        length-drop (at i) bytes,
+        line_start-le (byte_of k.line_terminator) bytes i (run_end selected n i) run.low,
+        line_start-within AreLines-lines (byte_of k.line_terminator) bytes (run_end selected n i),
+      )
+
+  -- each report ends before the next one begins
+  pub edges-turns : k.invert_match ≡ false
+      → IsStrictlyIncreasing (flat_map (λ turn. report_edges turn.call) (AcrossLines.turns k meaning bytes))
+  edges-turns plain =
+      subst IsStrictlyIncreasing
+      (sym (gathered-lines report_edges (λ c o offset bytes. refl) refl
+      ∙ joined_from-equal (gathered report_edges (λ c o offset bytes. refl) refl) (edges selected n at rises higher) 0 n
+      (λ j low high. same j (omega arith))))
+      (edges-rise selected n at rises higher)
+    where
+      rises : (i : ℕ) → i < n → at i < at (i + 1)
+      rises = line_start-ascends AreLines-lines (byte_of k.line_terminator) bytes
+
+      higher : (i j : ℕ) → i ≤ j → at i ≤ at j
+      higher = line_start-le (byte_of k.line_terminator) bytes
+
+      on : (i : ℕ) → goes_on i ≡ continues selected n i
+      on i = ap (λ b. not b && nat_lt 0 i && selected (i - 1)) plain
+
+      same : (i : ℕ) → i < n → gathered report_edges (λ c o offset bytes. refl) refl i ≡ edges selected n at rises higher i
+      same i inside = ⊎_elim
+          (λ (here : selected i ≡ true). ⊎_elim
+          (λ (later : goes_on i ≡ true). let run = sym (on i) ∙ later in rw (here, later, run) refl)
+          (λ (first : goes_on i ≡ false). let run = sym (on i) ∙ first in rw (here, first, run, unit-end i inside here plain) refl)
+          (cases_Bool (goes_on i)))
+          (λ (none : selected i ≡ false). rw none refl)
+          (cases_Bool (selected i))

@@ -2,6 +2,7 @@
 use Rattle.std.specs.Prelude.{◌≡◌, ℕ, ◌+◌, ◌<◌, ◌≤◌, Bool, true, false, not, ◌&&◌, ◌⊎◌}
 use Rattle.std.specs.Prelude.{if◌then◌else◌, nat_lt}
 use Rattle.std.specs.Prelude.{List, [], ◌∷◌, ◌++◌, length, count_by, Some, None}
+use Rattle.std.specs.List.{flat_map}
 use Rattle.std.specs.List.Sorted.{IsStrictlyIncreasing}
 use Rattle.grep_matcher.specs.Lawful.{ExcludesTerminator, HoldsPosition}
 use Rattle.grep_matcher.specs.Matching.{Meaning, IsWithin}
@@ -84,27 +85,37 @@ AtMostLimit =
     → settings.max_matches ≡ Some limit
     → count_by (λ turn. is_match turn.call) (turns settings meaning bytes) ≤ limit
 
--- the bytes of the match reports, joined
-abbrev pub match_report : Call → List ℕ
-match_report begins = []
-match_report (matches number offset bytes) = bytes
-match_report (context kind number offset line) = []
-match_report breaks = []
-match_report (binary_data offset) = []
-match_report (finishes count binary) = []
+-- the bytes of a match report, and where it begins and ends
+abbrev pub report_bytes : Call → List ℕ
+report_bytes begins = []
+report_bytes (matches number offset bytes) = bytes
+report_bytes (context kind number offset bytes) = []
+report_bytes breaks = []
+report_bytes (binary_data offset) = []
+report_bytes (finishes count binary) = []
 
-abbrev pub match_reports : List Turn → List ℕ
-match_reports [] = []
-match_reports (turn ∷ later) = match_report turn.call ++ match_reports later
+abbrev pub report_edges : Call → List ℕ
+report_edges begins = []
+report_edges (matches number offset bytes) = offset ∷ (offset + length bytes) ∷ []
+report_edges (context kind number offset bytes) = []
+report_edges breaks = []
+report_edges (binary_data offset) = []
+report_edges (finishes count binary) = []
 
 -- the match reports, joined, are the selected lines, joined: each selected line is in one report, and no other line is
 abbrev pub SelectedAreReported : Type 0
 SelectedAreReported =
     (settings : Settings) (meaning : Meaning) (bytes : List ℕ)
-    → match_reports (turns settings meaning bytes)
+    → flat_map (λ turn. report_bytes turn.call) (turns settings meaning bytes)
     ≡ joined_from
     (λ i. if is_selected settings meaning bytes i then line settings meaning bytes i else [])
     0 (line_count settings meaning bytes)
+
+-- without inversion each match report ends before the next one begins: a line that isn't selected is between them
+abbrev pub ReportsAreApart : Type 0
+ReportsAreApart =
+    (settings : Settings) (meaning : Meaning) (bytes : List ℕ) → settings.invert_match ≡ false
+    → IsStrictlyIncreasing (flat_map (λ turn. report_edges turn.call) (turns settings meaning bytes))
 
 -- each byte counts
 abbrev pub WholeCount : Type 0

@@ -7,7 +7,7 @@ ghost use Rattle.grep_definitions.specs.SearchLaws.{MatchesAreCounted, FirstMatc
 ghost use Rattle.grep_definitions.specs.AcrossLaws;
 ghost use Rattle.grep_definitions.specs.AcrossLaws.{SearchesByLine, SearchesAcrossLines};
 ghost use Rattle.grep_definitions.specs.AcrossLaws.{MatchTouchesItsLines, EmptyMatchTouchesItsLine};
-ghost use Rattle.grep_definitions.specs.AcrossLaws.{MatchesAreAll, SelectedAreReported};
+ghost use Rattle.grep_definitions.specs.AcrossLaws.{MatchesAreAll, SelectedAreReported, ReportsAreApart};
 
 use grep_decode::laws::unchanged_is_decoded;
 use grep_lines::laws::{lines_append, lines_are_few, lines_join};
@@ -145,6 +145,12 @@ pub fn at_most_limit_across()
 /// other line is.
 pub fn selected_are_reported_across()
     ensures { SelectedAreReported }
+{}
+
+/// Across lines and without inversion, each match report ends before the next one begins: a line that isn't selected is
+/// between them.
+pub fn reports_are_apart_across()
+    ensures { ReportsAreApart }
 {}
 
 /// Across lines every byte counts, whatever the limit is.
