@@ -19,6 +19,7 @@ pub mod TouchLemmas
 pub mod RunLemmas
 pub mod AcrossLemmas
 pub mod UnitLemmas
+pub mod AsByLineLemmas
 pub mod DecodedLemmas
 pub mod WorkedExamples
 pub mod AcrossExamples

@@ -154,8 +154,8 @@ module _ (p : ℕ → Bool) (n : ℕ) where
               let wide : f i < f (run_end i) = omega (arith, higher (i + 1) (run_end i) next.low) in
               rw (here, begins) (
                 IsStrictlyIncreasing-cons (f i) (f (run_end i) ∷ joined_from edges (i + 1) m)
-                (IsStrictlyIncreasing-cons (f (run_end i)) (joined_from edges (i + 1) m) later.0 (λ some. let low = later.1 some in omega arith))
-                (λ some. wide),
+                    (IsStrictlyIncreasing-cons (f (run_end i)) (joined_from edges (i + 1) m) later.0 (λ some. let low = later.1 some in omega arith))
+                    (λ some. wide),
                 λ some. omega arith,
               ),
           λ e run goes_on. rw (here, goes_on) (rest.1 e (IsRunEnd-next i e (omega arith) here run) (continues-next i ∙ here)),

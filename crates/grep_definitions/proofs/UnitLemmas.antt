@@ -73,7 +73,7 @@ module _ (k : Settings) (meaning : Meaning) (bytes : List ℕ) where
   whole i = if selected i && not (goes_on i) then AcrossLines.unit k meaning bytes i else []
 
   -- the bytes of line i are those from its start up to the start of the next one
-  line-slice : (i : ℕ) → i < n → slice bytes (at i) (at (i + 1)) ≡ line k meaning bytes i
+  pub line-slice : (i : ℕ) → i < n → slice bytes (at i) (at (i + 1)) ≡ line k meaning bytes i
   line-slice i inside = sym (IsStep-line (byte_of k.line_terminator) bytes i inside).line
 
   -- and so are those of selected lines, one after the other

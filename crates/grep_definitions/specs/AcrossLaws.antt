@@ -1,13 +1,13 @@
 -- Laws of the defined calls across lines, and of the mode.
 use Rattle.std.specs.Prelude.{◌≡◌, ℕ, ◌+◌, ◌<◌, ◌≤◌, Bool, true, false, not, ◌&&◌, ◌⊎◌}
 use Rattle.std.specs.Prelude.{if◌then◌else◌, nat_lt}
-use Rattle.std.specs.Prelude.{List, [], ◌∷◌, ◌++◌, length, count_by, Some, None}
+use Rattle.std.specs.Prelude.{List, [], ◌∷◌, length, count_by, Some, None}
 use Rattle.std.specs.List.{flat_map}
 use Rattle.std.specs.List.Sorted.{IsStrictlyIncreasing}
 use Rattle.grep_matcher.specs.Lawful.{ExcludesTerminator, HoldsPosition}
 use Rattle.grep_matcher.specs.Matching.{Meaning, IsWithin}
 use Rattle.grep_definitions.specs.Settings.{Settings}
-use Rattle.grep_definitions.specs.SinkCalls.{Call, Turn, begins, matches, context, breaks}
+use Rattle.grep_definitions.specs.SinkCalls.{Call, begins, matches, context, breaks}
 use Rattle.grep_definitions.specs.SinkCalls.{binary_data, finishes}
 use Rattle.grep_definitions.specs.Below.{joined_from}
 use Rattle.grep_definitions.specs.LineSearch
@@ -116,6 +116,15 @@ abbrev pub ReportsAreApart : Type 0
 ReportsAreApart =
     (settings : Settings) (meaning : Meaning) (bytes : List ℕ) → settings.invert_match ≡ false
     → IsStrictlyIncreasing (flat_map (λ turn. report_edges turn.call) (turns settings meaning bytes))
+
+-- what isn't a match is reported as by line: if a search under inversion, in which a unit is one line, selects the lines that
+-- some search by line does, and each line has a turn in that too, then the calls are the same
+abbrev pub ReportsAreAsByLine : Type 0
+ReportsAreAsByLine =
+    (settings : Settings) (meaning other : Meaning) (bytes : List ℕ) → settings.invert_match ≡ true
+    → ((i : ℕ) → is_selected settings meaning bytes i ≡ LineSearch.is_selected settings other bytes i)
+    → LineSearch.turn_count settings other bytes ≡ line_count settings other bytes
+    → turns settings meaning bytes ≡ LineSearch.turns settings other bytes
 
 -- each byte counts
 abbrev pub WholeCount : Type 0
