@@ -1,10 +1,10 @@
 -- What the calls across lines report.
-use Rattle.std.proofs.Common.{◌≡◌, ℕ, zero, suc, ◌+◌, ◌-◌, ◌<◌, ◌≤◌, Bool, true, false, not, ◌&&◌, ◌||◌, List, [], ◌∷◌, length}
+use Rattle.std.proofs.Common.{◌≡◌, ℕ, ◌-◌, ◌<◌, ◌≤◌, Bool, true, false, not, ◌&&◌, List, [], ◌∷◌, length}
 use Rattle.std.proofs.Common.{refl, ap, arith, ◌⊎◌, ⊎_elim, inl, inr, Option, Some, None, if◌then◌else◌}
-use Rattle.std.proofs.Math.Bool.{and-false, or-true}
-use Rattle.std.proofs.lemmas.Bool.{le-leb, leb-true, lt-ltb, ltb-true, cases_Bool}
+use Rattle.std.proofs.Math.Bool.{and-false}
+use Rattle.std.proofs.lemmas.Bool.{cases_Bool}
 use Rattle.std.proofs.lemmas.List.{length-take}
-use Rattle.std.specs.Prelude.{nat_lt, nat_le}
+use Rattle.std.specs.Prelude.{nat_lt}
 use Rattle.std.specs.List.{list_any}
 use Rattle.std.specs.List.Sorted.{IsStrictlyIncreasing}
 use Rattle.grep_matcher.specs.Terminators.{byte_of}
@@ -19,97 +19,13 @@ use Rattle.grep_definitions.specs.SuccessiveMatches.{all_matches, matches_up_to}
 use Rattle.grep_definitions.specs.AcrossLines
 use Rattle.grep_definitions.specs.AcrossLines.{touches, is_touched, is_free, is_selected, continues_unit, turns_at}
 use Rattle.grep_definitions.specs.SearchLaws.{report_offsets}
-use Rattle.grep_definitions.proofs.BoolLemmas.{both_true, and-both, or-cases, not_false, clash}
+use Rattle.grep_definitions.proofs.BoolLemmas.{both_true, and-both, or-cases, or-first, or-second}
+use Rattle.grep_definitions.proofs.BelowLemmas.{count_below-none, count_below-once, count_below-either}
+use Rattle.grep_definitions.proofs.RunLemmas.{begins_run, begins_run-either, is_inside-run}
 use Rattle.grep_definitions.proofs.LineStartLemmas.{line_start-ascends}
 use Rattle.grep_definitions.proofs.TurnEndLemmas.{line_start-le}
 use Rattle.grep_definitions.proofs.SearchLawLemmas.{offsets-joined, matches_in, matches-joined, kind-matched}
 use Rattle.grep_definitions.proofs.SearchLawLemmas.{count_below-weaker, count_below-limited}
-
--- if none of the first numbers passes, none of them counts
-count_below-none : (p : ℕ → Bool) (n : ℕ) → ((j : ℕ) → p j ≡ false) → count_below p n ≡ 0
-count_below-none p zero none = refl
-count_below-none p (suc n) none = rw (none n) (count_below-none p n none)
-
--- if no two numbers pass, at most one of them counts
-count_below-once : (p : ℕ → Bool) (n : ℕ) → ((i j : ℕ) → i < j → p i ≡ true → p j ≡ true → ⊥) → count_below p n ≤ 1
-count_below-once p zero one = omega arith
-count_below-once p (suc n) one = go (p n) refl (count_below-once p n one)
-  where
-    none : (m : ℕ) → m ≤ n → p n ≡ true → count_below p m ≡ 0
-    none zero low here = refl
-    none (suc m) low here = ⊎_elim
-        (λ yes. absurd (one m n (omega arith) yes here))
-        (λ no. rw no (none m (omega arith) here))
-        (cases_Bool (p m))
-
-    go : (b : Bool) → p n ≡ b → count_below p n ≤ 1 → (if b then count_below p n + 1 else count_below p n) ≤ 1
-    go true here before = omega (arith, none n (omega arith) here)
-    go false here before = before
-
--- if each number that passes also passes one of two tests, no more pass than pass the two
-count_below-either : (p q r : ℕ → Bool) (n : ℕ) → ((i : ℕ) → r i ≡ true → (p i ≡ true) ⊎ (q i ≡ true))
-    → count_below r n ≤ count_below p n + count_below q n
-count_below-either p q r zero either = omega arith
-count_below-either p q r (suc n) either = go (p n) (q n) (r n) (either n) (count_below-either p q r n either)
-  where
-    go : (a b c : Bool) → (c ≡ true → (a ≡ true) ⊎ (b ≡ true)) → count_below r n ≤ count_below p n + count_below q n
-        → (if c then count_below r n + 1 else count_below r n)
-        ≤ (if a then count_below p n + 1 else count_below p n) + (if b then count_below q n + 1 else count_below q n)
-    go true true true some before = omega arith
-    go true false true some before = omega arith
-    go false true true some before = omega arith
-    go false false true some before = ⊎_elim (λ no. absurd (cc)) (λ no. absurd (cc)) (some refl)
-    go true true false some before = omega arith
-    go true false false some before = omega arith
-    go false true false some before = omega arith
-    go false false false some before = before
-
--- whether a run of numbers that pass begins at number i
-abbrev pub begins_run : (ℕ → Bool) → ℕ → Bool
-begins_run p i = p i && not (nat_lt 0 i && p (i - 1))
-
--- a run of two tests together begins where a run of one of them does
-begins_run-either : (p q r : ℕ → Bool) → ((i : ℕ) → r i ≡ true → (p i ≡ true) ⊎ (q i ≡ true))
-    → ((i : ℕ) → p i ≡ true → r i ≡ true) → ((i : ℕ) → q i ≡ true → r i ≡ true) → (i : ℕ) → begins_run r i ≡ true
-    → (begins_run p i ≡ true) ⊎ (begins_run q i ≡ true)
-begins_run-either p q r either first second i is =
-    let parts = both_true (r i) (not (nat_lt 0 i && r (i - 1))) is in
-    ⊎_elim
-    (λ here. inl (and-both (p i) _ here (fewer (nat_lt 0 i) (p (i - 1)) (r (i - 1)) (first (i - 1)) parts.1)))
-    (λ here. inr (and-both (q i) _ here (fewer (nat_lt 0 i) (q (i - 1)) (r (i - 1)) (second (i - 1)) parts.1)))
-    (either i parts.0)
-  where
-    fewer : (z x y : Bool) → (x ≡ true → y ≡ true) → not (z && y) ≡ true → not (z && x) ≡ true
-    fewer true true y weaker none = absurd (clash (weaker refl) (not_false y none))
-    fewer true false y weaker none = refl
-    fewer false x y weaker none = refl
-
--- whether what f gives for a number and the next one is between two bounds
-abbrev is_inside : (ℕ → ℕ) → ℕ → ℕ → ℕ → ℕ → Bool
-is_inside f n low high i = nat_lt i n && (nat_le low (f i) && nat_le (f (i + 1)) high)
-
--- if f rises, these numbers are one run
-is_inside-run : (f : ℕ → ℕ) (n low high : ℕ) → ((i j : ℕ) → i ≤ j → f i ≤ f j) → (i j : ℕ) → i < j
-    → begins_run (is_inside f n low high) i ≡ true → begins_run (is_inside f n low high) j ≡ true → ⊥
-is_inside-run f n low high rises i j less first second =
-    let a = both_true (nat_lt i n) _ (both_true (is_inside f n low high i) _ first).0 in
-    let b = both_true (nat_lt j n) _ (both_true (is_inside f n low high j) _ second).0 in
-    let is_low : low ≤ f i = leb-true low (f i) (both_true (nat_le low (f i)) _ a.1).0 in
-    let is_high : f (j + 1) ≤ high = leb-true (f (j + 1)) high (both_true (nat_le low (f j)) _ b.1).1 in
-    let below : j < n = ltb-true j n b.0 in
-    let back : (j - 1) + 1 ≡ j = omega arith in
-    let starts = le-leb low (f (j - 1)) (omega (arith, rises i (j - 1) (omega arith))) in
-    let ends : nat_le (f ((j - 1) + 1)) high ≡ true =
-    le-leb (f ((j - 1) + 1)) high (rw back (omega (arith, rises j (j + 1) (omega arith)))) in
-    let here : is_inside f n low high (j - 1) ≡ true =
-    and-both (nat_lt (j - 1) n) _ (lt-ltb (j - 1) n (omega arith)) (and-both (nat_le low (f (j - 1))) _ starts ends) in
-    clash (and-both (nat_lt 0 j) _ (lt-ltb 0 j (omega arith)) here) (not_false _ (both_true (is_inside f n low high j) _ second).1)
-
-or-second : (a b : Bool) → b ≡ true → (a || b) ≡ true
-or-second a b is = rw is (or-true a)
-
-or-first : (a b : Bool) → a ≡ true → (a || b) ≡ true
-or-first a b is = rw is refl
 
 module _ (k : Settings) (meaning : Meaning) (bytes : List ℕ) where
   -- how many lines there are, where each starts, and its calls

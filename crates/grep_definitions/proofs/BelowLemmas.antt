@@ -1,5 +1,5 @@
 -- Numbers below a bound that pass a test, bounds that may be missing, and lists joined over numbers.
-use Rattle.std.proofs.Common.{◌≡◌, ℕ, zero, suc, ◌+◌, ◌<◌, ◌≤◌, Bool, true, false, not, refl, sym, ◌∙◌, ap, arith, ⊎_elim, Option, Some, None, if◌then◌else◌}
+use Rattle.std.proofs.Common.{◌≡◌, ◌⊎◌, ℕ, zero, suc, ◌+◌, ◌<◌, ◌≤◌, Bool, true, false, not, refl, sym, ◌∙◌, ap, arith, ⊎_elim, Option, Some, None, if◌then◌else◌}
 use Rattle.std.proofs.lemmas.Bool.{lt-ltb, le-ltb, ltb-true, eq-eqb, ne_eqb, cases_lt, cases_Bool}
 use Rattle.std.proofs.Math.Bool.{or-false, or-true}
 use Rattle.std.specs.Prelude.{IfSome, List, [], ◌++◌}
@@ -159,3 +159,55 @@ first_below-none p (suc n) none = go (some_below p n) (p n) refl refl (first_bel
     go true b e f earlier = absurd (clash e (earlier (let at = rw e at none in at)))
     go false true e f earlier = absurd (let at = rw (e, f) at none in cc)
     go false false e f earlier = rw (e, f) refl
+
+-- no number before the first that passes does
+pub first_below-before : (p : ℕ → Bool) (n q j : ℕ) → first_below p n ≡ Some q → j < q → p j ≡ false
+first_below-before p n q j is less = ⊎_elim (λ here. absurd (go (first_below p q) refl here)) (λ none. none) (cases_Bool (p j))
+  where
+    go : (found : Option ℕ) → first_below p q ≡ found → p j ≡ true → ⊥
+    go None none here = clash here (some_below-false p q j (first_below-none p q none) less)
+    go (Some x) some here =
+        let below = (first_below-of p n q is).0 in
+        let twice : Some x ≡ Some q = sym (first_below-more p q n x (omega arith) some) ∙ is in
+        let same : x ≡ q = cc in
+        let before = (first_below-of p q x some).0 in
+        absurd (omega arith)
+
+-- if none of the first numbers passes, none of them counts
+pub count_below-none : (p : ℕ → Bool) (n : ℕ) → ((j : ℕ) → p j ≡ false) → count_below p n ≡ 0
+count_below-none p zero none = refl
+count_below-none p (suc n) none = rw (none n) (count_below-none p n none)
+
+-- if no two numbers pass, at most one of them counts
+pub count_below-once : (p : ℕ → Bool) (n : ℕ) → ((i j : ℕ) → i < j → p i ≡ true → p j ≡ true → ⊥) → count_below p n ≤ 1
+count_below-once p zero one = omega arith
+count_below-once p (suc n) one = go (p n) refl (count_below-once p n one)
+  where
+    none : (m : ℕ) → m ≤ n → p n ≡ true → count_below p m ≡ 0
+    none zero low here = refl
+    none (suc m) low here = ⊎_elim
+        (λ yes. absurd (one m n (omega arith) yes here))
+        (λ no. rw no (none m (omega arith) here))
+        (cases_Bool (p m))
+
+    go : (b : Bool) → p n ≡ b → count_below p n ≤ 1 → (if b then count_below p n + 1 else count_below p n) ≤ 1
+    go true here before = omega (arith, none n (omega arith) here)
+    go false here before = before
+
+-- if each number that passes also passes one of two tests, no more pass than pass the two
+pub count_below-either : (p q r : ℕ → Bool) (n : ℕ) → ((i : ℕ) → r i ≡ true → (p i ≡ true) ⊎ (q i ≡ true))
+    → count_below r n ≤ count_below p n + count_below q n
+count_below-either p q r zero either = omega arith
+count_below-either p q r (suc n) either = go (p n) (q n) (r n) (either n) (count_below-either p q r n either)
+  where
+    go : (a b c : Bool) → (c ≡ true → (a ≡ true) ⊎ (b ≡ true)) → count_below r n ≤ count_below p n + count_below q n
+        → (if c then count_below r n + 1 else count_below r n)
+        ≤ (if a then count_below p n + 1 else count_below p n) + (if b then count_below q n + 1 else count_below q n)
+    go true true true some before = omega arith
+    go true false true some before = omega arith
+    go false true true some before = omega arith
+    go false false true some before = ⊎_elim (λ no. absurd (cc)) (λ no. absurd (cc)) (some refl)
+    go true true false some before = omega arith
+    go true false false some before = omega arith
+    go false true false some before = omega arith
+    go false false false some before = before

@@ -1,5 +1,6 @@
 -- Booleans: what a conjunction, a disjunction or a negation says of its parts.
 use Rattle.std.proofs.Common.{◌≡◌, ◌⊎◌, ℕ, ◌<◌, Bool, true, false, not, ◌&&◌, ◌||◌, refl, inl, inr, arith, ⊎_elim}
+use Rattle.std.proofs.Math.Bool.{or-true}
 use Rattle.std.proofs.lemmas.Bool.{eq-eqb, cases_lt}
 use Rattle.std.specs.Prelude.{◌==◌}
 
@@ -34,3 +35,10 @@ above_zero a b x is is_a is_b = ⊎_elim
     (λ some. some)
     (λ none. absurd (clash (let z = eq-eqb x 0 (omega arith) in let all : (a && b && x == 0) ≡ true = rw (is_a, is_b, z) refl in all) is))
     (cases_lt 0 x)
+
+-- a disjunction holds if one of its parts does
+pub or-second : (a b : Bool) → b ≡ true → (a || b) ≡ true
+or-second a b is = rw is (or-true a)
+
+pub or-first : (a b : Bool) → a ≡ true → (a || b) ≡ true
+or-first a b is = rw is refl

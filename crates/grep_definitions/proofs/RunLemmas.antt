@@ -1,27 +1,55 @@
 -- Longest runs of numbers that pass a test, and lists joined over them.
 use Rattle.std.proofs.Common.{◌≡◌, ℕ, zero, suc, ◌+◌, ◌-◌, ◌<◌, ◌≤◌, Bool, true, false, not, ◌&&◌, List, [], ◌∷◌, ◌++◌, if◌then◌else◌}
-use Rattle.std.proofs.Common.{refl, sym, ap, ◌∙◌, arith, ⊎_elim, Option, Some, None}
-use Rattle.std.proofs.lemmas.Bool.{lt-ltb, ltb-true, cases_Bool, cases_lt}
-use Rattle.std.specs.Prelude.{nat_lt}
+use Rattle.std.proofs.Common.{refl, sym, ap, ◌∙◌, arith, ◌⊎◌, ⊎_elim, inl, inr, Option, Some, None}
+use Rattle.std.proofs.lemmas.Bool.{lt-ltb, ltb-true, le-leb, leb-true, cases_Bool, cases_lt}
+use Rattle.std.specs.Prelude.{nat_lt, nat_le}
 use Rattle.std.specs.Option.{unwrap_or}
 use Rattle.std.specs.List.Sorted.{IsStrictlyIncreasing}
 use Rattle.grep_definitions.specs.Below.{first_below, joined_from}
-use Rattle.grep_definitions.proofs.BelowLemmas.{some_below-false, first_below-of, first_below-more, first_below-none, joined_from-add}
+use Rattle.grep_definitions.proofs.BelowLemmas.{some_below-false, first_below-of, first_below-before, first_below-none, joined_from-add}
 use Rattle.grep_definitions.proofs.BoolLemmas.{both_true, and-both, not_false, clash}
 use Rattle.grep_definitions.proofs.SearchLawLemmas.{AscendFrom, IsStrictlyIncreasing-cons}
 
--- no number before the first that passes does
-pub first_below-before : (p : ℕ → Bool) (n q j : ℕ) → first_below p n ≡ Some q → j < q → p j ≡ false
-first_below-before p n q j is less = ⊎_elim (λ here. absurd (go (first_below p q) refl here)) (λ none. none) (cases_Bool (p j))
+-- whether a run of numbers that pass begins at number i
+abbrev pub begins_run : (ℕ → Bool) → ℕ → Bool
+begins_run p i = p i && not (nat_lt 0 i && p (i - 1))
+
+-- a run of two tests together begins where a run of one of them does
+pub begins_run-either : (p q r : ℕ → Bool) → ((i : ℕ) → r i ≡ true → (p i ≡ true) ⊎ (q i ≡ true))
+    → ((i : ℕ) → p i ≡ true → r i ≡ true) → ((i : ℕ) → q i ≡ true → r i ≡ true) → (i : ℕ) → begins_run r i ≡ true
+    → (begins_run p i ≡ true) ⊎ (begins_run q i ≡ true)
+begins_run-either p q r either first second i is =
+    let parts = both_true (r i) (not (nat_lt 0 i && r (i - 1))) is in
+    ⊎_elim
+    (λ here. inl (and-both (p i) _ here (fewer (nat_lt 0 i) (p (i - 1)) (r (i - 1)) (first (i - 1)) parts.1)))
+    (λ here. inr (and-both (q i) _ here (fewer (nat_lt 0 i) (q (i - 1)) (r (i - 1)) (second (i - 1)) parts.1)))
+    (either i parts.0)
   where
-    go : (found : Option ℕ) → first_below p q ≡ found → p j ≡ true → ⊥
-    go None none here = clash here (some_below-false p q j (first_below-none p q none) less)
-    go (Some x) some here =
-        let below = (first_below-of p n q is).0 in
-        let twice : Some x ≡ Some q = sym (first_below-more p q n x (omega arith) some) ∙ is in
-        let same : x ≡ q = cc in
-        let before = (first_below-of p q x some).0 in
-        absurd (omega arith)
+    fewer : (z x y : Bool) → (x ≡ true → y ≡ true) → not (z && y) ≡ true → not (z && x) ≡ true
+    fewer true true y weaker none = absurd (clash (weaker refl) (not_false y none))
+    fewer true false y weaker none = refl
+    fewer false x y weaker none = refl
+
+-- whether what f gives for a number and the next one is between two bounds
+abbrev pub is_inside : (ℕ → ℕ) → ℕ → ℕ → ℕ → ℕ → Bool
+is_inside f n low high i = nat_lt i n && (nat_le low (f i) && nat_le (f (i + 1)) high)
+
+-- if f rises, these numbers are one run
+pub is_inside-run : (f : ℕ → ℕ) (n low high : ℕ) → ((i j : ℕ) → i ≤ j → f i ≤ f j) → (i j : ℕ) → i < j
+    → begins_run (is_inside f n low high) i ≡ true → begins_run (is_inside f n low high) j ≡ true → ⊥
+is_inside-run f n low high rises i j less first second =
+    let a = both_true (nat_lt i n) _ (both_true (is_inside f n low high i) _ first).0 in
+    let b = both_true (nat_lt j n) _ (both_true (is_inside f n low high j) _ second).0 in
+    let is_low : low ≤ f i = leb-true low (f i) (both_true (nat_le low (f i)) _ a.1).0 in
+    let is_high : f (j + 1) ≤ high = leb-true (f (j + 1)) high (both_true (nat_le low (f j)) _ b.1).1 in
+    let below : j < n = ltb-true j n b.0 in
+    let back : (j - 1) + 1 ≡ j = omega arith in
+    let starts = le-leb low (f (j - 1)) (omega (arith, rises i (j - 1) (omega arith))) in
+    let ends : nat_le (f ((j - 1) + 1)) high ≡ true =
+    le-leb (f ((j - 1) + 1)) high (rw back (omega (arith, rises j (j + 1) (omega arith)))) in
+    let here : is_inside f n low high (j - 1) ≡ true =
+    and-both (nat_lt (j - 1) n) _ (lt-ltb (j - 1) n (omega arith)) (and-both (nat_le low (f (j - 1))) _ starts ends) in
+    clash (and-both (nat_lt 0 j) _ (lt-ltb 0 j (omega arith)) here) (not_false _ (both_true (is_inside f n low high j) _ second).1)
 
 module _ (p : ℕ → Bool) (n : ℕ) where
   -- a run from number i on ends before number e: those from i on pass, and e doesn't, if it is below n
@@ -154,7 +182,8 @@ module _ (p : ℕ → Bool) (n : ℕ) where
               let wide : f i < f (run_end i) = omega (arith, higher (i + 1) (run_end i) next.low) in
               rw (here, begins) (
                 IsStrictlyIncreasing-cons (f i) (f (run_end i) ∷ joined_from edges (i + 1) m)
-                    (IsStrictlyIncreasing-cons (f (run_end i)) (joined_from edges (i + 1) m) later.0 (λ some. let low = later.1 some in omega arith))
+                    (IsStrictlyIncreasing-cons (f (run_end i)) (joined_from edges (i + 1) m) later.0
+                    (λ some. let low = later.1 some in omega arith))
                     (λ some. wide),
                 λ some. omega arith,
               ),

@@ -115,14 +115,16 @@ SelectedAreReported =
 abbrev pub ReportsAreApart : Type 0
 ReportsAreApart =
     (settings : Settings) (meaning : Meaning) (bytes : List ℕ) → settings.invert_match ≡ false
-    → IsStrictlyIncreasing (flat_map (λ turn. report_edges turn.call) (turns settings meaning bytes))
+    → IsStrictlyIncreasing
+    (flat_map (λ turn. report_edges turn.call) (turns settings meaning bytes))
 
--- what isn't a match is reported as by line: if a search under inversion, in which a unit is one line, selects the lines that
--- some search by line does, and each line has a turn in that too, then the calls are the same
+-- lines are reported as by line: if a search under inversion, in which a unit is one line, selects the lines that some
+-- search by line does, and each line has a turn in that too, then the calls are the same
 abbrev pub ReportsAreAsByLine : Type 0
 ReportsAreAsByLine =
     (settings : Settings) (meaning other : Meaning) (bytes : List ℕ) → settings.invert_match ≡ true
-    → ((i : ℕ) → is_selected settings meaning bytes i ≡ LineSearch.is_selected settings other bytes i)
+    → ((i : ℕ)
+    → is_selected settings meaning bytes i ≡ LineSearch.is_selected settings other bytes i)
     → LineSearch.turn_count settings other bytes ≡ line_count settings other bytes
     → turns settings meaning bytes ≡ LineSearch.turns settings other bytes
 

@@ -7,8 +7,8 @@ ghost use Rattle.grep_definitions.specs.SearchLaws.{MatchesAreCounted, FirstMatc
 ghost use Rattle.grep_definitions.specs.AcrossLaws;
 ghost use Rattle.grep_definitions.specs.AcrossLaws.{SearchesByLine, SearchesAcrossLines};
 ghost use Rattle.grep_definitions.specs.AcrossLaws.{MatchTouchesItsLines, EmptyMatchTouchesItsLine};
-ghost use Rattle.grep_definitions.specs.AcrossLaws.{MatchesAreAll, SelectedAreReported, ReportsAreApart};
-ghost use Rattle.grep_definitions.specs.AcrossLaws.{ReportsAreAsByLine};
+ghost use Rattle.grep_definitions.specs.AcrossLaws.{MatchesAreAll, SelectedAreReported};
+ghost use Rattle.grep_definitions.specs.AcrossLaws.{ReportsAreApart, ReportsAreAsByLine};
 
 use grep_decode::laws::unchanged_is_decoded;
 use grep_lines::laws::{lines_append, lines_are_few, lines_join};
@@ -154,8 +154,8 @@ pub fn reports_are_apart_across()
     ensures { ReportsAreApart }
 {}
 
-/// Across lines contexts, breaks and turns are as by line: if a search under inversion selects the lines that a search by
-/// line does, and each line has a turn in that too, their calls are the same.
+/// Across lines contexts, breaks and turns are as by line: if a search under inversion selects the lines that a search
+/// by line does, and each line has a turn in that too, their calls are the same.
 pub fn reports_are_as_by_line()
     ensures { ReportsAreAsByLine }
 {}
