@@ -1,4 +1,4 @@
--- Laws of the defined calls across lines, and of the mode.
+-- Laws of the defined calls across lines, and of the mode. No search uses these definitions yet.
 use Rattle.std.specs.Prelude.{◌≡◌, ℕ, ◌+◌, ◌<◌, ◌≤◌, Bool, true, false, not, ◌&&◌, ◌⊎◌}
 use Rattle.std.specs.Prelude.{if◌then◌else◌, nat_lt}
 use Rattle.std.specs.Prelude.{List, [], ◌∷◌, length, count_by, Some, None}
@@ -36,8 +36,8 @@ SearchesAcrossLines =
     × (search_turn_count settings meaning bytes ≡ AcrossLines.turn_count settings meaning bytes)
     × (search_byte_count settings meaning bytes ≡ AcrossLines.byte_count settings meaning bytes)
 
--- if a matcher's matches are within their haystacks, no match is left out: from no position are there more of them than
--- bytes
+-- if a matcher's matches are within their haystacks, no match is left out: asking more often than there are bytes finds
+-- no more of them
 abbrev pub MatchesAreAll : Type 0
 MatchesAreAll =
     (meaning : Meaning) (bytes : List ℕ) (n : ℕ)
