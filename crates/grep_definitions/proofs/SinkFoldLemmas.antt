@@ -6,20 +6,20 @@ use Rattle.std.specs.List.{fold}
 use Rattle.grep_matcher.specs.Matching.{IsInfallible}
 use Rattle.grep_definitions.specs.Settings.{Settings}
 use Rattle.grep_definitions.specs.SinkCalls.{Call, Turn, begins, matches, context, breaks, binary_data, finishes}
-use Rattle.grep_definitions.specs.SinkRuns.{Steps, Outcome, AreReported, IsFinished}
+use Rattle.grep_definitions.specs.SinkRuns.{Steps, Outcome, AreReported, IsFinished, IsRun}
 use Rattle.grep_definitions.specs.SearchLaws.{is_match, match_calls}
 use Rattle.grep_definitions.specs.LineSearch.{turns, byte_count}
 use Rattle.grep_definitions.specs.Searches.{ErrorMakers, MatcherFacts, IsFault, of_sink, of_matcher, IsFaultUnless}
 use Rattle.grep_definitions.specs.DecodedInputs.{searched_bytes}
-use Rattle.grep_definitions.specs.SinkFolds.{fold_while, run_fold, IsMatchOk, StepsBy, TakesMatches}
+use Rattle.grep_definitions.specs.SinkFolds.{fold_while, run_fold, AreTaken, IsTakenOk, IsTakenBy, StepsBy}
 use Rattle.grep_definitions.specs.SinkFolds.{RunsFold, RunsFoldAll, RunsFoldMatches, SearchesFail, ReaderSearchesFail}
 use Rattle.grep_definitions.specs.ReaderSearches.{IsReaderFaultUnless, IsReaderFault, IsUnread, of_search, of_reading}
 use Rattle.grep_decode.specs.Source.{ReadResult}
 
-module _ {S : Type 0} (goes : S → Call → Bool) (next : S → Call → S) where
+module _ {V : Type 0} (taken : V → Call → Bool → V → Type 0) where
   -- a call that is a match, and one that isn't
-  matched-step : (old : S) (call : Call) (b : Bool) (new : S) → is_match call ≡ true → IsMatchOk goes next old call b new
-      → (b ≡ goes old call) × (new ≡ next old call)
+  matched-step : (old : V) (call : Call) (b : Bool) (new : V) → is_match call ≡ true → IsTakenOk taken old call b new
+      → taken old call b new
   matched-step old begins b new is h = absurd (cc)
   matched-step old (matches number offset line) b new is h = h
   matched-step old (context kind number offset line) b new is h = absurd (cc)
@@ -27,7 +27,7 @@ module _ {S : Type 0} (goes : S → Call → Bool) (next : S → Call → S) whe
   matched-step old (binary_data offset) b new is h = absurd (cc)
   matched-step old (finishes count binary) b new is h = absurd (cc)
 
-  other-step : (old : S) (call : Call) (b : Bool) (new : S) → is_match call ≡ false → IsMatchOk goes next old call b new
+  other-step : (old : V) (call : Call) (b : Bool) (new : V) → is_match call ≡ false → IsTakenOk taken old call b new
       → (b ≡ true) × (new ≡ old)
   other-step old begins b new is h = h
   other-step old (matches number offset line) b new is h = absurd (cc)
@@ -35,6 +35,19 @@ module _ {S : Type 0} (goes : S → Call → Bool) (next : S → Call → S) whe
   other-step old breaks b new is h = h
   other-step old (binary_data offset) b new is h = h
   other-step old (finishes count binary) b new is h = h
+
+  -- some calls of which the first is a match, or isn't
+  taken-match : (old mid : V) (turn : Turn) (later : List Turn) (new : V) → is_match turn.call ≡ true → taken old turn.call true mid
+      → AreTaken taken mid (match_calls later) new → AreTaken taken old (match_calls (turn ∷ later)) new
+  taken-match old mid turn later new is here rest = rw is (inl (mid, here, rest))
+
+  taken-last : (old : V) (turn : Turn) (later : List Turn) (new : V) → is_match turn.call ≡ true → taken old turn.call false new
+      → AreTaken taken old (match_calls (turn ∷ later)) new
+  taken-last old turn later new is here = rw is (inr here)
+
+  taken-other : (old : V) (turn : Turn) (later : List Turn) (new : V) → is_match turn.call ≡ false
+      → AreTaken taken old (match_calls later) new → AreTaken taken old (match_calls (turn ∷ later)) new
+  taken-other old turn later new is rest = rw is rest
 
 module _ {S E : Type 0} (step : Steps S E) (settings : Settings) (count : ℕ) (binary : Option ℕ) (new : S) where
   module _ (goes : S → Call → Bool) (next : S → Call → S) where
@@ -55,38 +68,59 @@ module _ {S E : Type 0} (step : Steps S E) (settings : Settings) (count : ℕ) (
     reported-fold by (turn ∷ later) old outcome mid (inr (inr (e, is, made))) finished =
         let last = subst (λ o. IsFinished step settings o mid count binary (Ok tt) new) is finished in absurd (let never = last.0 in cc)
 
-    reported-matches : TakesMatches step goes next → (turns : List Turn) (old : S) (outcome : Outcome E) (mid : S)
-        → AreReported step settings old turns outcome mid → IsFinished step settings outcome mid count binary (Ok tt) new
-        → new ≡ fold_while goes next old (match_calls turns)
-    reported-matches by [] old outcome mid (is, same) finished =
-        let last = subst (λ o. IsFinished step settings o mid count binary (Ok tt) new) is finished in
-        (by mid settings (finishes count binary) true new last).1 ∙ same
-    reported-matches by (turn ∷ later) old outcome mid (inl (between, made, reported)) finished =
-        go (is_match turn.call) refl (reported-matches by later between outcome mid reported finished)
-      where
-        go : (b : Bool) → is_match turn.call ≡ b → new ≡ fold_while goes next between (match_calls later)
-            → new ≡ fold_while goes next old (match_calls (turn ∷ later))
-        go true is rest =
-            let here = matched-step goes next old turn.call true between is (by old settings turn.call true between made) in
-            rw (is, ← here.0) (rest ∙ ap (λ s. fold_while goes next s (match_calls later)) here.1)
-        go false is rest =
-            let here = other-step goes next old turn.call true between is (by old settings turn.call true between made) in
-            rw is (rest ∙ ap (λ s. fold_while goes next s (match_calls later)) here.1)
-    reported-matches by (turn ∷ later) old outcome mid (inr (inl (is, made))) finished =
-        go (is_match turn.call) refl
-      where
-        last : step mid settings (finishes turn.end binary) (Ok true) new
-        last = subst (λ o. IsFinished step settings o mid count binary (Ok tt) new) is finished
+-- A run of a sink that takes matches alone, as seen through a view of its state.
+module _ {S E V : Type 0} (step : Steps S E) (settings : Settings) (count : ℕ) (binary : Option ℕ) (new : S)
+    (view : S → V) (taken : V → Call → Bool → V → Type 0)
+    (by : (old : S) (call : Call) (b : Bool) (after : S) → step old settings call (Ok b) after
+    → IsTakenOk taken (view old) call b (view after)) where
+  reported-taken : (turns : List Turn) (old : S) (outcome : Outcome E) (mid : S)
+      → AreReported step settings old turns outcome mid → IsFinished step settings outcome mid count binary (Ok tt) new
+      → AreTaken taken (view old) (match_calls turns) (view new)
+  reported-taken [] old outcome mid (is, same) finished =
+      let last = subst (λ o. IsFinished step settings o mid count binary (Ok tt) new) is finished in
+      (by mid (finishes count binary) true new last).1 ∙ ap view same
+  reported-taken (turn ∷ later) old outcome mid (inl (between, made, reported)) finished =
+      go (is_match turn.call) refl (reported-taken later between outcome mid reported finished)
+    where
+      go : (b : Bool) → is_match turn.call ≡ b → AreTaken taken (view between) (match_calls later) (view new)
+          → AreTaken taken (view old) (match_calls (turn ∷ later)) (view new)
+      go true is rest =
+          let here = matched-step taken (view old) turn.call true (view between) is (by old turn.call true between made) in
+          taken-match taken (view old) (view between) turn later (view new) is here rest
+      go false is rest =
+          let here = other-step taken (view old) turn.call true (view between) is (by old turn.call true between made) in
+          taken-other taken (view old) turn later (view new) is
+          (subst (λ v. AreTaken taken v (match_calls later) (view new)) here.1 rest)
+  reported-taken (turn ∷ later) old outcome mid (inr (inl (is, made))) finished =
+      go (is_match turn.call) refl
+    where
+      same : view new ≡ view mid
+      same =
+          let last = subst (λ o. IsFinished step settings o mid count binary (Ok tt) new) is finished in
+          (by mid (finishes turn.end binary) true new last).1
 
-        go : (b : Bool) → is_match turn.call ≡ b → new ≡ fold_while goes next old (match_calls (turn ∷ later))
-        go true is_b =
-            let here = matched-step goes next old turn.call false mid is_b (by old settings turn.call false mid made) in
-            rw (is_b, ← here.0) ((by mid settings (finishes turn.end binary) true new last).1 ∙ here.1)
-        go false is_b =
-            let here = other-step goes next old turn.call false mid is_b (by old settings turn.call false mid made) in
-            absurd (let never = here.0 in cc)
-    reported-matches by (turn ∷ later) old outcome mid (inr (inr (e, is, made))) finished =
-        let last = subst (λ o. IsFinished step settings o mid count binary (Ok tt) new) is finished in absurd (let never = last.0 in cc)
+      go : (b : Bool) → is_match turn.call ≡ b → AreTaken taken (view old) (match_calls (turn ∷ later)) (view new)
+      go true is_b =
+          let here = matched-step taken (view old) turn.call false (view mid) is_b (by old turn.call false mid made) in
+          taken-last taken (view old) turn later (view new) is_b
+          (subst (λ v. taken (view old) turn.call false v) (sym same) here)
+      go false is_b =
+          let here = other-step taken (view old) turn.call false (view mid) is_b (by old turn.call false mid made) in
+          absurd (let never = here.0 in cc)
+  reported-taken (turn ∷ later) old outcome mid (inr (inr (e, is, made))) finished =
+      let last = subst (λ o. IsFinished step settings o mid count binary (Ok tt) new) is finished in absurd (let never = last.0 in cc)
+
+  pub runs-take_matches : (old : S) (turns : List Turn) → IsRun step settings old turns count binary (Ok tt) new
+      → AreTaken taken (view old) (match_calls turns) (view new)
+  runs-take_matches old turns run = reported-taken turns old run.outcome run.mid run.reported run.finished
+
+-- matches that are taken by functions of the state and the call are a fold
+taken-fold : {S : Type 0} (goes : S → Call → Bool) (next : S → Call → S) (calls : List Call) (old new : S)
+    → AreTaken (IsTakenBy goes next) old calls new → new ≡ fold_while goes next old calls
+taken-fold goes next [] old new same = same
+taken-fold goes next (call ∷ later) old new (inl (mid, here, rest)) =
+    rw (← here.0) (taken-fold goes next later mid new rest ∙ ap (λ s. fold_while goes next s later) here.1)
+taken-fold goes next (call ∷ later) old new (inr here) = rw (← here.0) here.1
 
 -- a fold that always goes on is std's
 run_fold-all : {S : Type 0} (next : S → Call → S) (old : S) (turns : List Turn) (count : ℕ) (binary : Option ℕ)
@@ -105,7 +139,9 @@ module _ {S E : Type 0} (step : Steps S E) where
 
   pub runs-fold_matches : RunsFoldMatches step
   runs-fold_matches goes next by settings old turns count binary new run =
-      reported-matches step settings count binary new goes next by turns old run.outcome run.mid run.reported run.finished
+      taken-fold goes next (match_calls turns) old new
+      (runs-take_matches step settings count binary new (λ s. s) (IsTakenBy goes next)
+      (λ from call b after made. by from settings call b after made) old turns run)
 
   -- an error of a run is that of its last step
   reported-fails : (settings : Settings) (count : ℕ) (binary : Option ℕ) (e : E) (new : S)

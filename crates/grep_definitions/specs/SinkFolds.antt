@@ -1,5 +1,5 @@
 -- What a sink whose steps are functions makes of a run.
-use Rattle.std.specs.Prelude.{◌≡◌, ◌⊎◌, ℕ, Bool, true, if◌then◌else◌, List, [], ◌∷◌, map, Option, Some, None, Ok, Err}
+use Rattle.std.specs.Prelude.{◌≡◌, ◌⊎◌, ℕ, Bool, true, false, if◌then◌else◌, List, [], ◌∷◌, map, Option, Some, None, Ok, Err}
 use Rattle.std.specs.List.{fold}
 use Rattle.grep_definitions.specs.Settings.{Settings, SearcherState}
 use Rattle.grep_definitions.specs.SinkCalls.{Call, Turn, begins, matches, context, breaks, binary_data, finishes}
@@ -15,6 +15,22 @@ use Rattle.grep_decode.specs.Source.{ReadResult}
 use Rattle.std.specs.declared.io.Error.{Error}
 use Rattle.grep_definitions.specs.SearchLaws.{match_calls}
 
+module _ {V : Type 0} (taken : V → Call → Bool → V → Type 0) where
+  -- a call that succeeds, of a sink that takes matches alone: any other call goes on and leaves the state
+  abbrev pub IsTakenOk : V → Call → Bool → V → Type 0
+  IsTakenOk old begins b new = (b ≡ true) × (new ≡ old)
+  IsTakenOk old (matches number offset line) b new = taken old (matches number offset line) b new
+  IsTakenOk old (context kind number offset line) b new = (b ≡ true) × (new ≡ old)
+  IsTakenOk old breaks b new = (b ≡ true) × (new ≡ old)
+  IsTakenOk old (binary_data offset) b new = (b ≡ true) × (new ≡ old)
+  IsTakenOk old (finishes count binary) b new = (b ≡ true) × (new ≡ old)
+
+  -- some matches are taken in order, up to the first after which the sink doesn't go on
+  abbrev pub AreTaken : V → List Call → V → Type 0
+  AreTaken old [] new = new ≡ old
+  AreTaken old (found ∷ later) new =
+      ((mid : V) × taken old found true mid × AreTaken mid later new) ⊎ taken old found false new
+
 module _ {S : Type 0} (goes : S → Call → Bool) (next : S → Call → S) where
   -- the state after some calls, up to the first after which the sink doesn't go on
   abbrev pub fold_while : S → List Call → S
@@ -29,15 +45,13 @@ module _ {S : Type 0} (goes : S → Call → Bool) (next : S → Call → S) whe
       then run_fold (next old turn.call) later count binary
       else next (next old turn.call) (finishes turn.end binary)
 
-  -- a call that succeeds, of a sink that takes matches alone: any other call goes on and leaves the state
+  -- a match after which the sink goes on, or not, and changes the state by these functions
+  abbrev pub IsTakenBy : S → Call → Bool → S → Type 0
+  IsTakenBy old call b new = (b ≡ goes old call) × (new ≡ next old call)
+
+  -- a call that succeeds, of a sink that takes matches alone, by these functions
   abbrev pub IsMatchOk : S → Call → Bool → S → Type 0
-  IsMatchOk old begins b new = (b ≡ true) × (new ≡ old)
-  IsMatchOk old (matches number offset line) b new =
-      (b ≡ goes old (matches number offset line)) × (new ≡ next old (matches number offset line))
-  IsMatchOk old (context kind number offset line) b new = (b ≡ true) × (new ≡ old)
-  IsMatchOk old breaks b new = (b ≡ true) × (new ≡ old)
-  IsMatchOk old (binary_data offset) b new = (b ≡ true) × (new ≡ old)
-  IsMatchOk old (finishes count binary) b new = (b ≡ true) × (new ≡ old)
+  IsMatchOk old call b new = IsTakenOk IsTakenBy old call b new
 
 module _ {S E : Type 0} (goes : S → Call → Bool) (next : S → Call → S) (fails : E → Type 0) where
   -- the steps of a sink as these functions of the state and the call, with the errors that a call may return

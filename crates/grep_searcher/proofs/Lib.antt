@@ -11,3 +11,4 @@ pub mod WindowSearchLemmas
 pub mod FinishLemmas
 pub mod DecodedLemmas
 pub mod LookAheadLemmas
+pub mod ClosureSinkLemmas

@@ -6,7 +6,11 @@ use Rattle.std.specs.Str.{IsUtf8}
 use Rattle.std.specs.Str.Lossy.{utf8_lossy}
 use Rattle.std.specs.declared.io.Error.{Error}
 use Rattle.std.specs.declared.io.ErrorKind.TheVariants.{Other, OutOfMemory}
-use Rattle.grep_definitions.specs.SinkCalls.{Call, begins, matches, context, breaks, binary_data, finishes}
+use Rattle.grep_definitions.specs.SearchLaws.{match_calls}
+use Rattle.grep_definitions.specs.Settings.{Settings}
+use Rattle.grep_definitions.specs.SinkCalls.{Call, Turn, begins, matches, context, breaks, binary_data, finishes}
+use Rattle.grep_definitions.specs.SinkFolds.{AreTaken}
+use Rattle.grep_definitions.specs.SinkRuns.{IsRun}
 
 -- The text of a match as the closure gets it, or the error if it gets none.
 
@@ -52,3 +56,26 @@ module _ {F : Type 0} (call : F → ℕ → Bor (List ℕ) → Result Bool Error
   IsClosureStep old breaks result new = IsPassedOver old result new
   IsClosureStep old (binary_data offset) result new = IsPassedOver old result new
   IsClosureStep old (finishes count binary) result new = IsPassedOver old result new
+
+  -- the closure is called at a match, with its number and its text, and returns whether the search goes on
+  abbrev pub IsCalledAt : F → Call → Bool → F → Type 0
+  IsCalledAt old begins b new = ⊥
+  IsCalledAt old (matches None offset bytes) b new = ⊥
+  IsCalledAt old (matches (Some number) offset bytes) b new =
+      (text : List ℕ) × is_text bytes (Ok text) × IsCalled (Some number) text old (Ok b) new
+  IsCalledAt old (context kind number offset bytes) b new = ⊥
+  IsCalledAt old breaks b new = ⊥
+  IsCalledAt old (binary_data offset) b new = ⊥
+  IsCalledAt old (finishes count binary) b new = ⊥
+
+  -- the closure was called at these matches, in order, up to the first at which it returned false
+  pub record AreCalled (old : F) (calls : List Call) (new : F) : Type 0 where
+    pub taken : AreTaken IsCalledAt old calls new
+
+  -- in a run that ended in `Ok`, of a sink that has the closure, it was called at the matches that are reported
+  abbrev pub ClosuresAreCalled : {S : Type 0} → (S → F) → Type 0
+  ClosuresAreCalled {S} closure =
+      (settings : Settings) (old : S) (turns : List Turn) (count : ℕ) (binary : Option ℕ) (new : S)
+      → IsRun {S = S} {E = Error} (λ s _ made result t. IsClosureStep (closure s) made result (closure t))
+      settings old turns count binary (Ok tt) new
+      → AreCalled (closure old) (match_calls turns) (closure new)

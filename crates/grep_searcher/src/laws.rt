@@ -1,9 +1,13 @@
 //! Laws of the calls that a search makes, each the contract of a function that does nothing. The first
 //! ones are over the definition of those calls alone, the others say what a sink makes of them.
+ghost use Rattle.grep_searcher.specs.ClosureSinks.{ClosuresAreCalled};
+ghost use Rattle.grep_searcher.specs.ClosureSinks.{IsUtf8Text, IsLossyText, IsWholeText};
+ghost use Rattle.grep_definitions.specs.FileSearches.{IsFileRead};
 ghost use Rattle.grep_definitions.specs.SinkFolds.{RunsFold, RunsFoldAll, RunsFoldMatches};
 ghost use Rattle.grep_definitions.specs.SinkFolds.{SearchesFail, ReaderSearchesFail, KnownReadersRun};
 
 use crate::sink::Sink;
+use crate::sinks::{Bytes, Lossy, UTF8};
 use grep_decode::Source;
 pub use grep_definitions::laws::{
     after_wins, at_most_limit, first_lines_begin, first_match_is_first, inversion_complements,
@@ -13,6 +17,8 @@ pub use grep_definitions::laws::{
 use grep_matcher::Matcher;
 use grep_report::SinkError;
 use std::alloc::Allocator;
+use std::io;
+use std::io::Read;
 
 /// A run that ended in `Ok`, of a sink whose steps are functions of the state and the call, is a fold
 /// over its turns: up to the first after which the sink doesn't go on, and then `finish`.
@@ -30,6 +36,22 @@ pub fn runs_fold_all<S: Sink>()
 /// on.
 pub fn runs_fold_matches<S: Sink>()
     ensures { RunsFoldMatches S.step }
+{}
+
+/// A run that ended in `Ok`, of a sink that calls a closure, called it at each match that is reported, in order, with its
+/// number and its text, up to the first at which it returned false. Pass the sink, since a closure's type has no name.
+pub fn closures_are_called<F: FnMut(u64, &str) -> Result<bool, io::Error>>(_: &UTF8<F>)
+    ensures { ClosuresAreCalled F.step IsUtf8Text (λ (s : UTF8 F). s.0) }
+{}
+
+/// The same of `Lossy`.
+pub fn lossy_closures_are_called<F: FnMut(u64, &str) -> Result<bool, io::Error>>(_: &Lossy<F>)
+    ensures { ClosuresAreCalled F.step IsLossyText (λ (s : Lossy F). s.0) }
+{}
+
+/// The same of `Bytes`.
+pub fn bytes_closures_are_called<F: FnMut(u64, &[u8]) -> Result<bool, io::Error>>(_: &Bytes<F>)
+    ensures { ClosuresAreCalled F.step IsWholeText (λ (s : Bytes F). s.0) }
 {}
 
 /// If the matcher never fails and is lawful, and the search isn't refused, an error that a search of a slice ended in
@@ -88,4 +110,23 @@ where
           text_of = M.Error.output;
         })
         R.remaining R.step }
+{}
+
+/// The same of a search of a file that says which bytes remain. After `search_path` such a file is one that was opened.
+pub fn known_files_run<A: Allocator + Copy, M: Matcher, F: Read, S: Sink>()
+where
+    S::Error: SinkError<A>,
+    ensures { (matcher : M) → KnownReadersRun S.step
+        (record {
+          is_message = S.Error.is_message;
+          is_io = S.Error.is_io;
+          is_config = S.Error.is_config;
+        })
+        (record {
+          meaning = M.meaning matcher;
+          fails = M.fails matcher;
+          is_lawful = M.is_lawful matcher;
+          text_of = M.Error.output;
+        })
+        F.remaining (IsFileRead F.remaining) }
 {}

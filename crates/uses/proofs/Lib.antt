@@ -1,1 +1,2 @@
 pub mod FoldLemmas
+pub mod NumberedLemmas

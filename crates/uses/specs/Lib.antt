@@ -1,3 +1,4 @@
 pub mod SelectedLines
 pub mod DecodingErrors
 pub mod MatchSinks
+pub mod NumberedTexts

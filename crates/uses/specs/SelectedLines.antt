@@ -23,3 +23,8 @@ first_selected settings meaning bytes =
 abbrev pub selected_bytes : Settings → Meaning → List ℕ → List ℕ
 selected_bytes settings meaning bytes =
     concat (map (line settings meaning bytes) (selected_lines settings meaning bytes))
+
+-- the number and the text of each selected line, in order
+abbrev pub numbered_lines_of : Settings → Meaning → List ℕ → List (ℕ × List ℕ)
+numbered_lines_of settings meaning bytes =
+    map (λ i. (i + 1, line settings meaning bytes i)) (selected_lines settings meaning bytes)

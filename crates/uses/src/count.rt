@@ -56,8 +56,8 @@ pub fn count_matching_lines<M: Matcher + Drop>(
 
 // A sink that counts the matches.
 #[derive(Drop)]
-struct MatchCount {
-    count: u64,
+pub(crate) struct MatchCount {
+    pub(crate) count: u64,
 }
 
 impl Sink for MatchCount {

@@ -9,6 +9,8 @@
 mod collect;
 mod count;
 mod first;
+mod numbered;
+mod path;
 mod report;
 #[cfg(test)]
 mod tests;
@@ -16,4 +18,6 @@ mod tests;
 pub use collect::matching_lines;
 pub use count::count_matching_lines;
 pub use first::first_match;
+pub use numbered::numbered_lines;
+pub use path::count_in_path;
 pub use report::in_context;

@@ -1,0 +1,48 @@
+//! The numbers and the texts of all matches, by a closure.
+ghost use Rattle.std.specs.Prelude.{◌≡◌, ◌++◌, ◌∷◌, [], true, IfOk};
+ghost use Rattle.grep_searcher.specs.DecodedInputs.{searched_bytes};
+ghost use Rattle.grep_searcher.specs.Questions.{IsLawfulFor};
+ghost use Rattle.uses.specs.SelectedLines.{numbered_lines_of};
+ghost use Rattle.uses.specs.NumberedTexts.{texts_of};
+
+use grep_searcher::laws::{closures_are_called, matches_are_selected};
+use grep_searcher::sinks::UTF8;
+use grep_searcher::{Matcher, Searcher};
+use std::alloc::Global;
+use std::io;
+
+/// Returns the number and the text of each selected line of `bytes`, in order: the number is counted from 1, and the text
+/// has the line's terminator. If the bytes have to be decoded, it is of the decoded lines.
+///
+/// An error of the kind `Other` is made of the matcher's, of a configuration that the searcher refuses, of a selected
+/// line that isn't UTF-8, or of one without a number, if the searcher doesn't number lines. One of the kind
+/// `OutOfMemory` is of being out of memory. If the bytes have to be decoded, the error may also be one of decoding.
+///
+/// All this is promised for a matcher that is lawful for the searcher's terminator.
+pub fn numbered_lines<M: Matcher + Drop>(
+    alloc: Global,
+    searcher: &mut Searcher,
+    matcher: M,
+    bytes: &[u8],
+) -> io::Result<Vec<(u64, String)>>
+    ensures lines { IsLawfulFor searcher.old.settings (M.meaning matcher) (M.is_lawful matcher)
+        → IfOk result (λ lines. texts_of lines.items
+        ≡ numbered_lines_of searcher.old.settings (M.meaning matcher)
+        (searched_bytes searcher.old.settings bytes.now)) }
+    ensures settings { searcher.new.settings ≡ searcher.old.settings }
+    ensures buffers { searcher.old.has_buffers ≡ true → searcher.new.has_buffers ≡ true }
+{
+    let mut lines = Vec::new(alloc);
+    let mut sink = UTF8(|number, text: &str|
+        ensures { IfOk result (λ goes. (goes ≡ true)
+            × (texts_of lines.exit.items
+            ≡ texts_of lines.entry.items ++ (number, text.now) ∷ [])) }
+    {
+        lines.push((number, String::from_str(alloc, text)?))?;
+        Ok(true)
+    });
+    closures_are_called(&sink);
+    matches_are_selected();
+    searcher.search_slice(matcher, bytes, &mut sink)?;
+    Ok(lines)
+}
