@@ -1,4 +1,4 @@
-use Rattle.std.proofs.Common.{◌∙◌, sym}
+use Rattle.std.proofs.Common.{◌∙◌, sym, true, false, refl}
 use Rattle.std.proofs.lemmas.Result.{err_from_is_err_and}
 use Rattle.grep_definitions.specs.Searches.{ErrorMakers, MatcherFacts}
 use Rattle.grep_searcher.proofs.DecodedLemmas as sources
@@ -57,6 +57,22 @@ returns-then-is_idle-clause-counted g c = λ lawful.
     sources.counted-idle g.S.Sink.step errors facts g.R.Source.remaining g.R.Source.step c.lines_join.ensures c.lines_append.ensures
     c.args.self.now.settings c.args.reader.now c.args.sink.now c.begin.new.self (sym c.is_idle.ensures ∙ c.if-is_idle.true)
     (rw c.if-not-branch.false at c.in_ok-begin.ensures.step)
+
+pub returns-then-not-branch-clause-begun : goal.returns-then-not-branch-clause-begun
+returns-then-not-branch-clause-begun g c = record {
+  begun = false;
+  first = c.begin.new.self;
+  begin = rw c.if-not-branch.true at c.in_ok-begin.ensures.step;
+  unread = λ e. refl;
+}
+
+pub returns-then-is_idle-clause-begun : goal.returns-then-is_idle-clause-begun
+returns-then-is_idle-clause-begun g c = record {
+  begun = true;
+  first = c.begin.new.self;
+  begin = rw c.if-not-branch.false at c.in_ok-begin.ensures.step;
+  unread = λ e. refl;
+}
 
 pub returns-clause-begun : goal.returns-clause-begun
 returns-clause-begun g c =
