@@ -1,7 +1,10 @@
 //! Each caller, run once on its happy path.
-use crate::{count_matching_lines, first_match, in_context, matching_lines};
-use grep_searcher::{LiteralMatcher, Searcher};
+use crate::{count_in_path, count_matching_lines, first_match, in_context};
+use crate::{matching_lines, numbered_lines};
+use grep_searcher::{LiteralMatcher, SearchError, Searcher};
+use std::path::{Path, PathBuf};
 use std::test::Fail;
+use std::{env, fs, io, process};
 
 // Line 2 and line 4 have an `a`.
 const INPUT: &[u8] = b"x\nab\ny\nba";
@@ -42,5 +45,65 @@ fn reported(rt: HostRuntime) -> Result<(), Fail> {
     let report = in_context(rt.alloc(), log, b"error")?;
     let expected: &[u8] = b" open\n>error: no file\n--\n close\n>error: closed\n";
     assert!(rt; report.as_slice() == expected);
+    Ok(())
+}
+
+// Lines 1 and 5 have `Doctor Watson`. The last line has no terminator.
+const SHERLOCK: &[u8] = b"For the Doctor Watsons of this world, as opposed to the Sherlock
+Holmeses, success in the province of detective work must always
+be, to a very large extent, the result of luck. Sherlock Holmes
+can extract a clew from a wisp of straw or a flake of cigar ash;
+but Doctor Watson has to have it taken out for him and dusted,
+and exhibited clearly, with a label attached.";
+
+const LINE_1: &str = "For the Doctor Watsons of this world, as opposed to the Sherlock\n";
+
+const LINE_5: &str = "but Doctor Watson has to have it taken out for him and dusted,\n";
+
+// Whether a line has this number and this text.
+fn is_line(line: &(u64, String), number: u64, text: &str) -> bool {
+    line.0 == number && line.1.as_str() == text
+}
+
+// Whether lines 1 and 5 are listed, and no other.
+fn are_listed(lines: &[(u64, String)]) -> bool {
+    match lines {
+        [first, second] => is_line(first, 1, LINE_1) && is_line(second, 5, LINE_5),
+        _ => false,
+    }
+}
+
+#[test]
+fn listed(rt: HostRuntime) -> Result<(), Fail> {
+    let mut searcher = Searcher::new(rt.alloc())?;
+    let matcher = LiteralMatcher::new(rt.alloc(), b"Doctor Watson")?;
+    let lines = numbered_lines(rt.alloc(), &mut searcher, matcher, SHERLOCK)?;
+    assert!(rt; are_listed(&lines));
+    Ok(())
+}
+
+// A path of this process alone, in the directory for temporary files.
+fn temporary_path(rt: &HostRuntime) -> io::Result<PathBuf> {
+    let alloc = rt.alloc();
+    let name = format!(in alloc; "uses-{}", process::id(rt.process()))?;
+    Ok(env::temp_dir(rt)?.join(alloc, name.as_str())?)
+}
+
+// How many lines of the file at a path have `Doctor Watson`.
+fn count_watsons(rt: &HostRuntime, path: Path<'_>) -> Result<u64, SearchError> {
+    let mut searcher = Searcher::new(rt.alloc())?;
+    let matcher = LiteralMatcher::new(rt.alloc(), b"Doctor Watson")?;
+    count_in_path(rt, &mut searcher, matcher, path)
+}
+
+#[test]
+fn counted_in_path(rt: HostRuntime) -> Result<(), Fail> {
+    let path = temporary_path(&rt)?;
+    fs::write(&rt, path.as_path(), SHERLOCK)?;
+    let count = count_watsons(&rt, path.as_path());
+    fs::remove_file(&rt, path.as_path())?;
+    let unopened = count_watsons(&rt, path.as_path());
+    assert!(rt; count? == 2);
+    assert!(rt; matches!(unopened, Err(SearchError::Io(_))));
     Ok(())
 }
