@@ -18,13 +18,16 @@ module _ {F : Type 0} (remaining : F → Option (List ℕ))
   -- a search of a file from where it is: that of a reader
   abbrev pub IsFileSearched : SearcherState → F → S → Result (Unit {0}) E → F → S → Type 0
   IsFileSearched state file old result file' new =
-      IsReaderSearched remaining (IsFileRead remaining) step errors matcher state file old result file' new
+      IsReaderSearched remaining (IsFileRead remaining) step errors matcher state file old result
+      file' new
 
   -- the error is that of opening a file, and the sink had no call
   abbrev pub IsUnopened : S → Result (Unit {0}) E → S → Type 0
-  IsUnopened old result new = (error : Error) × (e : E) × (result ≡ Err e) × errors.is_io error e × (new ≡ old)
+  IsUnopened old result new =
+      (error : Error) × (e : E) × (result ≡ Err e) × errors.is_io error e × (new ≡ old)
 
   -- a search of a path: its file couldn't be opened, or a file was opened first, and searched
   abbrev pub IsPathSearched : SearcherState → S → Result (Unit {0}) E → S → Type 0
   IsPathSearched state old result new =
-      IsUnopened old result new ⊎ ((file : F) × (file' : F) × IsFileSearched state file old result file' new)
+      IsUnopened old result new
+      ⊎ ((file : F) × (file' : F) × IsFileSearched state file old result file' new)

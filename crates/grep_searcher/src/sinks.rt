@@ -13,9 +13,9 @@ use std::{io, str};
 
 /// Calls a closure at each match, with its line number, counted from 1, and its lines as text.
 ///
-/// A match that isn't UTF-8 ends the search in an error of the kind `Other`, and so does one without a line number, if the
-/// searcher doesn't number lines; the closure isn't called then. The caller of the search ensures that the closure may
-/// always be called.
+/// A match that isn't UTF-8 ends the search in an error of the kind `Other`, and so does one without a line number, if
+/// the searcher doesn't number lines; the closure isn't called then. The caller of the search ensures that the closure
+/// may always be called.
 #[derive(Drop)]
 pub struct UTF8<F>(pub F);
 
@@ -123,8 +123,8 @@ impl<F: FnMut(u64, &str) -> Result<bool, io::Error>> Sink for Lossy<F> {
 
 /// Calls a closure at each match, with its line number, counted from 1, and the bytes of its lines.
 ///
-/// A match without a line number, if the searcher doesn't number lines, ends the search in an error of the kind `Other`,
-/// and the closure isn't called. The caller of the search ensures that the closure may always be called.
+/// A match without a line number, if the searcher doesn't number lines, ends the search in an error of the kind
+/// `Other`, and the closure isn't called. The caller of the search ensures that the closure may always be called.
 #[derive(Drop)]
 pub struct Bytes<F>(pub F);
 

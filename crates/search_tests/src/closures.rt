@@ -75,8 +75,8 @@ fn search(
     }
 }
 
-// A sink, whether lines are numbered, the bytes, whether the closure goes on, how often it is called, the text of its first
-// call, and the kind of the error.
+// A sink, whether lines are numbered, the bytes, whether the closure goes on, how often it is called, the text of its
+// first call, and the kind of the error.
 type Row = (
     Calls,
     bool,
@@ -88,13 +88,61 @@ type Row = (
 );
 
 const ROWS: &[Row] = &[
-    (Calls::Utf8, true, b"a\xFF\n", true, 0, b"", Some(ErrorKind::Other)),
-    (Calls::Utf8, true, b"a\xC3\xA9\na", true, 2, b"a\xC3\xA9\n", None),
-    (Calls::Lossy, true, b"a\xFF\n", true, 1, b"a\xEF\xBF\xBD\n", None),
+    (
+        Calls::Utf8,
+        true,
+        b"a\xFF\n",
+        true,
+        0,
+        b"",
+        Some(ErrorKind::Other),
+    ),
+    (
+        Calls::Utf8,
+        true,
+        b"a\xC3\xA9\na",
+        true,
+        2,
+        b"a\xC3\xA9\n",
+        None,
+    ),
+    (
+        Calls::Lossy,
+        true,
+        b"a\xFF\n",
+        true,
+        1,
+        b"a\xEF\xBF\xBD\n",
+        None,
+    ),
     (Calls::Bytes, true, b"a\xFF\n", true, 1, b"a\xFF\n", None),
-    (Calls::Utf8, false, b"a\n", true, 0, b"", Some(ErrorKind::Other)),
-    (Calls::Lossy, false, b"a\xFF\n", true, 0, b"", Some(ErrorKind::Other)),
-    (Calls::Bytes, false, b"a\n", true, 0, b"", Some(ErrorKind::Other)),
+    (
+        Calls::Utf8,
+        false,
+        b"a\n",
+        true,
+        0,
+        b"",
+        Some(ErrorKind::Other),
+    ),
+    (
+        Calls::Lossy,
+        false,
+        b"a\xFF\n",
+        true,
+        0,
+        b"",
+        Some(ErrorKind::Other),
+    ),
+    (
+        Calls::Bytes,
+        false,
+        b"a\n",
+        true,
+        0,
+        b"",
+        Some(ErrorKind::Other),
+    ),
     (Calls::Utf8, false, b"b\n", true, 0, b"", None),
     (Calls::Bytes, true, b"a\na\n", false, 1, b"a\n", None),
 ];

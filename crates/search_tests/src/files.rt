@@ -102,9 +102,7 @@ fn refused(
     heap_limit: Option<usize>,
     terminator: LineTerminator,
 ) -> Result<Option<ConfigError>, ConfigError> {
-    let mut searcher = SearcherBuilder::new()
-        .heap_limit(heap_limit)
-        .build(alloc)?;
+    let mut searcher = SearcherBuilder::new().heap_limit(heap_limit).build(alloc)?;
     let mut file = Unread { reads: 0 };
     let mut recorder = Recorder::new(alloc, None, None);
     let matcher = Naming {

@@ -41,7 +41,7 @@ module _ {F : Type 0} (call : F → ℕ → Bor (List ℕ) → Result Bool Error
       let others = kept-matches later mid new rest in (
         others.0 ∙ first.1,
         others.1 ∙ ap (λ k. k ++ map (λ i. (i + 1, line settings meaning bytes i)) later) first.2
-        ∙ append_assoc (kept old) ((i + 1, line settings meaning bytes i) ∷ []) (map (λ i. (i + 1, line settings meaning bytes i)) later),
+            ∙ append_assoc (kept old) ((i + 1, line settings meaning bytes i) ∷ []) (map (λ i. (i + 1, line settings meaning bytes i)) later),
       )
   kept-matches (i ∷ later) old new (inr here) = absurd (let never = (kept-one i old new false here).0 in cc)
 

@@ -11,8 +11,8 @@ use grep_searcher::{Matcher, Searcher};
 use std::alloc::Global;
 use std::io;
 
-/// Returns the number and the text of each selected line of `bytes`, in order: the number is counted from 1, and the text
-/// has the line's terminator. If the bytes have to be decoded, it is of the decoded lines.
+/// Returns the number and the text of each selected line of `bytes`, in order: the number is counted from 1, and the
+/// text has the line's terminator. If the bytes have to be decoded, it is of the decoded lines.
 ///
 /// An error of the kind `Other` is made of the matcher's, of a configuration that the searcher refuses, of a selected
 /// line that isn't UTF-8, or of one without a number, if the searcher doesn't number lines. One of the kind
@@ -33,14 +33,16 @@ pub fn numbered_lines<M: Matcher + Drop>(
     ensures buffers { searcher.old.has_buffers ≡ true → searcher.new.has_buffers ≡ true }
 {
     let mut lines = Vec::new(alloc);
-    let mut sink = UTF8(|number, text: &str|
-        ensures { IfOk result (λ goes. (goes ≡ true)
-            × (texts_of lines.exit.items
-            ≡ texts_of lines.entry.items ++ (number, text.now) ∷ [])) }
-    {
-        lines.push((number, String::from_str(alloc, text)?))?;
-        Ok(true)
-    });
+    let mut sink = UTF8(
+        |number, text: &str|
+            ensures { IfOk result (λ goes. (goes ≡ true)
+                × (texts_of lines.exit.items
+                ≡ texts_of lines.entry.items ++ (number, text.now) ∷ [])) }
+        {
+            lines.push((number, String::from_str(alloc, text)?))?;
+            Ok(true)
+        },
+    );
     closures_are_called(&sink);
     matches_are_selected();
     searcher.search_slice(matcher, bytes, &mut sink)?;

@@ -1,6 +1,7 @@
 //! Each caller, run once on its happy path.
-use crate::{count_in_path, count_matching_lines, first_match, in_context};
-use crate::{matching_lines, numbered_lines};
+use crate::{
+    count_in_path, count_matching_lines, first_match, in_context, matching_lines, numbered_lines,
+};
 use grep_searcher::{LiteralMatcher, SearchError, Searcher};
 use std::path::{Path, PathBuf};
 use std::test::Fail;

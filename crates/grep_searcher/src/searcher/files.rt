@@ -22,7 +22,8 @@ use std::rt::Files;
 
 impl<A: Allocator + Copy> Searcher<A> {
     /// Searches a file from its position on, as `search_reader` searches a reader, with the same errors. It is read
-    /// straight into the searcher's line buffer, with no buffer between. The caller ensures that the sink may be called.
+    /// straight into the searcher's line buffer, with no buffer between. The caller ensures that the sink may be
+    /// called.
     ///
     /// What is promised of the calls is promised of a file that says which bytes remain. Of one of the system nobody
     /// knows that; it holds while nobody writes the file and the disk returns what was written.
@@ -63,9 +64,9 @@ impl<A: Allocator + Copy> Searcher<A> {
         self.search_reader(matcher, &mut Opened { file }, sink)
     }
 
-    /// Opens the file at a path and searches it from its start, as `search_file` does. If it can't be opened, the error is
-    /// made of that of opening, by `error_io`, and the sink has no call; that comes before any other error. The caller
-    /// ensures that the sink may be called.
+    /// Opens the file at a path and searches it from its start, as `search_file` does. If it can't be opened, the error
+    /// is made of that of opening, by `error_io`, and the sink has no call; that comes before any other error. The
+    /// caller ensures that the sink may be called.
     pub fn search_path<R: Files, M: Matcher, P: AsPath, S: Sink>(
         &mut self,
         rt: &R,
