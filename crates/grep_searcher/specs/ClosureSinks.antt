@@ -1,16 +1,19 @@
 -- What a sink that calls a closure makes of a call.
-use Rattle.std.specs.Prelude.{◌≡◌, ◌⊎◌, ℕ, Bool, true, List, Option, Some, None, Result, Ok, Err}
+use Rattle.std.specs.Prelude.{◌≡◌, ◌⊎◌, ◌+◌, ℕ, Bool, true, List, [], ◌∷◌, ◌++◌, map}
+use Rattle.std.specs.Prelude.{Option, Some, None, Result, Ok, Err}
 use Rattle.std.specs.Borrow.{Bor}
 use Rattle.std.specs.IoError.{error_kind}
 use Rattle.std.specs.Str.{IsUtf8}
 use Rattle.std.specs.Str.Lossy.{utf8_lossy}
 use Rattle.std.specs.declared.io.Error.{Error}
 use Rattle.std.specs.declared.io.ErrorKind.TheVariants.{Other, OutOfMemory}
-use Rattle.grep_definitions.specs.SearchLaws.{match_calls}
+use Rattle.grep_definitions.specs.LineSearch.{turns, line}
+use Rattle.grep_definitions.specs.SearchLaws.{match_calls, selected_lines}
 use Rattle.grep_definitions.specs.Settings.{Settings}
 use Rattle.grep_definitions.specs.SinkCalls.{Call, Turn, begins, matches, context, breaks, binary_data, finishes}
 use Rattle.grep_definitions.specs.SinkFolds.{AreTaken}
-use Rattle.grep_definitions.specs.SinkRuns.{IsRun}
+use Rattle.grep_definitions.specs.SinkRuns.{Steps, IsRun}
+use Rattle.grep_matcher.specs.Matching.{Meaning}
 
 -- The text of a match as the closure gets it, or the error if it gets none.
 
@@ -72,10 +75,33 @@ module _ {F : Type 0} (call : F → ℕ → Bor (List ℕ) → Result Bool Error
   pub record AreCalled (old : F) (calls : List Call) (new : F) : Type 0 where
     pub taken : AreTaken IsCalledAt old calls new
 
-  -- in a run that ended in `Ok`, of a sink that has the closure, it was called at the matches that are reported
+  -- the steps of a sink that has the closure
+  abbrev pub ClosureSteps : {S : Type 0} → (S → F) → Steps S Error
+  ClosureSteps closure old settings made result new = IsClosureStep (closure old) made result (closure new)
+
+  -- in a run that ended in `Ok`, of such a sink, it was called at the matches that are reported
   abbrev pub ClosuresAreCalled : {S : Type 0} → (S → F) → Type 0
   ClosuresAreCalled {S} closure =
       (settings : Settings) (old : S) (turns : List Turn) (count : ℕ) (binary : Option ℕ) (new : S)
-      → IsRun {S = S} {E = Error} (λ s _ made result t. IsClosureStep (closure s) made result (closure t))
-      settings old turns count binary (Ok tt) new
+      → IsRun (ClosureSteps closure) settings old turns count binary (Ok tt) new
       → AreCalled (closure old) (match_calls turns) (closure new)
+
+  -- a call of the closure that returns goes on, adds its number and its text to what is kept, and leaves the name of
+  -- the reference through which it is kept
+  abbrev pub KeepsCalls : (F → ℕ) → (F → List (ℕ × List ℕ)) → Type 0
+  KeepsCalls name kept =
+      (old : F) (number : ℕ) (text : Bor (List ℕ)) (b : Bool) (new : F)
+      → call old number text (Ok b) new → (b ≡ true) × (name new ≡ name old)
+      × (kept new ≡ kept old ++ (number, text.now) ∷ [])
+
+  -- then a run along the calls for some bytes that ended in `Ok` adds the numbers and the texts of the selected lines
+  abbrev pub ClosuresKeep : {S : Type 0} → (S → F) → (List ℕ → List ℕ) → Type 0
+  ClosuresKeep {S} closure text_of =
+      (name : F → ℕ) (kept : F → List (ℕ × List ℕ)) → KeepsCalls name kept
+      → (settings : Settings) (meaning : Meaning) (bytes : List ℕ)
+      (old : S) (count : ℕ) (binary : Option ℕ) (new : S)
+      → IsRun (ClosureSteps closure) settings old (turns settings meaning bytes) count binary (Ok tt) new
+      → (name (closure new) ≡ name (closure old))
+      × (kept (closure new) ≡ kept (closure old)
+      ++ map (λ i. (i + 1, text_of (line settings meaning bytes i)))
+      (selected_lines settings meaning bytes))

@@ -1,6 +1,7 @@
 //! Laws of the calls that a search makes, each the contract of a function that does nothing. The first
 //! ones are over the definition of those calls alone, the others say what a sink makes of them.
-ghost use Rattle.grep_searcher.specs.ClosureSinks.{ClosuresAreCalled};
+ghost use Rattle.std.specs.Str.Lossy.{utf8_lossy};
+ghost use Rattle.grep_searcher.specs.ClosureSinks.{ClosuresAreCalled, ClosuresKeep};
 ghost use Rattle.grep_searcher.specs.ClosureSinks.{IsUtf8Text, IsLossyText, IsWholeText};
 ghost use Rattle.grep_definitions.specs.FileSearches.{IsFileRead};
 ghost use Rattle.grep_definitions.specs.SinkFolds.{RunsFold, RunsFoldAll, RunsFoldMatches};
@@ -38,8 +39,9 @@ pub fn runs_fold_matches<S: Sink>()
     ensures { RunsFoldMatches S.step }
 {}
 
-/// A run that ended in `Ok`, of a sink that calls a closure, called it at each match that is reported, in order, with its
-/// number and its text, up to the first at which it returned false. Pass the sink, since a closure's type has no name.
+/// A run that ended in `Ok`, of a sink that calls a closure, called it at each match that is reported, in order, with
+/// its number and its text, up to the first at which it returned false. Pass the sink, since a closure's type has no
+/// name.
 pub fn closures_are_called<F: FnMut(u64, &str) -> Result<bool, io::Error>>(_: &UTF8<F>)
     ensures { ClosuresAreCalled F.step IsUtf8Text (λ (s : UTF8 F). s.0) }
 {}
@@ -53,6 +55,29 @@ pub fn lossy_closures_are_called<F: FnMut(u64, &str) -> Result<bool, io::Error>>
 pub fn bytes_closures_are_called<F: FnMut(u64, &[u8]) -> Result<bool, io::Error>>(_: &Bytes<F>)
     ensures { ClosuresAreCalled F.step IsWholeText (λ (s : Bytes F). s.0) }
 {}
+
+/// If each call of such a closure that returns adds its number and its text to what is kept, through one reference,
+/// then a run along the calls for some bytes that ended in `Ok` adds those of the selected lines, and the reference is
+/// the same.
+pub fn closures_keep_calls<F: FnMut(u64, &str) -> Result<bool, io::Error>>(_: &UTF8<F>)
+    ensures { ClosuresKeep F.step IsUtf8Text (λ (s : UTF8 F). s.0) (λ bytes. bytes) }
+{
+    matches_are_selected();
+}
+
+/// The same of `Lossy`.
+pub fn lossy_closures_keep_calls<F: FnMut(u64, &str) -> Result<bool, io::Error>>(_: &Lossy<F>)
+    ensures { ClosuresKeep F.step IsLossyText (λ (s : Lossy F). s.0) utf8_lossy }
+{
+    matches_are_selected();
+}
+
+/// The same of `Bytes`.
+pub fn bytes_closures_keep_calls<F: FnMut(u64, &[u8]) -> Result<bool, io::Error>>(_: &Bytes<F>)
+    ensures { ClosuresKeep F.step IsWholeText (λ (s : Bytes F). s.0) (λ bytes. bytes) }
+{
+    matches_are_selected();
+}
 
 /// If the matcher never fails and is lawful, and the search isn't refused, an error that a search of a slice ended in
 /// is that of a step of the sink, or the slice has to be decoded and wasn't to its end.

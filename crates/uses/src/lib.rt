@@ -3,7 +3,8 @@
 //!
 //! `count_matching_lines` counts, `first_match` stops at the first match of a reader, and
 //! `matching_lines` keeps the lines of all matches. `in_context` builds its searcher, and writes a
-//! report with a sink of its own. `CALLING.md` says which laws they use.
+//! report with a sink of its own. `numbered_lines` collects by a closure, and `count_in_path` searches
+//! a path. `CALLING.md` says which laws they use.
 #![tactic(auto)]
 
 mod collect;

@@ -2,23 +2,24 @@
 ghost use Rattle.std.specs.Prelude.{◌≡◌, ◌++◌, ◌∷◌, [], true, IfOk};
 ghost use Rattle.grep_searcher.specs.DecodedInputs.{searched_bytes};
 ghost use Rattle.grep_searcher.specs.Questions.{IsLawfulFor};
-ghost use Rattle.uses.specs.SelectedLines.{numbered_lines_of};
 ghost use Rattle.uses.specs.NumberedTexts.{texts_of};
+ghost use Rattle.uses.specs.SelectedLines.{numbered_lines_of};
 
-use grep_searcher::laws::{closures_are_called, matches_are_selected};
+use grep_searcher::laws::closures_keep_calls;
 use grep_searcher::sinks::UTF8;
 use grep_searcher::{Matcher, Searcher};
 use std::alloc::Global;
 use std::io;
 
-/// Returns the number and the text of each selected line of `bytes`, in order: the number is counted from 1, and the
-/// text has the line's terminator. If the bytes have to be decoded, it is of the decoded lines.
+/// Returns the number and the text of each selected line of `bytes`, in order. The number is counted from 1, and the
+/// text ends in the line's terminator, if it has one. If the bytes have to be decoded, they are the decoded lines.
 ///
-/// An error of the kind `Other` is made of the matcher's, of a configuration that the searcher refuses, of a selected
-/// line that isn't UTF-8, or of one without a number, if the searcher doesn't number lines. One of the kind
-/// `OutOfMemory` is of being out of memory. If the bytes have to be decoded, the error may also be one of decoding.
+/// An error of the kind `OutOfMemory` is of being out of memory. One of the kind `Other` is made of the matcher's, of a
+/// configuration that the searcher refuses, of a selected line that isn't UTF-8, or of one without a number, if the
+/// searcher doesn't number lines. If the bytes have to be decoded, it may also be of the heap limit, or, of the kind
+/// `InvalidData`, of more than 2^64 - 1 decoded bytes. That is not in the contract.
 ///
-/// All this is promised for a matcher that is lawful for the searcher's terminator.
+/// The lines are promised for a matcher that is lawful for the searcher's terminator.
 pub fn numbered_lines<M: Matcher + Drop>(
     alloc: Global,
     searcher: &mut Searcher,
@@ -43,8 +44,7 @@ pub fn numbered_lines<M: Matcher + Drop>(
             Ok(true)
         },
     );
-    closures_are_called(&sink);
-    matches_are_selected();
+    closures_keep_calls(&sink);
     searcher.search_slice(matcher, bytes, &mut sink)?;
     Ok(lines)
 }

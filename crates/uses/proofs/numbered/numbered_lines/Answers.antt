@@ -1,17 +1,14 @@
 use Rattle.std.proofs.Common.{rules, arith, ap}
 use Rattle.grep_searcher.specs.DecodedInputs.{searched_bytes}
-use Rattle.grep_searcher.specs.SearchLaws.{selected_lines}
 use Rattle.uses.specs.NumberedTexts.{texts_of}
-use Rattle.uses.proofs.NumberedLemmas.{kept-calls}
 use Rattle.uses.proofs.numbered.numbered_lines.Goals as goal
 
 pub returns-clause-lines : goal.returns-clause-lines
 returns-clause-lines g c = λ lawful.
     let settings = c.args.searcher.now.settings in
     let meaning = g.M.Matcher.meaning c.args.matcher in
-    let bytes = searched_bytes settings c.args.bytes.now in
-    let called = c.closures_are_called.ensures _ _ _ _ _ _ (c.in_ok-search_slice.ensures.searched.1 lawful) in
-    let kept = kept-calls _ (λ f. f.0.ghost_name) (λ f. texts_of f.0.now.items) (λ old number text b new h. search rules)
-    settings meaning bytes (selected_lines settings meaning bytes) _ _ _ (c.matches_are_selected.ensures settings meaning bytes)
-    (ap texts_of c.new-lines.ensures.items) called in
-    grind (arith, kept)
+    let kept = c.closures_keep_calls.ensures (λ f. f.0.ghost_name) (λ f. texts_of f.0.now.items)
+    (λ old number text b new h. search rules) settings meaning (searched_bytes settings c.args.bytes.now) _ _ _ _
+    (c.in_ok-search_slice.ensures.searched.1 lawful) in
+    let empty = ap texts_of c.new-lines.ensures.items in
+    grind (arith, kept, empty)
