@@ -1,4 +1,4 @@
-use Rattle.std.proofs.Common.{◌≡◌, ◌-◌, ◌^◌, min, true, ap, ◌∙◌, inl, inr}
+use Rattle.std.proofs.Common.{◌-◌, ◌^◌, min, true, ap, ◌∙◌, inl, inr}
 use Rattle.grep_searcher.specs.LineSearch.{turns}
 use Rattle.grep_searcher.specs.SearchLaws.{match_calls}
 use Rattle.grep_searcher.specs.DecodedInputs.{searched_bytes}
