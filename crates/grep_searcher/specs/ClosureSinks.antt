@@ -77,7 +77,8 @@ module _ {F : Type 0} (call : F → ℕ → Bor (List ℕ) → Result Bool Error
 
   -- the steps of a sink that has the closure
   abbrev pub ClosureSteps : {S : Type 0} → (S → F) → Steps S Error
-  ClosureSteps closure old settings made result new = IsClosureStep (closure old) made result (closure new)
+  ClosureSteps closure old settings made result new =
+      IsClosureStep (closure old) made result (closure new)
 
   -- in a run that ended in `Ok`, of such a sink, it was called at the matches that are reported
   abbrev pub ClosuresAreCalled : {S : Type 0} → (S → F) → Type 0
@@ -100,7 +101,8 @@ module _ {F : Type 0} (call : F → ℕ → Bor (List ℕ) → Result Bool Error
       (name : F → ℕ) (kept : F → List (ℕ × List ℕ)) → KeepsCalls name kept
       → (settings : Settings) (meaning : Meaning) (bytes : List ℕ)
       (old : S) (count : ℕ) (binary : Option ℕ) (new : S)
-      → IsRun (ClosureSteps closure) settings old (turns settings meaning bytes) count binary (Ok tt) new
+      → IsRun (ClosureSteps closure) settings old
+      (turns settings meaning bytes) count binary (Ok tt) new
       → (name (closure new) ≡ name (closure old))
       × (kept (closure new) ≡ kept (closure old)
       ++ map (λ i. (i + 1, text_of (line settings meaning bytes i)))
