@@ -42,8 +42,8 @@ module _ {F : Type 0} (call : F → ℕ → Bor (List ℕ) → Result Bool Error
   abbrev pub IsRefusedBy : (Error → Type 0) → F → Result Bool Error → F → Type 0
   IsRefusedBy is_error old result new = (e : Error) × is_error e × (result ≡ Err e) × (new ≡ old)
 
-  -- a match with this text: the closure is called once, with its number and the text, and its result is returned; without a
-  -- number the error is of the kind `Other`
+  -- a match with this text: the closure is called once, with its number and the text, and its result is returned;
+  -- without a number the error is of the kind `Other`
   abbrev pub IsCalled : Option ℕ → List ℕ → F → Result Bool Error → F → Type 0
   IsCalled None text old result new = IsRefusedBy (λ e. error_kind e ≡ Other) old result new
   IsCalled (Some number) text old result new =
