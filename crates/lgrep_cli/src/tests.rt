@@ -1,5 +1,5 @@
 //! What arguments, runs and errors come to.
-use crate::{Options, OptionsFault, USAGE, Writing, run, run_path};
+use crate::{Options, OptionsFault, USAGE, Writing, run, run_path, status};
 use grep_searcher::{SearchError, Source};
 use std::alloc::{AllocError, Global};
 use std::io::Write;
@@ -351,11 +351,12 @@ fn reads_a_large_file_to_its_end(rt: HostRuntime) -> Result<(), Fail> {
     Ok(())
 }
 
-// Whether a search of the file at a path finds no file, and writes nothing.
+// Whether a search of the file at a path finds no file, exits with 2, and writes nothing.
 fn finds_no_file(rt: &HostRuntime, path: Path<'_>) -> bool {
     let mut writer = Writing::new(Vec::new(rt.alloc()));
     let ended = search_path(rt, "-v a", path, &mut writer);
-    is_fault(ended, io::ErrorKind::NotFound) && writer.into_inner().is_empty()
+    let is_failed = status(&ended) == 2;
+    is_failed && is_fault(ended, io::ErrorKind::NotFound) && writer.into_inner().is_empty()
 }
 
 #[test]

@@ -167,6 +167,31 @@ fn closures(rt: HostRuntime) {
     }
 }
 
+// Whether a search without line numbers, by `UTF8`, ends in an error with this text.
+fn refuses_with(alloc: Global, bytes: &[u8], text: &str) -> bool {
+    let mut seen = Seen {
+        text: b"",
+        calls: 0,
+        first_lines: 0,
+        goes_on: true,
+    };
+    let Err(error) = search(alloc, Calls::Utf8, false, bytes, &mut seen) else {
+        return false;
+    };
+    match format!(in alloc; "{error}") {
+        Ok(form) => form.as_str() == text,
+        Err(_) => false,
+    }
+}
+
+#[test]
+fn the_text_comes_before_the_number(rt: HostRuntime) {
+    let unnumbered = "the searcher doesn't number lines";
+    assert!(rt; refuses_with(rt.alloc(), b"a\n", unnumbered));
+    let ill_formed = "invalid utf-8 sequence of 1 bytes from index 1";
+    assert!(rt; refuses_with(rt.alloc(), b"a\xFF\n", ill_formed));
+}
+
 // Whether a search with contexts makes these calls of a recorder in a box.
 fn boxed(alloc: Global, bytes: &[u8], calls: &str) -> Result<bool, SearchError> {
     let mut searcher = SearcherBuilder::new().after_context(1).build(alloc)?;

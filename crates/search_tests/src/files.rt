@@ -83,6 +83,71 @@ fn opens_before_anything_else(rt: HostRuntime) -> Result<(), Fail> {
     Ok(())
 }
 
+// Whether a search of a file that is there is refused, with no call of the sink.
+fn refused_in_path(rt: &HostRuntime, path: Path<'_>) -> Result<bool, ConfigError> {
+    let mut searcher = SearcherBuilder::new()
+        .heap_limit(Some(0))
+        .build(rt.alloc())?;
+    let mut recorder = Recorder::new(rt.alloc(), None, None);
+    let matcher = LiteralMatcher::borrowed(b"a");
+    let ended = searcher.search_path(rt, matcher, path, &mut recorder);
+    let is_refused = matches!(
+        ended,
+        Err(SearchError::Config(ConfigError::SearchUnavailable))
+    );
+    Ok(is_refused && recorder.text().is_empty())
+}
+
+#[test]
+fn checks_after_opening(rt: HostRuntime) -> Result<(), Fail> {
+    let path = temporary_path(&rt, "refused")?;
+    fs::write(&rt, path.as_path(), INPUT)?;
+    let below = path.join(rt.alloc(), "below")?;
+    let is_refused = refused_in_path(&rt, path.as_path());
+    let error = unopened(&rt, below.as_path());
+    fs::remove_file(&rt, path.as_path())?;
+    assert!(rt; is_refused?);
+    assert!(rt; error? == Some(ErrorKind::NotADirectory));
+    Ok(())
+}
+
+// Gives a matching line at its first read, and is interrupted at each other one.
+#[derive(Drop)]
+struct Cut {
+    reads: u64,
+}
+
+impl Read for Cut {
+    fn read(&mut self, buffer: &mut [u8]) -> io::Result<usize> {
+        self.reads = self.reads.saturating_add(1);
+        if self.reads > 1 {
+            return Err(io::Error::from(ErrorKind::Interrupted));
+        }
+        let count = buffer.len().min(2);
+        buffer[..count].copy_from_slice(&b"a\n"[..count]);
+        Ok(count)
+    }
+}
+
+// Whether a search of such a file reports the line, and then ends in the file's error, without another read.
+fn is_cut(alloc: Global) -> Result<bool, ConfigError> {
+    let mut searcher = SearcherBuilder::new().bom_sniffing(false).build(alloc)?;
+    let mut file = Cut { reads: 0 };
+    let mut recorder = Recorder::new(alloc, None, None);
+    let ended = searcher.search_file(LiteralMatcher::borrowed(b"a"), &mut file, &mut recorder);
+    let is_error = match ended {
+        Err(SearchError::Io(error)) => error.kind() == ErrorKind::Interrupted,
+        _ => false,
+    };
+    Ok(is_error && file.reads == 2 && recorder.text() == "begin;match 1 0 610a;")
+}
+
+#[test]
+fn ends_in_the_error_of_a_file(rt: HostRuntime) -> Result<(), Fail> {
+    assert!(rt; is_cut(rt.alloc())?);
+    Ok(())
+}
+
 // Counts its reads, each of which is at the end.
 #[derive(Drop)]
 struct Unread {

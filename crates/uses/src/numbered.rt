@@ -17,7 +17,7 @@ use std::io;
 /// An error of the kind `OutOfMemory` is of being out of memory. One of the kind `Other` is made of the matcher's, of a
 /// configuration that the searcher refuses, of a selected line that isn't UTF-8, or of one without a number, if the
 /// searcher doesn't number lines. If the bytes have to be decoded, it may also be of the heap limit, or, of the kind
-/// `InvalidData`, of more than 2^64 - 1 decoded bytes. That is not in the contract.
+/// `InvalidData`, of more than 2^64 - 1 decoded bytes. What an error is isn't in the contract.
 ///
 /// The lines are promised for a matcher that is lawful for the searcher's terminator.
 pub fn numbered_lines<M: Matcher + Drop>(
