@@ -1,5 +1,6 @@
 pub mod AcrossLaws
 pub mod AcrossLines
+pub mod AcrossQuestions
 pub mod Below
 pub mod DecodedInputs
 pub mod FileSearches
@@ -15,6 +16,7 @@ pub mod Refusals
 pub mod SearchLaws
 pub mod SearchTurns
 pub mod Searches
+pub mod Selections
 pub mod Settings
 pub mod SinkCalls
 pub mod SinkFolds

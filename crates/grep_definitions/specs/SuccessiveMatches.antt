@@ -8,6 +8,11 @@ use Rattle.grep_matcher.specs.Matching.{Meaning}
 abbrev pub position_after : ℕ × ℕ → ℕ
 position_after m = if nat_lt m.0 m.1 then m.1 else m.1 + 1
 
+-- the same after some matches that were looked for from a position on
+abbrev pub position_past : ℕ → List (ℕ × ℕ) → ℕ
+position_past position [] = position
+position_past position (m ∷ later) = position_past (position_after m) later
+
 module _ (meaning : Meaning) (bytes : List ℕ) where
   -- the first match in the bytes from a position on, if bytes are left there
   abbrev pub match_from : ℕ → Option (ℕ × ℕ)
