@@ -1,9 +1,11 @@
+pub mod AcrossWalks
 pub mod ClosureSinks
 pub mod Configs
 pub mod InputSearches
 pub mod LookAheads
 pub mod Rolls
 pub mod SearchBuffers
+pub mod Units
 pub mod Walks
 pub mod Windows
 pub use Rattle.grep_definitions.specs.Settings

@@ -18,10 +18,12 @@ ghost use Rattle.grep_searcher.specs.Configs.{settings_of};
 ghost use Rattle.grep_searcher.specs.InputSearches.{IsInputSearched};
 ghost use Rattle.grep_searcher.specs.SearchBuffers.{AreFitting};
 
+mod blocks;
 mod buffers;
 mod builder;
 mod files;
 mod look_ahead;
+mod multi_line;
 mod queries;
 mod read_by_line;
 mod sink_lines;

@@ -1,0 +1,121 @@
+-- How the calls of a walk across lines end, against those that are defined.
+use Rattle.std.proofs.Common.{◌≡◌, ℕ, ◌+◌, ◌-◌, ◌≤◌, true, List, ◌∷◌, ◌++◌, length, take, inl, inr}
+use Rattle.std.proofs.Common.{refl, sym, ◌∙◌, ap, subst, arith}
+use Rattle.std.proofs.Math.Seq.{take-append_seam}
+use Rattle.std.specs.Prelude.{Ok, Err, false}
+use Rattle.grep_matcher.specs.Lines.{lines}
+use Rattle.grep_matcher.specs.Matching.{Meaning}
+use Rattle.grep_matcher.specs.Terminators.{byte_of}
+use Rattle.grep_definitions.specs.AcrossLines
+use Rattle.grep_definitions.specs.AcrossLines.{byte_count, turns, turns_at}
+use Rattle.grep_definitions.specs.AcrossQuestions.{IsAskedAcross}
+use Rattle.grep_definitions.specs.Below.{joined_from}
+use Rattle.grep_definitions.specs.LineSearch.{start}
+use Rattle.grep_definitions.specs.Searches.{ErrorMakers, MatcherFacts}
+use Rattle.grep_definitions.specs.Settings.{Settings}
+use Rattle.grep_definitions.specs.SinkCalls.{Turn, begins}
+use Rattle.grep_definitions.specs.SinkRuns.{Steps, Outcome, all_true, stopped, failed, AreReported}
+use Rattle.grep_definitions.proofs.BelowLemmas.{joined_from-add}
+use Rattle.grep_definitions.proofs.SinkRunLemmas.{AreReported-append, AreReported-ended}
+use Rattle.grep_searcher.specs.declared.searcher.walk.Walk.{Walk}
+use Rattle.grep_searcher.specs.AcrossWalks.{IsAcross, IsAcrossFault, of_sink, of_matcher, turns_before}
+use Rattle.grep_searcher.specs.Walks.{Counted}
+use Rattle.grep_searcher.proofs.AcrossCallLemmas as calls
+
+module _ (k : Settings) (meaning : Meaning) (bytes : List ℕ) where
+  abbrev n : ℕ
+  n = length (lines (byte_of k.line_terminator) bytes)
+
+  abbrev T : ℕ → List Turn
+  T = turns_at k meaning bytes
+
+  abbrev front : ℕ → List Turn
+  front = turns_before k meaning bytes
+
+  front-through : (v : ℕ) → v ≤ n → turns k meaning bytes ≡ front v ++ joined_from T v (n - v)
+  front-through v low =
+      let sum : n ≡ v + (n - v) = omega arith in
+      let zero_v : 0 + v ≡ v = omega arith in
+      ap (λ later. record { call = begins; end = 0 } ∷ later)
+      (ap (λ m. joined_from T 0 m) sum ∙ joined_from-add T 0 v (n - v) ∙ ap (λ m. joined_from T 0 v ++ joined_from T m (n - v)) zero_v)
+
+  -- the calls so far are the first of them
+  take-front : (v : ℕ) → v ≤ n → take (length (front v)) (turns k meaning bytes) ≡ front v
+  take-front v low =
+      ap (take (length (front v))) (front-through v low) ∙ take-append_seam (front v) (joined_from T v (n - v))
+
+  passed-few : (w : Walk) → IsAcross k meaning bytes w → w.reported_through ≤ n
+  passed-few w across = omega (arith, across.placed.low, across.placed.at.listed)
+
+  module _ {State E : Type 0} (step : Steps State E) (first : State) where
+    abbrev IsCounted : ℕ → Outcome E → State → Type 0
+    IsCounted count outcome new = Counted step k first (turns k meaning bytes) (byte_count k meaning bytes) count outcome new
+
+    pub counted-unbegun : (new : State) → step first k begins (Ok false) new → IsCounted 0 (stopped 0) new
+    counted-unbegun new stops = record { reported = inr (inl (refl, stops)); is_count = refl }
+
+    pub reported-begin : (now : State) → step first k begins (Ok true) now → AreReported step k first (front 0) all_true now
+    reported-begin now goes = inl (now, goes, (refl, refl))
+
+    -- more calls
+    pub reported-next : (w : Walk) (v : ℕ) (own : List Turn) (now : State) → front v ≡ front w.reported_through ++ own
+        → AreReported step k first (front w.reported_through) all_true now → (outcome : Outcome E) (new : State)
+        → AreReported step k now own outcome new → AreReported step k first (front v) outcome new
+    reported-next w v own now is reported outcome new later =
+        subst (λ ts. AreReported step k first ts outcome new) (sym is)
+        (AreReported-append step k (front w.reported_through) own first now outcome new reported later)
+
+    -- what ended early ended the whole
+    ended-whole : (v : ℕ) (outcome : Outcome E) (new : State) → v ≤ n → (outcome ≡ all_true → ⊥)
+        → AreReported step k first (front v) outcome new → AreReported step k first (turns k meaning bytes) outcome new
+    ended-whole v outcome new low ended reported =
+        subst (λ ts. AreReported step k first ts outcome new) (sym (front-through v low))
+        (AreReported-ended step k (front v) (joined_from T v (n - v)) first outcome new ended reported)
+
+    pub counted-stopped : (w : Walk) (end : ℕ) (new : State) → IsAcross k meaning bytes w
+        → AreReported step k first (front w.reported_through) (stopped end) new → IsCounted end (stopped end) new
+    counted-stopped w end new across reported = record {
+      reported = ended-whole w.reported_through (stopped end) new (passed-few w across) (λ same. cc) reported;
+      is_count = refl;
+    }
+
+    pub failed-whole : (w : Walk) (e : E) (new : State) → IsAcross k meaning bytes w
+        → AreReported step k first (front w.reported_through) (failed e) new
+        → AreReported step k first (turns k meaning bytes) (failed e) new
+    failed-whole w e new across reported = ended-whole w.reported_through (failed e) new (passed-few w across) (λ same. cc) reported
+
+    pub counted-end : (w : Walk) (new : State) → IsAcross k meaning bytes w → w.line ≡ n
+        → AreReported step k first (front w.reported_through) all_true new → IsCounted w.offset all_true new
+    counted-end w new across all reported = record {
+      reported = subst (λ ts. AreReported step k first ts all_true new)
+          (sym (calls.front-done k meaning bytes w.reported_through w.after_context_left
+          (subst (λ i. calls.Near k meaning bytes w.reported_through i w.after_context_left) all across.near)))
+          reported;
+      is_count = sym across.placed.at.begins ∙ ap (start k meaning bytes) all;
+    }
+
+    -- the calls so far are some first calls
+    pub taken : (w : Walk) (now : State) → IsAcross k meaning bytes w
+        → AreReported step k first (front w.reported_through) all_true now
+        → AreReported step k first (take (length (front w.reported_through)) (turns k meaning bytes)) all_true now
+    taken w now across reported =
+        subst (λ ts. AreReported step k first ts all_true now) (sym (take-front w.reported_through (passed-few w across))) reported
+
+-- how it ends in a fault
+module _ {State E F : Type 0} (step : Steps State E) (errors : ErrorMakers E) (matcher : MatcherFacts F) (k : Settings)
+    (bytes : List ℕ) (first : State) where
+  pub fault-begin : (e : E) (new : State) → step first k begins (Err e) new → IsAcrossFault step errors matcher k bytes first e new
+  fault-begin e new fails = of_sink (inr (inr (e, refl, fails)))
+
+  pub fault-sink : (w : Walk) (e : E) (new : State) → IsAcross k matcher.meaning bytes w
+      → AreReported step k first (turns_before k matcher.meaning bytes w.reported_through) (failed e) new
+      → IsAcrossFault step errors matcher k bytes first e new
+  fault-sink w e new across reported = of_sink (failed-whole k matcher.meaning bytes step first w e new across reported)
+
+  pub fault-matcher : (w : Walk) (now : State) → IsAcross k matcher.meaning bytes w
+      → AreReported step k first (turns_before k matcher.meaning bytes w.reported_through) all_true now
+      → (haystack : List ℕ) (error : F) (e : E) → IsAskedAcross k matcher.meaning bytes haystack → matcher.fails haystack error
+      → errors.is_message (matcher.text_of error) e → IsAcrossFault step errors matcher k bytes first e now
+  fault-matcher w now across reported haystack error e asked fails message =
+      of_matcher haystack error (length (turns_before k matcher.meaning bytes w.reported_through)) asked fails message
+      (taken k matcher.meaning bytes step first w now across reported)
