@@ -1,8 +1,10 @@
 -- How the calls of a walk across lines end, against those that are defined.
-use Rattle.std.proofs.Common.{◌≡◌, ℕ, ◌+◌, ◌-◌, ◌≤◌, true, List, ◌∷◌, ◌++◌, length, take, inl, inr}
-use Rattle.std.proofs.Common.{refl, sym, ◌∙◌, ap, subst, arith}
+use Rattle.std.proofs.Common.{◌≡◌, ℕ, ◌+◌, ◌-◌, ◌<◌, ◌≤◌, true, List, ◌∷◌, ◌++◌, length, take, inl, inr}
+use Rattle.std.proofs.Common.{refl, sym, ◌∙◌, ap, subst, arith, ⊎_elim}
 use Rattle.std.proofs.Math.Seq.{take-append_seam}
+use Rattle.std.proofs.lemmas.Bool.{cases_lt}
 use Rattle.std.specs.Prelude.{Ok, Err, false}
+use Rattle.grep_lines.proofs.LawLemmas.{AreLines-lines}
 use Rattle.grep_matcher.specs.Lines.{lines}
 use Rattle.grep_matcher.specs.Matching.{Meaning}
 use Rattle.grep_matcher.specs.Terminators.{byte_of}
@@ -16,6 +18,7 @@ use Rattle.grep_definitions.specs.Settings.{Settings}
 use Rattle.grep_definitions.specs.SinkCalls.{Turn, begins}
 use Rattle.grep_definitions.specs.SinkRuns.{Steps, Outcome, all_true, stopped, failed, AreReported}
 use Rattle.grep_definitions.proofs.BelowLemmas.{joined_from-add}
+use Rattle.grep_definitions.proofs.LineStartLemmas.{line_start-ascends, line_start-within}
 use Rattle.grep_definitions.proofs.SinkRunLemmas.{AreReported-append, AreReported-ended}
 use Rattle.grep_searcher.specs.declared.searcher.walk.Walk.{Walk}
 use Rattle.grep_searcher.specs.AcrossWalks.{IsAcross, IsAcrossFault, of_sink, of_matcher, turns_before}
@@ -72,11 +75,11 @@ module _ (k : Settings) (meaning : Meaning) (bytes : List ℕ) where
         subst (λ ts. AreReported step k first ts outcome new) (sym (front-through v low))
         (AreReported-ended step k (front v) (joined_from T v (n - v)) first outcome new ended reported)
 
-    pub counted-stopped : (w : Walk) (end : ℕ) (new : State) → IsAcross k meaning bytes w
-        → AreReported step k first (front w.reported_through) (stopped end) new → IsCounted end (stopped end) new
-    counted-stopped w end new across reported = record {
+    pub counted-stopped : (w : Walk) (end count : ℕ) (new : State) → IsAcross k meaning bytes w → count ≡ end
+        → AreReported step k first (front w.reported_through) (stopped end) new → IsCounted count (stopped end) new
+    counted-stopped w end count new across same reported = record {
       reported = ended-whole w.reported_through (stopped end) new (passed-few w across) (λ same. cc) reported;
-      is_count = refl;
+      is_count = same;
     }
 
     pub failed-whole : (w : Walk) (e : E) (new : State) → IsAcross k meaning bytes w
@@ -84,9 +87,24 @@ module _ (k : Settings) (meaning : Meaning) (bytes : List ℕ) where
         → AreReported step k first (turns k meaning bytes) (failed e) new
     failed-whole w e new across reported = ended-whole w.reported_through (failed e) new (passed-few w across) (λ same. cc) reported
 
-    pub counted-end : (w : Walk) (new : State) → IsAcross k meaning bytes w → w.line ≡ n
+    -- at the end of the bytes all lines were passed
+    all-passed : (w : Walk) → IsAcross k meaning bytes w → w.offset ≡ length bytes → w.line ≡ n
+    all-passed w across end = ⊎_elim
+        (λ less. absurd (omega (
+          arith,
+          line_start-ascends AreLines-lines (byte_of k.line_terminator) bytes w.line less,
+          line_start-within AreLines-lines (byte_of k.line_terminator) bytes (w.line + 1),
+          across.placed.at.begins,
+          end,
+        )))
+        (λ over. omega (arith, over, across.placed.at.listed))
+        (cases_lt w.line n)
+
+    pub counted-end : (w : Walk) (new : State) → IsAcross k meaning bytes w → w.offset ≡ length bytes
         → AreReported step k first (front w.reported_through) all_true new → IsCounted w.offset all_true new
-    counted-end w new across all reported = record {
+    counted-end w new across end reported =
+      let all = all-passed w across end in
+      record {
       reported = subst (λ ts. AreReported step k first ts all_true new)
           (sym (calls.front-done k meaning bytes w.reported_through w.after_context_left
           (subst (λ i. calls.Near k meaning bytes w.reported_through i w.after_context_left) all across.near)))

@@ -190,7 +190,7 @@ module _ (k : Settings) (meaning : Meaning) (bytes : List ℕ) where
         match_count = w.match_count + 1;
       }
 
-      walk-is : walk_after k w here true ≡ walk-to chosen.last
+      pub walk-is : walk_after k w here true ≡ walk-to chosen.last
       walk-is = go k.invert_match refl
         where
           go : (b : Bool) → k.invert_match ≡ b

@@ -1,8 +1,8 @@
 -- The unit of lines that a walk across lines comes to, the lines that aren't chosen before it, and the lines that are.
-use Rattle.std.proofs.Common.{◌≡◌, ℕ, ◌+◌, ◌-◌, ◌<◌, ◌≤◌, Bool, true, false, not, ◌&&◌, List, length, if◌then◌else◌, None}
-use Rattle.std.proofs.Common.{refl, sym, ◌∙◌, ap, arith, ⊎_elim}
+use Rattle.std.proofs.Common.{◌≡◌, ℕ, ◌+◌, ◌-◌, ◌<◌, ◌≤◌, ◌==◌, Bool, true, false, not, ◌&&◌, List, length, if◌then◌else◌, None}
+use Rattle.std.proofs.Common.{refl, sym, ◌∙◌, ap, subst, arith, ⊎_elim}
 use Rattle.std.proofs.Math.Bool.{and-false}
-use Rattle.std.proofs.lemmas.Bool.{lt-ltb, le-ltb, ltb-true, ltb-false, cases_lt}
+use Rattle.std.proofs.lemmas.Bool.{lt-ltb, le-ltb, ltb-true, ltb-false, eq-eqb, cases_Bool, cases_lt}
 use Rattle.std.specs.Prelude.{nat_lt, IfOk, Result, Ok, Err}
 use Rattle.grep_matcher.specs.Lines.{lines, line_start}
 use Rattle.grep_matcher.specs.Matching.{Meaning}
@@ -46,7 +46,7 @@ module _ (k : Settings) (meaning : Meaning) (bytes : List ℕ) where
   higher = line_start-le t bytes
 
   -- a line that begins before another comes before it
-  earlier : (i j : ℕ) → starts i < starts j → i < j
+  pub earlier : (i j : ℕ) → starts i < starts j → i < j
   earlier i j below = ⊎_elim (λ less. less) (λ over. absurd (omega (arith, below, higher j i over))) (cases_lt i j)
 
   -- which lines are selected, by which are touched
@@ -246,6 +246,102 @@ module _ (k : Settings) (meaning : Meaning) (bytes : List ℕ) where
                   selected-inverted is_b j
                   ∙ ap (λ b. b && is_below (count_below free j) k.max_matches) (free-is is_b j inside ∙ ap not hit);
             }
+
+    -- past the lines that aren't chosen the walk comes to the unit, or has passed it
+    coming-past : is_done k w ≡ false
+        → (next_chosen k bytes start unit w ≤ unit.1)
+        × (next_chosen k bytes start unit w < unit.1 → IsComing k meaning bytes (next_chosen k bytes start unit w) unit)
+    coming-past goes = go k.invert_match full (nat_lt start unit.0) refl refl
+      where
+        go : (b c d : Bool) → k.invert_match ≡ b → full ≡ c
+            → (Chosen b c d ≤ unit.1) × (Chosen b c d < unit.1 → IsComing k meaning bytes (Chosen b c d) unit)
+        go false c d is_b is_c =
+            let here = come goes in (
+              ready.ordered,
+              λ less. record {
+                  low = here.low;
+                  is_unit = here.is_unit;
+                  after = omega (arith, here.after, here.whole is_b);
+                  before = ready.ordered;
+                  whole = λ plain. omega arith;
+                  alone = here.alone;
+                },
+            )
+        go true true d is_b is_c = absurd (clash (and-both k.invert_match full is_b is_c) goes)
+        go true false true is_b is_c = (omega (arith, ahead goes), λ less. come goes)
+        go true false false is_b is_c = (omega arith, λ less. absurd (omega (arith, less)))
+
+    pub ready-past : (new : Walk) (next : ℕ) → next ≡ next_chosen k bytes start unit w → new.match_count ≡ w.match_count
+        → IsReady k meaning bytes next new unit blocks
+    ready-past new next is same = record {
+      left = ready.left;
+      end = ready.end;
+      ordered = ready.ordered;
+      within = ready.within;
+      before = λ goes. omega (arith, is, (coming-past (back goes)).0);
+      coming = λ goes less. subst (λ p. IsComing k meaning bytes p unit) (sym is)
+          ((coming-past (back goes)).1 (omega (arith, is, less)));
+    }
+      where
+        back : is_done k new ≡ false → is_done k w ≡ false
+        back goes = ap (λ c. k.invert_match && is_at c k.max_matches) (sym same) ∙ goes
+
+    -- after a line it comes to the unit, or is in it
+    coming-line : (end : ℕ) → IsLine t bytes w.line start end → is_done k w ≡ false → (k.invert_match ≡ false → start < unit.0)
+        → IsComing k meaning bytes end unit
+    coming-line end line goes plain =
+        let here = come goes in
+        record {
+          low = here.low;
+          is_unit = here.is_unit;
+          after = omega (arith, here.after, line.above);
+          before = till unit.1 here.is_unit.last here.is_unit.ends (ahead goes);
+          whole = λ yes. till unit.0 here.is_unit.first here.is_unit.begins (plain yes);
+          alone = here.alone;
+        }
+      where
+        till : (p i : ℕ) → IsLineStart t bytes p i → start < p → end ≤ p
+        till p i there less =
+            let later = earlier w.line i (omega (arith, line.begins, there.begins, less)) in
+            omega (arith, higher (w.line + 1) i (omega (arith, later)), line.ends, there.begins)
+
+    pub ready-after : (new : Walk) (chosen : Bool) (end : ℕ) → (is_done k new ≡ false → is_done k w ≡ false)
+        → chosen ≡ (start == next_chosen k bytes start unit w) → (is_joined k chosen ≡ true → end ≡ unit.1)
+        → (is_joined k chosen ≡ false → (i : ℕ) → IsLineStart t bytes start i → IsLine t bytes i start end)
+        → IsReady k meaning bytes end new unit blocks
+    ready-after new chosen end back is joined single = ⊎_elim
+        (λ whole.
+        let same = joined whole in
+        record {
+          left = ready.left;
+          end = ready.end;
+          ordered = ready.ordered;
+          within = ready.within;
+          before = λ goes. omega (arith, same);
+          coming = λ goes less. absurd (omega (arith, same, less));
+        })
+        (λ part.
+        let line = single part w.line at in
+        let later = λ (goes : is_done k new ≡ false). coming-line end line (back goes) (outside (back goes) part) in
+        record {
+          left = ready.left;
+          end = ready.end;
+          ordered = ready.ordered;
+          within = ready.within;
+          before = λ goes. (later goes).before;
+          coming = λ goes less. later goes;
+        })
+        (cases_Bool (is_joined k chosen))
+      where
+        outside : is_done k w ≡ false → is_joined k chosen ≡ false → k.invert_match ≡ false → start < unit.0
+        outside goes part plain = ⊎_elim
+            (λ less. less)
+            (λ over.
+            let same : start ≡ unit.0 = omega (arith, over, (come goes).whole plain) in
+            let next : next_chosen k bytes start unit w ≡ unit.0 = ap (λ b. Chosen b full (nat_lt start unit.0)) plain in
+            let yes : chosen ≡ true = is ∙ eq-eqb start _ (same ∙ sym next) in
+            absurd (clash (and-both chosen (not k.invert_match) yes (ap not plain)) part))
+            (cases_lt start unit.0)
 
     pub chosen-is : (end : ℕ) → start ≡ next_chosen k bytes start unit w → (is_joined k true ≡ true → end ≡ unit.1)
         → (is_joined k true ≡ false → (i : ℕ) → IsLineStart t bytes start i → IsLine t bytes i start end) → IsChosen w end

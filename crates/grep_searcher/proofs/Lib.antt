@@ -3,6 +3,7 @@ pub mod WalkLemmas
 pub mod AcrossCallLemmas
 pub mod AcrossUnitLemmas
 pub mod AcrossStepLemmas
+pub mod AcrossTurnLemmas
 pub mod AcrossEndLemmas
 pub mod FrontLemmas
 pub mod LineRangeLemmas

@@ -96,6 +96,7 @@ impl<A: Allocator + Copy> Searcher<A> {
             → IsOk result }
         ensures may_call { S.may_call sink.new }
     {
+        let _config = &self.config;
         let mut blocks = self.first_block::<M, S::Error>(matcher, bytes)?;
         let mut unit = Match::zero(0);
         let mut walk = START;
