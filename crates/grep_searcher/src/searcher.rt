@@ -18,6 +18,7 @@ ghost use Rattle.grep_searcher.specs.Configs.{settings_of};
 ghost use Rattle.grep_searcher.specs.InputSearches.{IsInputSearched};
 ghost use Rattle.grep_searcher.specs.SearchBuffers.{AreFitting};
 
+mod blocks;
 mod buffers;
 mod builder;
 mod files;

@@ -1,0 +1,83 @@
+-- The units of lines that the matches of a search across lines touch, one after another. The contracts of private
+-- functions cite these definitions; no public contract does.
+use Rattle.std.specs.Prelude.{◌≡◌, ℕ, ◌+◌, ◌-◌, ◌<◌, ◌≤◌, Bool, true, false, ◌&&◌, nat_lt, nat_le, List, [], ◌++◌}
+use Rattle.std.specs.Prelude.{length, take, Option, Some, None, IfSome, IfNone}
+use Rattle.std.specs.List.{list_any}
+use Rattle.std.specs.Option.{option_map}
+use Rattle.grep_matcher.specs.Matching.{Meaning}
+use Rattle.grep_matcher.specs.Terminators.{byte_of}
+use Rattle.grep_lines.specs.Blocks.{block_start}
+use Rattle.grep_lines.specs.Positions.{IsLineStart}
+use Rattle.grep_definitions.specs.Settings.{Settings}
+use Rattle.grep_definitions.specs.Below.{is_below}
+use Rattle.grep_definitions.specs.LineSearch.{line_count, start}
+use Rattle.grep_definitions.specs.AcrossLines.{touches, is_touched}
+use Rattle.grep_definitions.specs.AcrossQuestions.{counted_matches, match_limit}
+use Rattle.grep_definitions.specs.SuccessiveMatches.{matches_from, position_past}
+use Rattle.grep_searcher.specs.declared.searcher.blocks.Blocks.{Blocks}
+
+-- the matches that are still to be found from a position on, if so many more count
+abbrev pub matches_left : Meaning → List ℕ → ℕ → Option ℕ → List (ℕ × ℕ)
+matches_left meaning bytes position None = matches_from meaning bytes position (length bytes)
+matches_left meaning bytes position (Some left) =
+    take left (matches_from meaning bytes position (length bytes))
+
+-- whether a line that begins at a position is in a range of whole lines, if there is one
+abbrev pub is_in : Option (ℕ × ℕ) → ℕ → Bool
+is_in None position = false
+is_in (Some block) position = nat_le block.0 position && nat_lt position block.1
+
+module _ (settings : Settings) (meaning : Meaning) (bytes : List ℕ) where
+  -- whether a match that counts touches the line
+  abbrev pub is_hit : ℕ → Bool
+  is_hit j = is_touched settings meaning bytes (counted_matches settings meaning bytes) j
+
+  -- a range of whole lines. It begins at `low`, or after it if `low` is neither 0 nor the end, and it has a line unless
+  -- it is at the end
+  pub record IsRange (low : ℕ) (unit : ℕ × ℕ) : Type 0 where
+    -- its first line, and one more than its last
+    pub first : ℕ
+    pub begins : IsLineStart (byte_of settings.line_terminator) bytes unit.0 first
+    pub last : ℕ
+    pub ends : IsLineStart (byte_of settings.line_terminator) bytes unit.1 last
+    pub ordered : unit.0 ≤ unit.1
+    pub within : unit.1 ≤ length bytes
+    pub after : low ≤ unit.0
+    pub apart : 0 < low → low < length bytes → low < unit.0
+    pub some : unit.0 < length bytes → unit.0 < unit.1
+
+  -- the next longest run of lines that matches touch, if the lines before `low` were passed
+  pub record IsUnit (low : ℕ) (unit : ℕ × ℕ) : Type 0 where
+    pub range : IsRange low unit
+    pub miss : (j : ℕ) → j < line_count settings meaning bytes
+        → low ≤ start settings meaning bytes j → start settings meaning bytes j < unit.0
+        → is_hit j ≡ false
+    pub hit : (j : ℕ) → j < line_count settings meaning bytes
+        → unit.0 ≤ start settings meaning bytes j → start settings meaning bytes j < unit.1
+        → is_hit j ≡ true
+    pub past : (j : ℕ) → j < line_count settings meaning bytes
+        → start settings meaning bytes j ≡ unit.1 → is_hit j ≡ false
+
+  -- which matches were found, and which are still to be found
+  pub record AreFound (position : ℕ) (left : Option ℕ) (asked : List (ℕ × ℕ)) : Type 0 where
+    pub all : counted_matches settings meaning bytes ≡ asked ++ matches_left meaning bytes position left
+    pub room : left ≡ option_map (λ limit. limit - length asked) (match_limit settings)
+    pub at : position < length bytes → position_past 0 asked ≡ position
+
+  -- the matches that were found touch the lines of one range, of those from a position on, and no match that is still
+  -- to be found touches a line before it
+  pub record AreTouched (end position : ℕ) (asked : List (ℕ × ℕ)) (unit : Option (ℕ × ℕ)) : Type 0 where
+    pub same : (j : ℕ) → j < line_count settings meaning bytes → end ≤ start settings meaning bytes j
+        → list_any (touches settings meaning bytes j) asked ≡ is_in unit (start settings meaning bytes j)
+    pub range : IfSome unit (IsRange end)
+    pub later : IfSome unit (λ u. u.0 ≤ block_start (byte_of settings.line_terminator) bytes (position, position))
+
+  -- what is known of the matches between two units
+  pub record AreLeft (blocks : Blocks) : Type 0 where
+    pub asked : List (ℕ × ℕ)
+    pub found : AreFound blocks.position blocks.left asked
+    pub touched : AreTouched blocks.end blocks.position asked blocks.next
+    -- no match is left if there is no block
+    pub none : IfNone blocks.next (matches_left meaning bytes blocks.position blocks.left ≡ [])
+    pub line : ℕ
+    pub ends : IsLineStart (byte_of settings.line_terminator) bytes blocks.end line
