@@ -12,3 +12,5 @@ pub mod FinishLemmas
 pub mod DecodedLemmas
 pub mod LookAheadLemmas
 pub mod ClosureSinkLemmas
+pub mod FoundMatchLemmas
+pub mod TouchedLemmas
