@@ -97,7 +97,7 @@ module _ (k : Settings) (meaning : Meaning) (bytes : List ℕ) where
   missed-before later j after =
       list_any_none (touches k meaning bytes j) later
       (All-weaker (λ m. from j < block_start t bytes m) (λ m. touches k meaning bytes j m ≡ false)
-      (λ m low. and_left _ _ (lt-leb (from j) (block_start t bytes m) low)) later after)
+      (λ m low. and_left _ _ (lt-leb (block_start t bytes m) (from j) low)) later after)
 
   -- no line is touched if there are no matches
   pub touched-none : (end position : ℕ) → AreTouched k meaning bytes end position [] None

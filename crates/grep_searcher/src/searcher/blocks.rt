@@ -4,7 +4,7 @@ ghost use Rattle.std.specs.Prelude.{IfOk, IfErr, IfSome, IfNone};
 ghost use Rattle.std.specs.Option.{option_map};
 ghost use Rattle.grep_matcher.specs.Terminators.{byte_of};
 ghost use Rattle.grep_lines.specs.Blocks.{block_start, block_end};
-ghost use Rattle.grep_definitions.specs.AcrossQuestions.{IsAskedAcross};
+ghost use Rattle.grep_definitions.specs.AcrossQuestions.{IsAskedAcross, match_limit};
 ghost use Rattle.grep_definitions.specs.Below.{is_below};
 ghost use Rattle.grep_definitions.specs.SuccessiveMatches.{position_after};
 ghost use Rattle.grep_searcher.specs.Units.{AreFound, AreLeft, IsFound, HasNoMore, IsUnit};
@@ -44,18 +44,25 @@ impl<A: Allocator + Copy> Searcher<A> {
     {
         let mut blocks = Blocks {
             position: 0,
-            left: if self.config.invert_match {
-                None
-            } else {
-                self.config.max_matches
-            },
+            left: self.match_limit(),
             end: 0,
             next: None,
         };
-        if let Some(found) = self.next_match::<M, E>(matcher, bytes, &mut blocks)? {
-            blocks.next = Some(self.block_from(bytes, 0, found));
-        }
+        let Some(found) = self.next_match::<M, E>(matcher, bytes, &mut blocks)? else {
+            return Ok(blocks);
+        };
+        blocks.next = Some(self.block_from(bytes, 0, found));
         Ok(blocks)
+    }
+
+    // How many matches count, if there is a limit: under inversion the limit is one of lines.
+    fn match_limit(&self) -> Option<u64>
+        ensures { result ≡ match_limit self.now.settings }
+    {
+        if self.config.invert_match {
+            return None;
+        }
+        self.config.max_matches
     }
 
     // Returns the next unit, and moves past it. At the end of the bytes, if there is no other, it is empty.
@@ -115,7 +122,7 @@ impl<A: Allocator + Copy> Searcher<A> {
             × IsAskedAcross self.now.settings (M.meaning matcher.now) bytes.now haystack
             × M.fails matcher.now haystack error × E.is_message (M.Error.output error) e) }
     {
-        if blocks.position >= bytes.len() || blocks.left == Some(0) {
+        if blocks.position >= bytes.len() || !has_room(blocks.left) {
             return Ok(None);
         }
         let found = match matcher.find(&bytes[blocks.position..]) {
@@ -159,6 +166,16 @@ fn position_after(found: Match) -> usize
         found.end() + 1
     } else {
         found.end()
+    }
+}
+
+// Whether a limit isn't 0, if there is one.
+fn has_room(left: Option<u64>) -> bool
+    ensures { result ≡ is_below 0 left }
+{
+    match left {
+        Some(left) => 0 < left,
+        None => true,
     }
 }
 
