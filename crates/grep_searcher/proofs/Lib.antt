@@ -14,3 +14,4 @@ pub mod LookAheadLemmas
 pub mod ClosureSinkLemmas
 pub mod FoundMatchLemmas
 pub mod TouchedLemmas
+pub mod UnitStepLemmas

@@ -1,7 +1,8 @@
 -- Which lines the matches that were found across lines touch, from one match to the next.
-use Rattle.std.proofs.Common.{◌≡◌, ℕ, ◌+◌, ◌-◌, ◌<◌, ◌≤◌, Bool, true, false, ◌&&◌, ◌||◌, List, [], ◌∷◌, ◌++◌, length, drop, refl, sym, ◌∙◌, ap, arith, ⊎_elim}
+use Rattle.std.proofs.Common.{◌≡◌, ℕ, ◌+◌, ◌-◌, ◌<◌, ◌≤◌, Bool, true, false, ◌&&◌, ◌||◌, List, [], ◌∷◌, ◌++◌, length, drop, refl, sym, ◌∙◌, ap, ap₂, subst, arith, ⊎_elim}
 use Rattle.std.proofs.Common.{Option, Some, None}
-use Rattle.std.proofs.lemmas.Bool.{cases_lt, lt-ltb, le-ltb, le-leb, lt-leb, leb-true, ltb-true, false_from_ne_true, and_left}
+use Rattle.std.proofs.lemmas.Bool.{cases_lt, lt-ltb, le-ltb, le-leb, lt-leb, leb-true, ltb-true, false_from_ne_true, and_left, or_from, or_left}
+use Rattle.std.proofs.lemmas.List.{append-nil}
 use Rattle.std.proofs.Math.Bool.{or-false}
 use Rattle.std.proofs.lemmas.List.Elements.{All-weaker}
 use Rattle.std.proofs.lemmas.List.Folds.{list_any-append, list_any_none}
@@ -12,6 +13,7 @@ use Rattle.grep_matcher.specs.Matching.{Meaning}
 use Rattle.grep_matcher.specs.Terminators.{byte_of}
 use Rattle.grep_lines.specs.Blocks.{block_start, block_end}
 use Rattle.grep_lines.specs.Positions.{IsLineStart}
+use Rattle.grep_lines.proofs.LawLemmas.{AreLines-lines}
 use Rattle.grep_definitions.specs.AcrossLines.{touches}
 use Rattle.grep_definitions.specs.AcrossQuestions.{counted_matches}
 use Rattle.grep_definitions.specs.LineSearch.{line_count, start}
@@ -20,6 +22,8 @@ use Rattle.grep_definitions.specs.SuccessiveMatches.{position_after}
 use Rattle.grep_definitions.proofs.BlockLemmas.{within-block, block_start-edge, block_end-edge, block_start-le, block_start-low, block_end-within, block-some}
 use Rattle.grep_definitions.proofs.BlockLemmas.{block_start-part, block_end-part}
 use Rattle.grep_definitions.proofs.BoolLemmas.{and-both, both_true, clash}
+use Rattle.grep_definitions.proofs.LineStartLemmas.{line_start-within, line_start-last}
+use Rattle.grep_definitions.proofs.TouchLemmas.{rises}
 use Rattle.grep_definitions.proofs.SuccessiveMatchLemmas.{position_after-start, position_after-later}
 use Rattle.grep_searcher.specs.Units.{is_in, is_hit, IsRange, IsUnit, AreTouched}
 
@@ -104,9 +108,9 @@ module _ (k : Settings) (meaning : Meaning) (bytes : List ℕ) where
   touched-none end position = record { same = λ j inside low. refl; range = tt; later = tt }
 
   -- after the range no line is touched
-  pub touched-passed : (low position : ℕ) (found : List (ℕ × ℕ)) (u : ℕ × ℕ) → AreTouched k meaning bytes low position found (Some u)
-      → AreTouched k meaning bytes u.1 position found None
-  touched-passed low position found u touched = record {
+  pub touched-passed : (low position next : ℕ) (found : List (ℕ × ℕ)) (u : ℕ × ℕ) → AreTouched k meaning bytes low position found (Some u)
+      → AreTouched k meaning bytes u.1 next found None
+  touched-passed low position next found u touched = record {
     same = λ j inside past. touched.same j inside (omega (arith, past, touched.range.after, touched.range.ordered))
         ∙ not-in u (from j) (λ _ less. omega (arith, less, past));
     range = tt;
@@ -205,3 +209,148 @@ module _ (k : Settings) (meaning : Meaning) (bytes : List ℕ) where
           };
           later = still-later;
         }
+
+  -- the end of the bytes is a line start
+  pub last_start : IsLineStart t bytes (length bytes) n
+  last_start = record { listed = omega arith; begins = line_start-last AreLines-lines t bytes }
+
+  -- each line starts before it
+  starts-inside : (j : ℕ) → j < n → from j < length bytes
+  starts-inside j inside = omega (arith, rises t bytes j inside, line_start-within AreLines-lines t bytes (j + 1))
+
+  -- a unit is the range of the matches that were found, if the lines of those after them are after it
+  pub unit-of : (low position : ℕ) (found later : List (ℕ × ℕ)) (u : ℕ × ℕ) → AreTouched k meaning bytes low position found (Some u)
+      → counted_matches k meaning bytes ≡ found ++ later → All (λ m. u.1 < block_start t bytes m) later → IsUnit k meaning bytes low u
+  unit-of low position found later u touched all after = record {
+    first = touched.range.first;
+    begins = touched.range.begins;
+    last = touched.range.last;
+    ends = touched.range.ends;
+    ordered = touched.range.ordered;
+    within = touched.range.within;
+    after = touched.range.after;
+    apart = touched.range.apart;
+    some = touched.range.some;
+    miss = λ j inside over before.
+        hit-of found later all j inside
+        ∙ or_from _ _ (touched.same j inside over ∙ not-in u (from j) (λ more _. omega (arith, more, before)))
+        (missed j (omega (arith, before, touched.range.ordered)));
+    hit = λ j inside over before.
+        hit-of found later all j inside
+        ∙ or_left _ _ (touched.same j inside (omega (arith, over, touched.range.after)) ∙ in-range u (from j) over before);
+    past = λ j inside at.
+        hit-of found later all j inside
+        ∙ or_from _ _ (touched.same j inside (omega (arith, at, touched.range.after, touched.range.ordered))
+        ∙ not-in u (from j) (λ _ less. omega (arith, less, at)))
+        (missed j (omega (arith, at)));
+  }
+    where
+      missed : (j : ℕ) → from j ≤ u.1 → touched_of later j ≡ false
+      missed j low = missed-before later j
+          (All-weaker (λ m. u.1 < block_start t bytes m) (λ m. from j < block_start t bytes m) (λ m high. omega (arith, low, high)) later after)
+
+  -- if there are no more matches, there is no other unit
+  pub unit-none : (low position : ℕ) (found : List (ℕ × ℕ)) → AreTouched k meaning bytes low position found None
+      → counted_matches k meaning bytes ≡ found → low ≤ length bytes → IsUnit k meaning bytes low (length bytes, length bytes)
+  unit-none low position found touched all inside = record {
+    first = n;
+    begins = last_start;
+    last = n;
+    ends = last_start;
+    ordered = omega arith;
+    within = omega arith;
+    after = inside;
+    apart = λ some below. below;
+    some = λ below. absurd (omega (arith, below));
+    miss = λ j here over before.
+        let none : is_hit k meaning bytes j ≡ (touched_of found j || false) = hit-of found [] (all ∙ sym (append-nil found)) j here in
+        none ∙ (or-false (touched_of found j) ∙ touched.same j here over);
+    hit = λ j here over before. absurd (omega (arith, over, before));
+    past = λ j here at. absurd (omega (arith, at, starts-inside j here));
+  }
+
+  -- the end of the bytes is after all lines
+  pub touched-end : (low position : ℕ) (found : List (ℕ × ℕ)) → AreTouched k meaning bytes low position found None
+      → AreTouched k meaning bytes (length bytes) position found None
+  touched-end low position found touched = record {
+    same = λ j inside over. absurd (omega (arith, over, starts-inside j inside));
+    range = tt;
+    later = tt;
+  }
+
+  -- the whole lines of a match from a line start on
+  pub record IsPart (e : ℕ) (m p : ℕ × ℕ) : Type 0 where
+    pub start_is : p.0 ≡ e + block_start t (drop e bytes) (m.0 - e, m.1 - e)
+    pub end_is : p.1 ≡ e + block_end t (drop e bytes) (m.0 - e, m.1 - e)
+    pub low : e ≤ p.0
+    pub starts : e ≤ m.0 → p.0 ≤ m.0
+    pub ends : m.1 ≤ p.1
+    pub within : p.1 ≤ length bytes
+
+  module _ (e a : ℕ) (here : IsLineStart t bytes e a) (m p : ℕ × ℕ) (part : IsPart e m p) (order : m.0 ≤ m.1) (reach : e ≤ m.1) where
+    -- if the match starts before it, they start there
+    part-before : m.0 < e → p.0 ≡ e
+    part-before before =
+        let none : m.0 - e ≡ 0 = omega arith in
+        let first : block_start t (drop e bytes) (m.0 - e, m.1 - e) ≡ 0 = ap (λ x. block_start t (drop e bytes) (x, m.1 - e)) none in
+        omega (arith, part.start_is, first)
+
+    -- if not, they start with the block of the match
+    part-start : e < length bytes → e ≤ m.0 → p.0 ≡ block_start t bytes m
+    part-start below after =
+        part.start_is ∙ block_start-part t bytes e a here below m (m.0 - e, m.1 - e) after refl
+
+    -- they end with it
+    part-end : e < length bytes → (m.0 < e → e < m.1) → p.1 ≡ block_end t bytes m
+    part-end below over =
+        part.end_is ∙ block_end-part t bytes e a here below m (m.0 - e, m.1 - e) reach inner refl alike
+      where
+        inner : m.0 < m.1 → e < m.1
+        inner some = ⊎_elim over (λ after. omega (arith, after, some)) (cases_lt m.0 e)
+
+        alike : nat_lt (m.0 - e) (m.1 - e) ≡ nat_lt m.0 m.1
+        alike = ⊎_elim
+            (λ some. lt-ltb (m.0 - e) (m.1 - e) (omega (arith, some, inner some)) ∙ sym (lt-ltb m.0 m.1 some))
+            (λ none. le-ltb (m.0 - e) (m.1 - e) (omega (arith, none)) ∙ sym (le-ltb m.0 m.1 none))
+            (cases_lt m.0 m.1)
+
+    -- if they start later, so does the match, and they are its block
+    pub starts-there : e < p.0 → e ≤ m.0
+    starts-there apart = ⊎_elim
+        (λ before. absurd (omega (arith, apart, part-before before)))
+        (λ after. after)
+        (cases_lt m.0 e)
+
+    pub part-apart : e < p.0 → p ≡ block m
+    part-apart apart =
+        let after = starts-there apart in
+        let below : e < length bytes = omega (arith, apart, part.starts after, order, part.ends, part.within) in
+        ap₂ (λ x y. (x, y)) (part-start below after) (part-end below (λ before. absurd (omega (arith, before, after))))
+
+  -- a match whose lines lead on from the range
+  pub touched-part : (low position : ℕ) (found : List (ℕ × ℕ)) (u m p : ℕ × ℕ) → AreTouched k meaning bytes low position found (Some u)
+      → position ≤ m.0 → m.0 ≤ m.1 → (m.0 < u.1 → u.1 < m.1) → IsPart u.1 m p → p.0 ≤ u.1
+      → AreTouched k meaning bytes low (position_after m) (found ++ m ∷ []) (Some (u.0, p.1))
+  touched-part low position found u m p touched next order over part joins = ⊎_elim
+      (λ below.
+      let stop = part-end u.1 last ends m p part order reach below over in
+      let start : block_start t bytes m ≤ u.1 = ⊎_elim
+      (λ before. omega (arith, block_start-low t bytes m (omega (arith, before, below)), before))
+      (λ after. omega (arith, part-start u.1 last ends m p part order reach below after, joins))
+      (cases_lt m.0 u.1) in
+      subst (λ x. AreTouched k meaning bytes low (position_after m) (found ++ m ∷ []) (Some (u.0, x))) (sym stop)
+      (touched-joined low position found u m touched next order start (omega (arith, stop, part.ends, reach)) (omega (arith, stop, part.within))))
+      (λ all.
+      let same : u.1 ≡ p.1 = omega (arith, all, touched.range.within, part.ends, part.within, reach) in
+      subst (λ x. AreTouched k meaning bytes low (position_after m) (found ++ m ∷ []) (Some (u.0, x))) same
+      (absorbed low position found u m touched next order (λ j inside less. omega (arith, starts-inside j inside, all))))
+      (cases_lt u.1 (length bytes))
+    where
+      last : ℕ
+      last = touched.range.last
+
+      ends : IsLineStart t bytes u.1 last
+      ends = touched.range.ends
+
+      reach : u.1 ≤ m.1
+      reach = ⊎_elim (λ before. omega (arith, over before)) (λ after. omega (arith, after, order)) (cases_lt m.0 u.1)

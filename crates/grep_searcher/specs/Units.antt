@@ -102,3 +102,10 @@ module _ (settings : Settings) (meaning : Meaning) (bytes : List ℕ) where
     pub none : IfNone blocks.next (matches_left meaning bytes blocks.position blocks.left ≡ [])
     pub line : ℕ
     pub ends : IsLineStart (byte_of settings.line_terminator) bytes blocks.end line
+
+  -- what is known of the matches that were found, while one unit is put together
+  pub record IsReached (low : ℕ) (blocks : Blocks) (unit : ℕ × ℕ) : Type 0 where
+    pub asked : List (ℕ × ℕ)
+    pub found : AreFound blocks.position blocks.left asked
+    pub touched : AreTouched low blocks.position asked (Some unit)
+    pub taken : blocks.next ≡ None

@@ -113,8 +113,8 @@ impl<A: Allocator + Copy> Searcher<A> {
             (IsFound self.now.settings (M.meaning matcher.now) bytes.now blocks.old blocks.new)) }
         ensures none { IfOk result (λ found. IfNone found
             (HasNoMore self.now.settings (M.meaning matcher.now) bytes.now blocks.old blocks.new)) }
-        ensures kept { blocks.new ≡ record blocks.old {
-          position = blocks.new.position; left = blocks.new.left } }
+        ensures end { blocks.new.end ≡ blocks.old.end }
+        ensures next { blocks.new.next ≡ blocks.old.next }
         ensures fault { IfErr result (λ e. (asked : List (ℕ × ℕ))
             → AreFound self.now.settings (M.meaning matcher.now) bytes.now
             blocks.old.position blocks.old.left asked

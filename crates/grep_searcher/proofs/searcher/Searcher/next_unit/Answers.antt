@@ -1,2 +1,1 @@
-use Rattle.grep_searcher.proofs.TouchedLemmas as touched
-use Rattle.grep_searcher.proofs.FoundMatchLemmas as found
+use Rattle.grep_searcher.proofs.UnitStepLemmas as step
