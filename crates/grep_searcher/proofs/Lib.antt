@@ -17,3 +17,6 @@ pub mod FinishLemmas
 pub mod DecodedLemmas
 pub mod LookAheadLemmas
 pub mod ClosureSinkLemmas
+pub mod FoundMatchLemmas
+pub mod TouchedLemmas
+pub mod UnitStepLemmas

@@ -1,7 +1,7 @@
 -- The units of lines that the matches of a search across lines touch, one after another. The contracts of private
 -- functions cite these definitions; no public contract does.
-use Rattle.std.specs.Prelude.{◌≡◌, ℕ, ◌+◌, ◌-◌, ◌<◌, ◌≤◌, Bool, true, false, ◌&&◌, nat_lt, nat_le, List, [], ◌++◌}
-use Rattle.std.specs.Prelude.{length, take, Option, Some, None, IfSome, IfNone}
+use Rattle.std.specs.Prelude.{◌≡◌, ℕ, ◌-◌, ◌<◌, ◌≤◌, Bool, true, false, ◌&&◌, nat_lt, nat_le, List, [], ◌∷◌, ◌++◌}
+use Rattle.std.specs.Prelude.{length, Option, Some, None, IfSome, IfNone}
 use Rattle.std.specs.List.{list_any}
 use Rattle.std.specs.Option.{option_map}
 use Rattle.grep_matcher.specs.Matching.{Meaning}
@@ -9,18 +9,11 @@ use Rattle.grep_matcher.specs.Terminators.{byte_of}
 use Rattle.grep_lines.specs.Blocks.{block_start}
 use Rattle.grep_lines.specs.Positions.{IsLineStart}
 use Rattle.grep_definitions.specs.Settings.{Settings}
-use Rattle.grep_definitions.specs.Below.{is_below}
 use Rattle.grep_definitions.specs.LineSearch.{line_count, start}
 use Rattle.grep_definitions.specs.AcrossLines.{touches, is_touched}
 use Rattle.grep_definitions.specs.AcrossQuestions.{counted_matches, match_limit}
-use Rattle.grep_definitions.specs.SuccessiveMatches.{matches_from, position_past}
+use Rattle.grep_definitions.specs.SuccessiveMatches.{matches_left, position_after, position_past}
 use Rattle.grep_searcher.specs.declared.searcher.blocks.Blocks.{Blocks}
-
--- the matches that are still to be found from a position on, if so many more count
-abbrev pub matches_left : Meaning → List ℕ → ℕ → Option ℕ → List (ℕ × ℕ)
-matches_left meaning bytes position None = matches_from meaning bytes position (length bytes)
-matches_left meaning bytes position (Some left) =
-    take left (matches_from meaning bytes position (length bytes))
 
 -- whether a line that begins at a position is in a range of whole lines, if there is one
 abbrev pub is_in : Option (ℕ × ℕ) → ℕ → Bool
@@ -73,6 +66,25 @@ module _ (settings : Settings) (meaning : Meaning) (bytes : List ℕ) where
     pub room : left ≡ option_map (λ limit. limit - length asked) (match_limit settings)
     pub at : position < length bytes → position_past 0 asked ≡ position
 
+  -- the next match was found, and the search is past it
+  pub record IsFound (old new : Blocks) (m : ℕ × ℕ) : Type 0 where
+    pub after : old.position ≤ m.0
+    pub ordered : m.0 ≤ m.1
+    pub within : m.1 ≤ length bytes
+    pub inside : old.position < length bytes
+    pub position : new.position ≡ position_after m
+    pub left : matches_left meaning bytes old.position old.left
+        ≡ m ∷ matches_left meaning bytes new.position new.left
+    pub found : (asked : List (ℕ × ℕ)) → AreFound old.position old.left asked
+        → AreFound new.position new.left (asked ++ m ∷ [])
+
+  -- there was no match to be found
+  pub record HasNoMore (old new : Blocks) : Type 0 where
+    pub left : matches_left meaning bytes old.position old.left ≡ []
+    pub still : matches_left meaning bytes new.position new.left ≡ []
+    pub found : (asked : List (ℕ × ℕ)) → AreFound old.position old.left asked
+        → AreFound new.position new.left asked
+
   -- the matches that were found touch the lines of one range, of those from a position on, and no match that is still
   -- to be found touches a line before it
   pub record AreTouched (end position : ℕ) (asked : List (ℕ × ℕ)) (unit : Option (ℕ × ℕ)) : Type 0 where
@@ -90,3 +102,10 @@ module _ (settings : Settings) (meaning : Meaning) (bytes : List ℕ) where
     pub none : IfNone blocks.next (matches_left meaning bytes blocks.position blocks.left ≡ [])
     pub line : ℕ
     pub ends : IsLineStart (byte_of settings.line_terminator) bytes blocks.end line
+
+  -- what is known of the matches that were found, while one unit is put together
+  pub record IsReached (low : ℕ) (blocks : Blocks) (unit : ℕ × ℕ) : Type 0 where
+    pub asked : List (ℕ × ℕ)
+    pub found : AreFound blocks.position blocks.left asked
+    pub touched : AreTouched low blocks.position asked (Some unit)
+    pub taken : blocks.next ≡ None

@@ -1,0 +1,1 @@
+use Rattle.grep_searcher.proofs.UnitStepLemmas as step
