@@ -5,6 +5,7 @@ pub mod SinkRunLemmas
 pub mod SinkFoldLemmas
 pub mod KnownReaderLemmas
 pub mod ReaderViewLemmas
+pub mod ModeLemmas
 pub mod LimitLemmas
 pub mod ContextLemmas
 pub mod LineStartLemmas
