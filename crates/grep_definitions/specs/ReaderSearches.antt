@@ -19,7 +19,7 @@ use Rattle.grep_definitions.specs.InputFronts.{GoesOnAfter, HasOpenLine, IsFront
 use Rattle.grep_definitions.specs.ReadingFaults.{CutsShort, CutsContents}
 use Rattle.grep_definitions.specs.Refusals.{refusal_of}
 use Rattle.grep_definitions.specs.Searches.{ErrorMakers, MatcherFacts, IsFaultIn, HasReportedIn, IsLawful}
-use Rattle.grep_definitions.specs.SearchTurns.{SearchCalls, search_calls}
+use Rattle.grep_definitions.specs.SearchTurns.{SearchCalls, search_calls, calls_by_line}
 use Rattle.grep_definitions.specs.Settings.{Settings, SearcherState}
 use Rattle.grep_definitions.specs.SinkCalls.{begins}
 use Rattle.grep_definitions.specs.SinkRuns.{Steps, Outcome, all_true, stopped, failed, AreReported, IsFinished, IsRun}
@@ -76,6 +76,10 @@ module _ {R : Type 0} (remaining : R → Option (List ℕ)) (read_step : R → R
   abbrev pub IsUnread : SearcherState → Meaning → R → Option (List ℕ) → Error → R → Type 0
   IsUnread state meaning = IsUnreadIn (search_calls state.settings meaning).across state meaning
 
+  -- the same by line
+  abbrev pub IsLineUnread : SearcherState → Meaning → R → Option (List ℕ) → Error → R → Type 0
+  IsLineUnread = IsUnreadIn false
+
   module _ {S E F : Type 0} (step : Steps S E) (errors : ErrorMakers E) (matcher : MatcherFacts F) where
     -- A search with these calls that ended in `Ok`: they were made over the lines that were seen, up to the first false
     -- or the last, and `finish` followed. Whatever follows what was taken, they are those for the whole input, and
@@ -128,6 +132,13 @@ module _ {R : Type 0} (remaining : R → Option (List ℕ)) (read_step : R → R
 
     abbrev pub IsReaderFault : SearcherState → R → S → E → R → S → Type 0
     IsReaderFault state = IsReaderFaultIn (search_calls state.settings matcher.meaning) state
+
+    -- the same by line
+    abbrev pub IsLineReaderRun : Settings → R → S → R → S → Type 0
+    IsLineReaderRun settings = IsReaderRunIn (calls_by_line settings matcher.meaning) settings
+
+    abbrev pub IsLineReaderFault : SearcherState → R → S → E → R → S → Type 0
+    IsLineReaderFault state = IsReaderFaultIn (calls_by_line state.settings matcher.meaning) state
 
     -- an error: that of the refusal, which leaves the reader and the sink as they were, or that of the search, which is
     -- said if the matcher is lawful

@@ -18,7 +18,7 @@ use Rattle.grep_definitions.specs.LineSearch
 use Rattle.grep_definitions.specs.LineSearch.{differ, turns_at, turns, turns_through, byte_count, in_context}
 use Rattle.grep_definitions.specs.LineTurns.{context_turns, match_turns, pending_turns, matches_line, number_of}
 use Rattle.grep_definitions.specs.SinkRuns.{Steps, Outcome, all_true, stopped, failed, AreReported}
-use Rattle.grep_definitions.specs.Searches.{ErrorMakers, MatcherFacts, IsFault, of_sink, of_matcher}
+use Rattle.grep_definitions.specs.Searches.{ErrorMakers, MatcherFacts, IsLineFault, of_sink, of_matcher}
 use Rattle.grep_definitions.specs.LineWalks.{IsNear, IsOpen}
 use Rattle.grep_definitions.specs.Questions.{IsAsked}
 use Rattle.grep_definitions.proofs.SinkRunLemmas.{AreReported-append, AreReported-ended}
@@ -455,23 +455,26 @@ module _ (k : Settings) (meaning : Meaning) (bytes : List ℕ) where
 -- how a search ends in a fault
 module _ {S E F : Type 0} (step : Steps S E) (errors : ErrorMakers E) (matcher : MatcherFacts F) (k : Settings) (bytes : List ℕ)
     (old : S) where
-  pub fault-begin : (e : E) (new : S) → step old k begins (Err e) new → IsFault step errors matcher k bytes old e new
+  pub fault-begin : (e : E) (new : S) → step old k begins (Err e) new → IsLineFault step errors matcher k bytes old e new
   fault-begin e new fails = of_sink
       (record { outcome = failed e; mid = new; reported = inr (inr (e, refl, fails)); finished = (refl, refl) })
 
   pub fault-line : (e : E) (new : S) → AreReported step k old (turns k matcher.meaning bytes) (failed e) new
-      → IsFault step errors matcher k bytes old e new
+      → IsLineFault step errors matcher k bytes old e new
   fault-line e new reported = of_sink (record { outcome = failed e; mid = new; reported = reported; finished = (refl, refl) })
 
   pub fault-matcher : (w : Walk) (new : S) → HasReported k matcher.meaning bytes step old w new
       → (start end : ℕ) (same : w.offset ≡ start) (line : IsLine (byte_of k.line_terminator) bytes w.line start end)
       → Bare k matcher.meaning bytes → is_at w.match_count k.max_matches ≡ false → (haystack : List ℕ) (error : F) (e : E)
       → IsAsked k matcher.meaning bytes w.line haystack → errors.is_message (matcher.text_of error) e
-      → matcher.fails haystack error → IsFault step errors matcher k bytes old e new
-  fault-matcher w new so_far start end same line bare room haystack error e asked message fails = of_matcher w.line haystack error
-      (has k matcher.meaning bytes w start end same line bare so_far.walk)
-      (so_far.walk.opened.below ∙ ap not room)
-      asked fails message
-      (subst (λ ts. AreReported step k old ts all_true new)
-      (sym (through-is k matcher.meaning bytes w start end same line bare so_far.walk))
-      so_far.reported)
+      → matcher.fails haystack error → IsLineFault step errors matcher k bytes old e new
+  fault-matcher w new so_far start end same line bare room haystack error e asked message fails = of_matcher haystack error
+      (front k matcher.meaning bytes w.reported_through)
+      (record {
+        index = w.line;
+        has_turn = has k matcher.meaning bytes w start end same line bare so_far.walk;
+        room = so_far.walk.opened.below ∙ ap not room;
+        question = asked;
+        before = sym (through-is k matcher.meaning bytes w start end same line bare so_far.walk);
+      })
+      fails message so_far.reported

@@ -1,6 +1,6 @@
 use Rattle.grep_definitions.specs.Searches.{ErrorMakers, MatcherFacts}
 use Rattle.grep_searcher.proofs.DecodedLemmas.{source-finished}
-use Rattle.grep_searcher.proofs.searcher.Searcher.search_with.Goals as goal
+use Rattle.grep_searcher.proofs.searcher.Searcher.search_by_line.Goals as goal
 
 pub returns-clause-searched : goal.returns-clause-searched
 returns-clause-searched g c =
