@@ -61,7 +61,7 @@ module _ {R T N : Type 0} (view : R → T) (name : R → N) (remaining : T → O
         named (Some lines) error after (of_reader by_line mid taken unended failed goes_on came) =
             Taken-named reader mid taken ∙ sym (seen mid (Err error) after failed).0
         named None error after (of_contents across taken cut) = Taken-named reader after taken
-        named None error after (of_failed_read across mid taken unended failed) =
+        named None error after (of_failed_read across mid taken unended failed few) =
             Taken-named reader mid taken ∙ sym (seen mid (Err error) after failed).0
         named None error after (of_buffers none memory) = refl
 
@@ -72,8 +72,8 @@ module _ {R T N : Type 0} (view : R → T) (name : R → N) (remaining : T → O
         whole (Some lines) error after (of_reader by_line mid taken unended failed goes_on came) =
             of_reader by_line (view mid) (Taken-seen reader mid taken) unended (seen mid (Err error) after failed).1 goes_on came
         whole None error after (of_contents across taken cut) = of_contents across (Taken-seen reader after taken) cut
-        whole None error after (of_failed_read across mid taken unended failed) =
-            of_failed_read across (view mid) (Taken-seen reader mid taken) unended (seen mid (Err error) after failed).1
+        whole None error after (of_failed_read across mid taken unended failed few) =
+            of_failed_read across (view mid) (Taken-seen reader mid taken) unended (seen mid (Err error) after failed).1 few
         whole None error after (of_buffers none memory) = of_buffers none memory
 
     module _ {S E F : Type 0} (step : Steps S E) (errors : ErrorMakers E) (matcher : MatcherFacts F) where

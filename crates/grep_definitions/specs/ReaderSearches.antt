@@ -61,13 +61,17 @@ module _ {R : Type 0} (remaining : R → Option (List ℕ)) (read_step : R → R
         → (TakesAtMost (remaining reader) (remaining reader') 2 → ⊥)
         → HasOpenLine state.settings (concat taken.pieces) seen)
         → IsUnreadIn across state meaning reader (Some seen) error reader'
-    -- across lines all is read before `begin`: there was no room for it, or the reader's last call failed
+    -- across lines all is read before `begin`: there was no room for it, or the reader's last call failed, before as many
+    -- bytes came as the heap limit, if they are searched unchanged and more than two were taken
     of_contents : {error : Error} {reader' : R} → across ≡ true → (taken : Taken reader reader')
         → ((bytes : List ℕ) → IsInput state.settings taken.ended taken.pieces bytes
         → CutsContents state.settings bytes error)
         → IsUnreadIn across state meaning reader None error reader'
     of_failed_read : {error : Error} {reader' : R} → across ≡ true → (mid : R) (taken : Taken reader mid)
         → taken.ended ≡ false → read_step mid (Err error) reader'
+        → ((limit : ℕ) → state.settings.heap_limit ≡ Some limit
+        → is_searched_unchanged state.settings (concat taken.pieces) ≡ true
+        → (TakesAtMost (remaining reader) (remaining reader') 2 → ⊥) → length (concat taken.pieces) < limit)
         → IsUnreadIn across state meaning reader None error reader'
     -- there were no buffers, and no memory for them
     of_buffers : {error : Error} → state.has_buffers ≡ false → error_kind error ≡ OutOfMemory

@@ -200,7 +200,7 @@ module _ {S E F : Type 0} (step : Steps S E) (errors : ErrorMakers E) (matcher :
     undecoded reader reader' all _ error (unread_contents across taken cut) =
         undecoded_contents across changed (cut (searched_bytes state.settings input)
         (taken-input remaining read_step state.settings input reader reader' all taken))
-    undecoded reader reader' all _ error (unread_failed across mid taken unended fails) = absurd (never mid error reader' fails)
+    undecoded reader reader' all _ error (unread_failed across mid taken unended fails few) = absurd (never mid error reader' fails)
     undecoded reader reader' all _ error (unread_buffers none memory) = undecoded_buffers changed none memory
 
     -- a search of it is one of its input
