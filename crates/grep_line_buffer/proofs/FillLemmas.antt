@@ -14,7 +14,8 @@ use Rattle.grep_line_buffer.specs.declared.fill_error.FillError.{FillError}
 use Rattle.grep_line_buffer.specs.declared.fill_error.FillError.TheVariants.{Read, HeapLimit, Offset, Memory}
 use Rattle.grep_line_buffer.specs.BufferStates.{BufferState, held, Lacks, IsWithin, IsSameBuffer, GrowsIfFull, KeepsStream, EndsWith, ShowsLine, IsFilled, HasNoLine}
 use Rattle.grep_line_buffer.specs.Fills.{IfRead, UnlessRead, Fills, FailsToFill, FillFails, PassesOffsets, IsAtLimit, MayGrow}
-use Rattle.grep_line_buffer.specs.Appends.{Appends, FailsToRead, IsFullFault, Reads}
+use Rattle.grep_line_buffer.specs.Appends.{Appends, FailsToRead, Reads}
+use Rattle.grep_line_buffer.specs.Room.{IsFullFault}
 
 -- parts of a window
 abbrev rest_of : BufferState → List ℕ
@@ -49,11 +50,12 @@ unless-read Offset p = p
 unless-read Memory p = p
 
 -- a full buffer is no error of the reader's
-pub if-read-full : (w : BufferState) (e : FillError) (P : Error → Type 0) → IsFullFault w e → IfRead {X = Bool} (Err e) P
-if-read-full w (Read e) P fault = absurd fault
-if-read-full w HeapLimit P fault = tt
-if-read-full w Offset P fault = tt
-if-read-full w Memory P fault = tt
+pub if-read-full : {X : Type 0} (limit : Option ℕ) (size : ℕ) (e : FillError) (P : Error → Type 0) → IsFullFault limit size e
+    → IfRead {X = X} (Err e) P
+if-read-full limit size (Read e) P fault = absurd fault
+if-read-full limit size HeapLimit P fault = tt
+if-read-full limit size Offset P fault = tt
+if-read-full limit size Memory P fault = tt
 
 -- what a buffer shows that had seen the end
 pub filled-before : (w : BufferState) → w.has_ended ≡ true → w.rest ≡ [] → length w.shown < w.size → IsFilled w w
@@ -428,7 +430,7 @@ module _ {R : Type 0} (remaining : R → Option (List ℕ)) (step : R → ReadRe
 
   -- a full buffer that can't grow
   pub HasNone-full : (old now new : BufferState) (d d1 : DecoderState) (r r1 : R) (e : FillError) → HasNone old d r now d1 r1
-      → new ≡ now → now.free ≡ 0 → IsFullFault now e → FillFails old new e
+      → new ≡ now → now.free ≡ 0 → IsFullFault now.limit now.size e → FillFails old new e
   HasNone-full old now new d d1 r r1 HeapLimit before is none fault = subst (λ w. HasNoLine old w × IsAtLimit w) (sym is) (
     record { shown = before.filling.shown; none = before.none; unended = before.filling.unended },
     record { full = omega (arith, before.filling.rolled, none); limit = fault },

@@ -86,23 +86,23 @@ returns-in-Err g c =
       grows = out.grows;
       capacity = out.capacity;
       reads = unless-read c.in-Err.e out.reads;
-      read = if-read-full c.reads.self c.in-Err.e _ full.2;
+      read = if-read-full c.reads.self.limit c.reads.self.size c.in-Err.e _ full.2;
       stream = out.stream;
       some = tt;
       filled = tt;
       error = error;
       limit = only-limit _ _ _ error tt;
-      fault = if-read-full c.reads.self c.in-Err.e _ full.2;
+      fault = if-read-full c.reads.self.limit c.reads.self.size c.in-Err.e _ full.2;
       done = λ _ ended. absurd (false≢true (sym unended ∙ ended));
       end = λ _ ended. absurd (false≢true (sym unended ∙ ended));
       ended = λ ended. absurd (false≢true (sym was ∙ ended));
       ahead = tt;
       passing = tt;
-      passed = if-read-full c.reads.self c.in-Err.e _ full.2;
+      passed = if-read-full c.reads.self.limit c.reads.self.size c.in-Err.e _ full.2;
       settled = tt;
       stays = out.stays;
-      empty = if-read-full c.reads.self c.in-Err.e _ full.2;
-      few = if-read-full c.reads.self c.in-Err.e _ full.2;
+      empty = if-read-full c.reads.self.limit c.reads.self.size c.in-Err.e _ full.2;
+      few = if-read-full c.reads.self.limit c.reads.self.size c.in-Err.e _ full.2;
     }
 
 pub returns-in-Err-read : goal.returns-in-Err-read

@@ -1,5 +1,5 @@
 use Rattle.std.proofs.Common.{◌≡◌, length, take, ap, sym, ◌∙◌, arith}
-use Rattle.grep_line_buffer.proofs.line_buffer.read_once.Goals as goal
+use Rattle.grep_line_buffer.proofs.room.read_once.Goals as goal
 
 pub returns-in-Ok-clause-reads : goal.returns-in-Ok-clause-reads
 returns-in-Ok-clause-reads g c =
