@@ -1,11 +1,13 @@
 //! All decoded bytes of a reader, for a search across lines.
-ghost use Rattle.std.specs.Prelude.{◌≡◌, ◌⊎◌, ◌+◌, ◌≤◌, [], length, OnOk, IfErr, vec_capacity};
+ghost use Rattle.std.specs.Prelude.{◌≡◌, ◌≢◌, ◌⊎◌, ◌+◌, ◌<◌, ◌≤◌, [], Some, length, take, OnOk, OnErr, IfErr, vec_len, vec_capacity};
 ghost use Rattle.std.specs.Io.KnownBytes.{Consumes, IsAtEnd};
 ghost use Rattle.grep_decode.specs.Source.{FailsWith};
 ghost use Rattle.grep_decode.specs.declared.mode.Mode.TheVariants.{Passing};
 ghost use Rattle.grep_decode.specs.DecoderStates.{Decodes, IsDone, IsSettled, TakesAtMost, runs_ahead, yet};
 ghost use Rattle.grep_line_buffer.specs.Contents.{IsBelow, ContentsFail, FailsAfter};
+ghost use Rattle.grep_line_buffer.specs.BufferStates.{IsWithin};
 ghost use Rattle.grep_line_buffer.specs.Fills.{IfRead, UnlessRead};
+ghost use Rattle.grep_line_buffer.specs.Room.{IsFullFault, IsLarge, next_size};
 
 use crate::fill_error::FillError;
 use crate::room::{enlarge, read_after};
@@ -66,10 +68,8 @@ pub fn read_contents<A: Allocator, B: Allocator, R: Source>(
     contents.clear();
     let mut len = 0;
     'reads: loop {
-        if len == contents.len() {
-            if let Err(e) = enlarge(contents, FIRST_SIZE, limit) {
-                return Err(e);
-            }
+        if let Err(e) = make_room(contents, len, limit) {
+            return Err(e);
         }
         match read_after(decoder, reader, contents, len) {
             Ok(0) => {
@@ -83,4 +83,29 @@ pub fn read_contents<A: Allocator, B: Allocator, R: Source>(
             }
         }
     }
+}
+
+// Makes room for another byte after the first `len` ones, if there is none.
+fn make_room<A: Allocator>(
+    contents: &mut Vec<u8, A>,
+    len: usize,
+    limit: Option<usize>,
+) -> Result<(), FillError>
+    requires fits { len ≤ vec_len contents.old }
+    requires within { IsWithin limit (vec_len contents.old) }
+    requires large { IsLarge limit (vec_len contents.old) }
+    ensures kept { vec_capacity contents.old ≤ vec_capacity contents.new }
+    ensures front { take len contents.new.items ≡ take len contents.old.items }
+    ensures room { OnOk result (len < length contents.new.items) }
+    ensures within { OnOk result (IsWithin limit (length contents.new.items)) }
+    ensures large { OnOk result (IsLarge limit (length contents.new.items)) }
+    ensures full { OnErr result ((contents.new.items ≡ contents.old.items)
+        × (length contents.old.items ≡ len)) }
+    ensures error { IfErr result (λ e. IsFullFault limit len e) }
+    ensures memory { OnErr result (limit ≢ Some len → vec_capacity contents.old < next_size 65536 limit len) }
+{
+    if len < contents.len() {
+        return Ok(());
+    }
+    enlarge(contents, FIRST_SIZE, limit)
 }
