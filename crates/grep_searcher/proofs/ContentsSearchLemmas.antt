@@ -1,6 +1,6 @@
 -- A search of a reader across lines, for which all of it was read first.
-use Rattle.std.proofs.Common.{◌≡◌, ◌⊎◌, ◌≢◌, ℕ, ◌<◌, Bool, true, false, List, [], ◌++◌, length, Option, Some, None, Result, Ok, Err}
-use Rattle.std.proofs.Common.{refl, sym, ◌∙◌, ap, subst, arith, ⊎_elim, inl, inr, append-nil}
+use Rattle.std.proofs.Common.{◌≡◌, ◌⊎◌, ◌≢◌, ℕ, ◌<◌, Bool, true, false, List, [], ◌∷◌, ◌++◌, length, Option, Some, None, Result, Ok, Err}
+use Rattle.std.proofs.Common.{refl, sym, ◌∙◌, ap, subst, arith, ⊎_elim, inl, inr, append-nil, length-append, ◌≤◌}
 use Rattle.std.proofs.lemmas.Bool.{false≢true}
 use Rattle.std.proofs.lemmas.List.Elements.{All-weaker}
 use Rattle.std.specs.List.{concat}
@@ -10,9 +10,13 @@ use Rattle.std.specs.declared.io.ErrorKind.TheVariants.{Other, OutOfMemory}
 use Rattle.grep_decode.specs.declared.mode.Mode.TheVariants.{Passing}
 use Rattle.grep_decode.specs.DecoderStates.{DecoderState, Decodes, IsDone, IsSettled, TakesAtMost, started, still_to_give}
 use Rattle.grep_decode.specs.Source.{ReadResult}
-use Rattle.grep_line_buffer.specs.Contents.{IsBelow}
+use Rattle.grep_line_buffer.specs.Contents.{IsBelow, ContentsFail, FailsAfter}
+use Rattle.grep_line_buffer.specs.Fills.{IfRead, UnlessRead}
+use Rattle.grep_line_buffer.specs.declared.fill_error.FillError.{FillError}
+use Rattle.grep_line_buffer.specs.declared.fill_error.FillError.TheVariants.{Read, HeapLimit, Offset, Memory}
 use Rattle.grep_lines.specs.LineLaws.{LinesJoin}
 use Rattle.grep_matcher.specs.Lines.{lines}
+use Rattle.grep_matcher.specs.Matching.{Meaning}
 use Rattle.grep_matcher.specs.Terminators.{byte_of}
 use Rattle.grep_definitions.specs.DecodedInputs.{IsInput}
 use Rattle.grep_definitions.specs.InputFronts.{IsFront, IsTooLong}
@@ -24,9 +28,11 @@ use Rattle.grep_definitions.specs.SearchTurns.{SearchCalls, calls_across}
 use Rattle.grep_definitions.specs.Searches.{ErrorMakers, MatcherFacts, IsFaultIn, of_sink}
 use Rattle.grep_definitions.specs.Settings.{Settings, SearcherState}
 use Rattle.grep_definitions.specs.SinkCalls.{Turn, begins, finishes}
-use Rattle.grep_definitions.specs.SinkRuns.{Steps, Outcome, all_true, stopped, failed, AreReported, IsFinished, finish_result}
+use Rattle.grep_definitions.specs.SinkRuns.{Steps, Outcome, all_true, stopped, failed, AreReported, IsFinished, IsRun}
+use Rattle.grep_definitions.specs.SinkRuns.{finish_result}
 use Rattle.grep_definitions.proofs.LineLengthLemmas.{lines-within}
 use Rattle.grep_searcher.specs.InputSearches.{IsSourceSearchedIn}
+use Rattle.grep_searcher.specs.SearchBuffers.{IsMadeOf}
 use Rattle.grep_searcher.specs.Walks.{Counted}
 use Rattle.grep_searcher.proofs.FinishLemmas.{finish-counted, run-finish}
 use Rattle.grep_searcher.proofs.ReadingLemmas as reading
@@ -72,7 +78,7 @@ module _ {R : Type 0} (remaining : R → Option (List ℕ)) (read_step : R → R
   given-begins = reading.input-is remaining read_step k capacity reader given d reader' reads none
 
   -- there was no room for all of it
-  pub unread-contents : (has_buffers : Bool) (meaning : _) (error : Error)
+  pub unread-contents : (has_buffers : Bool) (meaning : Meaning) (error : Error)
       → ((bytes : List ℕ) → length given ≤ length bytes → CutsContents k bytes error)
       → IsUnreadIn remaining read_step true (record { settings = k; has_buffers = has_buffers }) meaning reader None error reader'
   unread-contents has_buffers meaning error cut = of_contents refl taken (λ bytes input.
@@ -141,14 +147,69 @@ module _ {R : Type 0} (remaining : R → Option (List ℕ)) (read_step : R → R
 pub unread-failed : {R : Type 0} (remaining : R → Option (List ℕ)) (read_step : R → ReadResult → R → Type 0) (k : Settings)
     (capacity : ℕ) (reader : R) (given : List ℕ) (d : DecoderState) (mid : R)
     (reads : Decodes remaining read_step (started capacity k.encoding k.bom_sniffing) reader given d mid)
-    → UnchangedIsInput → (has_buffers : Bool) (meaning : _) (error : Error) (reader' : R) → IsBelow k.heap_limit (length given)
+    → UnchangedIsInput → (has_buffers : Bool) (meaning : Meaning) (error : Error) (reader' : R) → IsBelow k.heap_limit (length given)
     → d.has_ended ≡ false → read_step mid (Err error) reader' → d.ready ≡ [] → (d.mode ≡ Passing → d.held ≡ [])
     → IsSettled d.mode ⊎ TakesAtMost (remaining reader) (remaining reader') 2
     → IsUnreadIn remaining read_step true (record { settings = k; has_buffers = has_buffers }) meaning reader None error reader'
-unread-failed remaining read_step k capacity reader given d mid reads unchanged has_buffers meaning error reader' below unended failed
+unread-failed remaining read_step k capacity reader given d mid reads unchanged has_buffers meaning error reader' below unended ends
     ready held few =
-    of_failed_read refl mid (reading.taken remaining read_step k capacity reader given d mid reads) unended failed
+    of_failed_read refl mid (reading.taken remaining read_step k capacity reader given d mid reads) unended ends
     (λ limit is same_bytes more.
     let settled = ⊎_elim (λ is. is) (λ two. absurd (more two)) few in
     let all = reading.taken-all remaining read_step k capacity reader given d mid reads unchanged same_bytes settled ready held in
     subst (λ xs. length xs < limit) (sym all) (subst (λ l. IsBelow l (length given)) is below))
+
+-- why not all was read, by the error
+module _ {R : Type 0} (remaining : R → Option (List ℕ)) (read_step : R → ReadResult → R → Type 0) (k : Settings)
+    (capacity : ℕ) (d : DecoderState) (start : d ≡ started capacity k.encoding k.bom_sniffing) (reader : R) (given : List ℕ)
+    (d' : DecoderState) (reader' : R) (none : (d : DecoderState) (more : List ℕ) → IsDone d → still_to_give d more ≡ [])
+    (unchanged : UnchangedIsInput) (has_buffers : Bool) (meaning : Meaning) where
+  abbrev Unread : Error → Type 0
+  Unread error =
+      IsUnreadIn remaining read_step true (record { settings = k; has_buffers = has_buffers }) meaning reader None error reader'
+
+  pub unread-read : (e : FillError) (error : Error) → IsMadeOf e error → (size : ℕ) → ContentsFail k.heap_limit size given e
+      → UnlessRead {X = Unit {0}} (Err e) (Decodes remaining read_step d reader given d' reader')
+      → IfRead {X = Unit {0}} (Err e) (λ io. FailsAfter remaining read_step io d reader given d' reader')
+      → IfRead {X = Unit {0}} (Err e) (λ _. d'.mode ≡ Passing → d'.held ≡ []) → IfRead {X = Unit {0}} (Err e) (λ _. d'.ready ≡ [])
+      → IfRead {X = Unit {0}} (Err e) (λ _. IsSettled d'.mode ⊎ TakesAtMost (remaining reader) (remaining reader') 2)
+      → Unread error
+  unread-read (Read io) error made size below reads fails held ready few =
+      let fails' = subst (λ from. FailsAfter remaining read_step io from reader given d' reader') start fails in
+      subst Unread (sym made)
+      (unread-failed remaining read_step k capacity reader given d' fails'.mid fails'.decodes unchanged has_buffers meaning io reader'
+      below fails'.unended fails'.failed ready held few)
+  unread-read HeapLimit error made size full reads fails held ready few =
+      unread-contents remaining read_step k capacity reader given d' reader'
+      (subst (λ from. Decodes remaining read_step from reader given d' reader') start reads) none has_buffers meaning error
+      (λ bytes enough. of_full (length given) full made enough)
+  unread-read Offset error made size never reads fails held ready few = absurd never
+  unread-read Memory error made size lacks reads fails held ready few =
+      unread-contents remaining read_step k capacity reader given d' reader'
+      (subst (λ from. Decodes remaining read_step from reader given d' reader') start reads) none has_buffers meaning error
+      (λ bytes enough. of_no_memory made)
+
+-- all was read by a decoder that was started so
+module _ {R : Type 0} (remaining : R → Option (List ℕ)) (read_step : R → ReadResult → R → Type 0) (k : Settings)
+    (capacity : ℕ) (d : DecoderState) (start : d ≡ started capacity k.encoding k.bom_sniffing) (reader : R) (given : List ℕ)
+    (d' : DecoderState) (reader' : R) (reads : Decodes remaining read_step d reader given d' reader')
+    (none : (d : DecoderState) (more : List ℕ) → IsDone d → still_to_give d more ≡ [])
+    (join : LinesJoin) (done : IsDone d') (below : IsBelow k.heap_limit (length given))
+    {S E F : Type 0} (step : Steps S E) (errors : ErrorMakers E) (matcher : MatcherFacts F) (has_buffers : Bool) (old : S) where
+  from-start : Decodes remaining read_step (started capacity k.encoding k.bom_sniffing) reader given d' reader'
+  from-start = subst (λ from. Decodes remaining read_step from reader given d' reader') start reads
+
+  pub contents-fault-read : (e : E) (new : S) → IsFaultIn step errors matcher (calls_across k matcher.meaning) k given old e new
+      → IsReaderFaultIn remaining read_step step errors matcher (calls_across k matcher.meaning)
+      (record { settings = k; has_buffers = has_buffers }) reader old e reader' new
+  contents-fault-read = contents-fault remaining read_step k capacity reader given d' reader' from-start none join done below step
+      errors matcher has_buffers old
+
+  pub contents-searched : (count : ℕ) (outcome : Outcome E) (mid : S) (result : Result (Unit {0}) E) (new : S)
+      → Counted step k old ((calls_across k matcher.meaning).turns given) ((calls_across k matcher.meaning).byte_count given)
+      count outcome mid
+      → step mid k (finishes count None) (finish_result result) new
+      → IsSourceSearchedIn step errors matcher (calls_across k matcher.meaning) remaining read_step
+      (record { settings = k; has_buffers = has_buffers }) reader old result reader' new
+  contents-searched = contents-finished remaining read_step k capacity reader given d' reader' from-start none join done below step
+      errors matcher has_buffers old

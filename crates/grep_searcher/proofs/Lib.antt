@@ -10,5 +10,6 @@ pub mod WindowLemmas
 pub mod WindowSearchLemmas
 pub mod FinishLemmas
 pub mod DecodedLemmas
+pub mod ContentsSearchLemmas
 pub mod LookAheadLemmas
 pub mod ClosureSinkLemmas

@@ -52,7 +52,9 @@ impl<A: Allocator + Copy> Searcher<A> {
     pub(crate) fn is_across<M: Matcher>(&self, matcher: &M) -> bool
         ensures { result ≡ is_across self.now.settings (M.meaning matcher.now) }
     {
-        if !self.config.multi_line || matcher.line_terminator() == Some(self.config.line_terminator) {
+        if !self.config.multi_line
+            || matcher.line_terminator() == Some(self.config.line_terminator)
+        {
             return false;
         }
         match matcher.non_matching_bytes() {

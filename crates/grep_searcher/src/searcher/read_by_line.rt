@@ -118,7 +118,13 @@ impl<A: Allocator + Copy> Searcher<A> {
         ensures may_call { S.may_call sink.new }
     {
         if self.is_across(matcher) {
-            return self.search_contents(matcher, buffers, reader, sink);
+            let Buffers {
+                decoder,
+                contents,
+                ..
+            } = buffers;
+            decoder.start(self.label(), self.config.bom_sniffing);
+            return self.search_contents(matcher, decoder, contents, reader, sink);
         }
         self.search_by_line(matcher, buffers, reader, sink)
     }
@@ -232,7 +238,7 @@ impl<A: Allocator + Copy> Searcher<A> {
     }
 
     // The label that is set.
-    fn label(&self) -> Option<Label>
+    pub(crate) fn label(&self) -> Option<Label>
         ensures { result ≡ self.now.settings.encoding }
     {
         match self.config.encoding {
@@ -402,7 +408,7 @@ impl<A: Allocator + Copy> Searcher<A> {
 }
 
 // The error of reading that an error of a line buffer becomes.
-fn io_error(error: FillError) -> io::Error
+pub(crate) fn io_error(error: FillError) -> io::Error
     ensures { IsMadeOf error result }
 {
     match error {
