@@ -20,6 +20,7 @@ pub mod RunLemmas
 pub mod AcrossLemmas
 pub mod UnitLemmas
 pub mod AsByLineLemmas
+pub mod AcrossWalkLemmas
 pub mod DecodedLemmas
 pub mod WorkedExamples
 pub mod AcrossExamples
