@@ -6,6 +6,7 @@ pub mod SinkFoldLemmas
 pub mod KnownReaderLemmas
 pub mod ReaderViewLemmas
 pub mod LimitLemmas
+pub mod SelectionLemmas
 pub mod ContextLemmas
 pub mod LineStartLemmas
 pub mod LineLengthLemmas
@@ -19,8 +20,8 @@ pub mod TouchLemmas
 pub mod RunLemmas
 pub mod AcrossLemmas
 pub mod UnitLemmas
-pub mod AsByLineLemmas
 pub mod AcrossWalkLemmas
+pub mod AsByLineLemmas
 pub mod DecodedLemmas
 pub mod WorkedExamples
 pub mod AcrossExamples
