@@ -1,12 +1,12 @@
 -- How lines near selected lines are reported, by line and across lines alike.
 use Rattle.std.proofs.Common.{◌≡◌, ℕ, zero, suc, ◌+◌, ◌-◌, ◌<◌, ◌≤◌, Bool, true, false, not, ◌&&◌, ◌||◌, refl, sym, ◌∙◌, ap, subst, arith, ⊎_elim, Some, None, is_some, if◌then◌else◌}
-use Rattle.std.proofs.Math.Bool.{or-true, or-false, and-false, and-true}
+use Rattle.std.proofs.Math.Bool.{or-false, and-false, and-true}
 use Rattle.std.proofs.lemmas.Bool.{lt-ltb, lt-leb, le-leb, le-ltb, eq-eqb, cases_lt, cases_Bool, ne_eqb, ltb-true, ltb-false}
 use Rattle.std.specs.Prelude.{nat_lt, nat_le}
 use Rattle.grep_report.specs.declared.sink_context.SinkContextKind.TheVariants.{Before, After, Other}
 use Rattle.grep_definitions.specs.Settings.{Settings}
 use Rattle.grep_definitions.specs.Below.{some_below, first_below}
-use Rattle.grep_definitions.specs.LineSearch.{matched, in_context}
+use Rattle.grep_definitions.specs.LineSearch.{in_context}
 use Rattle.grep_definitions.specs.LineTurns.{is_gap}
 use Rattle.grep_definitions.specs.Selections
 use Rattle.grep_definitions.specs.Selections.{IsNear}
