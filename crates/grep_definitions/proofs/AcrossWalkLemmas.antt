@@ -1,8 +1,9 @@
 -- The calls of a search across lines, as a walk over units of selected lines and over the lines between them makes them.
-use Rattle.std.proofs.Common.{◌≡◌, ℕ, suc, ◌+◌, ◌-◌, ◌<◌, ◌≤◌, Bool, true, false, not, ◌&&◌, ◌||◌, List, [], ◌∷◌, ◌++◌, if◌then◌else◌}
-use Rattle.std.proofs.Common.{refl, sym, ap, subst, ◌∙◌, arith, ⊎_elim, Some, None}
+use Rattle.std.proofs.Common.{◌≡◌, ℕ, suc, ◌+◌, ◌-◌, ◌<◌, ◌≤◌, Bool, true, false, not, ◌&&◌, ◌||◌, List, [], ◌∷◌, ◌++◌, length, take}
+use Rattle.std.proofs.Common.{refl, sym, ap, subst, ◌∙◌, arith, ⊎_elim, Some, None, if◌then◌else◌}
 use Rattle.std.proofs.Math.Bool.{and-false}
-use Rattle.std.proofs.lemmas.Bool.{lt-ltb, lt-leb, le-leb, ltb-true, ltb-false, cases_Bool, cases_lt}
+use Rattle.std.proofs.Math.Seq.{take-append_seam}
+use Rattle.std.proofs.lemmas.Bool.{lt-ltb, lt-leb, le-leb, cases_Bool, cases_lt}
 use Rattle.std.proofs.lemmas.List.{append-nil}
 use Rattle.std.specs.Prelude.{nat_lt, nat_le}
 use Rattle.grep_matcher.specs.Matching.{Meaning}
@@ -18,7 +19,7 @@ use Rattle.grep_definitions.specs.LineTurns.{before_turns, pending_turns, match_
 use Rattle.grep_definitions.specs.Selections.{IsNear}
 use Rattle.grep_definitions.specs.AcrossLines
 use Rattle.grep_definitions.specs.AcrossLines.{is_selected, continues_unit, turns_at}
-use Rattle.grep_definitions.proofs.BelowLemmas.{joined_from-add, joined_from-equal, joined_from-none}
+use Rattle.grep_definitions.proofs.BelowLemmas.{joined_from-add, joined_from-equal, joined_from-none, headed-through}
 use Rattle.grep_definitions.proofs.RunLemmas.{run_end, IsRunEnd-run_end, IsRunEnd-one}
 use Rattle.grep_definitions.proofs.SelectionLemmas
 use Rattle.grep_definitions.proofs.UnitLemmas.{line-slice}
@@ -59,21 +60,14 @@ module _ (k : Settings) (meaning : Meaning) (bytes : List ℕ) where
   abbrev is_reported : ℕ → Bool
   is_reported = AcrossLines.is_reported k meaning bytes
 
-  front-through : (v i : ℕ) → v ≤ i → front i ≡ front v ++ joined_from T v (i - v)
-  front-through v i low = ap (λ later. record { call = begins; end = 0 } ∷ later) split
-    where
-      split : joined_from T 0 i ≡ joined_from T 0 v ++ joined_from T v (i - v)
-      split =
-          let sum : i ≡ v + (i - v) = omega arith in
-          let zero_v : 0 + v ≡ v = omega arith in
-          ap (λ m. joined_from T 0 m) sum ∙ joined_from-add T 0 v (i - v)
-          ∙ ap (λ m. joined_from T 0 v ++ joined_from T m (i - v)) zero_v
+  -- up to a later line
+  pub front-through : (v i : ℕ) → v ≤ i → front i ≡ front v ++ joined_from T v (i - v)
+  front-through = headed-through (record { call = begins; end = 0 }) T
 
-  front-one : (v i : ℕ) → v ≡ i → front (i + 1) ≡ front v ++ T i
-  front-one v i same =
-      let one : (i + 1) - i ≡ 1 = omega arith in
-      front-through i (i + 1) (omega arith) ∙ (ap (λ m. front i ++ joined_from T i m) one
-      ∙ (ap (λ xs. front i ++ xs) (append-nil (T i)) ∙ ap (λ m. front m ++ T i) (sym same)))
+  -- they are the first of all calls
+  pub front-first : (v : ℕ) → v ≤ n → take (length (front v)) (AcrossLines.turns k meaning bytes) ≡ front v
+  front-first v low =
+      ap (take (length (front v))) (front-through v n low) ∙ take-append_seam (front v) (joined_from T v (n - v))
 
   number-is : (i : ℕ) → i < n → number k meaning bytes i ≡ number_of k i
   number-is i inside =
@@ -101,7 +95,8 @@ module _ (k : Settings) (meaning : Meaning) (bytes : List ℕ) where
       → front (if nat_lt 0 left || k.passthru then i + 1 else v)
       ≡ front v ++ (if nat_lt 0 left then context_turns After (number_of k i) (starts i) (starts (i + 1)) (span i (i + 1))
       else (if k.passthru then context_turns Other (number_of k i) (starts i) (starts (i + 1)) (span i (i + 1)) else []))
-  front-missed bare v i left near inside missed = go (nat_lt 0 left) k.passthru refl refl
+  front-missed bare v i left near inside missed =
+      SelectionLemmas.headed-missed k S n n v i left near (record { call = begins; end = 0 }) T _ _ after other
     where
       is_number : number k meaning bytes i ≡ number_of k i
       is_number = number-is i inside
@@ -120,17 +115,6 @@ module _ (k : Settings) (meaning : Meaning) (bytes : List ℕ) where
           let kind : AcrossLines.kind k meaning bytes i ≡ Some (in_context Other) =
           SelectionLemmas.kind-other k S n n v i left near missed none is_p (bare is_p).1 in
           rw (kind, and-false (nat_lt 0 (A + B)), is_number, is_line) refl
-
-      go : (b p : Bool) → nat_lt 0 left ≡ b → k.passthru ≡ p → front (if b || p then i + 1 else v)
-          ≡ front v ++ (if b then context_turns After (number_of k i) (starts i) (starts (i + 1)) (span i (i + 1))
-          else (if p then context_turns Other (number_of k i) (starts i) (starts (i + 1)) (span i (i + 1)) else []))
-      go true p is_b is_p =
-          let some = ltb-true 0 left is_b in
-          front-one v i (near.close some) ∙ ap (λ xs. front v ++ xs) (after some)
-      go false true is_b is_p =
-          let none : left ≡ 0 = let le = ltb-false 0 left is_b in omega arith in
-          front-one v i (near.bare is_p) ∙ ap (λ xs. front v ++ xs) (other none is_p)
-      go false false is_b is_p = sym (append-nil (front v))
 
   -- after a unit
   pub near-unit : (i e : ℕ) → i < e → e ≤ n → ((j : ℕ) → i ≤ j → j < e → S j ≡ true) → Near e e k.after_context

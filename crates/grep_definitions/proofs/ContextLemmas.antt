@@ -1,5 +1,6 @@
 -- The calls of lines near matches, against the definitions.
-use Rattle.std.proofs.Common.{◌≡◌, ℕ, ◌+◌, ◌-◌, ◌<◌, ◌≤◌, Bool, true, false, not, ◌&&◌, List, [], length, refl, ◌∙◌, ap, ⊎_elim, Some, None, if◌then◌else◌}
+use Rattle.std.proofs.Common.{◌≡◌, ℕ, ◌+◌, ◌-◌, ◌<◌, ◌≤◌, Bool, true, false, not, ◌&&◌, ◌||◌, List, [], length}
+use Rattle.std.proofs.Common.{refl, ◌∙◌, ap, ⊎_elim, Some, None, if◌then◌else◌}
 use Rattle.std.proofs.Math.Bool.{and-false}
 use Rattle.std.proofs.lemmas.Bool.{lt-leb, le-leb, cases_lt}
 use Rattle.std.specs.Prelude.{nat_lt, nat_le}
@@ -49,9 +50,6 @@ module _ (k : Settings) (meaning : Meaning) (bytes : List ℕ) where
       rw (kind, and-false (nat_lt 0 (A + B))) refl
 
   module _ (v i left : ℕ) (near : IsNear k meaning bytes v i left) (inside : i < n) (has : i < turned) where
-    pub IsNear-pass : is_selected i ≡ false → left ≡ 0 → k.passthru ≡ false → IsNear k meaning bytes v (i + 1) 0
-    IsNear-pass = SelectionLemmas.IsNear-pass k is_selected n turned v i left near
-
     -- a line after a selected one
     pub turns_at-after : (start end : ℕ) (line : List ℕ) → is_selected i ≡ false → 0 < left → LineSearch.number k meaning bytes i
         ≡ number_of k i → LineSearch.start k meaning bytes i ≡ start → LineSearch.start k meaning bytes (i + 1) ≡ end
@@ -60,9 +58,6 @@ module _ (k : Settings) (meaning : Meaning) (bytes : List ℕ) where
         let kind : LineSearch.kind k meaning bytes i ≡ Some (in_context After) =
         SelectionLemmas.kind-after k is_selected n turned v i left near misses some in
         rw (kind, and-false (nat_lt 0 (A + B)), is_number, is_end, is_start, is_line) refl
-
-    pub IsNear-after : (rest : ℕ) → is_selected i ≡ false → left ≡ rest + 1 → IsNear k meaning bytes (i + 1) (i + 1) rest
-    IsNear-after = SelectionLemmas.IsNear-after k is_selected n turned v i left near has
 
     pub turns_at-other : (start end : ℕ) (line : List ℕ) → is_selected i ≡ false → left ≡ 0 → k.passthru ≡ true → k.before_context ≡ 0
         → LineSearch.number k meaning bytes i ≡ number_of k i → LineSearch.start k meaning bytes i ≡ start
@@ -73,8 +68,9 @@ module _ (k : Settings) (meaning : Meaning) (bytes : List ℕ) where
         SelectionLemmas.kind-other k is_selected n turned v i left near misses empty bare none in
         rw (kind, and-false (nat_lt 0 (A + B)), is_number, is_end, is_start, is_line) refl
 
-    pub IsNear-other : is_selected i ≡ false → left ≡ 0 → k.passthru ≡ true → k.before_context ≡ 0 → IsNear k meaning bytes (i + 1) (i + 1) 0
-    IsNear-other = SelectionLemmas.IsNear-other k is_selected n turned v i left near has
+    pub IsNear-missed : (k.passthru ≡ true → k.before_context ≡ 0) → is_selected i ≡ false
+        → IsNear k meaning bytes (if nat_lt 0 left || k.passthru then i + 1 else v) (i + 1) (left - 1)
+    IsNear-missed bare = SelectionLemmas.IsNear-missed k is_selected n turned v i left near bare has
 
     module _ (hit : is_selected i ≡ true) where
       pub IsNear-hit : IsNear k meaning bytes (i + 1) (i + 1) A

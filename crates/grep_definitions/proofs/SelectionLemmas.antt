@@ -1,7 +1,9 @@
 -- How lines near selected lines are reported, by line and across lines alike.
-use Rattle.std.proofs.Common.{◌≡◌, ℕ, zero, suc, ◌+◌, ◌-◌, ◌<◌, ◌≤◌, Bool, true, false, not, ◌&&◌, ◌||◌, refl, sym, ◌∙◌, ap, subst, arith, ⊎_elim, Some, None, is_some, if◌then◌else◌}
+use Rattle.std.proofs.Common.{◌≡◌, ℕ, zero, suc, ◌+◌, ◌-◌, ◌<◌, ◌≤◌, Bool, true, false, not, ◌&&◌, ◌||◌, List, [], ◌++◌}
+use Rattle.std.proofs.Common.{refl, sym, ◌∙◌, ap, subst, arith, ⊎_elim, Some, None, is_some, if◌then◌else◌}
 use Rattle.std.proofs.Math.Bool.{or-false, and-false, and-true}
 use Rattle.std.proofs.lemmas.Bool.{lt-ltb, lt-leb, le-leb, le-ltb, eq-eqb, cases_lt, cases_Bool, ne_eqb, ltb-true, ltb-false}
+use Rattle.std.proofs.lemmas.List.{append-nil}
 use Rattle.std.specs.Prelude.{nat_lt, nat_le}
 use Rattle.grep_report.specs.declared.sink_context.SinkContextKind.TheVariants.{Before, After, Other}
 use Rattle.grep_definitions.specs.Settings.{Settings}
@@ -10,7 +12,7 @@ use Rattle.grep_definitions.specs.LineSearch.{in_context}
 use Rattle.grep_definitions.specs.LineTurns.{is_gap}
 use Rattle.grep_definitions.specs.Selections
 use Rattle.grep_definitions.specs.Selections.{IsNear}
-use Rattle.grep_definitions.proofs.BelowLemmas.{some_below-none, some_below-some, first_below-here}
+use Rattle.grep_definitions.proofs.BelowLemmas.{some_below-none, some_below-some, first_below-here, headed, headed-one}
 use Rattle.grep_definitions.proofs.BoolLemmas.{clash}
 
 -- of n lines, some are selected, and so many have a turn
@@ -181,6 +183,23 @@ module _ (k : Settings) (selected : ℕ → Bool) (n turned : ℕ) where
             let rest : 0 ≡ left - 1 = omega arith in
             subst (λ l. Near v (i + 1) l) rest (IsNear-pass misses none is_p)
 
+    -- what is joined up to it, of what each line has, if the line has nothing unless it is reported
+    pub headed-missed : {X : Type 0} (first : X) (f : ℕ → List X) (after other : List X) → (0 < left → f i ≡ after)
+        → (left ≡ 0 → k.passthru ≡ true → f i ≡ other)
+        → headed first f (if nat_lt 0 left || k.passthru then i + 1 else v)
+        ≡ headed first f v ++ (if nat_lt 0 left then after else (if k.passthru then other else []))
+    headed-missed first f after other is_after is_other = go (nat_lt 0 left) k.passthru refl refl
+      where
+        go : (b p : Bool) → nat_lt 0 left ≡ b → k.passthru ≡ p
+            → headed first f (if b || p then i + 1 else v) ≡ headed first f v ++ (if b then after else (if p then other else []))
+        go true p is_b is_p =
+            let some = ltb-true 0 left is_b in
+            headed-one first f v i (near.close some) ∙ ap (λ xs. headed first f v ++ xs) (is_after some)
+        go false true is_b is_p =
+            let none : left ≡ 0 = let le = ltb-false 0 left is_b in omega arith in
+            headed-one first f v i (near.bare is_p) ∙ ap (λ xs. headed first f v ++ xs) (is_other none is_p)
+        go false false is_b is_p = sym (append-nil (headed first f v))
+
     -- if line i is selected
     module _ (inside : i < n) (has : i < turned) (hit : selected i ≡ true) where
       reported-here : is_reported i ≡ true
@@ -265,7 +284,8 @@ module _ (k : Settings) (selected : ℕ → Bool) (n turned : ℕ) where
           rw wide gap
 
       pub gap-hit : (nat_lt 0 (A + B) && true && not (is_reported (i - 1)) && some_below is_reported i) ≡ (nat_lt 0 A && is_gap k v i i)
-      gap-hit = guard (not (is_reported (i - 1))) (some_below is_reported i) (break-here i near.low (omega arith) (omega arith) reported-here)
+      gap-hit = guard (not (is_reported (i - 1))) (some_below is_reported i)
+          (break-here i near.low (omega arith) (omega arith) reported-here)
         where
           guard : (r s : Bool) → (r && s) ≡ is_gap k v i i → (((nat_lt 0 (A + B) && true) && r) && s) ≡ (nat_lt 0 A && is_gap k v i i)
           guard r s same = ⊎_elim
