@@ -60,7 +60,7 @@ module _ (k : Settings) (meaning : Meaning) (bytes : List ℕ) where
   abbrev is_reported : ℕ → Bool
   is_reported = AcrossLines.is_reported k meaning bytes
 
-  -- up to a later line
+  -- and then those of the lines up to a later one
   pub front-through : (v i : ℕ) → v ≤ i → front i ≡ front v ++ joined_from T v (i - v)
   front-through = headed-through (record { call = begins; end = 0 }) T
 

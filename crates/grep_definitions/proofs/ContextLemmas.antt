@@ -59,6 +59,7 @@ module _ (k : Settings) (meaning : Meaning) (bytes : List ℕ) where
         SelectionLemmas.kind-after k is_selected n turned v i left near misses some in
         rw (kind, and-false (nat_lt 0 (A + B)), is_number, is_end, is_start, is_line) refl
 
+    -- a line that is reported under passthru alone
     pub turns_at-other : (start end : ℕ) (line : List ℕ) → is_selected i ≡ false → left ≡ 0 → k.passthru ≡ true → k.before_context ≡ 0
         → LineSearch.number k meaning bytes i ≡ number_of k i → LineSearch.start k meaning bytes i ≡ start
         → LineSearch.start k meaning bytes (i + 1) ≡ end → LineSearch.line k meaning bytes i ≡ line → turns_at k meaning bytes i
