@@ -183,7 +183,7 @@ module _ (k : Settings) (selected : ℕ → Bool) (n turned : ℕ) where
             let rest : 0 ≡ left - 1 = omega arith in
             subst (λ l. Near v (i + 1) l) rest (IsNear-pass misses none is_p)
 
-    -- what is joined up to it, of what each line has, if the line has nothing unless it is reported
+    -- what is joined over the lines grows by that line's part, if it is reported
     pub headed-missed : {X : Type 0} (first : X) (f : ℕ → List X) (after other : List X) → (0 < left → f i ≡ after)
         → (left ≡ 0 → k.passthru ≡ true → f i ≡ other)
         → headed first f (if nat_lt 0 left || k.passthru then i + 1 else v)
@@ -304,7 +304,7 @@ module _ (k : Settings) (selected : ℕ → Bool) (n turned : ℕ) where
           (some_below-none _ i (λ q below. ⊎_elim (λ follows_it. let c = (near.passed q (omega arith) below).0 in rw c (and-false _))
           (λ ahead. let c = le-ltb j q ahead in rw c refl) (cases_lt j q)))
 
-  -- lines that aren't selected are passed unreported
+  -- lines that aren't selected are passed unreported, if none is left to be reported after a match
   pub IsNear-skipped : k.passthru ≡ false → (v i m : ℕ) → Near v i 0
       → ((j : ℕ) → i ≤ j → j < i + m → selected j ≡ false) → Near v (i + m) 0
   IsNear-skipped plain v i zero near missed = let same : i ≡ i + zero = omega arith in subst (λ x. Near v x 0) same near
