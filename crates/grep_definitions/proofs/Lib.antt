@@ -7,6 +7,7 @@ pub mod KnownReaderLemmas
 pub mod ReaderViewLemmas
 pub mod ModeLemmas
 pub mod LimitLemmas
+pub mod SelectionLemmas
 pub mod ContextLemmas
 pub mod LineStartLemmas
 pub mod LineLengthLemmas
@@ -20,6 +21,7 @@ pub mod TouchLemmas
 pub mod RunLemmas
 pub mod AcrossLemmas
 pub mod UnitLemmas
+pub mod AcrossWalkLemmas
 pub mod AsByLineLemmas
 pub mod DecodedLemmas
 pub mod WorkedExamples
