@@ -10,6 +10,7 @@ pub mod WindowLemmas
 pub mod WindowSearchLemmas
 pub mod FinishLemmas
 pub mod DecodedLemmas
+pub mod ModeLemmas
 pub mod ContentsSearchLemmas
 pub mod LookAheadLemmas
 pub mod ClosureSinkLemmas
