@@ -1,8 +1,9 @@
 -- Numbers below a bound that pass a test, bounds that may be missing, and lists joined over numbers.
-use Rattle.std.proofs.Common.{◌≡◌, ◌⊎◌, ℕ, zero, suc, ◌+◌, ◌<◌, ◌≤◌, Bool, true, false, not, refl, sym, ◌∙◌, ap, arith, ⊎_elim, Option, Some, None, if◌then◌else◌}
+use Rattle.std.proofs.Common.{◌≡◌, ◌⊎◌, ℕ, zero, suc, ◌+◌, ◌-◌, ◌<◌, ◌≤◌, Bool, true, false, not, Option, Some, None, if◌then◌else◌}
+use Rattle.std.proofs.Common.{refl, sym, ◌∙◌, ap, arith, ⊎_elim}
 use Rattle.std.proofs.lemmas.Bool.{lt-ltb, le-ltb, ltb-true, eq-eqb, ne_eqb, cases_lt, cases_Bool}
 use Rattle.std.proofs.Math.Bool.{or-false, or-true}
-use Rattle.std.specs.Prelude.{IfSome, List, [], ◌++◌}
+use Rattle.std.specs.Prelude.{IfSome, List, [], ◌∷◌, ◌++◌}
 use Rattle.std.proofs.Common.{append_assoc}
 use Rattle.std.proofs.lemmas.List.{append-nil}
 use Rattle.grep_definitions.specs.Below.{some_below, count_below, first_below, is_below, is_at, at_most, joined_from}
@@ -116,6 +117,36 @@ joined_from-add f i (suc n) m =
 -- one more of what is joined
 pub joined_from-more : {X : Type 0} (f : ℕ → List X) (i n : ℕ) → joined_from f i (n + 1) ≡ joined_from f i n ++ f (i + n)
 joined_from-more f i n = joined_from-add f i n 1 ∙ ap (λ xs. joined_from f i n ++ xs) (append-nil (f (i + n)))
+
+-- an element, and then what is joined up to a number
+module _ {X : Type 0} (first : X) (f : ℕ → List X) where
+  abbrev pub headed : ℕ → List X
+  headed i = first ∷ joined_from f 0 i
+
+  pub headed-through : (v i : ℕ) → v ≤ i → headed i ≡ headed v ++ joined_from f v (i - v)
+  headed-through v i low = ap (λ later. first ∷ later) split
+    where
+      split : joined_from f 0 i ≡ joined_from f 0 v ++ joined_from f v (i - v)
+      split =
+          let sum : i ≡ v + (i - v) = omega arith in
+          let zero_v : 0 + v ≡ v = omega arith in
+          ap (λ m. joined_from f 0 m) sum ∙ joined_from-add f 0 v (i - v)
+          ∙ ap (λ m. joined_from f 0 v ++ joined_from f m (i - v)) zero_v
+
+  pub headed-one : (v i : ℕ) → v ≡ i → headed (i + 1) ≡ headed v ++ f i
+  headed-one v i same =
+      let one : (i + 1) - i ≡ 1 = omega arith in
+      headed-through i (i + 1) (omega arith)
+      ∙ (ap (λ m. headed i ++ joined_from f i m) one
+      ∙ (ap (λ xs. headed i ++ xs) (append-nil (f i)) ∙ ap (λ m. headed m ++ f i) (sym same)))
+
+  pub headed-many : (v i : ℕ) → v ≤ i → headed (i + 1) ≡ headed v ++ (joined_from f v (i - v) ++ f i)
+  headed-many v i low =
+      let sum : (i + 1) - v ≡ (i - v) + 1 = omega arith in
+      let last : v + (i - v) ≡ i = omega arith in
+      headed-through v (i + 1) (omega arith)
+      ∙ ap (λ xs. headed v ++ xs)
+      (ap (λ m. joined_from f v m) sum ∙ (joined_from-more f v (i - v) ∙ ap (λ m. joined_from f v (i - v) ++ f m) last))
 
 -- joined lists are equal if their parts are
 pub joined_from-equal : {X : Type 0} (f h : ℕ → List X) (i n : ℕ) → ((j : ℕ) → i ≤ j → j < i + n → f j ≡ h j) → joined_from f i n

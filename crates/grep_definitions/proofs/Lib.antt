@@ -5,7 +5,9 @@ pub mod SinkRunLemmas
 pub mod SinkFoldLemmas
 pub mod KnownReaderLemmas
 pub mod ReaderViewLemmas
+pub mod ModeLemmas
 pub mod LimitLemmas
+pub mod SelectionLemmas
 pub mod ContextLemmas
 pub mod LineStartLemmas
 pub mod LineLengthLemmas
@@ -20,6 +22,7 @@ pub mod BlockLemmas
 pub mod RunLemmas
 pub mod AcrossLemmas
 pub mod UnitLemmas
+pub mod AcrossWalkLemmas
 pub mod AsByLineLemmas
 pub mod DecodedLemmas
 pub mod WorkedExamples

@@ -8,7 +8,7 @@ use Rattle.grep_decode.specs.Source.{ReadResult, Pulls}
 use Rattle.grep_matcher.specs.Matching.{Meaning}
 use Rattle.grep_report.specs.declared.config_error.ConfigError.{ConfigError}
 use Rattle.grep_definitions.specs.ReaderSearches.{Taken, IsUnread, IsReaderFault, IsReaderFaultUnless, IsReaderRun, IsReaderSearched}
-use Rattle.grep_definitions.specs.ReaderSearches.{of_cut, of_reader, of_buffers, of_search, of_reading}
+use Rattle.grep_definitions.specs.ReaderSearches.{of_cut, of_reader, of_contents, of_failed_read, of_buffers, of_search, of_reading}
 use Rattle.grep_definitions.specs.Refusals.{refusal_of}
 use Rattle.grep_definitions.specs.Searches.{ErrorMakers, MatcherFacts}
 use Rattle.grep_definitions.specs.Settings.{SearcherState}
@@ -57,27 +57,33 @@ module _ {R T N : Type 0} (view : R → T) (name : R → N) (remaining : T → O
       where
         named : (lines : Option (List ℕ)) (error : Error) (after : R)
             → IsUnread (λ s. remaining (view s)) read state meaning reader lines error after → name reader ≡ name after
-        named (Some lines) error after (of_cut taken cut) = Taken-named reader after taken
-        named (Some lines) error after (of_reader mid taken unended failed goes_on came) =
+        named (Some lines) error after (of_cut by_line taken cut) = Taken-named reader after taken
+        named (Some lines) error after (of_reader by_line mid taken unended failed goes_on came) =
+            Taken-named reader mid taken ∙ sym (seen mid (Err error) after failed).0
+        named None error after (of_contents across taken cut) = Taken-named reader after taken
+        named None error after (of_failed_read across mid taken unended failed few) =
             Taken-named reader mid taken ∙ sym (seen mid (Err error) after failed).0
         named None error after (of_buffers none memory) = refl
 
         whole : (lines : Option (List ℕ)) (error : Error) (after : R)
             → IsUnread (λ s. remaining (view s)) read state meaning reader lines error after
             → IsUnread remaining seen_read state meaning (view reader) lines error (view after)
-        whole (Some lines) error after (of_cut taken cut) = of_cut (Taken-seen reader after taken) cut
-        whole (Some lines) error after (of_reader mid taken unended failed goes_on came) =
-            of_reader (view mid) (Taken-seen reader mid taken) unended (seen mid (Err error) after failed).1 goes_on came
+        whole (Some lines) error after (of_cut by_line taken cut) = of_cut by_line (Taken-seen reader after taken) cut
+        whole (Some lines) error after (of_reader by_line mid taken unended failed goes_on came) =
+            of_reader by_line (view mid) (Taken-seen reader mid taken) unended (seen mid (Err error) after failed).1 goes_on came
+        whole None error after (of_contents across taken cut) = of_contents across (Taken-seen reader after taken) cut
+        whole None error after (of_failed_read across mid taken unended failed few) =
+            of_failed_read across (view mid) (Taken-seen reader mid taken) unended (seen mid (Err error) after failed).1 few
         whole None error after (of_buffers none memory) = of_buffers none memory
 
     module _ {S E F : Type 0} (step : Steps S E) (errors : ErrorMakers E) (matcher : MatcherFacts F) where
       IsReaderFault-seen : (old : S) (e : E) (new : S)
           → IsReaderFault (λ s. remaining (view s)) read step errors matcher state reader old e reader' new
           → IsReaderFault remaining seen_read step errors matcher state (view reader) old e last new
-      IsReaderFault-seen old e new (of_search taken lines fault all) =
+      IsReaderFault-seen old e new (of_search taken lines ended fault all) =
           subst (λ after. IsReaderFault remaining seen_read step errors matcher state (view reader) old e after new)
           (sym (ends (Taken-named reader reader' taken)))
-          (of_search (Taken-seen reader reader' taken) lines fault all)
+          (of_search (Taken-seen reader reader' taken) lines ended fault all)
       IsReaderFault-seen old e new (of_reading lines error unread made reported) =
           of_reading lines error (IsUnread-seen matcher.meaning lines error unread) made reported
 
@@ -99,7 +105,9 @@ module _ {R T N : Type 0} (view : R → T) (name : R → N) (remaining : T → O
             begun = run.begun;
             first = run.first;
             begin = run.begin;
-            unread = λ idle. ap view (run.unread idle);
+            unread = λ by_line idle. ap view (run.unread by_line idle);
+            whole = run.whole;
+            below = run.below;
             ahead = run.ahead;
           })
 

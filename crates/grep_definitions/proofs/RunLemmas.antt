@@ -93,6 +93,16 @@ module _ (p : ℕ → Bool) (n : ℕ) where
             closed = λ below. not_false (p q) parts.1;
           }
 
+  -- no run from number i on ends at two numbers
+  pub IsRunEnd-one : (i d e : ℕ) → IsRunEnd i d → IsRunEnd i e → d ≡ e
+  IsRunEnd-one i d e one other = ⊎_elim
+      (λ less. absurd (clash (other.inner d one.low less) (one.closed (omega (arith, other.high)))))
+      (λ over. ⊎_elim
+      (λ more. absurd (clash (one.inner e other.low more) (other.closed (omega (arith, one.high)))))
+      (λ under. omega arith)
+      (cases_lt e d))
+      (cases_lt d e)
+
   -- a run that begins earlier ends at the same number
   IsRunEnd-next : (i e : ℕ) → i < n → p i ≡ true → IsRunEnd i e → IsRunEnd (i + 1) e
   IsRunEnd-next i e inside here run = record {

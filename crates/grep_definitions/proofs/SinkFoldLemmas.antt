@@ -8,7 +8,7 @@ use Rattle.grep_definitions.specs.Settings.{Settings}
 use Rattle.grep_definitions.specs.SinkCalls.{Call, Turn, begins, matches, context, breaks, binary_data, finishes}
 use Rattle.grep_definitions.specs.SinkRuns.{Steps, Outcome, AreReported, IsFinished, IsRun}
 use Rattle.grep_definitions.specs.SearchLaws.{is_match, match_calls}
-use Rattle.grep_definitions.specs.LineSearch.{turns, byte_count}
+use Rattle.grep_definitions.specs.SearchTurns.{search_turns, search_byte_count}
 use Rattle.grep_definitions.specs.Searches.{ErrorMakers, MatcherFacts, IsFault, of_sink, of_matcher, IsFaultUnless}
 use Rattle.grep_definitions.specs.DecodedInputs.{searched_bytes}
 use Rattle.grep_definitions.specs.SinkFolds.{fold_while, run_fold, AreTaken, IsTakenOk, IsTakenBy, StepsBy}
@@ -165,9 +165,10 @@ module _ {S E F : Type 0} (step : Steps S E) (errors : ErrorMakers E) (matcher :
   fault-fails : (settings : Settings) (bytes : List ℕ) (old : S) (e : E) (new : S) → IsInfallible matcher.fails
       → IsFault step errors matcher settings bytes old e new → (mid : S) × (call : Call) × step mid settings call (Err e) new
   fault-fails settings bytes old e new infallible (of_sink run) =
-      reported-fails step settings (byte_count settings matcher.meaning bytes) None e new (turns settings matcher.meaning bytes) old
+      reported-fails step settings (search_byte_count settings matcher.meaning bytes) None e new
+      (search_turns settings matcher.meaning bytes) old
       run.outcome run.mid run.reported run.finished
-  fault-fails settings bytes old e new infallible (of_matcher i haystack error turn room asked fails message reported) =
+  fault-fails settings bytes old e new infallible (of_matcher haystack error made asked fails message reported) =
       absurd (infallible _ error fails)
 
   pub searches-fail : SearchesFail step errors matcher
@@ -187,5 +188,5 @@ module _ {S E F : Type 0} (step : Steps S E) (errors : ErrorMakers E) (matcher :
           → ((mid : S) × (call : Call) × step mid state.settings call (Err e) new)
           ⊎ ((seen : Option (List ℕ)) × (error : Error)
           × IsUnread remaining read_step state matcher.meaning reader seen error reader' × errors.is_io error e)
-      go (of_search taken seen fault whole) = inl (fault-fails state.settings seen old e new infallible fault)
+      go (of_search taken seen ended fault whole) = inl (fault-fails state.settings seen old e new infallible fault)
       go (of_reading seen error cause made reported) = inr (seen, error, cause, made)

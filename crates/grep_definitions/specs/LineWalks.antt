@@ -1,25 +1,19 @@
 -- What a walk from line to line knows of the lines before it, by the definition of the calls. The contracts of private
 -- functions cite these definitions; no public contract does.
-use Rattle.std.specs.Prelude.{◌≡◌, ℕ, ◌+◌, ◌-◌, ◌<◌, ◌≤◌, true, false, not, ◌&&◌, nat_lt, nat_le, List, Some}
+use Rattle.std.specs.Prelude.{◌≡◌, ℕ, ◌+◌, ◌<◌, true, false, not, nat_lt, List, Some}
 use Rattle.grep_matcher.specs.Matching.{Meaning}
 use Rattle.grep_definitions.specs.Settings.{Settings}
 use Rattle.grep_definitions.specs.Below.{some_below, count_below, first_below, is_below, is_at}
 use Rattle.grep_definitions.specs.LineSearch.{hits, is_chosen, ends_chosen, fills_limit}
-use Rattle.grep_definitions.specs.LineSearch.{is_selected, follows_selected, is_reported}
+use Rattle.grep_definitions.specs.LineSearch.{is_selected, line_count, turn_count}
+use Rattle.grep_definitions.specs.Selections
 
 module _ (settings : Settings) (meaning : Meaning) (bytes : List ℕ) where
-  -- what a walk at line i knows of the lines before it, if it is done with those up to v, and `left` lines are still
-  -- to be reported after a match: the lines after v aren't selected and follow no selected line
-  pub record IsNear (v i left : ℕ) : Type 0 where
-    pub low : v ≤ i
-    pub few : left ≤ settings.after_context
-    pub close : 0 < left → v ≡ i
-    pub window : (x : ℕ) → i ≤ x
-        → some_below (λ j. nat_le (x - j) settings.after_context && is_selected settings meaning bytes j) i ≡ nat_lt (x - i) left
-    pub passed : (j : ℕ) → v ≤ j → j < i
-        → (is_selected settings meaning bytes j ≡ false) × (follows_selected settings meaning bytes j ≡ false)
-    pub shown : 0 < v → is_reported settings meaning bytes (v - 1) ≡ true
-    pub bare : settings.passthru ≡ true → v ≡ i
+  -- what a walk knows of the lines before it, by the lines that are selected and by how many there are
+  abbrev pub IsNear : ℕ → ℕ → ℕ → Type 0
+  IsNear v i left =
+      Selections.IsNear settings (is_selected settings meaning bytes) (line_count settings meaning bytes)
+      (turn_count settings meaning bytes) v i left
 
   -- what a walk that goes on at line i knows of limit and stop, if c lines were chosen and `left` lines are still to be
   -- reported after a match

@@ -1,4 +1,4 @@
--- Whether a search runs across lines or by line. No search uses this definition yet.
+-- Whether a search runs across lines or by line.
 use Rattle.std.specs.Prelude.{Bool, false, not, ◌&&◌, Option, Some, None}
 use Rattle.grep_matcher.specs.declared.line_terminator.LineTerminator.{LineTerminator}
 use Rattle.grep_matcher.specs.Terminators.{byte_of}

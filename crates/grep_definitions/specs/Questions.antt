@@ -1,5 +1,5 @@
 -- What a search asks a matcher: about one line, or about many lines at once.
-use Rattle.std.specs.Prelude.{◌≡◌, ◌≢◌, ◌⊎◌, ℕ, ◌<◌, ◌≤◌, ◌&&◌, false, List, Some}
+use Rattle.std.specs.Prelude.{◌≡◌, ◌≢◌, ◌⊎◌, ℕ, ◌<◌, ◌≤◌, ◌&&◌, true, false, List, Some}
 use Rattle.grep_lines.specs.Positions.{slice}
 use Rattle.grep_matcher.specs.declared.line_terminator.LineTerminator.{LineTerminator}
 use Rattle.grep_matcher.specs.declared.line_terminator.LineTerminator.TheVariants.{Byte}
@@ -7,8 +7,10 @@ use Rattle.grep_matcher.specs.Lawful.{ExcludesTerminator}
 use Rattle.grep_matcher.specs.Lines.{strip}
 use Rattle.grep_matcher.specs.Matching.{Meaning}
 use Rattle.grep_definitions.specs.Below.{some_below}
-use Rattle.grep_definitions.specs.LineSearch.{line_count, line, start, is_chosen}
+use Rattle.grep_definitions.specs.LineSearch.{line_count, turn_count, turns_through, line, start}
+use Rattle.grep_definitions.specs.LineSearch.{is_chosen, is_open_at}
 use Rattle.grep_definitions.specs.Settings.{Settings}
+use Rattle.grep_definitions.specs.SinkCalls.{Turn}
 
 -- A search may ask about many lines at once: it doesn't report every line, and the matcher says that no match contains
 -- the line terminator. If the terminator that it declares is the byte 0, the search asks about each line alone, as
@@ -37,3 +39,12 @@ module _ (settings : Settings) (meaning : Meaning) (bytes : List ℕ) where
   abbrev pub IsAsked : ℕ → List ℕ → Type 0
   IsAsked i haystack =
       (haystack ≡ strip settings.line_terminator (line settings meaning bytes i)) ⊎ IsAskedAhead i haystack
+
+  -- what a matcher is asked by line, and the calls that were made before: at a line that has a turn, while fewer lines
+  -- before it hit than the limit has. Just those calls were made whose turn ends at or before the start of that line
+  pub record IsAskedByLine (haystack : List ℕ) (made : List Turn) : Type 0 where
+    pub index : ℕ
+    pub has_turn : index < turn_count settings meaning bytes
+    pub room : is_open_at settings meaning bytes index ≡ true
+    pub question : IsAsked index haystack
+    pub before : made ≡ turns_through settings meaning bytes (start settings meaning bytes index)

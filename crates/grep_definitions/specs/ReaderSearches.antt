@@ -1,6 +1,6 @@
 -- What a search of a reader does: it makes the calls for the decoded bytes of what the reader gives, and reads no
 -- more than it needs. What it promises holds whatever would follow what it read.
-use Rattle.std.specs.Prelude.{◌≡◌, ◌≤◌, ◌+◌, ◌++◌, ◌&&◌, ◌≢◌, ℕ, Bool, true, false, not, List, length, All}
+use Rattle.std.specs.Prelude.{◌≡◌, ◌≤◌, ◌<◌, ◌+◌, ◌++◌, ◌&&◌, ◌≢◌, ℕ, Bool, true, false, not, List, length, All}
 use Rattle.std.specs.Prelude.{Option, Some, None, Result, Ok, Err}
 use Rattle.std.specs.List.{concat}
 use Rattle.std.specs.Io.KnownBytes.{Consumes}
@@ -16,10 +16,10 @@ use Rattle.grep_report.specs.declared.config_error.ConfigError.{ConfigError}
 use Rattle.grep_definitions.specs.Below.{is_at}
 use Rattle.grep_definitions.specs.DecodedInputs.{IsInput, is_searched_unchanged}
 use Rattle.grep_definitions.specs.InputFronts.{GoesOnAfter, HasOpenLine, IsFront}
-use Rattle.grep_definitions.specs.LineSearch.{turns, turn_count, byte_count}
-use Rattle.grep_definitions.specs.ReadingFaults.{CutsShort}
+use Rattle.grep_definitions.specs.ReadingFaults.{CutsShort, CutsContents}
 use Rattle.grep_definitions.specs.Refusals.{refusal_of}
-use Rattle.grep_definitions.specs.Searches.{ErrorMakers, MatcherFacts, IsFault, HasReported, IsLawful}
+use Rattle.grep_definitions.specs.Searches.{ErrorMakers, MatcherFacts, IsFaultIn, HasReportedIn, IsLawful}
+use Rattle.grep_definitions.specs.SearchTurns.{SearchCalls, search_calls, calls_by_line}
 use Rattle.grep_definitions.specs.Settings.{Settings, SearcherState}
 use Rattle.grep_definitions.specs.SinkCalls.{begins}
 use Rattle.grep_definitions.specs.SinkRuns.{Steps, Outcome, all_true, stopped, failed, AreReported, IsFinished, IsRun}
@@ -43,67 +43,106 @@ module _ {R : Type 0} (remaining : R → Option (List ℕ)) (read_step : R → R
     pub calls : Calls remaining read_step false ended old pieces new
     pub takes : Consumes (remaining old) (remaining new) (concat pieces)
 
-  -- why a reader's input wasn't searched to its end: after the lines that were seen, or before `begin`
-  pub data IsUnread (state : SearcherState) (meaning : Meaning) (reader : R)
+  -- why a reader's input wasn't searched to its end, by line or across lines: after the lines that were seen, or
+  -- before `begin`
+  pub data IsUnreadIn (across : Bool) (state : SearcherState) (meaning : Meaning) (reader : R)
       : Option (List ℕ) → Error → R → Type 0 where
-    of_cut : {seen : List ℕ} {error : Error} {reader' : R} (taken : Taken reader reader')
+    of_cut : {seen : List ℕ} {error : Error} {reader' : R} → across ≡ false → (taken : Taken reader reader')
         → ((bytes : List ℕ) → IsInput state.settings taken.ended taken.pieces bytes
         → GoesOnAfter state.settings meaning bytes seen × CutsShort state.settings meaning bytes seen error)
-        → IsUnread state meaning reader (Some seen) error reader'
+        → IsUnreadIn across state meaning reader (Some seen) error reader'
     -- the reader's last call failed. If what came before is searched unchanged, and more than two bytes were taken,
     -- all lines that came whole were seen
-    of_reader : {seen : List ℕ} {error : Error} {reader' : R} (mid : R) (taken : Taken reader mid) → taken.ended ≡ false
-        → read_step mid (Err error) reader'
+    of_reader : {seen : List ℕ} {error : Error} {reader' : R} → across ≡ false → (mid : R) (taken : Taken reader mid)
+        → taken.ended ≡ false → read_step mid (Err error) reader'
         → ((bytes : List ℕ) → IsInput state.settings taken.ended taken.pieces bytes
         → GoesOnAfter state.settings meaning bytes seen)
         → (is_searched_unchanged state.settings (concat taken.pieces) ≡ true
         → (TakesAtMost (remaining reader) (remaining reader') 2 → ⊥)
         → HasOpenLine state.settings (concat taken.pieces) seen)
-        → IsUnread state meaning reader (Some seen) error reader'
+        → IsUnreadIn across state meaning reader (Some seen) error reader'
+    -- across lines all is read before `begin`: there was no room for it, or the reader's last call failed, before as many
+    -- bytes came as the heap limit, if they are searched unchanged and more than two were taken
+    of_contents : {error : Error} {reader' : R} → across ≡ true → (taken : Taken reader reader')
+        → ((bytes : List ℕ) → IsInput state.settings taken.ended taken.pieces bytes
+        → CutsContents state.settings bytes error)
+        → IsUnreadIn across state meaning reader None error reader'
+    of_failed_read : {error : Error} {reader' : R} → across ≡ true → (mid : R) (taken : Taken reader mid)
+        → taken.ended ≡ false → read_step mid (Err error) reader'
+        → ((limit : ℕ) → state.settings.heap_limit ≡ Some limit
+        → is_searched_unchanged state.settings (concat taken.pieces) ≡ true
+        → (TakesAtMost (remaining reader) (remaining reader') 2 → ⊥) → length (concat taken.pieces) < limit)
+        → IsUnreadIn across state meaning reader None error reader'
     -- there were no buffers, and no memory for them
     of_buffers : {error : Error} → state.has_buffers ≡ false → error_kind error ≡ OutOfMemory
-        → IsUnread state meaning reader None error reader
+        → IsUnreadIn across state meaning reader None error reader
+
+  abbrev pub IsUnread : SearcherState → Meaning → R → Option (List ℕ) → Error → R → Type 0
+  IsUnread state meaning = IsUnreadIn (search_calls state.settings meaning).across state meaning
+
+  -- the same by line
+  abbrev pub IsLineUnread : SearcherState → Meaning → R → Option (List ℕ) → Error → R → Type 0
+  IsLineUnread = IsUnreadIn false
 
   module _ {S E F : Type 0} (step : Steps S E) (errors : ErrorMakers E) (matcher : MatcherFacts F) where
-    -- A search that ended in `Ok`: the calls were made over the lines that were seen, up to the first false or the
-    -- last, and `finish` followed. Whatever follows what was taken, they are those for the whole input, and unless
-    -- one returned false, each line with a turn was seen.
-    pub record IsReaderRun (settings : Settings) (reader : R) (old : S) (reader' : R) (new : S) : Type 0 where
+    -- A search with these calls that ended in `Ok`: they were made over the lines that were seen, up to the first false
+    -- or the last, and `finish` followed. Whatever follows what was taken, they are those for the whole input, and
+    -- unless one returned false, each line with a turn was seen.
+    pub record IsReaderRunIn (calls : SearchCalls) (settings : Settings) (reader : R) (old : S) (reader' : R) (new : S)
+        : Type 0 where
       pub taken : Taken reader reader'
       pub seen : List ℕ
       pub outcome : Outcome E
       pub mid : S
-      pub reported : AreReported step settings old (turns settings matcher.meaning seen) outcome mid
-      pub finished : IsFinished step settings outcome mid (byte_count settings matcher.meaning seen) None (Ok tt) new
+      pub reported : AreReported step settings old (calls.turns seen) outcome mid
+      pub finished : IsFinished step settings outcome mid (calls.byte_count seen) None (Ok tt) new
       pub front : (bytes : List ℕ) → IsInput settings taken.ended taken.pieces bytes → IsFront settings bytes seen
       pub run : (bytes : List ℕ) → IsInput settings taken.ended taken.pieces bytes
-          → IsRun step settings old (turns settings matcher.meaning bytes)
-          (byte_count settings matcher.meaning bytes) None (Ok tt) new
+          → IsRun step settings old (calls.turns bytes) (calls.byte_count bytes) None (Ok tt) new
       pub all : (bytes : List ℕ) → IsInput settings taken.ended taken.pieces bytes → outcome ≡ all_true
-          → turn_count settings matcher.meaning bytes ≤ length (lines (byte_of settings.line_terminator) seen)
-      -- nothing was read unless `begin` returned true and a line may have a turn
+          → calls.turn_count bytes ≤ length (lines (byte_of settings.line_terminator) seen)
+      -- by line nothing was read unless `begin` returned true and a line may have a turn
       pub begun : Bool
       pub first : S
       pub begin : step old settings begins (Ok begun) first
-      pub unread : (begun && not (is_idle settings)) ≡ false → reader' ≡ reader
+      pub unread : calls.across ≡ false → (begun && not (is_idle settings)) ≡ false → reader' ≡ reader
+      -- across lines all was read, and it is shorter than the heap limit
+      pub whole : calls.across ≡ true → taken.ended ≡ true
+      pub below : calls.across ≡ true → (limit : ℕ) → settings.heap_limit ≡ Some limit → length seen < limit
       -- how far the reader is ahead of the byte count, under a heap limit, if what came is searched unchanged
-      pub ahead : (limit : ℕ) → settings.heap_limit ≡ Some limit
+      pub ahead : calls.across ≡ false → (limit : ℕ) → settings.heap_limit ≡ Some limit
           → is_searched_unchanged settings (concat taken.pieces) ≡ true
-          → length (concat taken.pieces) ≤ count_of outcome (byte_count settings matcher.meaning seen) + limit + 3
+          → length (concat taken.pieces) ≤ count_of outcome (calls.byte_count seen) + limit + 3
 
-    -- how a search that isn't refused ends in an error
-    pub data IsReaderFault (state : SearcherState) (reader : R) (old : S) : E → R → S → Type 0 where
-      -- the sink's own error or the matcher's, over the lines that were seen, and whatever follows what was taken
+    -- how a search with these calls that isn't refused ends in an error
+    pub data IsReaderFaultIn (calls : SearchCalls) (state : SearcherState) (reader : R) (old : S)
+        : E → R → S → Type 0 where
+      -- the sink's own error or the matcher's, over the lines that were seen, and whatever follows what was taken.
+      -- Across lines all was read
       of_search : {e : E} {reader' : R} {new : S} (taken : Taken reader reader') (seen : List ℕ)
-          → IsFault step errors matcher state.settings seen old e new
+          → (calls.across ≡ true → taken.ended ≡ true)
+          → IsFaultIn step errors matcher calls state.settings seen old e new
           → ((bytes : List ℕ) → IsInput state.settings taken.ended taken.pieces bytes
-          → IsFront state.settings bytes seen × IsFault step errors matcher state.settings bytes old e new)
-          → IsReaderFault state reader old e reader' new
+          → IsFront state.settings bytes seen × IsFaultIn step errors matcher calls state.settings bytes old e new)
+          → IsReaderFaultIn calls state reader old e reader' new
       -- the input wasn't searched to its end
       of_reading : {e : E} {reader' : R} {new : S} (seen : Option (List ℕ)) (error : Error)
-          → IsUnread state matcher.meaning reader seen error reader' → errors.is_io error e
-          → HasReported step errors matcher state.settings seen old new
-          → IsReaderFault state reader old e reader' new
+          → IsUnreadIn calls.across state matcher.meaning reader seen error reader' → errors.is_io error e
+          → HasReportedIn step errors matcher calls state.settings seen old new
+          → IsReaderFaultIn calls state reader old e reader' new
+
+    abbrev pub IsReaderRun : Settings → R → S → R → S → Type 0
+    IsReaderRun settings = IsReaderRunIn (search_calls settings matcher.meaning) settings
+
+    abbrev pub IsReaderFault : SearcherState → R → S → E → R → S → Type 0
+    IsReaderFault state = IsReaderFaultIn (search_calls state.settings matcher.meaning) state
+
+    -- the same by line
+    abbrev pub IsLineReaderRun : Settings → R → S → R → S → Type 0
+    IsLineReaderRun settings = IsReaderRunIn (calls_by_line settings matcher.meaning) settings
+
+    abbrev pub IsLineReaderFault : SearcherState → R → S → E → R → S → Type 0
+    IsLineReaderFault state = IsReaderFaultIn (calls_by_line state.settings matcher.meaning) state
 
     -- an error: that of the refusal, which leaves the reader and the sink as they were, or that of the search, which is
     -- said if the matcher is lawful

@@ -1,5 +1,5 @@
 -- Why reading ends before a search does.
-use Rattle.std.specs.Prelude.{◌≡◌, ℕ, ◌^◌, ◌<◌, ◌≤◌, false, List, length, Option, Some, None, IfSome}
+use Rattle.std.specs.Prelude.{◌≡◌, ℕ, ◌^◌, ◌<◌, ◌≤◌, Bool, true, false, List, length, Option, Some, None, IfSome}
 use Rattle.std.specs.IoError.{error_kind}
 use Rattle.std.specs.declared.io.Error.{Error}
 use Rattle.std.specs.declared.io.ErrorKind.TheVariants.{InvalidData, Other, OutOfMemory}
@@ -7,6 +7,7 @@ use Rattle.grep_matcher.specs.Matching.{Meaning}
 use Rattle.grep_definitions.specs.Settings.{Settings, SearcherState}
 use Rattle.grep_definitions.specs.InputFronts.{GoesOnAfter, IsCrowded}
 use Rattle.grep_definitions.specs.DecodedInputs.{searched_bytes, is_searched_unchanged}
+use Rattle.grep_definitions.specs.SearchTurns.{search_calls}
 
 -- how many bytes a buffer for lines has at first, if no limit is lower
 abbrev pub buffer_capacity : ℕ
@@ -26,12 +27,28 @@ pub data CutsShort (settings : Settings) (meaning : Meaning) (input seen : List 
       → IsCrowded settings meaning input seen buffer_capacity
       → CutsShort settings meaning input seen error
 
--- why an input that is decoded wasn't searched to its end: after the lines that were seen, or before `begin` if
--- there were no buffers and no memory for them
-pub data IsUndecoded (state : SearcherState) (meaning : Meaning) (input : List ℕ) : Option (List ℕ) → Error → Type 0 where
-  of_cut : {seen : List ℕ} {error : Error} → is_searched_unchanged state.settings input ≡ false
+-- why all of an input isn't read before a search across lines begins, by the error: as many bytes have come as the
+-- heap limit, or there was no memory for them
+pub data CutsContents (settings : Settings) (input : List ℕ) : Error → Type 0 where
+  of_full : {error : Error} (limit : ℕ) → settings.heap_limit ≡ Some limit → error_kind error ≡ Other
+      → limit ≤ length input → CutsContents settings input error
+  of_no_memory : {error : Error} → error_kind error ≡ OutOfMemory → CutsContents settings input error
+
+-- why an input that is decoded wasn't searched to its end, by line or across lines: after the lines that were seen, or
+-- before `begin`
+pub data IsUndecodedIn (across : Bool) (state : SearcherState) (meaning : Meaning) (input : List ℕ)
+    : Option (List ℕ) → Error → Type 0 where
+  of_cut : {seen : List ℕ} {error : Error} → across ≡ false
+      → is_searched_unchanged state.settings input ≡ false
       → GoesOnAfter state.settings meaning (searched_bytes state.settings input) seen
       → CutsShort state.settings meaning (searched_bytes state.settings input) seen error
-      → IsUndecoded state meaning input (Some seen) error
+      → IsUndecodedIn across state meaning input (Some seen) error
+  of_contents : {error : Error} → across ≡ true → is_searched_unchanged state.settings input ≡ false
+      → CutsContents state.settings (searched_bytes state.settings input) error
+      → IsUndecodedIn across state meaning input None error
+  -- there were no buffers, and no memory for them
   of_buffers : {error : Error} → is_searched_unchanged state.settings input ≡ false → state.has_buffers ≡ false
-      → error_kind error ≡ OutOfMemory → IsUndecoded state meaning input None error
+      → error_kind error ≡ OutOfMemory → IsUndecodedIn across state meaning input None error
+
+abbrev pub IsUndecoded : SearcherState → Meaning → List ℕ → Option (List ℕ) → Error → Type 0
+IsUndecoded state meaning = IsUndecodedIn (search_calls state.settings meaning).across state meaning

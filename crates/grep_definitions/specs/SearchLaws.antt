@@ -13,6 +13,8 @@ use Rattle.grep_definitions.specs.Below.{count_below, first_below, joined_from}
 use Rattle.grep_definitions.specs.LineTurns.{number_of}
 use Rattle.grep_definitions.specs.LineSearch.{turns, turns_at, turn_count, line_count, byte_count}
 use Rattle.grep_definitions.specs.LineSearch.{number, start, line, is_selected}
+use Rattle.grep_definitions.specs.Modes.{is_across}
+use Rattle.grep_definitions.specs.SearchTurns.{search_turns}
 use Rattle.grep_definitions.specs.DecodedInputs.{searched_bytes, is_searched_unchanged}
 
 -- without a label and a mark that is found, what is searched is the input
@@ -132,30 +134,30 @@ selected_lines settings meaning bytes =
     joined_from (λ i. if is_selected settings meaning bytes i then i ∷ [] else []) 0
     (line_count settings meaning bytes)
 
--- the matches that are reported are the selected lines, in order
+-- by line, the matches that are reported are the selected lines, in order
 abbrev pub MatchesAreSelected : Type 0
 MatchesAreSelected =
-    (settings : Settings) (meaning : Meaning) (bytes : List ℕ)
-    → match_calls (turns settings meaning bytes)
+    (settings : Settings) (meaning : Meaning) (bytes : List ℕ) → is_across settings meaning ≡ false
+    → match_calls (search_turns settings meaning bytes)
     ≡ map (match_of settings meaning bytes) (selected_lines settings meaning bytes)
 
 -- as many as there are selected lines
 abbrev pub MatchesAreCounted : Type 0
 MatchesAreCounted =
-    (settings : Settings) (meaning : Meaning) (bytes : List ℕ)
-    → length (match_calls (turns settings meaning bytes))
+    (settings : Settings) (meaning : Meaning) (bytes : List ℕ) → is_across settings meaning ≡ false
+    → length (match_calls (search_turns settings meaning bytes))
     ≡ count_below (is_selected settings meaning bytes) (line_count settings meaning bytes)
 
 -- the first of them is the first selected line
 abbrev pub FirstMatchIsFirst : Type 0
 FirstMatchIsFirst =
-    (settings : Settings) (meaning : Meaning) (bytes : List ℕ)
-    → slice_get (match_calls (turns settings meaning bytes)) 0
+    (settings : Settings) (meaning : Meaning) (bytes : List ℕ) → is_across settings meaning ≡ false
+    → slice_get (match_calls (search_turns settings meaning bytes)) 0
     ≡ option_map (match_of settings meaning bytes)
     (first_below (is_selected settings meaning bytes) (line_count settings meaning bytes))
 
 -- there are at most as many as bytes
 abbrev pub MatchesAreFew : Type 0
 MatchesAreFew =
-    (settings : Settings) (meaning : Meaning) (bytes : List ℕ)
-    → length (match_calls (turns settings meaning bytes)) ≤ length bytes
+    (settings : Settings) (meaning : Meaning) (bytes : List ℕ) → is_across settings meaning ≡ false
+    → length (match_calls (search_turns settings meaning bytes)) ≤ length bytes

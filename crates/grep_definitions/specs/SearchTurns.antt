@@ -1,30 +1,64 @@
--- The calls of a search, by line or across lines. No search uses these definitions yet: each is still by line.
-use Rattle.std.specs.Prelude.{ℕ, List, if◌then◌else◌}
+-- The calls of a search, by line or across lines, as the settings and the matcher say.
+use Rattle.std.specs.Prelude.{◌≡◌, ℕ, Bool, true, false, List, take}
 use Rattle.grep_matcher.specs.Matching.{Meaning}
 use Rattle.grep_definitions.specs.Settings.{Settings}
 use Rattle.grep_definitions.specs.SinkCalls.{Turn}
 use Rattle.grep_definitions.specs.LineSearch
 use Rattle.grep_definitions.specs.AcrossLines
+use Rattle.grep_definitions.specs.AcrossQuestions.{IsAskedAcross}
 use Rattle.grep_definitions.specs.Modes.{is_across}
+use Rattle.grep_definitions.specs.Questions.{IsAskedByLine}
+
+-- what is defined of a search over any bytes, in one of the modes
+pub record SearchCalls : Type 1 where
+  pub across : Bool
+  -- the calls before the last
+  pub turns : List ℕ → List Turn
+  -- how many lines have a turn
+  pub turn_count : List ℕ → ℕ
+  -- the byte count if every call returns true
+  pub byte_count : List ℕ → ℕ
+  -- what the matcher is asked over some bytes, and the calls that were made before
+  pub IsAsked : List ℕ → List ℕ → List Turn → Type 0
+
+module _ (settings : Settings) (meaning : Meaning) where
+  abbrev pub calls_by_line : SearchCalls
+  calls_by_line = record {
+    across = false;
+    turns = LineSearch.turns settings meaning;
+    turn_count = LineSearch.turn_count settings meaning;
+    byte_count = LineSearch.byte_count settings meaning;
+    IsAsked = IsAskedByLine settings meaning;
+  }
+
+  -- across lines, some first calls were made before a question
+  abbrev pub calls_across : SearchCalls
+  calls_across = record {
+    across = true;
+    turns = AcrossLines.turns settings meaning;
+    turn_count = AcrossLines.turn_count settings meaning;
+    byte_count = AcrossLines.byte_count settings meaning;
+    IsAsked = λ bytes haystack made.
+        IsAskedAcross settings meaning bytes haystack
+        × ((count : ℕ) × (made ≡ take count (AcrossLines.turns settings meaning bytes)));
+  }
+
+  abbrev pub calls_if : Bool → SearchCalls
+  calls_if true = calls_across
+  calls_if false = calls_by_line
+
+  abbrev pub search_calls : SearchCalls
+  search_calls = calls_if (is_across settings meaning)
 
 module _ (settings : Settings) (meaning : Meaning) (bytes : List ℕ) where
   -- the calls before the last
   abbrev pub search_turns : List Turn
-  search_turns =
-      if is_across settings meaning
-      then AcrossLines.turns settings meaning bytes
-      else LineSearch.turns settings meaning bytes
+  search_turns = (search_calls settings meaning).turns bytes
 
   -- how many lines have a turn
   abbrev pub search_turn_count : ℕ
-  search_turn_count =
-      if is_across settings meaning
-      then AcrossLines.turn_count settings meaning bytes
-      else LineSearch.turn_count settings meaning bytes
+  search_turn_count = (search_calls settings meaning).turn_count bytes
 
   -- the byte count if every call returns true
   abbrev pub search_byte_count : ℕ
-  search_byte_count =
-      if is_across settings meaning
-      then AcrossLines.byte_count settings meaning bytes
-      else LineSearch.byte_count settings meaning bytes
+  search_byte_count = (search_calls settings meaning).byte_count bytes

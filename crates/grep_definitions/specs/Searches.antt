@@ -1,15 +1,17 @@
 -- What a search does to its sink, and what it returns.
-use Rattle.std.specs.Prelude.{◌≡◌, ◌⊎◌, ℕ, ◌<◌, true, List, Option, Some, None, Result, Ok, Err}
+use Rattle.std.specs.Prelude.{◌≡◌, ◌⊎◌, ℕ, List, Option, Some, None, Result, Ok, Err}
 use Rattle.std.specs.declared.io.Error.{Error}
 use Rattle.grep_matcher.specs.declared.line_terminator.LineTerminator.{LineTerminator}
 use Rattle.grep_matcher.specs.Matching.{Meaning}
 use Rattle.grep_report.specs.declared.config_error.ConfigError.{ConfigError}
 use Rattle.grep_definitions.specs.Settings.{Settings, SearcherState}
-use Rattle.grep_definitions.specs.LineSearch.{turns, turns_through, turn_count, byte_count, start, is_open_at}
 use Rattle.grep_definitions.specs.DecodedInputs.{searched_bytes}
-use Rattle.grep_definitions.specs.Questions.{IsAsked, IsLawfulFor}
+use Rattle.grep_definitions.specs.Questions.{IsLawfulFor}
 use Rattle.grep_definitions.specs.ReadingFaults.{IsUndecoded}
 use Rattle.grep_definitions.specs.Refusals.{refusal_of}
+use Rattle.grep_definitions.specs.SearchTurns.{SearchCalls, calls_by_line, search_calls}
+use Rattle.grep_definitions.specs.SearchTurns.{search_turns, search_byte_count}
+use Rattle.grep_definitions.specs.SinkCalls.{Turn}
 use Rattle.grep_definitions.specs.SinkRuns.{Steps, all_true, AreReported, IsRun}
 
 -- how a sink's errors are made: of a message, by its text if that is known, of an io error, of a fault of the
@@ -32,39 +34,38 @@ abbrev pub IsLawful : {F : Type 0} → MatcherFacts F → Settings → Type 0
 IsLawful matcher settings = IsLawfulFor settings matcher.meaning matcher.is_lawful
 
 module _ {S E F : Type 0} (step : Steps S E) (errors : ErrorMakers E) (matcher : MatcherFacts F) where
-  -- how a search ends in an error e, by its cause, and which calls the sink had
-  pub data IsFault (settings : Settings) (bytes : List ℕ) (old : S) : E → S → Type 0 where
+  -- how a search with these calls ends in an error e, by its cause, and which calls the sink had
+  pub data IsFaultIn (calls : SearchCalls) (settings : Settings) (bytes : List ℕ) (old : S) : E → S → Type 0 where
     -- the sink's own error: that of the run's last step
     of_sink : {e : E} {new : S}
-        → IsRun step settings old (turns settings matcher.meaning bytes)
-        (byte_count settings matcher.meaning bytes) None
-        (Err e) new
-        → IsFault settings bytes old e new
-    -- the matcher's error, at line i: one that a question at that line may get. The line has a turn, and fewer lines
-    -- before it hit than the limit has. Just those calls were made whose turn ends at or before the start of that line
-    of_matcher : {e : E} {new : S} (i : ℕ) (haystack : List ℕ) (error : F)
-        → i < turn_count settings matcher.meaning bytes
-        → is_open_at settings matcher.meaning bytes i ≡ true
-        → IsAsked settings matcher.meaning bytes i haystack
-        → matcher.fails haystack error
+        → IsRun step settings old (calls.turns bytes) (calls.byte_count bytes) None (Err e) new
+        → IsFaultIn calls settings bytes old e new
+    -- the matcher's error: one that a question of the search may get, after the calls that were made before
+    of_matcher : {e : E} {new : S} (haystack : List ℕ) (error : F) (made : List Turn)
+        → calls.IsAsked bytes haystack made → matcher.fails haystack error
         → errors.is_message (matcher.text_of error) e
-        → AreReported step settings old
-        (turns_through settings matcher.meaning bytes (start settings matcher.meaning bytes i)) all_true new
-        → IsFault settings bytes old e new
+        → AreReported step settings old made all_true new
+        → IsFaultIn calls settings bytes old e new
+
+  abbrev pub IsFault : Settings → List ℕ → S → E → S → Type 0
+  IsFault settings = IsFaultIn (search_calls settings matcher.meaning) settings
+
+  -- the same of a search by line
+  abbrev pub IsLineFault : Settings → List ℕ → S → E → S → Type 0
+  IsLineFault settings = IsFaultIn (calls_by_line settings matcher.meaning) settings
 
   -- along the calls: `begin`, the reports with their breaks, and `finish`; or it ends in a fault
   abbrev pub IsSearchedAlong : Settings → List ℕ → S → Result (Unit {0}) E → S → Type 0
   IsSearchedAlong settings bytes old (Ok u) new =
-      IsRun step settings old (turns settings matcher.meaning bytes)
-      (byte_count settings matcher.meaning bytes) None
-      (Ok u) new
+      IsRun step settings old (search_turns settings matcher.meaning bytes)
+      (search_byte_count settings matcher.meaning bytes) None (Ok u) new
   IsSearchedAlong settings bytes old (Err e) new = IsFault settings bytes old e new
 
   -- the calls that were made when no more of an input was read: `begin` and the reports over the lines that were
   -- seen, or none
-  abbrev pub HasReported : Settings → Option (List ℕ) → S → S → Type 0
-  HasReported settings None old new = new ≡ old
-  HasReported settings (Some seen) old new = AreReported step settings old (turns settings matcher.meaning seen) all_true new
+  abbrev pub HasReportedIn : SearchCalls → Settings → Option (List ℕ) → S → S → Type 0
+  HasReportedIn calls settings None old new = new ≡ old
+  HasReportedIn calls settings (Some seen) old new = AreReported step settings old (calls.turns seen) all_true new
 
   -- an input that is decoded wasn't searched to its end: the error is of that cause, and so are the calls
   pub record IsUnsearched (state : SearcherState) (input : List ℕ) (old : S) (e : E) (new : S) : Type 0 where
@@ -72,7 +73,7 @@ module _ {S E F : Type 0} (step : Steps S E) (errors : ErrorMakers E) (matcher :
     pub error : Error
     pub cause : IsUndecoded state matcher.meaning input seen error
     pub made : errors.is_io error e
-    pub reported : HasReported state.settings seen old new
+    pub reported : HasReportedIn (search_calls state.settings matcher.meaning) state.settings seen old new
 
   -- an error: that of the refusal, which leaves the sink as it was, or a fault, or the input wasn't decoded to its end;
   -- of a search that isn't refused this is said if the matcher is lawful
@@ -88,7 +89,8 @@ module _ {S E F : Type 0} (step : Steps S E) (errors : ErrorMakers E) (matcher :
   IsSearched state input old (Ok u) new =
       (refusal_of state.settings matcher.meaning ≡ None)
       × (IsLawful matcher state.settings
-      → IsRun step state.settings old (turns state.settings matcher.meaning (searched_bytes state.settings input))
-      (byte_count state.settings matcher.meaning (searched_bytes state.settings input)) None (Ok u) new)
+      → IsRun step state.settings old
+      (search_turns state.settings matcher.meaning (searched_bytes state.settings input))
+      (search_byte_count state.settings matcher.meaning (searched_bytes state.settings input)) None (Ok u) new)
   IsSearched state input old (Err e) new =
       IsFaultUnless (refusal_of state.settings matcher.meaning) state input old e new

@@ -7,7 +7,7 @@ use Rattle.grep_definitions.specs.SinkCalls.{Call, Turn, begins, matches, contex
 use Rattle.grep_definitions.specs.SinkRuns.{Steps, IsRun}
 use Rattle.grep_matcher.specs.Matching.{IsInfallible}
 use Rattle.grep_definitions.specs.DecodedInputs.{searched_bytes}
-use Rattle.grep_definitions.specs.LineSearch.{turns, byte_count}
+use Rattle.grep_definitions.specs.SearchTurns.{search_turns, search_byte_count}
 use Rattle.grep_definitions.specs.Refusals.{refusal_of}
 use Rattle.grep_definitions.specs.ReadingFaults.{IsUndecoded}
 use Rattle.grep_definitions.specs.Searches.{ErrorMakers, MatcherFacts, IsSearched, IsLawful}
@@ -136,5 +136,6 @@ module _ {S E F : Type 0} (step : Steps S E) (errors : ErrorMakers E) (matcher :
       → remaining reader ≡ Some input
       → IsLawful matcher state.settings
       → IsReaderSearched remaining read_step step errors matcher state reader old (Ok tt) reader' new
-      → IsRun step state.settings old (turns state.settings matcher.meaning (searched_bytes state.settings input))
-      (byte_count state.settings matcher.meaning (searched_bytes state.settings input)) None (Ok tt) new
+      → IsRun step state.settings old
+      (search_turns state.settings matcher.meaning (searched_bytes state.settings input))
+      (search_byte_count state.settings matcher.meaning (searched_bytes state.settings input)) None (Ok tt) new

@@ -3,7 +3,7 @@ use Rattle.std.proofs.Common.{◌≡◌, ◌≢◌, ◌⊎◌, inl, inr, ℕ, �
 use Rattle.std.proofs.lemmas.Bool.{false≢true}
 use Rattle.std.proofs.lemmas.List.{drop_at, nil_from_length}
 use Rattle.std.proofs.lemmas.List.Elements.{All-append}
-use Rattle.std.proofs.KnownBytes.{Consumes-nil, Consumes-trans, Consumes-kept}
+use Rattle.std.proofs.KnownBytes.{Consumes-nil}
 use Rattle.std.specs.Io.KnownBytes.{Consumes, Keeps, prepend_known}
 use Rattle.std.specs.declared.io.Error.{Error}
 use Rattle.grep_decode.specs.declared.mode.Mode.TheVariants.{Passing}
@@ -14,7 +14,9 @@ use Rattle.grep_line_buffer.specs.declared.fill_error.FillError.{FillError}
 use Rattle.grep_line_buffer.specs.declared.fill_error.FillError.TheVariants.{Read, HeapLimit, Offset, Memory}
 use Rattle.grep_line_buffer.specs.BufferStates.{BufferState, held, Lacks, IsWithin, IsSameBuffer, GrowsIfFull, KeepsStream, EndsWith, ShowsLine, IsFilled, HasNoLine}
 use Rattle.grep_line_buffer.specs.Fills.{IfRead, UnlessRead, Fills, FailsToFill, FillFails, PassesOffsets, IsAtLimit, MayGrow}
-use Rattle.grep_line_buffer.specs.Appends.{Appends, FailsToRead, IsFullFault, Reads}
+use Rattle.grep_line_buffer.specs.Appends.{Appends, FailsToRead}
+use Rattle.grep_line_buffer.specs.Room.{IsFullFault}
+use Rattle.grep_line_buffer.proofs.ReadLemmas.{Continues, HasRead, HasRead-none, HasRead-more, HasRead-failed}
 
 -- parts of a window
 abbrev rest_of : BufferState → List ℕ
@@ -42,18 +44,19 @@ abbrev pub ended_of : BufferState → Bool
 ended_of w = w.has_ended
 
 -- a fact that holds of each result holds unless it is the reader's error
-pub unless-read : (e : FillError) {P : Type 0} → P → UnlessRead {X = Bool} (Err e) P
-unless-read (Read e) p = tt
-unless-read HeapLimit p = p
-unless-read Offset p = p
-unless-read Memory p = p
+pub unless-read : (X : Type 0) (e : FillError) {P : Type 0} → P → UnlessRead {X = X} (Err e) P
+unless-read X (Read e) p = tt
+unless-read X HeapLimit p = p
+unless-read X Offset p = p
+unless-read X Memory p = p
 
 -- a full buffer is no error of the reader's
-pub if-read-full : (w : BufferState) (e : FillError) (P : Error → Type 0) → IsFullFault w e → IfRead {X = Bool} (Err e) P
-if-read-full w (Read e) P fault = absurd fault
-if-read-full w HeapLimit P fault = tt
-if-read-full w Offset P fault = tt
-if-read-full w Memory P fault = tt
+pub if-read-full : (X : Type 0) (limit : Option ℕ) (size : ℕ) (e : FillError) (P : Error → Type 0) → IsFullFault limit size e
+    → IfRead {X = X} (Err e) P
+if-read-full X limit size (Read e) P fault = absurd fault
+if-read-full X limit size HeapLimit P fault = tt
+if-read-full X limit size Offset P fault = tt
+if-read-full X limit size Memory P fault = tt
 
 -- what a buffer shows that had seen the end
 pub filled-before : (w : BufferState) → w.has_ended ≡ true → w.rest ≡ [] → length w.shown < w.size → IsFilled w w
@@ -82,12 +85,6 @@ stream-moved (Some x) None old given now is moved = absurd moved
 stream-moved (Some x) (Some y) old given now is moved =
     ap (λ l. l ++ y) is ∙ append_assoc old given y ∙ ap (λ l. old ++ l) (sym moved)
 
--- what was taken by some reads and by some more
-TakesAtMost-append : (a b c : Option (List ℕ)) (first second most : ℕ) → TakesAtMost a b first → TakesAtMost b c second → first + second ≤ most
-    → TakesAtMost a c most
-TakesAtMost-append a b c first second most p q within =
-    (p.0 ++ q.0, rw length-append (omega (arith, p.1, q.1)), Consumes-trans a b c p.0 q.0 p.2 q.2)
-
 -- bytes that were appended have no terminator, so none that aren't shown has
 pub Lacks-more : (t count : ℕ) (before given now : List ℕ) → now ≡ before ++ given → length given ≡ count → Lacks t before
     → Lacks t (drop (length now - count) now) → Lacks t now
@@ -112,62 +109,6 @@ grows-held old now new (inl same) size more = inl (size ∙ same)
 grows-held old now new (inr grew) size more = inr (omega (arith, grew.0), omega (arith, grew.1), omega (arith, grew.2))
 
 module _ {R : Type 0} (remaining : R → Option (List ℕ)) (step : R → ReadResult → R → Type 0) where
-  -- reads of a decoder and then some more are reads of it
-  abbrev pub Continues : Type 0
-  Continues = (d d1 d2 : DecoderState) (r r1 r2 : R) (given more : List ℕ) → Decodes remaining step d r given d1 r1
-      → Decodes remaining step d1 r1 more d2 r2 → Decodes remaining step d r (given ++ more) d2 r2
-
-  -- Reads of a decoder, none or some, gave these bytes.
-  pub record HasRead (d : DecoderState) (r : R) (given : List ℕ) (d' : DecoderState) (r' : R) : Type 0 where
-    pub decodes : Decodes remaining step d r given d' r'
-    pub gives : Consumes (yet d (remaining r)) (yet d' (remaining r')) given
-    pub begins : IsSettled d'.mode ⊎ ((d' ≡ d) × (r' ≡ r) × (given ≡ []))
-    pub stays : IsSettled d.mode → d'.mode ≡ d.mode
-    pub ahead : d'.mode ≡ Passing → TakesAtMost (remaining r) (remaining r') (length given + runs_ahead d.mode)
-    pub capacity : d'.capacity ≡ d.capacity
-
-  pub HasRead-none : (d : DecoderState) (r : R) → Decodes remaining step d r [] d r → HasRead d r [] d r
-  HasRead-none d r none = record {
-    decodes = none;
-    gives = Consumes-nil (yet d (remaining r));
-    begins = inr (refl, refl, refl);
-    stays = λ settled. refl;
-    ahead = λ passing. ([], omega arith, Consumes-nil (remaining r));
-    capacity = refl;
-  }
-
-  ahead-more : (d d1 d2 : DecoderState) (r r1 r2 : R) (given came : List ℕ) → HasRead d r given d1 r1 → Reads remaining step d1 r1 came d2 r2
-      → IsSettled d1.mode ⊎ ((d1 ≡ d) × (r1 ≡ r) × (given ≡ []))
-      → d2.mode ≡ Passing → TakesAtMost (remaining r) (remaining r2) (length (given ++ came) + runs_ahead d.mode)
-  ahead-more d d1 d2 r r1 r2 given came before read (inl settled) passing =
-      let same : d1.mode ≡ Passing = sym (read.stays settled) ∙ passing in
-      let none : runs_ahead d1.mode ≡ 0 = ap runs_ahead same in
-      TakesAtMost-append _ _ _ _ _ _ (before.ahead same) (read.ahead passing) (rw length-append (omega (arith, none)))
-  ahead-more d d1 d2 r r1 r2 given came before read (inr first) passing =
-      let most : length came + runs_ahead d1.mode ≡ length (given ++ came) + runs_ahead d.mode =
-      ap (λ x. length came + runs_ahead x.mode) first.0 ∙ ap (λ l. length (l ++ came) + runs_ahead d.mode) (sym first.2) in
-      subst (λ x. TakesAtMost (remaining x) (remaining r2) (length (given ++ came) + runs_ahead d.mode)) first.1
-      (subst (TakesAtMost (remaining r1) (remaining r2)) most (read.ahead passing))
-
-  pub HasRead-more : (d d1 d2 : DecoderState) (r r1 r2 : R) (given came : List ℕ) → Decodes remaining step d r (given ++ came) d2 r2
-      → HasRead d r given d1 r1 → Reads remaining step d1 r1 came d2 r2 → d2.capacity ≡ d1.capacity → HasRead d r (given ++ came) d2 r2
-  HasRead-more d d1 d2 r r1 r2 given came all before read capacity = record {
-    decodes = all;
-    gives = Consumes-trans _ _ _ given came before.gives read.gives;
-    begins = inl read.settled;
-    stays = λ settled. read.stays (subst (λ m. IsSettled m) (sym (before.stays settled)) settled) ∙ before.stays settled;
-    ahead = ahead-more d d1 d2 r r1 r2 given came before read before.begins;
-    capacity = capacity ∙ before.capacity;
-  }
-
-  -- at most two bytes came before an error, or the mode is settled
-  few-more : (d d1 d2 : DecoderState) (r r1 r2 : R) (given : List ℕ) (e : Error) → FailsToRead remaining step d1 r1 e d2 r2
-      → IsSettled d1.mode ⊎ ((d1 ≡ d) × (r1 ≡ r) × (given ≡ [])) → IsSettled d2.mode ⊎ TakesAtMost (remaining r1) (remaining r2) 2
-      → IsSettled d2.mode ⊎ TakesAtMost (remaining r) (remaining r2) 2
-  few-more d d1 d2 r r1 r2 given e failed begins (inl settled) = inl settled
-  few-more d d1 d2 r r1 r2 given e failed (inl settled) (inr few) = inl (subst (λ m. IsSettled m) (sym (failed.stays settled)) settled)
-  few-more d d1 d2 r r1 r2 given e failed (inr first) (inr few) = inr (subst (λ x. TakesAtMost (remaining x) (remaining r2) 2) first.1 few)
-
   -- The bytes that were held before are shown, and those that came since follow them.
   pub record IsFilling (old : BufferState) (d : DecoderState) (r : R) (now : BufferState) (d' : DecoderState) (r' : R) : Type 0 where
     pub shown : now.shown ≡ held old
@@ -176,7 +117,7 @@ module _ {R : Type 0} (remaining : R → Option (List ℕ)) (step : R → ReadRe
     pub rolled : now.free + length (held now) ≡ now.size
     pub within : IsWithin now.limit now.size
     pub grows : GrowsIfFull old now
-    pub read : HasRead d r now.rest d' r'
+    pub read : HasRead remaining step d r now.rest d' r'
 
   -- No terminator came yet.
   pub record HasNone (old : BufferState) (d : DecoderState) (r : R) (now : BufferState) (d' : DecoderState) (r' : R) : Type 0 where
@@ -198,7 +139,7 @@ module _ {R : Type 0} (remaining : R → Option (List ℕ)) (step : R → ReadRe
           rolled = rw all rolled;
           within = within;
           grows = inl refl;
-          read = HasRead-none d r none;
+          read = HasRead-none remaining step d r none;
         };
         none = λ k x below. absurd (omega arith);
         offset = rw all offset;
@@ -236,7 +177,7 @@ module _ {R : Type 0} (remaining : R → Option (List ℕ)) (step : R → ReadRe
 
   -- it goes on with one read
   pub IsFilling-more : (old now next : BufferState) (d d1 d2 : DecoderState) (r r1 r2 : R) (count : ℕ)
-      → Continues → HasNone old d r now d1 r1 → Appends remaining step count now d1 r1 next d2 r2 → d2.capacity ≡ d1.capacity
+      → Continues remaining step → HasNone old d r now d1 r1 → Appends remaining step count now d1 r1 next d2 r2 → d2.capacity ≡ d1.capacity
       → IsFilling old d r next d2 r2
   IsFilling-more old now next d d1 d2 r r1 r2 count continues before came capacity =
       let f = before.filling in
@@ -251,8 +192,7 @@ module _ {R : Type 0} (remaining : R → Option (List ℕ)) (step : R → ReadRe
         rolled = omega (arith, len, came.fits, f.rolled);
         within = f.within;
         grows = grows-held old now grown f.grows refl (omega (arith, len));
-        read = HasRead-more d d1 d2 r r1 r2 now.rest came.given (continues d d1 d2 r r1 r2 now.rest came.given f.read.decodes came.reads.decodes)
-            f.read came.reads capacity;
+        read = HasRead-more remaining step d d1 d2 r r1 r2 now.rest came.given continues f.read came.reads capacity;
       })
 
   -- what a fill says of the bytes that it appended
@@ -341,30 +281,26 @@ module _ {R : Type 0} (remaining : R → Option (List ℕ)) (step : R → ReadRe
     pub unended : new.has_ended ≡ false
 
   pub HasNone-fault : (old now new : BufferState) (d d1 d2 : DecoderState) (r r1 r2 : R) (e : Error)
-      → Continues → HasNone old d r now d1 r1 → FailsToRead remaining step d1 r1 e d2 r2 → 0 < now.free → d2.capacity ≡ d1.capacity → new ≡ now
+      → Continues remaining step → HasNone old d r now d1 r1 → FailsToRead remaining step d1 r1 e d2 r2 → 0 < now.free → d2.capacity ≡ d1.capacity → new ≡ now
       → ReadFault old d r e new d2 r2
   HasNone-fault old now new d d1 d2 r r1 r2 e continues before failed some capacity is =
       let f = before.filling in
       let appended : held now ≡ held old ++ now.rest = ap (λ l. l ++ now.rest) f.shown in
-      let decodes = continues d d1 d2 r r1 failed.failed.mid now.rest [] f.read.decodes failed.failed.decodes in
+      let out = HasRead-failed remaining step d d1 d2 r r1 r2 now.rest e continues f.read failed capacity in
       subst (λ w. ReadFault old d r e w d2 r2) (sym is) (record {
         same = f.same;
         within = f.within;
         grows = f.grows;
-        capacity = capacity ∙ f.read.capacity;
+        capacity = out.capacity;
         read = record {
-          mid = failed.failed.mid;
-          fills = record {
-            given = now.rest;
-            appended = appended;
-            decodes = subst (λ l. Decodes remaining step d r l d2 failed.failed.mid) (append-nil now.rest) decodes;
-          };
-          unended = failed.failed.unended;
-          failed = failed.failed.failed;
+          mid = out.after.mid;
+          fills = record { given = now.rest; appended = appended; decodes = out.after.decodes };
+          unended = out.after.unended;
+          failed = out.after.failed;
         };
-        stream = stream-moved _ _ (held old) now.rest (held now) appended (Consumes-kept _ _ _ now.rest f.read.gives failed.keeps);
-        stays = λ settled. failed.stays (subst (λ m. IsSettled m) (sym (f.read.stays settled)) settled) ∙ f.read.stays settled;
-        few = few-more d d1 d2 r r1 r2 now.rest e failed f.read.begins failed.few;
+        stream = stream-moved _ _ (held old) now.rest (held now) appended out.gives;
+        stays = out.stays;
+        few = out.few;
         line = record { shown = f.shown; none = before.none; unended = f.unended };
         room = omega (arith, f.rolled);
         unended = f.unended;
@@ -428,7 +364,7 @@ module _ {R : Type 0} (remaining : R → Option (List ℕ)) (step : R → ReadRe
 
   -- a full buffer that can't grow
   pub HasNone-full : (old now new : BufferState) (d d1 : DecoderState) (r r1 : R) (e : FillError) → HasNone old d r now d1 r1
-      → new ≡ now → now.free ≡ 0 → IsFullFault now e → FillFails old new e
+      → new ≡ now → now.free ≡ 0 → IsFullFault now.limit now.size e → FillFails old new e
   HasNone-full old now new d d1 r r1 HeapLimit before is none fault = subst (λ w. HasNoLine old w × IsAtLimit w) (sym is) (
     record { shown = before.filling.shown; none = before.none; unended = before.filling.unended },
     record { full = omega (arith, before.filling.rolled, none); limit = fault },

@@ -1,21 +1,12 @@
 -- One read into a line buffer.
-use Rattle.std.specs.Prelude.{◌≡◌, ◌≢◌, ◌⊎◌, ℕ, ◌+◌, ◌-◌, ◌≤◌, List, [], ◌++◌, length, Option, Some}
+use Rattle.std.specs.Prelude.{◌≡◌, ◌⊎◌, ℕ, ◌+◌, ◌-◌, ◌≤◌, List, [], ◌++◌, length, Option}
 use Rattle.std.specs.Io.KnownBytes.{Consumes, Keeps, IsAtEnd}
 use Rattle.std.specs.declared.io.Error.{Error}
 use Rattle.grep_decode.specs.declared.mode.Mode.TheVariants.{Passing}
 use Rattle.grep_decode.specs.DecoderStates.{DecoderState, Decodes, FailsToDecode, IsDone, IsSettled, TakesAtMost}
 use Rattle.grep_decode.specs.DecoderStates.{runs_ahead, yet}
 use Rattle.grep_decode.specs.Source.{ReadResult}
-use Rattle.grep_line_buffer.specs.declared.fill_error.FillError.{FillError}
-use Rattle.grep_line_buffer.specs.declared.fill_error.FillError.TheVariants.{Read, HeapLimit, Offset, Memory}
 use Rattle.grep_line_buffer.specs.BufferStates.{BufferState}
-
--- a full buffer is at its limit, or there was no memory for a larger one
-abbrev pub IsFullFault : BufferState → FillError → Type 0
-IsFullFault w HeapLimit = w.limit ≡ Some w.size
-IsFullFault w Memory = w.limit ≢ Some w.size
-IsFullFault w Offset = ⊥
-IsFullFault w (Read e) = ⊥
 
 module _ {R : Type 0} (remaining : R → Option (List ℕ)) (step : R → ReadResult → R → Type 0) where
   -- One read of a decoder gave these bytes, none only at the end, and the decoder has settled on a mode.

@@ -1,3 +1,5 @@
 pub mod Appends
 pub mod BufferStates
+pub mod Contents
 pub mod Fills
+pub mod Room

@@ -13,10 +13,12 @@ ghost use Rattle.grep_line_buffer.specs.BufferStates.{BufferState, empty_buffer,
 ghost use Rattle.grep_line_buffer.specs.BufferStates.{GrowsIfFull, ShowsLine, IsFilled, HasNoLine, KeepsStream};
 ghost use Rattle.grep_line_buffer.specs.Fills.{IfRead, UnlessRead, IsAtLimit, FillFails, Fills, FailsToFill};
 ghost use Rattle.grep_line_buffer.specs.declared.fill_error.FillError.TheVariants.{HeapLimit};
-ghost use Rattle.grep_line_buffer.specs.Appends.{Appends, FailsToRead, IsFullFault, Reads};
+ghost use Rattle.grep_line_buffer.specs.Appends.{Appends, FailsToRead};
+ghost use Rattle.grep_line_buffer.specs.Room.{IsFullFault};
 
 use crate::detection::Detection;
 use crate::fill_error::FillError;
+use crate::room::{enlarge, read_after};
 use grep_decode::laws::{reads_continue, reads_fail};
 use grep_decode::{Decoder, Source};
 use memchr::memrchr;
@@ -278,19 +280,12 @@ impl<A: Allocator> LineBuffer<A> {
         ensures grows { (self.new.size ≡ self.old.size) ⊎ (self.old.size < self.new.size)
             × (self.old.free ≡ 0) × (self.new.size ≤ 2 * self.old.size + 1) }
         ensures ok { OnOk result (0 < self.new.free) }
-        ensures err { IfErr result (λ e. (self.new ≡ self.old) × (self.old.free ≡ 0) × IsFullFault self.old e) }
+        ensures err { IfErr result (λ e. (self.new ≡ self.old) × (self.old.free ≡ 0) × IsFullFault self.old.limit self.old.size e) }
     {
-        let size = self.bytes.len();
-        if self.end < size {
+        if self.end < self.bytes.len() {
             return Ok(());
         }
-        let Some(wanted) = larger_size(size, self.limit) else {
-            return Err(FillError::HeapLimit);
-        };
-        if grow(&mut self.bytes, wanted).is_err() {
-            return Err(FillError::Memory);
-        }
-        Ok(())
+        enlarge(&mut self.bytes, 1, self.limit)
     }
 
     // Reads once into the free part, just after the bytes that are held, and returns how many bytes came.
@@ -361,62 +356,6 @@ fn lines_length(terminator: u8, bytes: &[u8]) -> usize
     }
 }
 
-// The size to which a full buffer grows; `None` at its limit.
-fn larger_size(size: usize, limit: Option<usize>) -> Option<usize>
-    requires within { IsWithin limit size }
-    requires small { size < 2 ^ 63 }
-    ensures larger { IfSome result (λ wanted. (size < wanted) × (wanted ≤ 2 * size + 1)
-        × IsWithin limit wanted) }
-    ensures none { IfNone result (limit ≡ Some size) }
-    ensures some { IfSome result (λ _. limit ≢ Some size) }
-{
-    let doubled = (size * 2).max(1);
-    match limit {
-        Some(most) if size == most => None,
-        Some(most) => Some(doubled.min(most)),
-        None => Some(doubled),
-    }
-}
-
-// Reads once into the bytes from `end` on.
-fn read_after<B: Allocator, R: Source>(
-    decoder: &mut Decoder<B>,
-    reader: &mut R,
-    bytes: &mut [u8],
-    end: usize,
-) -> io::Result<usize>
-    requires { end < length bytes.old }
-    ensures capacity { decoder.new.capacity ≡ decoder.old.capacity }
-    ensures bound { IfOk result (λ count. end + count ≤ length bytes.new) }
-    ensures front { take end bytes.new ≡ take end bytes.old }
-    ensures reads { IfOk result (λ count. Reads R.remaining R.step decoder.old reader.old
-        (take count (drop end bytes.new)) decoder.new reader.new) }
-    ensures failed { IfErr result (λ e.
-        FailsToRead R.remaining R.step decoder.old reader.old e decoder.new reader.new) }
-{
-    read_once(decoder, reader, &mut bytes[end..])
-}
-
-// Reads once into the front of a buffer with room.
-fn read_once<B: Allocator, R: Source>(
-    decoder: &mut Decoder<B>,
-    reader: &mut R,
-    buffer: &mut [u8],
-) -> io::Result<usize>
-    requires { 0 < length buffer.old }
-    ensures capacity { decoder.new.capacity ≡ decoder.old.capacity }
-    ensures bound { ReadsAtMost result buffer.new }
-    ensures reads { IfOk result (λ count. Reads R.remaining R.step decoder.old reader.old
-        (take count buffer.new) decoder.new reader.new) }
-    ensures failed { IfErr result (λ e.
-        FailsToRead R.remaining R.step decoder.old reader.old e decoder.new reader.new) }
-{
-    match decoder.read(reader, buffer) {
-        Ok(count) => Ok(count),
-        Err(e) => Err(e),
-    }
-}
-
 // Moves the bytes from `start` to `end` to the front.
 fn move_to_front<A: Allocator>(bytes: &mut Vec<u8, A>, start: usize, end: usize)
     requires order { start ≤ end }
@@ -428,15 +367,4 @@ fn move_to_front<A: Allocator>(bytes: &mut Vec<u8, A>, start: usize, end: usize)
     if start > 0 {
         bytes.copy_within(start..end, 0);
     }
-}
-
-// Fills up with zeros to `wanted` bytes. An error leaves the bytes as they are.
-fn grow<A: Allocator>(bytes: &mut Vec<u8, A>, wanted: usize) -> Result<(), AllocError>
-    requires { vec_len bytes.old ≤ wanted }
-    ensures ok { OnOk result (bytes.new.items
-        ≡ bytes.old.items ++ replicate (wanted - vec_len bytes.old) 0) }
-    ensures err { OnErr result (bytes.new.items ≡ bytes.old.items) }
-{
-    bytes.reserve_exact(wanted - bytes.len())?;
-    bytes.resize(wanted, 0)
 }

@@ -1,7 +1,6 @@
 -- How the calls of a walk across lines end, against those that are defined.
 use Rattle.std.proofs.Common.{◌≡◌, ℕ, ◌+◌, ◌-◌, ◌<◌, ◌≤◌, true, List, ◌∷◌, ◌++◌, length, take, inl, inr}
 use Rattle.std.proofs.Common.{refl, sym, ◌∙◌, ap, subst, arith, ⊎_elim}
-use Rattle.std.proofs.Math.Seq.{take-append_seam}
 use Rattle.std.proofs.lemmas.Bool.{cases_lt}
 use Rattle.std.specs.Prelude.{Ok, Err, false}
 use Rattle.grep_lines.proofs.LawLemmas.{AreLines-lines}
@@ -13,17 +12,17 @@ use Rattle.grep_definitions.specs.AcrossLines.{byte_count, turns, turns_at}
 use Rattle.grep_definitions.specs.AcrossQuestions.{IsAskedAcross}
 use Rattle.grep_definitions.specs.Below.{joined_from}
 use Rattle.grep_definitions.specs.LineSearch.{start}
-use Rattle.grep_definitions.specs.Searches.{ErrorMakers, MatcherFacts}
+use Rattle.grep_definitions.specs.Searches.{ErrorMakers, MatcherFacts, IsFaultIn, of_sink, of_matcher}
+use Rattle.grep_definitions.specs.SearchTurns.{calls_across}
 use Rattle.grep_definitions.specs.Settings.{Settings}
 use Rattle.grep_definitions.specs.SinkCalls.{Turn, begins}
 use Rattle.grep_definitions.specs.SinkRuns.{Steps, Outcome, all_true, stopped, failed, AreReported}
-use Rattle.grep_definitions.proofs.BelowLemmas.{joined_from-add}
 use Rattle.grep_definitions.proofs.LineStartLemmas.{line_start-ascends, line_start-within}
 use Rattle.grep_definitions.proofs.SinkRunLemmas.{AreReported-append, AreReported-ended}
 use Rattle.grep_searcher.specs.declared.searcher.walk.Walk.{Walk}
-use Rattle.grep_searcher.specs.AcrossWalks.{IsAcross, IsAcrossFault, of_sink, of_matcher, turns_before}
+use Rattle.grep_searcher.specs.AcrossWalks.{IsAcross, turns_before}
 use Rattle.grep_searcher.specs.Walks.{Counted}
-use Rattle.grep_searcher.proofs.AcrossCallLemmas as calls
+use Rattle.grep_definitions.proofs.AcrossWalkLemmas as calls
 
 module _ (k : Settings) (meaning : Meaning) (bytes : List ℕ) where
   abbrev n : ℕ
@@ -34,18 +33,6 @@ module _ (k : Settings) (meaning : Meaning) (bytes : List ℕ) where
 
   abbrev front : ℕ → List Turn
   front = turns_before k meaning bytes
-
-  front-through : (v : ℕ) → v ≤ n → turns k meaning bytes ≡ front v ++ joined_from T v (n - v)
-  front-through v low =
-      let sum : n ≡ v + (n - v) = omega arith in
-      let zero_v : 0 + v ≡ v = omega arith in
-      ap (λ later. record { call = begins; end = 0 } ∷ later)
-      (ap (λ m. joined_from T 0 m) sum ∙ joined_from-add T 0 v (n - v) ∙ ap (λ m. joined_from T 0 v ++ joined_from T m (n - v)) zero_v)
-
-  -- the calls so far are the first of them
-  take-front : (v : ℕ) → v ≤ n → take (length (front v)) (turns k meaning bytes) ≡ front v
-  take-front v low =
-      ap (take (length (front v))) (front-through v low) ∙ take-append_seam (front v) (joined_from T v (n - v))
 
   passed-few : (w : Walk) → IsAcross k meaning bytes w → w.reported_through ≤ n
   passed-few w across = omega (arith, across.placed.low, across.placed.at.listed)
@@ -72,7 +59,7 @@ module _ (k : Settings) (meaning : Meaning) (bytes : List ℕ) where
     ended-whole : (v : ℕ) (outcome : Outcome E) (new : State) → v ≤ n → (outcome ≡ all_true → ⊥)
         → AreReported step k first (front v) outcome new → AreReported step k first (turns k meaning bytes) outcome new
     ended-whole v outcome new low ended reported =
-        subst (λ ts. AreReported step k first ts outcome new) (sym (front-through v low))
+        subst (λ ts. AreReported step k first ts outcome new) (sym (calls.front-through k meaning bytes v n low))
         (AreReported-ended step k (front v) (joined_from T v (n - v)) first outcome new ended reported)
 
     pub counted-stopped : (w : Walk) (end count : ℕ) (new : State) → IsAcross k meaning bytes w → count ≡ end
@@ -117,23 +104,30 @@ module _ (k : Settings) (meaning : Meaning) (bytes : List ℕ) where
         → AreReported step k first (front w.reported_through) all_true now
         → AreReported step k first (take (length (front w.reported_through)) (turns k meaning bytes)) all_true now
     taken w now across reported =
-        subst (λ ts. AreReported step k first ts all_true now) (sym (take-front w.reported_through (passed-few w across))) reported
+        subst (λ ts. AreReported step k first ts all_true now)
+        (sym (calls.front-first k meaning bytes w.reported_through (passed-few w across))) reported
 
 -- how it ends in a fault
 module _ {State E F : Type 0} (step : Steps State E) (errors : ErrorMakers E) (matcher : MatcherFacts F) (k : Settings)
     (bytes : List ℕ) (first : State) where
-  pub fault-begin : (e : E) (new : State) → step first k begins (Err e) new → IsAcrossFault step errors matcher k bytes first e new
-  fault-begin e new fails = of_sink (inr (inr (e, refl, fails)))
+  abbrev IsFaulty : E → State → Type 0
+  IsFaulty e new = IsFaultIn step errors matcher (calls_across k matcher.meaning) k bytes first e new
+
+  failed-run : (e : E) (new : State) → AreReported step k first (turns k matcher.meaning bytes) (failed e) new → IsFaulty e new
+  failed-run e new reported = of_sink (record { outcome = failed e; mid = new; reported = reported; finished = (refl, refl) })
+
+  pub fault-begin : (e : E) (new : State) → step first k begins (Err e) new → IsFaulty e new
+  fault-begin e new fails = failed-run e new (inr (inr (e, refl, fails)))
 
   pub fault-sink : (w : Walk) (e : E) (new : State) → IsAcross k matcher.meaning bytes w
-      → AreReported step k first (turns_before k matcher.meaning bytes w.reported_through) (failed e) new
-      → IsAcrossFault step errors matcher k bytes first e new
-  fault-sink w e new across reported = of_sink (failed-whole k matcher.meaning bytes step first w e new across reported)
+      → AreReported step k first (turns_before k matcher.meaning bytes w.reported_through) (failed e) new → IsFaulty e new
+  fault-sink w e new across reported = failed-run e new (failed-whole k matcher.meaning bytes step first w e new across reported)
 
   pub fault-matcher : (w : Walk) (now : State) → IsAcross k matcher.meaning bytes w
       → AreReported step k first (turns_before k matcher.meaning bytes w.reported_through) all_true now
       → (haystack : List ℕ) (error : F) (e : E) → IsAskedAcross k matcher.meaning bytes haystack → matcher.fails haystack error
-      → errors.is_message (matcher.text_of error) e → IsAcrossFault step errors matcher k bytes first e now
+      → errors.is_message (matcher.text_of error) e → IsFaulty e now
   fault-matcher w now across reported haystack error e asked fails message =
-      of_matcher haystack error (length (turns_before k matcher.meaning bytes w.reported_through)) asked fails message
+      of_matcher haystack error (take (length (turns_before k matcher.meaning bytes w.reported_through)) (turns k matcher.meaning bytes))
+      (asked, (length (turns_before k matcher.meaning bytes w.reported_through), refl)) fails message
       (taken k matcher.meaning bytes step first w now across reported)

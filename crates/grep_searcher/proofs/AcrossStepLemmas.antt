@@ -19,7 +19,7 @@ use Rattle.grep_definitions.proofs.BoolLemmas.{both_true, clash, not_false}
 use Rattle.grep_searcher.specs.declared.searcher.walk.Walk.{Walk}
 use Rattle.grep_searcher.specs.AcrossWalks.{IsAcross, IsLimited, is_joined, is_silent, turns_before, walk_after, walk_past}
 use Rattle.grep_searcher.specs.Walks.{IsOrdered, IsPlaced, line_end, line_turns, next_walk}
-use Rattle.grep_searcher.proofs.AcrossCallLemmas as calls
+use Rattle.grep_definitions.proofs.AcrossWalkLemmas as calls
 use Rattle.grep_searcher.proofs.AcrossUnitLemmas.{IsChosen, IsNext, selected-inverted}
 use Rattle.grep_searcher.proofs.LineRangeLemmas.{lines-between}
 use Rattle.grep_searcher.proofs.WalkLemmas.{end-is, placed-next, placed-start, start-after, start_walk}

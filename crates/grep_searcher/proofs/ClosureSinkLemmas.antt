@@ -4,7 +4,8 @@ use Rattle.std.proofs.lemmas.List.{append-nil}
 use Rattle.std.specs.Prelude.{Result, Ok, map, if◌then◌else◌}
 use Rattle.std.specs.Borrow.{Bor}
 use Rattle.std.specs.declared.io.Error.{Error}
-use Rattle.grep_definitions.specs.LineSearch.{turns, line, start}
+use Rattle.grep_definitions.specs.LineSearch.{line, start}
+use Rattle.grep_definitions.specs.SearchTurns.{search_turns}
 use Rattle.grep_definitions.specs.SearchLaws.{MatchesAreSelected, match_of, selected_lines}
 use Rattle.grep_definitions.specs.Settings.{Settings}
 use Rattle.grep_definitions.specs.SinkCalls.{Call, begins, matches, context, breaks, binary_data, finishes}
@@ -71,7 +72,7 @@ module _ {F : Type 0} (call : F → ℕ → Bor (List ℕ) → Result Bool Error
     kept-matches (i ∷ later) old new (inr here) = absurd (let never = (kept-one i old new false here).0 in cc)
 
   pub closures-keep : MatchesAreSelected → {S : Type 0} (closure : S → F) → ClosuresKeep call is_text closure text_of
-  closures-keep selected closure name kept by settings meaning bytes old count binary new run =
+  closures-keep selected closure name kept by settings meaning bytes by_line old count binary new run =
       kept-matches name kept by settings meaning bytes (selected_lines settings meaning bytes) (closure old) (closure new)
-      (subst (λ calls. AreTaken (IsCalledAt call is_text) (closure old) calls (closure new)) (selected settings meaning bytes)
-      (closures-are_called call is_text closure settings old (turns settings meaning bytes) count binary new run).taken)
+      (subst (λ calls. AreTaken (IsCalledAt call is_text) (closure old) calls (closure new)) (selected settings meaning bytes by_line)
+      (closures-are_called call is_text closure settings old (search_turns settings meaning bytes) count binary new run).taken)

@@ -2,6 +2,8 @@
 use Rattle.std.proofs.Common.{◌≡◌, ℕ, Bool, true, false, not, List, [], Option, Some, None, Result, Ok, Err, inl, inr}
 use Rattle.std.proofs.Common.{refl, sym, ap, subst, arith}
 use Rattle.std.proofs.KnownBytes.{Consumes-nil}
+use Rattle.std.proofs.lemmas.Bool.{false≢true}
+use Rattle.grep_definitions.specs.SearchTurns.{SearchCalls}
 use Rattle.std.specs.Prelude.{IfOk, IfErr}
 use Rattle.std.specs.declared.io.Error.{Error}
 use Rattle.std.specs.IoError.{error_kind}
@@ -11,17 +13,19 @@ use Rattle.grep_lines.specs.LineLaws.{LinesJoin, LinesAppend}
 use Rattle.grep_definitions.specs.DecodedInputs.{is_searched_unchanged, searched_bytes}
 use Rattle.grep_definitions.specs.InputFronts.{IsFront}
 use Rattle.grep_definitions.specs.LineSearch.{turns, byte_count}
-use Rattle.grep_definitions.specs.ReaderSearches.{Taken, is_idle, IsUnread, IsReaderFault, count_of, of_search, of_reading}
+use Rattle.grep_definitions.specs.ReaderSearches.{Taken, is_idle, IsUnread, IsReaderFaultIn, IsLineReaderFault}
+use Rattle.grep_definitions.specs.ReaderSearches.{count_of, of_search, of_reading}
 use Rattle.grep_definitions.specs.ReaderSearches.{of_cut as unread_cut, of_reader as unread_reader, of_buffers as unread_buffers}
+use Rattle.grep_definitions.specs.ReaderSearches.{of_contents as unread_contents, of_failed_read as unread_failed}
 use Rattle.grep_definitions.specs.ReadingFaults.{IsUndecoded}
-use Rattle.grep_definitions.specs.ReadingFaults.{of_cut as undecoded_cut, of_buffers as undecoded_buffers}
+use Rattle.grep_definitions.specs.ReadingFaults.{of_cut as undecoded_cut, of_contents as undecoded_contents, of_buffers as undecoded_buffers}
 use Rattle.grep_definitions.specs.Searches.{ErrorMakers, MatcherFacts, of_sink}
 use Rattle.grep_definitions.specs.Settings.{Settings, SearcherState}
 use Rattle.grep_definitions.specs.SinkCalls.{begins, finishes}
 use Rattle.grep_definitions.specs.SinkRuns.{Steps, Outcome, all_true, stopped, failed, finish_result}
 use Rattle.grep_definitions.proofs.BoolLemmas.{clash}
 use Rattle.grep_definitions.proofs.KnownReaderLemmas.{taken-input}
-use Rattle.grep_searcher.specs.InputSearches.{IsInputSearched, IsSourceSearched}
+use Rattle.grep_searcher.specs.InputSearches.{IsInputSearched, IsSourceSearched, IsLineSourceSearched}
 use Rattle.grep_searcher.specs.Rolls.{HasBegun, HasCounted, IsCountedFor}
 use Rattle.grep_searcher.specs.Walks.{IsCount}
 use Rattle.grep_searcher.proofs.FinishLemmas.{finish-counted, run-finish}
@@ -68,7 +72,7 @@ module _ {S E F : Type 0} (step : Steps S E) (errors : ErrorMakers E) (matcher :
       (result : Result (Unit {0}) E) (new : S) → HasBegun step k matcher.meaning remaining read_step reader old reader'
       → HasCounted step k matcher.meaning remaining read_step reader old count reader' mid
       → step mid k (finishes count None) (finish_result result) new
-      → IsSourceSearched step errors matcher remaining read_step (record { settings = k; has_buffers = has_buffers }) reader old
+      → IsLineSourceSearched step errors matcher remaining read_step (record { settings = k; has_buffers = has_buffers }) reader old
       result reader' new
   source-finished k has_buffers reader old count reader' mid (Ok u) new begun counted finish =
       record {
@@ -86,15 +90,17 @@ module _ {S E F : Type 0} (step : Steps S E) (errors : ErrorMakers E) (matcher :
         begun = begun.begun;
         first = begun.first;
         begin = begun.begin;
-        unread = begun.unread;
-        ahead = λ limit is same. omega (
+        unread = λ by_line. begun.unread;
+        whole = λ across. absurd (false≢true across);
+        below = λ across. absurd (false≢true across);
+        ahead = λ by_line limit is same. omega (
           arith,
           counted.ahead limit is same,
           count-is counted.outcome (byte_count k matcher.meaning counted.seen) count counted.over_seen.is_count,
         );
       }
   source-finished k has_buffers reader old count reader' mid (Err e) new begun counted finish =
-      of_search counted.taken counted.seen
+      of_search counted.taken counted.seen (λ across. absurd (false≢true across))
       (of_sink (run-finish step k old (turns k matcher.meaning counted.seen) (byte_count k matcher.meaning counted.seen)
       count counted.outcome mid (Err e) new counted.over_seen finish))
       (λ bytes input. (
@@ -142,20 +148,20 @@ module _ {S E F : Type 0} (step : Steps S E) (errors : ErrorMakers E) (matcher :
   -- `begin` failed
   pub fault-begin : (state : SearcherState) (reader : R) (old : S) (e : E) (new : S)
       → step old state.settings begins (Err e) new
-      → IsReaderFault remaining read_step step errors matcher state reader old e reader new
+      → IsLineReaderFault remaining read_step step errors matcher state reader old e reader new
   fault-begin state reader old e new fails =
-      of_search (taken-none remaining read_step reader) []
+      of_search (taken-none remaining read_step reader) [] (λ across. absurd (false≢true across))
       (walks.fault-begin step errors matcher state.settings [] old e new fails)
       (λ bytes input. (
         front-none state.settings bytes,
         walks.fault-begin step errors matcher state.settings bytes old e new fails,
       ))
 
-  -- there are no buffers, and no memory for them
-  pub fault-buffers : (state : SearcherState) (reader : R) (old : S) (error : Error) (e : E) → state.has_buffers ≡ false
+  -- there are no buffers, and no memory for them, in any mode
+  pub fault-buffers : (calls : SearchCalls) (state : SearcherState) (reader : R) (old : S) (error : Error) (e : E) → state.has_buffers ≡ false
       → error_kind error ≡ OutOfMemory → errors.is_io error e
-      → IsReaderFault remaining read_step step errors matcher state reader old e reader old
-  fault-buffers state reader old error e none memory made = of_reading None error (unread_buffers none memory) made refl
+      → IsReaderFaultIn remaining read_step step errors matcher calls state reader old e reader old
+  fault-buffers calls state reader old error e none memory made = of_reading None error (unread_buffers none memory) made refl
 
   -- why an input wasn't searched to its end, of a searcher with these settings
   pub unread-same : (k : Settings) (state : SearcherState) (reader : R) (result : Result (Unit {0}) E) (reader' : R)
@@ -186,11 +192,15 @@ module _ {S E F : Type 0} (step : Steps S E) (errors : ErrorMakers E) (matcher :
     undecoded : (reader reader' : R) → remaining reader ≡ Some input → (seen : Option (List ℕ)) (error : Error)
         → IsUnread remaining read_step state matcher.meaning reader seen error reader'
         → IsUndecoded state matcher.meaning input seen error
-    undecoded reader reader' all _ error (unread_cut taken each) =
+    undecoded reader reader' all _ error (unread_cut by_line taken each) =
         let both = each (searched_bytes state.settings input)
         (taken-input remaining read_step state.settings input reader reader' all taken) in
-        undecoded_cut changed both.0 both.1
-    undecoded reader reader' all _ error (unread_reader mid taken unended fails on seen) = absurd (never mid error reader' fails)
+        undecoded_cut by_line changed both.0 both.1
+    undecoded reader reader' all _ error (unread_reader by_line mid taken unended fails on seen) = absurd (never mid error reader' fails)
+    undecoded reader reader' all _ error (unread_contents across taken cut) =
+        undecoded_contents across changed (cut (searched_bytes state.settings input)
+        (taken-input remaining read_step state.settings input reader reader' all taken))
+    undecoded reader reader' all _ error (unread_failed across mid taken unended fails few) = absurd (never mid error reader' fails)
     undecoded reader reader' all _ error (unread_buffers none memory) = undecoded_buffers changed none memory
 
     -- a search of it is one of its input
@@ -200,7 +210,7 @@ module _ {S E F : Type 0} (step : Steps S E) (errors : ErrorMakers E) (matcher :
     input-searched reader reader' all old (Ok u) new run =
         run.run (searched_bytes state.settings input)
         (taken-input remaining read_step state.settings input reader reader' all run.taken)
-    input-searched reader reader' all old (Err e) new (of_search taken seen fault each) =
+    input-searched reader reader' all old (Err e) new (of_search taken seen ended fault each) =
         inl (each (searched_bytes state.settings input)
         (taken-input remaining read_step state.settings input reader reader' all taken)).1
     input-searched reader reader' all old (Err e) new (of_reading seen error cause made reported) =

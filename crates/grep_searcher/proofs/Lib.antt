@@ -1,6 +1,5 @@
 pub mod BeforeContextLemmas
 pub mod WalkLemmas
-pub mod AcrossCallLemmas
 pub mod AcrossUnitLemmas
 pub mod AcrossStepLemmas
 pub mod AcrossTurnLemmas
@@ -15,6 +14,8 @@ pub mod WindowLemmas
 pub mod WindowSearchLemmas
 pub mod FinishLemmas
 pub mod DecodedLemmas
+pub mod ModeLemmas
+pub mod ContentsSearchLemmas
 pub mod LookAheadLemmas
 pub mod ClosureSinkLemmas
 pub mod FoundMatchLemmas

@@ -22,10 +22,10 @@ use Rattle.grep_definitions.specs.Below.{is_at}
 use Rattle.grep_definitions.specs.DecodedInputs.{IsInput}
 use Rattle.grep_definitions.specs.InputFronts.{IsClosed, IsCrowded, IsFront}
 use Rattle.grep_definitions.specs.LineSearch
-use Rattle.grep_definitions.specs.ReaderSearches.{IsReaderFault, IsUnread, Taken, is_idle, of_cut, of_reader, of_search}
+use Rattle.grep_definitions.specs.ReaderSearches.{IsLineReaderFault, IsLineUnread, Taken, is_idle, of_cut, of_reader, of_search}
 use Rattle.grep_definitions.specs.ReadingFaults.{of_limit, of_memory, of_offset}
 use Rattle.grep_definitions.specs.SearchLaws.{UnchangedIsInput}
-use Rattle.grep_definitions.specs.Searches.{ErrorMakers, MatcherFacts, IsFault}
+use Rattle.grep_definitions.specs.Searches.{ErrorMakers, MatcherFacts, IsLineFault}
 use Rattle.grep_definitions.specs.Settings.{Settings}
 use Rattle.grep_definitions.specs.SinkCalls.{begins}
 use Rattle.grep_definitions.specs.SinkRuns.{Steps}
@@ -139,7 +139,7 @@ module _ {R : Type 0} (remaining : R → Option (List ℕ)) (read_step : R → R
 
       abbrev IsCut : FillError → Error → Type 0
       IsCut error io =
-          IsUnread remaining read_step (record { settings = k; has_buffers = has_buffers }) meaning reader (Some seen) io reader'
+          IsLineUnread remaining read_step (record { settings = k; has_buffers = has_buffers }) meaning reader (Some seen) io reader'
 
       limit-is : new.limit ≡ Some new.size → k.heap_limit ≡ Some new.size
       limit-is at = sym fitting.limit ∙ (sym same.limit ∙ at)
@@ -149,7 +149,7 @@ module _ {R : Type 0} (remaining : R → Option (List ℕ)) (read_step : R → R
           → (given : List ℕ) → held new ≡ held old ++ given → ((e : Error) → error ≡ Read e → ⊥)
           → IsCut error io
       unread-cut (Read e) io made fails reads given whole other = absurd (other e refl)
-      unread-cut HeapLimit io made (no_line, at) reads given whole other = of_cut
+      unread-cut HeapLimit io made (no_line, at) reads given whole other = of_cut refl
           (reading.taken remaining read_step k capacity reader (gone ++ held new) d' reader' reads)
           (λ bytes input.
           let text = reading.input-is remaining read_step k capacity reader (gone ++ held new) d' reader' reads none bytes input in
@@ -159,7 +159,7 @@ module _ {R : Type 0} (remaining : R → Option (List ℕ)) (read_step : R → R
             of_limit new.size (limit-is at.limit) made
                 (crowded-there given text.0 bytes new.size whole no_line text.1 at.full some (omega arith)),
           ))
-      unread-cut Offset io made fails reads given whole other = of_cut
+      unread-cut Offset io made fails reads given whole other = of_cut refl
           (reading.taken remaining read_step k capacity reader (gone ++ held new) d' reader' reads)
           (λ bytes input.
           let text = reading.input-is remaining read_step k capacity reader (gone ++ held new) d' reader' reads none bytes input in
@@ -175,7 +175,7 @@ module _ {R : Type 0} (remaining : R → Option (List ℕ)) (read_step : R → R
               length-append gone (held new),
             )),
           ))
-      unread-cut Memory io made (no_line, may) reads given whole other = of_cut
+      unread-cut Memory io made (no_line, may) reads given whole other = of_cut refl
           (reading.taken remaining read_step k capacity reader (gone ++ held new) d' reader' reads)
           (λ bytes input.
           let text = reading.input-is remaining read_step k capacity reader (gone ++ held new) d' reader' reads none bytes input in
@@ -193,8 +193,8 @@ module _ {R : Type 0} (remaining : R → Option (List ℕ)) (read_step : R → R
           → (given : List ℕ) → held new ≡ held old ++ given → HasNoLine old new → length (held new) < new.size → d'.has_ended ≡ false
           → read_step mid (Err error) reader' → d'.ready ≡ [] → (d'.mode ≡ Passing → d'.held ≡ [])
           → IsSettled d'.mode ⊎ TakesAtMost (remaining reader) (remaining reader') 2
-          → IsUnread remaining read_step (record { settings = k; has_buffers = has_buffers }) meaning reader (Some seen) error reader'
-      unread-read error mid reads given whole no_line room unended failed ready held_none few = of_reader mid
+          → IsLineUnread remaining read_step (record { settings = k; has_buffers = has_buffers }) meaning reader (Some seen) error reader'
+      unread-read error mid reads given whole no_line room unended failed ready held_none few = of_reader refl mid
           (reading.taken remaining read_step k capacity reader (gone ++ held new) d' mid reads) unended failed
           (λ bytes input.
           let text = reading.input-is remaining read_step k capacity reader (gone ++ held new) d' mid reads none bytes input in
@@ -284,15 +284,15 @@ module _ {R : Type 0} (remaining : R → Option (List ℕ)) (read_step : R → R
       pub faulted : {F : Type 0} (errors : ErrorMakers E) (matcher : MatcherFacts F) (has_buffers : Bool) (e : E) (now' : S)
           → ((gone : List ℕ) (first : S) → IsReady step k meaning gone new.shown (start_in new w) first w now
           → (after : List ℕ) → (0 < length after → IsClosed t new.shown)
-          → IsFault step errors matcher k (gone ++ (new.shown ++ after)) first e now')
-          → IsReaderFault remaining read_step step errors matcher (record { settings = k; has_buffers = has_buffers })
+          → IsLineFault step errors matcher k (gone ++ (new.shown ++ after)) first e now')
+          → IsLineReaderFault remaining read_step step errors matcher (record { settings = k; has_buffers = has_buffers })
           reader first e reader' now'
-      faulted errors matcher has_buffers e now' fault = of_search taken shown
-          (subst (λ xs. IsFault step errors matcher k (gone ++ xs) first e now') (append-nil new.shown)
+      faulted errors matcher has_buffers e now' fault = of_search taken shown (λ across. absurd (false≢true across))
+          (subst (λ xs. IsLineFault step errors matcher k (gone ++ xs) first e now') (append-nil new.shown)
           (fault gone first ready [] rolls.nothing))
           (λ bytes input. (
             front bytes input,
-            subst (λ xs. IsFault step errors matcher k xs first e now') (after-is bytes input)
+            subst (λ xs. IsLineFault step errors matcher k xs first e now') (after-is bytes input)
                 (fault gone first ready (after bytes input) (closes bytes input)),
           ))
 
@@ -355,7 +355,7 @@ module _ {R : Type 0} (remaining : R → Option (List ℕ)) (read_step : R → R
       → IfRead {X = Bool} (Err error) (λ _. d'.ready ≡ [])
       → IfRead {X = Bool} (Err error) (λ _. IsSettled d'.mode ⊎ TakesAtMost (remaining r) (remaining r') 2)
       → (IsSettled d.mode → d'.mode ≡ d.mode)
-      → IsUnread remaining read_step (record { settings = k; has_buffers = has_buffers }) meaning reader
+      → IsLineUnread remaining read_step (record { settings = k; has_buffers = has_buffers }) meaning reader
       (Some (so_far.gone ++ old.shown)) io r'
   unread-filled capacity reader decoder begun first old new d d' r r' w now so_far fitting same reads has_buffers grows within allowed
       unchanged none error io made fails cut read passed empty few stays = go error made fails cut read passed empty few
@@ -370,14 +370,14 @@ module _ {R : Type 0} (remaining : R → Option (List ℕ)) (read_step : R → R
           → IfRead {X = Bool} (Err error) (λ _. d'.mode ≡ Passing → d'.held ≡ [])
           → IfRead {X = Bool} (Err error) (λ _. d'.ready ≡ [])
           → IfRead {X = Bool} (Err error) (λ _. IsSettled d'.mode ⊎ TakesAtMost (remaining r) (remaining r') 2)
-          → IsUnread remaining read_step (record { settings = k; has_buffers = has_buffers }) meaning reader
+          → IsLineUnread remaining read_step (record { settings = k; has_buffers = has_buffers }) meaning reader
           (Some (so_far.gone ++ old.shown)) io r'
       go (Read e) made fails cut read passed empty few =
           let ahead = ⊎_elim
           (λ settled. inl (subst IsSettled (sym (stays settled)) settled))
           (λ first_read. subst (λ x. IsSettled d'.mode ⊎ TakesAtMost (remaining x) (remaining r') 2) first_read few)
           so_far.settled in
-          subst (λ x. IsUnread remaining read_step (record { settings = k; has_buffers = has_buffers }) meaning reader
+          subst (λ x. IsLineUnread remaining read_step (record { settings = k; has_buffers = has_buffers }) meaning reader
           (Some (so_far.gone ++ old.shown)) x r') (sym made)
           (unread-read capacity reader r' d d' so_far.gone old new first w now so_far.between fitting same has_buffers grows within allowed
           unchanged none e read.mid (from_start read.mid read.fills) read.fills.given read.fills.appended fails.0 fails.1 read.unended read.failed
@@ -410,8 +410,8 @@ module _ {R : Type 0} (remaining : R → Option (List ℕ)) (read_step : R → R
       pub faulted-filled : {F : Type 0} (errors : ErrorMakers E) (matcher : MatcherFacts F) (has_buffers : Bool) (e : E) (now' : S)
           → ((gone : List ℕ) (first : S) → IsReady step k meaning gone new.shown (start_in new w) first w now
           → (after : List ℕ) → (0 < length after → IsClosed t new.shown)
-          → IsFault step errors matcher k (gone ++ (new.shown ++ after)) first e now')
-          → IsReaderFault remaining read_step step errors matcher (record { settings = k; has_buffers = has_buffers })
+          → IsLineFault step errors matcher k (gone ++ (new.shown ++ after)) first e now')
+          → IsLineReaderFault remaining read_step step errors matcher (record { settings = k; has_buffers = has_buffers })
           reader first e r' now'
       faulted-filled = faulted capacity reader r' d d' so_far.gone old new first w now so_far.between fitting same fills.given
           fills.appended filled room within from_start none done_then

@@ -16,7 +16,7 @@ use Rattle.grep_definitions.proofs.TurnEndLemmas.{line_start-le}
 use Rattle.grep_definitions.specs.Below.{is_at}
 use Rattle.grep_definitions.specs.LineSearch.{differ}
 use Rattle.grep_definitions.specs.LineTurns.{context_turns, matches_line, number_of}
-use Rattle.grep_definitions.specs.Searches.{ErrorMakers, MatcherFacts, IsFault}
+use Rattle.grep_definitions.specs.Searches.{ErrorMakers, MatcherFacts, IsLineFault}
 use Rattle.grep_definitions.specs.Settings.{Settings}
 use Rattle.grep_definitions.specs.SinkRuns.{Steps, all_true, AreReported}
 use Rattle.grep_searcher.specs.declared.searcher.look_ahead.Ahead.{Ahead}
@@ -95,7 +95,7 @@ module _ {S E F : Type 0} (join : LinesJoin) (append : LinesAppend) (step : Step
   -- the matcher's error for the lines from there on
   pub failed-ahead : (w : Walk) (p : ℕ) → Searched p w → p < length window → MayAskAhead k matcher.meaning w
       → (error : F) (e : E) → errors.is_message (matcher.text_of error) e → matcher.fails (drop p window) error
-      → IsFault step errors matcher k input first e now
+      → IsLineFault step errors matcher k input first e now
   failed-ahead w p so_far less may error e message fails =
       let there = line-there w p so_far less in
       failed-matcher step errors matcher k gone window input first bare p there.0 w now so_far there.1 there.2 there.3 may.room

@@ -1,8 +1,8 @@
 -- A walk over lines, against the calls that are defined.
-use Rattle.std.proofs.Common.{◌≡◌, ℕ, ◌+◌, ◌-◌, ◌<◌, ◌≤◌, Bool, true, false, not, ◌&&◌, ◌||◌, List, [], ◌∷◌, ◌++◌, length, take, drop}
+use Rattle.std.proofs.Common.{◌≡◌, ℕ, ◌+◌, ◌-◌, ◌<◌, ◌≤◌, Bool, true, false, not, ◌&&◌, List, [], ◌∷◌, ◌++◌, length, take, drop}
 use Rattle.std.proofs.Common.{refl, sym, ◌∙◌, ap, subst, arith, ⊎_elim, inl, inr, Some, None, Ok, Err, if◌then◌else◌}
 use Rattle.std.proofs.Common.{length-take, length-drop}
-use Rattle.std.proofs.lemmas.Bool.{lt-ltb, le-leb, lt-leb, ltb-true, ltb-false, eqb-true, cases_lt}
+use Rattle.std.proofs.lemmas.Bool.{lt-ltb, le-leb, lt-leb, eqb-true, cases_lt}
 use Rattle.std.proofs.lemmas.List.{append-nil}
 use Rattle.std.proofs.lemmas.List.Elements.{All-nil, All-cons, All-append, All-weaker, filter-append}
 use Rattle.std.specs.Prelude.{nat_lt, nat_le, ◌==◌, count_by, All, filter}
@@ -18,14 +18,15 @@ use Rattle.grep_definitions.specs.LineSearch
 use Rattle.grep_definitions.specs.LineSearch.{differ, turns_at, turns, turns_through, byte_count, in_context}
 use Rattle.grep_definitions.specs.LineTurns.{context_turns, match_turns, pending_turns, matches_line, number_of}
 use Rattle.grep_definitions.specs.SinkRuns.{Steps, Outcome, all_true, stopped, failed, AreReported}
-use Rattle.grep_definitions.specs.Searches.{ErrorMakers, MatcherFacts, IsFault, of_sink, of_matcher}
+use Rattle.grep_definitions.specs.Searches.{ErrorMakers, MatcherFacts, IsLineFault, of_sink, of_matcher}
 use Rattle.grep_definitions.specs.LineWalks.{IsNear, IsOpen}
 use Rattle.grep_definitions.specs.Questions.{IsAsked}
 use Rattle.grep_definitions.proofs.SinkRunLemmas.{AreReported-append, AreReported-ended}
-use Rattle.grep_definitions.proofs.BelowLemmas.{joined_from-add, joined_from-more, joined_from-equal, joined_from-none}
+use Rattle.grep_definitions.proofs.BelowLemmas.{joined_from-equal, joined_from-none, headed-through, headed-many}
 use Rattle.grep_definitions.proofs.LimitLemmas.{IsOpen-none, IsOpen-chosen, IsOpen-missed, turn_above, turn_all}
 use Rattle.grep_definitions.proofs.LimitLemmas.{IsDone, IsDone-chosen, IsDone-limit, IsDone-stop, IsDone-none, selected-is, chosen-is}
-use Rattle.grep_definitions.proofs.ContextLemmas.{IsNear-none, IsNear-hit, IsNear-after, IsNear-other, IsNear-pass, turns_at-done}
+use Rattle.grep_definitions.proofs.SelectionLemmas.{headed-missed}
+use Rattle.grep_definitions.proofs.ContextLemmas.{IsNear-none, IsNear-hit, IsNear-missed, turns_at-done}
 use Rattle.grep_definitions.proofs.ContextLemmas.{turns_at-passed, turns_at-hit, turns_at-after, turns_at-other}
 use Rattle.grep_definitions.proofs.TurnEndLemmas.{ends-one, ends-pending, ends-match, ends-late, ends-passed}
 use Rattle.grep_searcher.specs.declared.searcher.walk.Walk.{Walk}
@@ -76,28 +77,7 @@ module _ (k : Settings) (meaning : Meaning) (bytes : List ℕ) where
   }
 
   front-through : (v i : ℕ) → v ≤ i → front i ≡ front v ++ joined_from T v (i - v)
-  front-through v i low = ap (λ later. record { call = begins; end = 0 } ∷ later) split
-    where
-      split : joined_from T 0 i ≡ joined_from T 0 v ++ joined_from T v (i - v)
-      split =
-          let sum : i ≡ v + (i - v) = omega arith in
-          let zero_v : 0 + v ≡ v = omega arith in
-          ap (λ m. joined_from T 0 m) sum ∙ joined_from-add T 0 v (i - v)
-          ∙ ap (λ m. joined_from T 0 v ++ joined_from T m (i - v)) zero_v
-
-  front-one : (v i : ℕ) → v ≡ i → front (i + 1) ≡ front v ++ T i
-  front-one v i same =
-      let one : (i + 1) - i ≡ 1 = omega arith in
-      front-through i (i + 1) (omega arith) ∙ (ap (λ m. front i ++ joined_from T i m) one
-      ∙ (ap (λ xs. front i ++ xs) (append-nil (T i)) ∙ ap (λ m. front m ++ T i) (sym same)))
-
-  front-many : (v i : ℕ) → v ≤ i → front (i + 1) ≡ front v ++ (joined_from T v (i - v) ++ T i)
-  front-many v i low =
-      let sum : (i + 1) - v ≡ (i - v) + 1 = omega arith in
-      let last : v + (i - v) ≡ i = omega arith in
-      front-through v (i + 1) (omega arith)
-      ∙ ap (λ xs. front v ++ xs)
-      (ap (λ m. joined_from T v m) sum ∙ (joined_from-more T v (i - v) ∙ ap (λ m. joined_from T v (i - v) ++ T m) last))
+  front-through = headed-through (record { call = begins; end = 0 }) T
 
   -- the line that a walk is at
   module _ (w : Walk) (start end : ℕ) (same : w.offset ≡ start) (line : IsLine t bytes w.line start end) where
@@ -201,57 +181,35 @@ module _ (k : Settings) (meaning : Meaning) (bytes : List ℕ) where
           let hit = selected true is in
           let pending = pending_turns k bytes w.reported_through w.line (line_end w here) w.reported_through
           (w.line - w.reported_through) in
-          front-many w.reported_through w.line walk.near.low
+          headed-many (record { call = begins; end = 0 }) T w.reported_through w.line walk.near.low
           ∙ (ap (λ xs. front w.reported_through ++ (xs ++ T w.line)) (pending-is hit)
           ∙ ap (λ xs. front w.reported_through ++ (pending ++ xs)) (hit-is hit))
-      front-step false is = go (nat_lt 0 w.after_context_left) k.passthru refl refl
+      front-step false is =
+          headed-missed k (LineSearch.is_selected k meaning bytes) n turned w.reported_through w.line w.after_context_left walk.near
+          (record { call = begins; end = 0 }) T _ _ after_is other_is
         where
           miss : LineSearch.is_selected k meaning bytes w.line ≡ false
           miss = selected false is
 
-          go : (b p : Bool) → nat_lt 0 w.after_context_left ≡ b → k.passthru ≡ p
-              → front (if (b || p) then w.line + 1 else w.reported_through)
-              ≡ front w.reported_through ++ (if b then context_turns After (number_of k w.line) w.offset (line_end w here) here
-              else (if p then context_turns Other (number_of k w.line) w.offset (line_end w here) here else []))
-          go true p is_b is_p =
-              let some = ltb-true 0 w.after_context_left is_b in
-              front-one w.reported_through w.line (walk.near.close some) ∙ ap (λ xs. front w.reported_through ++ xs)
-              (turns_at-after k meaning bytes w.reported_through w.line w.after_context_left walk.near line.listed has
-              w.offset (line_end w here) _ miss some number-is start-is start-after line.line)
-          go false true is_b is_p =
-              let none : w.after_context_left ≡ 0 = let le = ltb-false 0 w.after_context_left is_b in omega arith in
-              front-one w.reported_through w.line (walk.near.bare is_p) ∙ ap (λ xs. front w.reported_through ++ xs)
-              (turns_at-other k meaning bytes w.reported_through w.line w.after_context_left walk.near line.listed has
-              w.offset (line_end w here) _ miss none is_p (bare is_p).1 number-is start-is start-after line.line)
-          go false false is_b is_p = sym (append-nil (front w.reported_through))
+          after_is : 0 < w.after_context_left → T w.line ≡ context_turns After (number_of k w.line) w.offset (line_end w here) here
+          after_is some =
+              turns_at-after k meaning bytes w.reported_through w.line w.after_context_left walk.near line.listed has
+              w.offset (line_end w here) _ miss some number-is start-is start-after line.line
+
+          other_is : w.after_context_left ≡ 0 → k.passthru ≡ true
+              → T w.line ≡ context_turns Other (number_of k w.line) w.offset (line_end w here) here
+          other_is none is_p =
+              turns_at-other k meaning bytes w.reported_through w.line w.after_context_left walk.near line.listed has
+              w.offset (line_end w here) _ miss none is_p (bare is_p).1 number-is start-is start-after line.line
 
       pub near-next : (chosen : Bool) → LineSearch.is_chosen k meaning bytes w.line ≡ chosen
           → IsNear k meaning bytes (next_walk k w here chosen).reported_through (w.line + 1)
           (next_walk k w here chosen).after_context_left
       near-next true is = IsNear-hit k meaning bytes w.reported_through w.line w.after_context_left walk.near line.listed has
           (selected true is)
-      near-next false is = go (nat_lt 0 w.after_context_left) k.passthru refl refl
-        where
-          miss : LineSearch.is_selected k meaning bytes w.line ≡ false
-          miss = selected false is
-
-          go : (b p : Bool) → nat_lt 0 w.after_context_left ≡ b → k.passthru ≡ p
-              → IsNear k meaning bytes (if (b || p) then w.line + 1 else w.reported_through) (w.line + 1) (w.after_context_left - 1)
-          go true p is_b is_p =
-              let some = ltb-true 0 w.after_context_left is_b in
-              IsNear-after k meaning bytes w.reported_through w.line w.after_context_left walk.near line.listed has
-              (w.after_context_left - 1) miss (omega arith)
-          go false true is_b is_p =
-              let none : w.after_context_left ≡ 0 = let le = ltb-false 0 w.after_context_left is_b in omega arith in
-              let rest : 0 ≡ w.after_context_left - 1 = omega arith in
-              subst (λ l. IsNear k meaning bytes (w.line + 1) (w.line + 1) l) rest
-              (IsNear-other k meaning bytes w.reported_through w.line w.after_context_left walk.near line.listed has miss none is_p
-              (bare is_p).1)
-          go false false is_b is_p =
-              let none : w.after_context_left ≡ 0 = let le = ltb-false 0 w.after_context_left is_b in omega arith in
-              let rest : 0 ≡ w.after_context_left - 1 = omega arith in
-              subst (λ l. IsNear k meaning bytes w.reported_through (w.line + 1) l) rest
-              (IsNear-pass k meaning bytes w.reported_through w.line w.after_context_left walk.near line.listed has miss none is_p)
+      near-next false is =
+          IsNear-missed k meaning bytes w.reported_through w.line w.after_context_left walk.near line.listed has
+          (λ is_p. (bare is_p).1) (selected false is)
 
       open-next : (chosen : Bool) → LineSearch.is_chosen k meaning bytes w.line ≡ chosen → is_over k (next_walk k w here chosen) chosen
           ≡ false
@@ -455,23 +413,26 @@ module _ (k : Settings) (meaning : Meaning) (bytes : List ℕ) where
 -- how a search ends in a fault
 module _ {S E F : Type 0} (step : Steps S E) (errors : ErrorMakers E) (matcher : MatcherFacts F) (k : Settings) (bytes : List ℕ)
     (old : S) where
-  pub fault-begin : (e : E) (new : S) → step old k begins (Err e) new → IsFault step errors matcher k bytes old e new
+  pub fault-begin : (e : E) (new : S) → step old k begins (Err e) new → IsLineFault step errors matcher k bytes old e new
   fault-begin e new fails = of_sink
       (record { outcome = failed e; mid = new; reported = inr (inr (e, refl, fails)); finished = (refl, refl) })
 
   pub fault-line : (e : E) (new : S) → AreReported step k old (turns k matcher.meaning bytes) (failed e) new
-      → IsFault step errors matcher k bytes old e new
+      → IsLineFault step errors matcher k bytes old e new
   fault-line e new reported = of_sink (record { outcome = failed e; mid = new; reported = reported; finished = (refl, refl) })
 
   pub fault-matcher : (w : Walk) (new : S) → HasReported k matcher.meaning bytes step old w new
       → (start end : ℕ) (same : w.offset ≡ start) (line : IsLine (byte_of k.line_terminator) bytes w.line start end)
       → Bare k matcher.meaning bytes → is_at w.match_count k.max_matches ≡ false → (haystack : List ℕ) (error : F) (e : E)
       → IsAsked k matcher.meaning bytes w.line haystack → errors.is_message (matcher.text_of error) e
-      → matcher.fails haystack error → IsFault step errors matcher k bytes old e new
-  fault-matcher w new so_far start end same line bare room haystack error e asked message fails = of_matcher w.line haystack error
-      (has k matcher.meaning bytes w start end same line bare so_far.walk)
-      (so_far.walk.opened.below ∙ ap not room)
-      asked fails message
-      (subst (λ ts. AreReported step k old ts all_true new)
-      (sym (through-is k matcher.meaning bytes w start end same line bare so_far.walk))
-      so_far.reported)
+      → matcher.fails haystack error → IsLineFault step errors matcher k bytes old e new
+  fault-matcher w new so_far start end same line bare room haystack error e asked message fails = of_matcher haystack error
+      (front k matcher.meaning bytes w.reported_through)
+      (record {
+        index = w.line;
+        has_turn = has k matcher.meaning bytes w start end same line bare so_far.walk;
+        room = so_far.walk.opened.below ∙ ap not room;
+        question = asked;
+        before = sym (through-is k matcher.meaning bytes w start end same line bare so_far.walk);
+      })
+      fails message so_far.reported

@@ -13,7 +13,7 @@ use Rattle.grep_definitions.specs.Below.{is_at}
 use Rattle.grep_definitions.specs.LineSearch.{differ, turns, byte_count}
 use Rattle.grep_definitions.specs.LineTurns.{matches_line}
 use Rattle.grep_definitions.specs.SinkRuns.{Steps, Outcome, all_true, stopped, failed, AreReported}
-use Rattle.grep_definitions.specs.Searches.{ErrorMakers, MatcherFacts, IsFault}
+use Rattle.grep_definitions.specs.Searches.{ErrorMakers, MatcherFacts, IsLineFault}
 use Rattle.grep_matcher.specs.Terminators.{byte_of}
 use Rattle.grep_searcher.specs.declared.searcher.walk.Walk.{Walk}
 use Rattle.grep_searcher.specs.Walks.{IsOrdered, HasReported, line_end, line_turns, next_walk, is_over, reports_line, Counted}
@@ -122,7 +122,7 @@ module _ {S E F : Type 0} (step : Steps S E) (errors : ErrorMakers E) (matcher :
     -- the matcher's error for a question at that line
     pub failed-matcher : is_at w.match_count k.max_matches ≡ false → (haystack : List ℕ) (error : F) (e : E)
         → IsAsked k matcher.meaning input w.line haystack → errors.is_message (matcher.text_of error) e
-        → matcher.fails haystack error → IsFault step errors matcher k input first e now
+        → matcher.fails haystack error → IsLineFault step errors matcher k input first e now
     failed-matcher room haystack error e asked message fails = walks.fault-matcher step errors matcher k input first w now
         so_far.reported (length gone + p) (length gone + q) so_far.inside.at at bare room haystack error e asked message fails
 
@@ -164,9 +164,9 @@ module _ {S E F : Type 0} (step : Steps S E) (errors : ErrorMakers E) (matcher :
           && differ (matches_line k matcher.meaning xs) k.invert_match) → P xs) holds value
 
       pub failed-line : (e : E) (new : S) → AreReported step k now (line_turns k input w here chosen) (failed e) new
-          → IsFault step errors matcher k input first e new
+          → IsLineFault step errors matcher k input first e new
       failed-line e new = matched
-          (λ xs. AreReported step k now (line_turns k input w xs chosen) (failed e) new → IsFault step errors matcher k input first e new)
+          (λ xs. AreReported step k now (line_turns k input w xs chosen) (failed e) new → IsLineFault step errors matcher k input first e new)
           (λ is reported. walks.fault-line step errors matcher k input first e new
           (walks.failed-line k matcher.meaning input step first bare w now so_far.reported (length gone + p) (length gone + q)
           so_far.inside.at at chosen is e new reported))

@@ -1,20 +1,17 @@
 -- The walk of a search across lines: what it knows of the unit of lines that it comes to, where it goes from there, and how
 -- it ends in an error. The contracts of private functions cite these definitions; no public contract does.
 use Rattle.std.specs.Prelude.{◌≡◌, ℕ, ◌+◌, ◌-◌, ◌<◌, ◌≤◌, Bool, true, false, not, ◌&&◌, ◌==◌, if◌then◌else◌, nat_lt}
-use Rattle.std.specs.Prelude.{List, ◌∷◌, length, take}
+use Rattle.std.specs.Prelude.{List, ◌∷◌, length}
 use Rattle.grep_matcher.specs.Lines.{lines}
 use Rattle.grep_matcher.specs.Matching.{Meaning}
 use Rattle.grep_matcher.specs.Terminators.{byte_of}
 use Rattle.grep_lines.specs.Positions.{IsLineStart}
-use Rattle.grep_definitions.specs.AcrossLines.{is_free, is_selected, turns_at, turns}
-use Rattle.grep_definitions.specs.AcrossQuestions.{IsAskedAcross}
+use Rattle.grep_definitions.specs.AcrossLines.{is_free, is_selected, turns_at}
 use Rattle.grep_definitions.specs.Below.{count_below, is_at, is_below, joined_from}
 use Rattle.grep_definitions.specs.LineSearch.{line_count}
-use Rattle.grep_definitions.specs.Searches.{ErrorMakers, MatcherFacts}
 use Rattle.grep_definitions.specs.Selections.{IsNear}
 use Rattle.grep_definitions.specs.Settings.{Settings}
 use Rattle.grep_definitions.specs.SinkCalls.{Turn, begins}
-use Rattle.grep_definitions.specs.SinkRuns.{Steps, all_true, failed, AreReported}
 use Rattle.grep_searcher.specs.declared.searcher.blocks.Blocks.{Blocks}
 use Rattle.grep_searcher.specs.declared.searcher.walk.Walk.{Walk}
 use Rattle.grep_searcher.specs.Units.{AreLeft, IsUnit, is_hit}
@@ -95,18 +92,3 @@ module _ (settings : Settings) (meaning : Meaning) (bytes : List ℕ) where
     pub within : unit.1 ≤ length bytes
     pub before : is_done settings w ≡ false → start ≤ unit.1
     pub coming : is_done settings w ≡ false → start < unit.1 → IsComing start unit
-
-module _ {S E F : Type 0} (step : Steps S E) (errors : ErrorMakers E) (matcher : MatcherFacts F) where
-  -- how the calls of a search across lines end in an error e, by its cause
-  pub data IsAcrossFault (settings : Settings) (bytes : List ℕ) (old : S) : E → S → Type 0 where
-    -- the sink's own error
-    of_sink : {e : E} {new : S}
-        → AreReported step settings old (turns settings matcher.meaning bytes) (failed e) new
-        → IsAcrossFault settings bytes old e new
-    -- the matcher's error, one that a question may get; some first calls were made, and all returned true
-    of_matcher : {e : E} {new : S} (haystack : List ℕ) (error : F) (count : ℕ)
-        → IsAskedAcross settings matcher.meaning bytes haystack
-        → matcher.fails haystack error
-        → errors.is_message (matcher.text_of error) e
-        → AreReported step settings old (take count (turns settings matcher.meaning bytes)) all_true new
-        → IsAcrossFault settings bytes old e new

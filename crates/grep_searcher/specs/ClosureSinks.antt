@@ -7,7 +7,9 @@ use Rattle.std.specs.Str.{IsUtf8}
 use Rattle.std.specs.Str.Lossy.{utf8_lossy}
 use Rattle.std.specs.declared.io.Error.{Error}
 use Rattle.std.specs.declared.io.ErrorKind.TheVariants.{Other, OutOfMemory}
-use Rattle.grep_definitions.specs.LineSearch.{turns, line}
+use Rattle.grep_definitions.specs.LineSearch.{line}
+use Rattle.grep_definitions.specs.Modes.{is_across}
+use Rattle.grep_definitions.specs.SearchTurns.{search_turns}
 use Rattle.grep_definitions.specs.SearchLaws.{match_calls, selected_lines}
 use Rattle.grep_definitions.specs.Settings.{Settings}
 use Rattle.grep_definitions.specs.SinkCalls.{Call, Turn, begins, matches, context, breaks, binary_data, finishes}
@@ -95,14 +97,14 @@ module _ {F : Type 0} (call : F → ℕ → Bor (List ℕ) → Result Bool Error
       → call old number text (Ok b) new → (b ≡ true) × (name new ≡ name old)
       × (kept new ≡ kept old ++ (number, text.now) ∷ [])
 
-  -- then a run along the calls for some bytes that ended in `Ok` adds the numbers and the texts of the selected lines
+  -- then a run by line along the calls for some bytes that ended in `Ok` adds the numbers and the texts of the selected lines
   abbrev pub ClosuresKeep : {S : Type 0} → (S → F) → (List ℕ → List ℕ) → Type 0
   ClosuresKeep {S} closure text_of =
       (name : F → ℕ) (kept : F → List (ℕ × List ℕ)) → KeepsCalls name kept
-      → (settings : Settings) (meaning : Meaning) (bytes : List ℕ)
-      (old : S) (count : ℕ) (binary : Option ℕ) (new : S)
+      → (settings : Settings) (meaning : Meaning) (bytes : List ℕ) → is_across settings meaning ≡ false
+      → (old : S) (count : ℕ) (binary : Option ℕ) (new : S)
       → IsRun (ClosureSteps closure) settings old
-      (turns settings meaning bytes) count binary (Ok tt) new
+      (search_turns settings meaning bytes) count binary (Ok tt) new
       → (name (closure new) ≡ name (closure old))
       × (kept (closure new) ≡ kept (closure old)
       ++ map (λ i. (i + 1, text_of (line settings meaning bytes i)))

@@ -1,5 +1,4 @@
 -- The settings that a configuration holds.
-use Rattle.std.specs.Prelude.{false}
 use Rattle.grep_searcher.specs.declared.config.Config.{Config}
 use Rattle.grep_definitions.specs.Settings.{Settings, none}
 
@@ -9,7 +8,7 @@ settings_of c = record {
   line_terminator = c.line_terminator;
   invert_match = c.invert_match;
   line_number = c.line_number;
-  multi_line = false;
+  multi_line = c.multi_line;
   after_context = c.after_context;
   before_context = c.before_context;
   passthru = c.passthru;

@@ -2,7 +2,8 @@
 use Rattle.std.specs.Prelude.{◌⊎◌, ℕ, List, Option, Result, Ok, Err}
 use Rattle.grep_decode.specs.Source.{ReadResult}
 use Rattle.grep_definitions.specs.DecodedInputs.{searched_bytes}
-use Rattle.grep_definitions.specs.ReaderSearches.{IsReaderFault, IsReaderRun}
+use Rattle.grep_definitions.specs.ReaderSearches.{IsReaderFaultIn, IsReaderRunIn}
+use Rattle.grep_definitions.specs.SearchTurns.{SearchCalls, search_calls, calls_by_line}
 use Rattle.grep_definitions.specs.Settings.{SearcherState}
 use Rattle.grep_definitions.specs.Searches.{ErrorMakers, MatcherFacts, IsFault, IsSearchedAlong, IsUnsearched}
 use Rattle.grep_definitions.specs.SinkRuns.{Steps}
@@ -16,10 +17,21 @@ module _ {S E F : Type 0} (step : Steps S E) (errors : ErrorMakers E) (matcher :
       IsFault step errors matcher state.settings (searched_bytes state.settings input) old e new
       ⊎ IsUnsearched step errors matcher state input old e new
 
-  -- the same of a reader
+  -- a search of a reader with these calls
+  abbrev pub IsSourceSearchedIn : SearchCalls → {R : Type 0} → (R → Option (List ℕ)) → (R → ReadResult → R → Type 0)
+      → SearcherState → R → S → Result (Unit {0}) E → R → S → Type 0
+  IsSourceSearchedIn calls remaining read_step state reader old (Ok u) reader' new =
+      IsReaderRunIn remaining read_step step errors matcher calls state.settings reader old reader' new
+  IsSourceSearchedIn calls remaining read_step state reader old (Err e) reader' new =
+      IsReaderFaultIn remaining read_step step errors matcher calls state reader old e reader' new
+
+  -- in the mode that it runs in, and by line
   abbrev pub IsSourceSearched : {R : Type 0} → (R → Option (List ℕ)) → (R → ReadResult → R → Type 0)
       → SearcherState → R → S → Result (Unit {0}) E → R → S → Type 0
-  IsSourceSearched remaining read_step state reader old (Ok u) reader' new =
-      IsReaderRun remaining read_step step errors matcher state.settings reader old reader' new
-  IsSourceSearched remaining read_step state reader old (Err e) reader' new =
-      IsReaderFault remaining read_step step errors matcher state reader old e reader' new
+  IsSourceSearched remaining read_step state =
+      IsSourceSearchedIn (search_calls state.settings matcher.meaning) remaining read_step state
+
+  abbrev pub IsLineSourceSearched : {R : Type 0} → (R → Option (List ℕ)) → (R → ReadResult → R → Type 0)
+      → SearcherState → R → S → Result (Unit {0}) E → R → S → Type 0
+  IsLineSourceSearched remaining read_step state =
+      IsSourceSearchedIn (calls_by_line state.settings matcher.meaning) remaining read_step state

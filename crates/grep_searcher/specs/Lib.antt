@@ -12,6 +12,11 @@ pub use Rattle.grep_definitions.specs.Settings
 pub use Rattle.grep_definitions.specs.SinkCalls
 pub use Rattle.grep_definitions.specs.Below
 pub use Rattle.grep_definitions.specs.LineSearch
+pub use Rattle.grep_definitions.specs.Modes
+pub use Rattle.grep_definitions.specs.SuccessiveMatches
+pub use Rattle.grep_definitions.specs.AcrossLines
+pub use Rattle.grep_definitions.specs.AcrossQuestions
+pub use Rattle.grep_definitions.specs.SearchTurns
 pub use Rattle.grep_definitions.specs.SinkRuns
 pub use Rattle.grep_definitions.specs.Refusals
 pub use Rattle.grep_definitions.specs.Questions
@@ -22,6 +27,7 @@ pub use Rattle.grep_definitions.specs.Searches
 pub use Rattle.grep_definitions.specs.ReaderSearches
 pub use Rattle.grep_definitions.specs.FileSearches
 pub use Rattle.grep_definitions.specs.SearchLaws
+pub use Rattle.grep_definitions.specs.AcrossLaws
 pub use Rattle.grep_definitions.specs.SinkFolds
 pub use Rattle.grep_decode.specs.Labels
 pub use Rattle.grep_decode.specs.Source

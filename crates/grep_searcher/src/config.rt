@@ -8,6 +8,7 @@ pub(crate) struct Config {
     pub(crate) line_terminator: LineTerminator,
     pub(crate) invert_match: bool,
     pub(crate) line_number: bool,
+    pub(crate) multi_line: bool,
     pub(crate) after_context: usize,
     pub(crate) before_context: usize,
     pub(crate) passthru: bool,

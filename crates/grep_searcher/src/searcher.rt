@@ -11,16 +11,19 @@ ghost use Rattle.grep_definitions.specs.Questions.{IsLawfulFor};
 ghost use Rattle.grep_definitions.specs.ReaderSearches.{IsReaderSearched, IsUnread};
 ghost use Rattle.grep_definitions.specs.ReadingFaults.{IsUndecoded};
 ghost use Rattle.grep_definitions.specs.Refusals.{refusal_of};
-ghost use Rattle.grep_definitions.specs.Searches.{IsSearched, IsSearchedAlong};
+ghost use Rattle.grep_definitions.specs.Searches.{IsFault, IsSearched, IsSearchedAlong};
+ghost use Rattle.grep_definitions.specs.SearchTurns.{search_turns, search_byte_count};
 ghost use Rattle.grep_definitions.specs.Settings.{default_settings};
-ghost use Rattle.grep_definitions.specs.SinkRuns.{NeverFails};
+ghost use Rattle.grep_definitions.specs.SinkRuns.{NeverFails, Outcome};
 ghost use Rattle.grep_searcher.specs.Configs.{settings_of};
 ghost use Rattle.grep_searcher.specs.InputSearches.{IsInputSearched};
 ghost use Rattle.grep_searcher.specs.SearchBuffers.{AreFitting};
+ghost use Rattle.grep_searcher.specs.Walks.{Counted};
 
 mod blocks;
 mod buffers;
 mod builder;
+mod contents;
 mod files;
 mod look_ahead;
 mod multi_line;
@@ -358,7 +361,49 @@ impl<A: Allocator + Copy> Searcher<A> {
             → IsOk result }
         ensures may_call { S.may_call sink.new }
     {
-        let count = self.match_by_line(matcher, bytes, sink)?;
+        let count = self.match_bytes(matcher, bytes, sink)?;
         sink.finish(self, &SinkFinish::new(count, None))
+    }
+
+    // Makes each call but `finish`, in the mode that the search runs in, and returns the byte count.
+    fn match_bytes<M: Matcher, S: Sink>(
+        &self,
+        matcher: &M,
+        bytes: &[u8],
+        sink: &mut S,
+    ) -> Result<u64, S::Error>
+    where
+        S::Error: SinkError<A>,
+        requires { S.may_call sink.old }
+        ensures reported { IfOk result (λ count.
+            IsLawfulFor self.now.settings (M.meaning matcher.now) (M.is_lawful matcher.now)
+            → (outcome : Outcome S.Error)
+            × Counted S.step self.now.settings sink.old
+            (search_turns self.now.settings (M.meaning matcher.now) bytes.now)
+            (search_byte_count self.now.settings (M.meaning matcher.now) bytes.now)
+            count outcome sink.new) }
+        ensures fault { IfErr result (λ e.
+            IsLawfulFor self.now.settings (M.meaning matcher.now) (M.is_lawful matcher.now)
+            → IsFault S.step
+            (record {
+              is_message = S.Error.is_message;
+              is_io = S.Error.is_io;
+              is_config = S.Error.is_config;
+            })
+            (record {
+              meaning = M.meaning matcher.now;
+              fails = M.fails matcher.now;
+              is_lawful = M.is_lawful matcher.now;
+              text_of = M.Error.output;
+            })
+            self.now.settings bytes.now sink.old e sink.new) }
+        ensures succeeds { NeverFails S.step S.may_call → IsInfallible (M.fails matcher.now)
+            → IsOk result }
+        ensures may_call { S.may_call sink.new }
+    {
+        if self.is_across(matcher) {
+            return self.match_across(matcher, bytes, sink);
+        }
+        self.match_by_line(matcher, bytes, sink)
     }
 }

@@ -14,11 +14,12 @@ const BUFFER_CAPACITY: usize = 64 * 1024;
 // How many bytes of its reader a decoder keeps.
 const DECODER_CAPACITY: usize = 8192;
 
-/// What a search of a reader needs: a buffer that shows its lines, over a decoder.
+/// What a search of a reader needs: a decoder, and a buffer that shows its lines or, across lines, all its bytes.
 #[derive(Drop)]
 pub(crate) struct Buffers<A: Allocator> {
     pub(crate) lines: LineBuffer<A>,
     pub(crate) decoder: Decoder<A>,
+    pub(crate) contents: Vec<u8, A>,
 }
 
 impl<A: Allocator + Copy> Buffers<A> {
@@ -35,6 +36,11 @@ impl<A: Allocator + Copy> Buffers<A> {
         let terminator = config.line_terminator.as_byte();
         let lines = LineBuffer::new(alloc, capacity, limit, terminator, Detection::None)?;
         let decoder = Decoder::new(alloc, DECODER_CAPACITY)?;
-        Ok(Buffers { lines, decoder })
+        let contents = Vec::new(alloc);
+        Ok(Buffers {
+            lines,
+            decoder,
+            contents,
+        })
     }
 }

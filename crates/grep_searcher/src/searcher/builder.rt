@@ -59,6 +59,7 @@ impl SearcherBuilder {
                 line_terminator: LineTerminator::Byte(b'\n'),
                 invert_match: false,
                 line_number: true,
+                multi_line: false,
                 after_context: 0,
                 before_context: 0,
                 passthru: false,
@@ -111,6 +112,21 @@ impl SearcherBuilder {
         ensures set { result.now ≡ record self.old { line_number = yes } }
     {
         self.config.line_number = yes;
+        self
+    }
+
+    /// Whether a match may extend over several lines; not by default.
+    ///
+    /// Then a search runs across lines, unless the matcher says that no match of its contains the line terminator
+    /// (`Searcher::multi_line_with_matcher`). It looks for matches in all bytes at once, and reports the lines of
+    /// matches that overlap or follow each other as one match; under inversion it reports each line that no match
+    /// extends over. The limit counts matches, and under inversion lines. `stop_on_nonmatch` is ignored. All of a
+    /// reader is read into memory before the search begins.
+    pub fn multi_line(&mut self, yes: bool) -> &mut SearcherBuilder
+        ensures reference { result.ghost_name ≡ self.entry.ghost_name }
+        ensures set { result.now ≡ record self.old { multi_line = yes } }
+    {
+        self.config.multi_line = yes;
         self
     }
 

@@ -4,12 +4,13 @@ ghost use Rattle.std.specs.Prelude.{List, Ok, IfOk, IfErr, IsOk};
 ghost use Rattle.grep_matcher.specs.Terminators.{byte_of};
 ghost use Rattle.grep_matcher.specs.Matching.{IsInfallible};
 ghost use Rattle.grep_lines.specs.Positions.{IsLine, IsLineStart};
-ghost use Rattle.grep_definitions.specs.AcrossLines.{turns, byte_count};
 ghost use Rattle.grep_definitions.specs.AcrossQuestions.{IsAskedAcross};
+ghost use Rattle.grep_definitions.specs.Searches.{IsFaultIn};
+ghost use Rattle.grep_definitions.specs.SearchTurns.{calls_across};
 ghost use Rattle.grep_definitions.specs.SinkCalls.{begins};
 ghost use Rattle.grep_definitions.specs.SinkRuns.{Outcome, NeverFails};
 ghost use Rattle.grep_searcher.specs.AcrossWalks.{is_done, is_joined, is_silent, next_chosen, walk_after, walk_past};
-ghost use Rattle.grep_searcher.specs.AcrossWalks.{IsAcrossFault, IsReady};
+ghost use Rattle.grep_searcher.specs.AcrossWalks.{IsReady};
 ghost use Rattle.grep_searcher.specs.Walks.{Counted, IsOrdered};
 
 use crate::searcher::Searcher;
@@ -35,10 +36,10 @@ impl<A: Allocator + Copy> Searcher<A> {
         requires { S.may_call sink.old }
         ensures reported { IfOk result (λ count. (outcome : Outcome S.Error)
             × Counted S.step self.now.settings sink.old
-            (turns self.now.settings (M.meaning matcher.now) bytes.now)
-            (byte_count self.now.settings (M.meaning matcher.now) bytes.now)
+            ((calls_across self.now.settings (M.meaning matcher.now)).turns bytes.now)
+            ((calls_across self.now.settings (M.meaning matcher.now)).byte_count bytes.now)
             count outcome sink.new) }
-        ensures fault { IfErr result (λ e. IsAcrossFault S.step
+        ensures fault { IfErr result (λ e. IsFaultIn S.step
             (record {
               is_message = S.Error.is_message;
               is_io = S.Error.is_io;
@@ -50,6 +51,7 @@ impl<A: Allocator + Copy> Searcher<A> {
               is_lawful = M.is_lawful matcher.now;
               text_of = M.Error.output;
             })
+            (calls_across self.now.settings (M.meaning matcher.now))
             self.now.settings bytes.now sink.old e sink.new) }
         ensures succeeds { NeverFails S.step S.may_call → IsInfallible (M.fails matcher.now)
             → IsOk result }
@@ -74,12 +76,12 @@ impl<A: Allocator + Copy> Searcher<A> {
         ensures reported { IfOk result (λ count. (first : S)
             → S.step first self.now.settings begins (Ok true) sink.old
             → (outcome : Outcome S.Error) × Counted S.step self.now.settings first
-            (turns self.now.settings (M.meaning matcher.now) bytes.now)
-            (byte_count self.now.settings (M.meaning matcher.now) bytes.now)
+            ((calls_across self.now.settings (M.meaning matcher.now)).turns bytes.now)
+            ((calls_across self.now.settings (M.meaning matcher.now)).byte_count bytes.now)
             count outcome sink.new) }
         ensures fault { IfErr result (λ e. (first : S)
             → S.step first self.now.settings begins (Ok true) sink.old
-            → IsAcrossFault S.step
+            → IsFaultIn S.step
             (record {
               is_message = S.Error.is_message;
               is_io = S.Error.is_io;
@@ -91,6 +93,7 @@ impl<A: Allocator + Copy> Searcher<A> {
               is_lawful = M.is_lawful matcher.now;
               text_of = M.Error.output;
             })
+            (calls_across self.now.settings (M.meaning matcher.now))
             self.now.settings bytes.now first e sink.new) }
         ensures succeeds { NeverFails S.step S.may_call → IsInfallible (M.fails matcher.now)
             → IsOk result }

@@ -1,8 +1,9 @@
 //! What a searcher was configured with.
 ghost use Rattle.std.specs.Prelude.{◌≡◌, true};
+ghost use Rattle.grep_definitions.specs.Modes.{is_across};
 
 use crate::searcher::Searcher;
-use grep_matcher::LineTerminator;
+use grep_matcher::{LineTerminator, Matcher};
 use grep_report::MmapChoice;
 use std::alloc::Allocator;
 use std::fmt;
@@ -27,6 +28,39 @@ impl<A: Allocator + Copy> Searcher<A> {
         ensures { result ≡ self.now.settings.line_number }
     {
         self.config.line_number
+    }
+
+    /// Whether a match may extend over several lines.
+    pub fn multi_line(&self) -> bool
+        ensures { result ≡ self.now.settings.multi_line }
+    {
+        self.config.multi_line
+    }
+
+    /// Whether a search with this matcher runs across lines: if `multi_line` is set, and the matcher doesn't say that no
+    /// match contains the line terminator. It says so by declaring the searcher's terminator, or by having its byte
+    /// among the bytes that no match contains.
+    pub fn multi_line_with_matcher<M: Matcher>(&self, matcher: M) -> bool
+    where
+        M: Drop,
+        ensures { result ≡ is_across self.now.settings (M.meaning matcher) }
+    {
+        self.is_across(&matcher)
+    }
+
+    // The same of a matcher that is borrowed.
+    pub(crate) fn is_across<M: Matcher>(&self, matcher: &M) -> bool
+        ensures { result ≡ is_across self.now.settings (M.meaning matcher.now) }
+    {
+        if !self.config.multi_line
+            || matcher.line_terminator() == Some(self.config.line_terminator)
+        {
+            return false;
+        }
+        match matcher.non_matching_bytes() {
+            Some(absent) => !absent.contains(self.config.line_terminator.as_byte()),
+            None => true,
+        }
     }
 
     /// How many lines are reported after a match; 0 under `passthru`.

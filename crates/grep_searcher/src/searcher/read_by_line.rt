@@ -8,12 +8,12 @@ ghost use Rattle.grep_decode.specs.DecoderStates.{started};
 ghost use Rattle.grep_line_buffer.specs.BufferStates.{empty_buffer, held};
 ghost use Rattle.grep_definitions.specs.Below.{is_at};
 ghost use Rattle.grep_definitions.specs.InputFronts.{IsClosed};
-ghost use Rattle.grep_definitions.specs.ReaderSearches.{IsReaderFault, IsUnread, is_idle};
+ghost use Rattle.grep_definitions.specs.ReaderSearches.{IsLineReaderFault, IsLineUnread, IsUnread, is_idle};
 ghost use Rattle.grep_definitions.specs.Questions.{IsLawfulFor};
-ghost use Rattle.grep_definitions.specs.Searches.{IsFault};
+ghost use Rattle.grep_definitions.specs.Searches.{IsLineFault};
 ghost use Rattle.grep_definitions.specs.SinkCalls.{begins};
 ghost use Rattle.grep_definitions.specs.SinkRuns.{NeverFails};
-ghost use Rattle.grep_searcher.specs.InputSearches.{IsSourceSearched};
+ghost use Rattle.grep_searcher.specs.InputSearches.{IsSourceSearched, IsLineSourceSearched};
 ghost use Rattle.grep_searcher.specs.Rolls.{IsReady, HasBegun, HasMovedOn, HasEnded, HasCounted, start_in};
 ghost use Rattle.grep_searcher.specs.SearchBuffers.{AreFitting, IsMadeOf};
 ghost use Rattle.grep_searcher.specs.Walks.{IsOrdered};
@@ -79,7 +79,7 @@ impl<A: Allocator + Copy> Searcher<A> {
         result
     }
 
-    // The same with buffers that were taken out.
+    // The same with buffers that were taken out, in the mode that the search runs in.
     fn search_with<M: Matcher, R: Source, S: Sink>(
         &self,
         matcher: &M,
@@ -117,6 +117,56 @@ impl<A: Allocator + Copy> Searcher<A> {
             (M.meaning matcher.now) reader.old seen error reader.new × S.Error.is_io error e) }
         ensures may_call { S.may_call sink.new }
     {
+        if self.is_across(matcher) {
+            let Buffers {
+                decoder,
+                contents,
+                ..
+            } = buffers;
+            decoder.start(self.label(), self.config.bom_sniffing);
+            return self.search_contents(matcher, decoder, contents, reader, sink);
+        }
+        self.search_by_line(matcher, buffers, reader, sink)
+    }
+
+    // The same of a search by line.
+    fn search_by_line<M: Matcher, R: Source, S: Sink>(
+        &self,
+        matcher: &M,
+        buffers: &mut Buffers<A>,
+        reader: &mut R,
+        sink: &mut S,
+    ) -> Result<(), S::Error>
+    where
+        S::Error: SinkError<A>,
+        requires allowed { is_at 0 self.now.settings.heap_limit ≡ false }
+        requires fitting { AreFitting self.now.settings.heap_limit
+            (byte_of self.now.settings.line_terminator) buffers.old.lines }
+        requires may_call { S.may_call sink.old }
+        ensures fitting { AreFitting self.now.settings.heap_limit
+            (byte_of self.now.settings.line_terminator) buffers.new.lines }
+        ensures searched { IsLawfulFor self.now.settings (M.meaning matcher.now) (M.is_lawful matcher.now)
+            → (has_buffers : Bool) → IsLineSourceSearched S.step
+            (record {
+              is_message = S.Error.is_message;
+              is_io = S.Error.is_io;
+              is_config = S.Error.is_config;
+            })
+            (record {
+              meaning = M.meaning matcher.now;
+              fails = M.fails matcher.now;
+              is_lawful = M.is_lawful matcher.now;
+              text_of = M.Error.output;
+            })
+            R.remaining R.step (record { settings = self.now.settings; has_buffers = has_buffers })
+            reader.old sink.old result reader.new sink.new }
+        ensures succeeds { NeverFails S.step S.may_call → IsInfallible (M.fails matcher.now)
+            → IsLawfulFor self.now.settings (M.meaning matcher.now) (M.is_lawful matcher.now)
+            → IfErr result (λ e. (has_buffers : Bool) → (seen : Option (List ℕ)) × (error : Error)
+            × IsLineUnread R.remaining R.step (record { settings = self.now.settings; has_buffers = has_buffers })
+            (M.meaning matcher.now) reader.old seen error reader.new × S.Error.is_io error e) }
+        ensures may_call { S.may_call sink.new }
+    {
         let count = self.match_source(matcher, buffers, reader, sink)?;
         sink.finish(self, &SinkFinish::new(count, None))
     }
@@ -145,7 +195,7 @@ impl<A: Allocator + Copy> Searcher<A> {
             R.remaining R.step reader.old sink.old count reader.new sink.new) }
         ensures fault { IfErr result (λ e.
             IsLawfulFor self.now.settings (M.meaning matcher.now) (M.is_lawful matcher.now)
-            → (has_buffers : Bool) → IsReaderFault R.remaining R.step S.step
+            → (has_buffers : Bool) → IsLineReaderFault R.remaining R.step S.step
             (record {
               is_message = S.Error.is_message;
               is_io = S.Error.is_io;
@@ -162,7 +212,7 @@ impl<A: Allocator + Copy> Searcher<A> {
         ensures succeeds { NeverFails S.step S.may_call → IsInfallible (M.fails matcher.now)
             → IsLawfulFor self.now.settings (M.meaning matcher.now) (M.is_lawful matcher.now)
             → IfErr result (λ e. (has_buffers : Bool) → (seen : Option (List ℕ)) × (error : Error)
-            × IsUnread R.remaining R.step (record { settings = self.now.settings; has_buffers = has_buffers })
+            × IsLineUnread R.remaining R.step (record { settings = self.now.settings; has_buffers = has_buffers })
             (M.meaning matcher.now) reader.old seen error reader.new × S.Error.is_io error e) }
         ensures may_call { S.may_call sink.new }
     {
@@ -188,7 +238,7 @@ impl<A: Allocator + Copy> Searcher<A> {
     }
 
     // The label that is set.
-    fn label(&self) -> Option<Label>
+    pub(crate) fn label(&self) -> Option<Label>
         ensures { result ≡ self.now.settings.encoding }
     {
         match self.config.encoding {
@@ -231,7 +281,7 @@ impl<A: Allocator + Copy> Searcher<A> {
             IsLawfulFor self.now.settings (M.meaning matcher.now) (M.is_lawful matcher.now)
             → (first : S)
             → S.step first self.now.settings begins (Ok true) sink.old
-            → (has_buffers : Bool) → IsReaderFault R.remaining R.step S.step
+            → (has_buffers : Bool) → IsLineReaderFault R.remaining R.step S.step
             (record {
               is_message = S.Error.is_message;
               is_io = S.Error.is_io;
@@ -249,7 +299,7 @@ impl<A: Allocator + Copy> Searcher<A> {
             → IsLawfulFor self.now.settings (M.meaning matcher.now) (M.is_lawful matcher.now)
             → IfErr result (λ e. (first : S) → S.step first self.now.settings begins (Ok true) sink.old
             → (has_buffers : Bool) → (seen : Option (List ℕ)) × (error : Error)
-            × IsUnread R.remaining R.step (record { settings = self.now.settings; has_buffers = has_buffers })
+            × IsLineUnread R.remaining R.step (record { settings = self.now.settings; has_buffers = has_buffers })
             (M.meaning matcher.now) reader.old seen error reader.new × S.Error.is_io error e) }
         ensures may_call { S.may_call sink.new }
     {
@@ -310,7 +360,7 @@ impl<A: Allocator + Copy> Searcher<A> {
             (start_in lines.old walk.old) first walk.old sink.old
             → (after : List ℕ)
             → (0 < length after → IsClosed (byte_of self.now.settings.line_terminator) lines.old.shown)
-            → IsFault S.step
+            → IsLineFault S.step
             (record {
               is_message = S.Error.is_message;
               is_io = S.Error.is_io;
@@ -358,7 +408,7 @@ impl<A: Allocator + Copy> Searcher<A> {
 }
 
 // The error of reading that an error of a line buffer becomes.
-fn io_error(error: FillError) -> io::Error
+pub(crate) fn io_error(error: FillError) -> io::Error
     ensures { IsMadeOf error result }
 {
     match error {

@@ -10,7 +10,7 @@ ghost use Rattle.grep_definitions.specs.Below.{is_at};
 ghost use Rattle.grep_definitions.specs.LineSearch.{turns, byte_count, differ};
 ghost use Rattle.grep_definitions.specs.LineTurns.{number_of, matches_line};
 ghost use Rattle.grep_definitions.specs.Questions.{IsLawfulFor};
-ghost use Rattle.grep_definitions.specs.Searches.{IsFault};
+ghost use Rattle.grep_definitions.specs.Searches.{IsLineFault};
 ghost use Rattle.grep_definitions.specs.SinkRuns.{Outcome, NeverFails};
 ghost use Rattle.grep_searcher.specs.Walks.{next_walk, is_over, Counted, IsOrdered};
 ghost use Rattle.grep_searcher.specs.Windows.{HasSearched, HasPassed};
@@ -68,7 +68,7 @@ impl<A: Allocator + Copy> Searcher<A> {
             count outcome sink.new) }
         ensures fault { IfErr result (λ e.
             IsLawfulFor self.now.settings (M.meaning matcher.now) (M.is_lawful matcher.now)
-            → IsFault S.step
+            → IsLineFault S.step
             (record {
               is_message = S.Error.is_message;
               is_io = S.Error.is_io;
@@ -142,7 +142,7 @@ impl<A: Allocator + Copy> Searcher<A> {
             → (gone input : List ℕ) (first : S)
             → HasSearched S.step self.now.settings (M.meaning matcher.now) gone window.now input
             first start walk.old sink.old
-            → IsFault S.step
+            → IsLineFault S.step
             (record {
               is_message = S.Error.is_message;
               is_io = S.Error.is_io;

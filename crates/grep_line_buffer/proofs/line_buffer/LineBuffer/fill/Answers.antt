@@ -1,4 +1,4 @@
-use Rattle.std.proofs.Common.{◌≡◌, ◌<◌, length, true, false, refl, sym, ap, ◌∙◌, rules, arith}
+use Rattle.std.proofs.Common.{◌≡◌, ◌<◌, Bool, length, true, false, refl, sym, ap, ◌∙◌, rules, arith}
 use Rattle.std.proofs.lemmas.Bool.{false≢true}
 use Rattle.std.proofs.lemmas.List.{nil_from_length}
 use Rattle.grep_line_buffer.specs.BufferStates.{held, HasNoLine}
@@ -85,24 +85,24 @@ returns-in-Err g c =
       within = out.within;
       grows = out.grows;
       capacity = out.capacity;
-      reads = unless-read c.in-Err.e out.reads;
-      read = if-read-full c.reads.self c.in-Err.e _ full.2;
+      reads = unless-read Bool c.in-Err.e out.reads;
+      read = if-read-full Bool c.reads.self.limit c.reads.self.size c.in-Err.e _ full.2;
       stream = out.stream;
       some = tt;
       filled = tt;
       error = error;
       limit = only-limit _ _ _ error tt;
-      fault = if-read-full c.reads.self c.in-Err.e _ full.2;
+      fault = if-read-full Bool c.reads.self.limit c.reads.self.size c.in-Err.e _ full.2;
       done = λ _ ended. absurd (false≢true (sym unended ∙ ended));
       end = λ _ ended. absurd (false≢true (sym unended ∙ ended));
       ended = λ ended. absurd (false≢true (sym was ∙ ended));
       ahead = tt;
       passing = tt;
-      passed = if-read-full c.reads.self c.in-Err.e _ full.2;
+      passed = if-read-full Bool c.reads.self.limit c.reads.self.size c.in-Err.e _ full.2;
       settled = tt;
       stays = out.stays;
-      empty = if-read-full c.reads.self c.in-Err.e _ full.2;
-      few = if-read-full c.reads.self c.in-Err.e _ full.2;
+      empty = if-read-full Bool c.reads.self.limit c.reads.self.size c.in-Err.e _ full.2;
+      few = if-read-full Bool c.reads.self.limit c.reads.self.size c.in-Err.e _ full.2;
     }
 
 pub returns-in-Err-read : goal.returns-in-Err-read

@@ -2,7 +2,7 @@ use Rattle.std.proofs.Common.{rules, ◌≡◌, ◌++◌, ap, arith, length, Boo
 use Rattle.std.proofs.lemmas.Result.{err_from_is_err_and}
 use Rattle.grep_matcher.specs.Terminators.{byte_of}
 use Rattle.grep_definitions.specs.Questions.{IsLawfulFor}
-use Rattle.grep_definitions.specs.ReaderSearches.{IsUnread, of_reading}
+use Rattle.grep_definitions.specs.ReaderSearches.{IsLineUnread, of_reading}
 use Rattle.grep_definitions.specs.SinkCalls.{begins}
 use Rattle.grep_searcher.proofs.RollLemmas as rolls
 use Rattle.grep_searcher.proofs.RollingLemmas as rolling
@@ -30,7 +30,7 @@ unread : (g : Over) (c : goal.After-error_io g)
     (lawful : IsLawfulFor c.args.self.now.settings (g.M.Matcher.meaning c.args.matcher.now) (g.M.Matcher.is_lawful c.args.matcher.now))
     (first : g.row.S.Denot)
     (begun : g.S.Sink.step first c.args.self.now.settings begins (Ok true) c.args.sink.now) (has_buffers : Bool)
-    → IsUnread g.R.Source.remaining g.R.Source.step (record { settings = c.args.self.now.settings; has_buffers = has_buffers })
+    → IsLineUnread g.R.Source.remaining g.R.Source.step (record { settings = c.args.self.now.settings; has_buffers = has_buffers })
     (g.M.Matcher.meaning c.args.matcher.now) c.args.reader.now
     (Some ((c.fills.invariant.rolling lawful first begun).gone ++ c.fills.lines.shown)) c.io_error.result c.fill.new.reader
 unread g c lawful first begun has_buffers =

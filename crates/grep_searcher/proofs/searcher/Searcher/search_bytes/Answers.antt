@@ -18,5 +18,5 @@ returns-clause-searched g c = λ lawful.
     in
     let finish = rw c.new.ensures at c.finish.ensures.step in
     searched-finish g.S.Sink.step errors facts c.args.self.now.settings c.args.bytes.now c.args.sink.now
-    c.in_ok-count.count (c.in_ok-count.ensures.reported lawful).0 c.match_by_line.new.sink c.finish.result c.finish.new.self
+    c.in_ok-count.count (c.in_ok-count.ensures.reported lawful).0 c.match_bytes.new.sink c.finish.result c.finish.new.self
     (c.in_ok-count.ensures.reported lawful).1 finish

@@ -1,23 +1,61 @@
+use Rattle.std.proofs.Common.{Bool, true, false, sym, ◌∙◌}
 use Rattle.grep_definitions.specs.Searches.{ErrorMakers, MatcherFacts}
-use Rattle.grep_searcher.proofs.DecodedLemmas.{source-finished}
+use Rattle.grep_definitions.specs.Settings.{SearcherState}
+use Rattle.grep_searcher.proofs.DecodedLemmas.{if_err-each}
+use Rattle.grep_searcher.proofs.ModeLemmas.{source-in, unread-in}
+use Rattle.grep_searcher.proofs.searcher.Searcher.search_with.Given.{Over}
 use Rattle.grep_searcher.proofs.searcher.Searcher.search_with.Goals as goal
 
-pub returns-clause-searched : goal.returns-clause-searched
-returns-clause-searched g c =
+abbrev errors-of : (g : Over) → ErrorMakers g.row.S-Error.Denot
+errors-of g =
     let maker = g.S.Error.SinkError in
-    let matcher = g.M.Matcher in
-    let errors : ErrorMakers g.row.S-Error.Denot =
-    record { is_message = maker.is_message; is_io = maker.is_io; is_config = maker.is_config } in
-    let facts : MatcherFacts g.row.M-Error.Denot =
+    record { is_message = maker.is_message; is_io = maker.is_io; is_config = maker.is_config }
+
+abbrev facts-of : (g : Over) → g.row.M.Denot → MatcherFacts g.row.M-Error.Denot
+facts-of g matcher =
+    let meant = g.M.Matcher in
     record {
-      meaning = matcher.meaning c.args.matcher.now;
-      fails = matcher.fails c.args.matcher.now;
-      is_lawful = matcher.is_lawful c.args.matcher.now;
+      meaning = meant.meaning matcher;
+      fails = meant.fails matcher;
+      is_lawful = meant.is_lawful matcher;
       text_of = g.M.Error.Display.output;
     }
-    in
-    let finish = rw c.new.ensures at c.finish.ensures.step in
-    λ lawful has_buffers.
-    source-finished g.S.Sink.step errors facts g.R.Source.remaining g.R.Source.step c.args.self.now.settings has_buffers
-    c.args.reader.now c.args.sink.now c.in_ok-count.count c.match_source.new.reader c.match_source.new.sink c.finish.result
-    c.finish.new.self c.in_ok-count.ensures.begun (c.in_ok-count.ensures.counted lawful) finish
+
+abbrev state-of : SearcherState → Bool → SearcherState
+state-of searcher has_buffers = record { settings = searcher.settings; has_buffers = has_buffers }
+
+pub returns-then-is_across-clause-searched : goal.returns-then-is_across-clause-searched
+returns-then-is_across-clause-searched g c = λ lawful has_buffers.
+    source-in g.R.Source.remaining g.R.Source.step (state-of c.args.self.now has_buffers) g.S.Sink.step (errors-of g)
+    (facts-of g c.args.matcher.now) true (sym c.is_across.ensures ∙ c.if-is_across.true) c.args.reader.now c.args.sink.now
+    c.search_contents.result c.search_contents.new.reader c.search_contents.new.sink (c.search_contents.ensures.searched has_buffers)
+
+pub returns-then-is_across-clause-succeeds : goal.returns-then-is_across-clause-succeeds
+returns-then-is_across-clause-succeeds g c = λ never infallible lawful.
+    if_err-each _ _ c.search_contents.result
+    (λ e unread has_buffers. let why = unread has_buffers in (
+      why.0,
+      why.1,
+      unread-in g.R.Source.remaining g.R.Source.step (state-of c.args.self.now has_buffers) (g.M.Matcher.meaning c.args.matcher.now) true
+          (sym c.is_across.ensures ∙ c.if-is_across.true) c.args.reader.now why.0 why.1 c.search_contents.new.reader why.2,
+      why.3,
+    ))
+    (c.search_contents.ensures.succeeds never infallible)
+
+pub returns-clause-searched : goal.returns-clause-searched
+returns-clause-searched g c = λ lawful has_buffers.
+    source-in g.R.Source.remaining g.R.Source.step (state-of c.args.self.now has_buffers) g.S.Sink.step (errors-of g)
+    (facts-of g c.args.matcher.now) false (sym c.is_across.ensures ∙ c.if-is_across.false) c.args.reader.now c.args.sink.now
+    c.search_by_line.result c.search_by_line.new.reader c.search_by_line.new.sink (c.search_by_line.ensures.searched lawful has_buffers)
+
+pub returns-clause-succeeds : goal.returns-clause-succeeds
+returns-clause-succeeds g c = λ never infallible lawful.
+    if_err-each _ _ c.search_by_line.result
+    (λ e unread has_buffers. let why = unread has_buffers in (
+      why.0,
+      why.1,
+      unread-in g.R.Source.remaining g.R.Source.step (state-of c.args.self.now has_buffers) (g.M.Matcher.meaning c.args.matcher.now) false
+          (sym c.is_across.ensures ∙ c.if-is_across.false) c.args.reader.now why.0 why.1 c.search_by_line.new.reader why.2,
+      why.3,
+    ))
+    (c.search_by_line.ensures.succeeds never infallible lawful)

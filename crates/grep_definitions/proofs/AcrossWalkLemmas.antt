@@ -1,0 +1,219 @@
+-- The calls of a search across lines, as a walk over units of selected lines and over the lines between them makes them.
+use Rattle.std.proofs.Common.{◌≡◌, ℕ, suc, ◌+◌, ◌-◌, ◌<◌, ◌≤◌, Bool, true, false, not, ◌&&◌, ◌||◌, List, [], ◌∷◌, ◌++◌, length, take}
+use Rattle.std.proofs.Common.{refl, sym, ap, subst, ◌∙◌, arith, ⊎_elim, Some, None, if◌then◌else◌}
+use Rattle.std.proofs.Math.Bool.{and-false}
+use Rattle.std.proofs.Math.Seq.{take-append_seam}
+use Rattle.std.proofs.lemmas.Bool.{lt-ltb, lt-leb, le-leb, cases_Bool, cases_lt}
+use Rattle.std.proofs.lemmas.List.{append-nil}
+use Rattle.std.specs.Prelude.{nat_lt, nat_le}
+use Rattle.grep_matcher.specs.Matching.{Meaning}
+use Rattle.grep_matcher.specs.Terminators.{byte_of}
+use Rattle.grep_lines.specs.Positions.{slice}
+use Rattle.grep_lines.proofs.WalkLemmas.{lines-numbered}
+use Rattle.grep_report.specs.declared.sink_context.SinkContextKind.TheVariants.{Before, After, Other}
+use Rattle.grep_definitions.specs.Settings.{Settings}
+use Rattle.grep_definitions.specs.SinkCalls.{Turn, begins}
+use Rattle.grep_definitions.specs.Below.{some_below, joined_from}
+use Rattle.grep_definitions.specs.LineSearch.{matched, in_context, line_count, line, start, number}
+use Rattle.grep_definitions.specs.LineTurns.{before_turns, pending_turns, match_turns, context_turns, is_gap, number_of}
+use Rattle.grep_definitions.specs.Selections.{IsNear}
+use Rattle.grep_definitions.specs.AcrossLines
+use Rattle.grep_definitions.specs.AcrossLines.{is_selected, continues_unit, turns_at}
+use Rattle.grep_definitions.proofs.BelowLemmas.{joined_from-add, joined_from-equal, joined_from-none, headed-through}
+use Rattle.grep_definitions.proofs.RunLemmas.{run_end, IsRunEnd-run_end, IsRunEnd-one}
+use Rattle.grep_definitions.proofs.SelectionLemmas
+use Rattle.grep_definitions.proofs.UnitLemmas.{line-slice}
+
+module _ (k : Settings) (meaning : Meaning) (bytes : List ℕ) where
+  abbrev pub n : ℕ
+  n = line_count k meaning bytes
+
+  abbrev pub starts : ℕ → ℕ
+  starts = start k meaning bytes
+
+  abbrev pub S : ℕ → Bool
+  S = is_selected k meaning bytes
+
+  abbrev pub T : ℕ → List Turn
+  T = turns_at k meaning bytes
+
+  -- the bytes of the lines from one up to another
+  abbrev pub span : ℕ → ℕ → List ℕ
+  span i e = slice bytes (starts i) (starts e)
+
+  abbrev pub Bare : Type 0
+  Bare = k.passthru ≡ true → (k.after_context ≡ 0) × (k.before_context ≡ 0)
+
+  abbrev pub Near : ℕ → ℕ → ℕ → Type 0
+  Near v i left = IsNear k S n n v i left
+
+  -- `begin`, and the calls of the first i lines
+  abbrev pub front : ℕ → List Turn
+  front i = record { call = begins; end = 0 } ∷ joined_from T 0 i
+
+  abbrev A : ℕ
+  A = k.after_context
+
+  abbrev B : ℕ
+  B = k.before_context
+
+  abbrev is_reported : ℕ → Bool
+  is_reported = AcrossLines.is_reported k meaning bytes
+
+  -- and then those of the lines up to a later one
+  pub front-through : (v i : ℕ) → v ≤ i → front i ≡ front v ++ joined_from T v (i - v)
+  front-through = headed-through (record { call = begins; end = 0 }) T
+
+  -- they are the first of all calls
+  pub front-first : (v : ℕ) → v ≤ n → take (length (front v)) (AcrossLines.turns k meaning bytes) ≡ front v
+  front-first v low =
+      ap (take (length (front v))) (front-through v n low) ∙ take-append_seam (front v) (joined_from T v (n - v))
+
+  number-is : (i : ℕ) → i < n → number k meaning bytes i ≡ number_of k i
+  number-is i inside =
+      ap (λ c. if k.line_number then Some (c + 1) else None) (lines-numbered (byte_of k.line_terminator) bytes i inside)
+
+  -- before the first line
+  pub near-none : Near 0 0 0
+  near-none = SelectionLemmas.IsNear-none k S n n
+
+  -- lines that aren't selected are passed unreported
+  pub near-skipped : (v i e : ℕ) → Near v i 0 → k.passthru ≡ false → i ≤ e → e ≤ n
+      → ((j : ℕ) → i ≤ j → j < e → S j ≡ false) → Near v e 0
+  near-skipped v i e near plain low high missed =
+      let sum : i + (e - i) ≡ e = omega arith in
+      subst (λ x. Near v x 0) sum
+      (SelectionLemmas.IsNear-skipped k S n n plain v i (e - i) near (λ j from below. missed j from (omega (arith, below))))
+
+  -- one such line, and its calls
+  pub near-missed : Bare → (v i left : ℕ) → Near v i left → i < n → S i ≡ false
+      → Near (if nat_lt 0 left || k.passthru then i + 1 else v) (i + 1) (left - 1)
+  near-missed bare v i left near inside missed =
+      SelectionLemmas.IsNear-missed k S n n v i left near (λ is. (bare is).1) inside missed
+
+  pub front-missed : Bare → (v i left : ℕ) → Near v i left → i < n → S i ≡ false
+      → front (if nat_lt 0 left || k.passthru then i + 1 else v)
+      ≡ front v ++ (if nat_lt 0 left then context_turns After (number_of k i) (starts i) (starts (i + 1)) (span i (i + 1))
+      else (if k.passthru then context_turns Other (number_of k i) (starts i) (starts (i + 1)) (span i (i + 1)) else []))
+  front-missed bare v i left near inside missed =
+      SelectionLemmas.headed-missed k S n n v i left near (record { call = begins; end = 0 }) T _ _ after other
+    where
+      is_number : number k meaning bytes i ≡ number_of k i
+      is_number = number-is i inside
+
+      is_line : line k meaning bytes i ≡ span i (i + 1)
+      is_line = sym (line-slice k meaning bytes i inside)
+
+      after : 0 < left → T i ≡ context_turns After (number_of k i) (starts i) (starts (i + 1)) (span i (i + 1))
+      after some =
+          let kind : AcrossLines.kind k meaning bytes i ≡ Some (in_context After) =
+          SelectionLemmas.kind-after k S n n v i left near missed some in
+          rw (kind, and-false (nat_lt 0 (A + B)), is_number, is_line) refl
+
+      other : left ≡ 0 → k.passthru ≡ true → T i ≡ context_turns Other (number_of k i) (starts i) (starts (i + 1)) (span i (i + 1))
+      other none is_p =
+          let kind : AcrossLines.kind k meaning bytes i ≡ Some (in_context Other) =
+          SelectionLemmas.kind-other k S n n v i left near missed none is_p (bare is_p).1 in
+          rw (kind, and-false (nat_lt 0 (A + B)), is_number, is_line) refl
+
+  -- after a unit
+  pub near-unit : (i e : ℕ) → i < e → e ≤ n → ((j : ℕ) → i ≤ j → j < e → S j ≡ true) → Near e e k.after_context
+  near-unit i e some high hits =
+      let sum : (e - 1) + 1 ≡ e = omega arith in
+      subst (λ x. Near x x k.after_context) sum
+      (SelectionLemmas.IsNear-hit k S n n (e - 1) (omega arith) (hits (e - 1) (omega arith) (omega arith)))
+
+  module _ (v i left e : ℕ) (near : Near v i left) (some : i < e) (high : e ≤ n) (hits : (j : ℕ) → i ≤ j → j < e → S j ≡ true)
+      (closed : k.invert_match ≡ false → e < n → S e ≡ false) (alone : k.invert_match ≡ true → e ≡ i + 1) where
+    inside : i < n
+    inside = omega arith
+
+    hit : S i ≡ true
+    hit = hits i (omega arith) some
+
+    -- the unit ends there
+    end-is : AcrossLines.unit_end k meaning bytes i ≡ e
+    end-is = ⊎_elim
+        (λ inverted. rw inverted (sym (alone inverted)))
+        (λ plain. ap (λ b. if b then i + 1 else run_end S n i) plain
+        ∙ IsRunEnd-one S n i (run_end S n i) e (IsRunEnd-run_end S n i inside hit)
+        (record { low = omega arith; high = high; inner = hits; closed = closed plain }))
+        (cases_Bool k.invert_match)
+
+    -- the calls of a line before it that was passed
+    passed-is : (j : ℕ) → v ≤ j → j < i
+        → T j ≡ before_turns k v j i (number k meaning bytes j) (starts j) (starts e) (line k meaning bytes j)
+    passed-is j low less = ⊎_elim far close (cases_lt B (i - j))
+      where
+        is_kind : AcrossLines.kind k meaning bytes j ≡ (if nat_le (i - j) B then Some (in_context Before) else None)
+        is_kind = SelectionLemmas.kind-passed k S n n v i left near inside inside hit j low less
+
+        far : B < i - j → T j ≡ before_turns k v j i (number k meaning bytes j) (starts j) (starts e) (line k meaning bytes j)
+        far out =
+            let test = lt-leb (i - j) B out in
+            let kind : AcrossLines.kind k meaning bytes j ≡ None = is_kind ∙ ap (λ b. if b then Some (in_context Before) else None) test in
+            rw (kind, and-false (nat_lt 0 (A + B)), test) refl
+
+        close : i - j ≤ B → T j ≡ before_turns k v j i (number k meaning bytes j) (starts j) (starts e) (line k meaning bytes j)
+        close inner =
+            let test = le-leb (i - j) B inner in
+            let kind : AcrossLines.kind k meaning bytes j ≡ Some (in_context Before) = is_kind
+            ∙ ap (λ b. if b then Some (in_context Before) else None) test in
+            let gap : (nat_lt 0 (A + B) && true && not (is_reported (j - 1)) && some_below is_reported j) ≡ is_gap k v j i =
+            SelectionLemmas.gap-passed k S n n v i left near inside inside hit j low less inner in
+            let found = SelectionLemmas.next-passed k S n n v i left near inside inside hit j low less in
+            rw (kind, gap, found, end-is, test) refl
+
+    -- those of its first line
+    hit-is : continues_unit k meaning bytes i ≡ false → T i ≡ match_turns k v i (starts i) (starts e) (span i e)
+    hit-is first =
+        let kind : AcrossLines.kind k meaning bytes i ≡ Some matched = rw hit refl in
+        let gap : (nat_lt 0 (A + B) && true && not (is_reported (i - 1)) && some_below is_reported i) ≡ (nat_lt 0 A && is_gap k v i i) =
+        SelectionLemmas.gap-hit k S n n v i left near inside inside hit in
+        let is_number = number-is i inside in
+        rw (kind, gap, first, is_number, end-is) refl
+
+    -- a later line of it has none
+    later-is : (j : ℕ) → i < j → j < e → T j ≡ []
+    later-is j less below =
+        let plain : k.invert_match ≡ false = ⊎_elim (λ yes. absurd (omega (arith, alone yes))) (λ no. no) (cases_Bool k.invert_match) in
+        let kind : AcrossLines.kind k meaning bytes j ≡ Some matched = let here = hits j (omega arith) below in rw here refl in
+        let before = hits (j - 1) (omega arith) (omega arith) in
+        let above = lt-ltb 0 j (omega arith) in
+        let goes_on : continues_unit k meaning bytes j ≡ true =
+        ap (λ b. not b && nat_lt 0 j && S (j - 1)) plain ∙ rw (above, before) refl in
+        let reported : is_reported (j - 1) ≡ true = let test = lt-ltb (j - 1) n (omega arith) in rw (before, test) refl in
+        rw (kind, reported, and-false (nat_lt 0 (A + B) && true), goes_on) refl
+
+  -- the calls of a unit: those of the lines before it, and the match at its first line
+  pub front-unit : (v i left e : ℕ) → Near v i left → i < e → e ≤ n → ((j : ℕ) → i ≤ j → j < e → S j ≡ true)
+      → (k.invert_match ≡ false → e < n → S e ≡ false) → (k.invert_match ≡ true → e ≡ i + 1) → continues_unit k meaning bytes i ≡ false
+      → front e ≡ front v ++ (pending_turns k bytes v i (starts e) v (i - v) ++ match_turns k v i (starts i) (starts e) (span i e))
+  front-unit v i left e near some high hits closed alone first =
+      let reach = near.low in
+      let sum : e - v ≡ (i - v) + suc (e - (i + 1)) = omega (arith, reach) in
+      let at : v + (i - v) ≡ i = omega (arith, reach) in
+      let pending = joined_from-equal T _ v (i - v) (λ j low below.
+      passed-is v i left e near some high hits closed alone j low (omega (arith, below, reach))) in
+      let rest = joined_from-none T (i + 1) (e - (i + 1)) (λ j low below.
+      later-is v i left e near some high hits closed alone j (omega (arith, low)) (omega (arith, below))) in
+      let here = hit-is v i left e near some high hits closed alone first in
+      front-through v e (omega (arith, reach))
+      ∙ ap (λ xs. front v ++ xs)
+      (ap (joined_from T v) sum ∙ (joined_from-add T v (i - v) (suc (e - (i + 1)))
+      ∙ (ap (λ m. joined_from T v (i - v) ++ joined_from T m (suc (e - (i + 1)))) at
+      ∙ (ap (λ xs. joined_from T v (i - v) ++ (T i ++ xs)) rest
+      ∙ (ap (λ xs. joined_from T v (i - v) ++ xs) (append-nil (T i) ∙ here)
+      ∙ ap (λ xs. xs ++ match_turns k v i (starts i) (starts e) (span i e)) pending)))))
+
+  -- after the last line
+  pub front-done : (v left : ℕ) → Near v n left → AcrossLines.turns k meaning bytes ≡ front v
+  front-done v left near =
+      front-through v n near.low
+      ∙ (ap (λ xs. front v ++ xs) (joined_from-none T v (n - v) none) ∙ append-nil (front v))
+    where
+      none : (j : ℕ) → v ≤ j → j < v + (n - v) → T j ≡ []
+      none j low below =
+          let kind : AcrossLines.kind k meaning bytes j ≡ None =
+          SelectionLemmas.kind-done k S n n v n left near (λ q late inner. absurd (omega arith)) j low (omega (arith, near.low, below)) in
+          rw (kind, and-false (nat_lt 0 (A + B))) refl

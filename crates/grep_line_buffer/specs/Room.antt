@@ -1,0 +1,22 @@
+-- How a full vector grows, and why it can't. The contracts of private functions cite these definitions; no public contract
+-- does.
+use Rattle.std.specs.Prelude.{◌≡◌, ◌≢◌, ◌⊎◌, ℕ, ◌*◌, ◌<◌, ◌≤◌, max, min, Option, Some, None}
+use Rattle.grep_line_buffer.specs.declared.fill_error.FillError.{FillError}
+use Rattle.grep_line_buffer.specs.declared.fill_error.FillError.TheVariants.{Read, HeapLimit, Offset, Memory}
+use Rattle.grep_line_buffer.specs.Contents.{first_size}
+
+-- the size to which a full vector of this size grows: twice that, at first `least`, and never more than the limit
+abbrev pub next_size : ℕ → Option ℕ → ℕ → ℕ
+next_size least None size = max least (2 * size)
+next_size least (Some most) size = min most (max least (2 * size))
+
+-- a full vector of this size is at its limit, or there was no memory for a larger one
+abbrev pub IsFullFault : Option ℕ → ℕ → FillError → Type 0
+IsFullFault limit size HeapLimit = limit ≡ Some size
+IsFullFault limit size Memory = limit ≢ Some size
+IsFullFault limit size Offset = ⊥
+IsFullFault limit size (Read e) = ⊥
+
+-- there is no room, or as much as at first, or as much as the limit allows
+abbrev pub IsLarge : Option ℕ → ℕ → Type 0
+IsLarge limit size = 0 < size → (first_size ≤ size) ⊎ (limit ≡ Some size)

@@ -1,0 +1,111 @@
+//! All decoded bytes of a reader, for a search across lines.
+ghost use Rattle.std.specs.Prelude.{◌≡◌, ◌≢◌, ◌⊎◌, ◌+◌, ◌<◌, ◌≤◌, [], Some, length, take, OnOk, OnErr, IfErr, vec_len, vec_capacity};
+ghost use Rattle.std.specs.Io.KnownBytes.{Consumes, IsAtEnd};
+ghost use Rattle.grep_decode.specs.Source.{FailsWith};
+ghost use Rattle.grep_decode.specs.declared.mode.Mode.TheVariants.{Passing};
+ghost use Rattle.grep_decode.specs.DecoderStates.{Decodes, IsDone, IsSettled, TakesAtMost, runs_ahead, yet};
+ghost use Rattle.grep_line_buffer.specs.Contents.{IsBelow, ContentsFail, FailsAfter};
+ghost use Rattle.grep_line_buffer.specs.BufferStates.{IsWithin};
+ghost use Rattle.grep_line_buffer.specs.Fills.{IfRead, UnlessRead};
+ghost use Rattle.grep_line_buffer.specs.Room.{IsFullFault, IsLarge, next_size};
+
+use crate::fill_error::FillError;
+use crate::room::{enlarge, read_after};
+use grep_decode::laws::{reads_continue, reads_fail};
+use grep_decode::{Decoder, Source};
+use std::alloc::Allocator;
+
+// For how many bytes there is room at first, if the limit isn't lower.
+const FIRST_SIZE: usize = 65_536;
+
+/// Reads the decoded bytes of a reader to its end. `contents` is cleared first, and its memory is kept.
+///
+/// The contents have to be shorter than `limit`, if there is one: once `limit` bytes have come, the error is
+/// `FillError::HeapLimit`, and nothing more is read. There is room for 65,536 bytes at first, and then for twice as
+/// many whenever it is used up, but never for more than the limit. Each read asks for as many bytes as there is room
+/// for, and once a read has returned none, no other is made.
+///
+/// `FillError::Read` is the reader's own error, also one of kind `Interrupted`, and `Memory` means that the room was
+/// used up, might grow, and there was no memory. `Offset` isn't returned. After each error `contents` has the bytes
+/// that came before it.
+pub fn read_contents<A: Allocator, B: Allocator, R: Source>(
+    decoder: &mut Decoder<A>,
+    reader: &mut R,
+    limit: Option<usize>,
+    contents: &mut Vec<u8, B>,
+) -> Result<(), FillError>
+    ensures capacity { decoder.new.capacity ≡ decoder.old.capacity }
+    ensures kept { vec_capacity contents.old ≤ vec_capacity contents.new }
+
+    // the contents are what reads of the decoder gave, and nothing is lost
+    ensures reads { UnlessRead result
+        (Decodes R.remaining R.step decoder.old reader.old contents.new.items decoder.new reader.new) }
+    ensures read { IfRead result (λ e.
+        FailsAfter R.remaining R.step e decoder.old reader.old contents.new.items decoder.new reader.new) }
+    ensures gives { Consumes (yet decoder.old (R.remaining reader.old)) (yet decoder.new (R.remaining reader.new))
+        contents.new.items }
+
+    // they are all that was left and shorter than the limit, or why not
+    ensures done { OnOk result (IsDone decoder.new) }
+    ensures end { OnOk result (IsAtEnd (yet decoder.new (R.remaining reader.new))) }
+    ensures below { OnOk result (IsBelow limit (length contents.new.items)) }
+    ensures error { IfErr result (ContentsFail limit (vec_capacity contents.old) contents.new.items) }
+    ensures fault { IfRead result (λ e. FailsWith R.step reader.old e reader.new) }
+
+    // how far the reader is ahead of the contents, and what the decoder holds, if the bytes pass unchanged
+    ensures ahead { UnlessRead result (decoder.new.mode ≡ Passing
+        → TakesAtMost (R.remaining reader.old) (R.remaining reader.new)
+        (length contents.new.items + runs_ahead decoder.old.mode)) }
+    ensures settled { OnOk result (IsSettled decoder.new.mode) }
+    ensures stays { IsSettled decoder.old.mode → decoder.new.mode ≡ decoder.old.mode }
+    ensures passed { IfRead result (λ _. decoder.new.mode ≡ Passing → decoder.new.held ≡ []) }
+    ensures empty { IfRead result (λ _. decoder.new.ready ≡ []) }
+    ensures few { IfRead result (λ _. IsSettled decoder.new.mode
+        ⊎ TakesAtMost (R.remaining reader.old) (R.remaining reader.new) 2) }
+{
+    reads_continue::<R>();
+    reads_fail::<R>();
+    contents.clear();
+    let mut len = 0;
+    'reads: loop {
+        if let Err(e) = make_room(contents, len, limit) {
+            return Err(e);
+        }
+        match read_after(decoder, reader, contents, len) {
+            Ok(0) => {
+                contents.truncate(len);
+                return Ok(());
+            }
+            Ok(count) => len += count,
+            Err(e) => {
+                contents.truncate(len);
+                return Err(FillError::Read(e));
+            }
+        }
+    }
+}
+
+// Makes room for another byte after the first `len` ones, if there is none.
+fn make_room<A: Allocator>(
+    contents: &mut Vec<u8, A>,
+    len: usize,
+    limit: Option<usize>,
+) -> Result<(), FillError>
+    requires fits { len ≤ vec_len contents.old }
+    requires within { IsWithin limit (vec_len contents.old) }
+    requires large { IsLarge limit (vec_len contents.old) }
+    ensures kept { vec_capacity contents.old ≤ vec_capacity contents.new }
+    ensures front { take len contents.new.items ≡ take len contents.old.items }
+    ensures room { OnOk result (len < length contents.new.items) }
+    ensures within { OnOk result (IsWithin limit (length contents.new.items)) }
+    ensures large { OnOk result (IsLarge limit (length contents.new.items)) }
+    ensures full { OnErr result ((contents.new.items ≡ contents.old.items)
+        × (length contents.old.items ≡ len)) }
+    ensures error { IfErr result (λ e. IsFullFault limit len e) }
+    ensures memory { OnErr result (limit ≢ Some len → vec_capacity contents.old < next_size 65536 limit len) }
+{
+    if len < contents.len() {
+        return Ok(());
+    }
+    enlarge(contents, FIRST_SIZE, limit)
+}

@@ -1,0 +1,109 @@
+//! Room in a vector of bytes, and reads into it.
+ghost use Rattle.std.specs.Prelude.{◌≡◌, ◌≢◌, ◌<◌, ◌≤◌, ◌+◌, ◌-◌, ◌^◌, ◌++◌, Some, length, take, drop, IfOk};
+ghost use Rattle.std.specs.Prelude.{IfErr, IfSome, IfNone, OnOk, OnErr, replicate, vec_len, vec_capacity};
+ghost use Rattle.std.specs.Io.{ReadsAtMost};
+ghost use Rattle.grep_line_buffer.specs.BufferStates.{IsWithin};
+ghost use Rattle.grep_line_buffer.specs.Appends.{FailsToRead, Reads};
+ghost use Rattle.grep_line_buffer.specs.Room.{IsFullFault, next_size};
+
+use crate::fill_error::FillError;
+use grep_decode::{Decoder, Source};
+use std::alloc::{AllocError, Allocator};
+use std::io;
+
+// Fills up a vector with zeros to its next size. An error leaves the bytes as they are, and is `HeapLimit` or `Memory`.
+pub(crate) fn enlarge<A: Allocator>(
+    bytes: &mut Vec<u8, A>,
+    least: usize,
+    limit: Option<usize>,
+) -> Result<(), FillError>
+    requires some { 0 < least }
+    requires within { IsWithin limit (vec_len bytes.old) }
+    ensures capacity { vec_capacity bytes.old ≤ vec_capacity bytes.new }
+    ensures ok { OnOk result (bytes.new.items
+        ≡ bytes.old.items ++ replicate (length bytes.new.items - vec_len bytes.old) 0) }
+    ensures larger { OnOk result (vec_len bytes.old < length bytes.new.items) }
+    ensures size { OnOk result (length bytes.new.items ≡ next_size least limit (vec_len bytes.old)) }
+    ensures same { OnErr result (bytes.new.items ≡ bytes.old.items) }
+    ensures error { IfErr result (IsFullFault limit (vec_len bytes.old)) }
+    ensures memory { OnErr result (limit ≢ Some (vec_len bytes.old)
+        → vec_capacity bytes.old < next_size least limit (vec_len bytes.old)) }
+{
+    let Some(wanted) = larger_size(bytes.len(), least, limit) else {
+        return Err(FillError::HeapLimit);
+    };
+    if grow(bytes, wanted).is_err() {
+        return Err(FillError::Memory);
+    }
+    Ok(())
+}
+
+// The size to which a full vector grows, twice its own or `least`; `None` at its limit.
+fn larger_size(size: usize, least: usize, limit: Option<usize>) -> Option<usize>
+    requires some { 0 < least }
+    requires within { IsWithin limit size }
+    requires small { size < 2 ^ 63 }
+    ensures larger { IfSome result (λ wanted. size < wanted) }
+    ensures size { IfSome result (λ wanted. wanted ≡ next_size least limit size) }
+    ensures none { IfNone result (limit ≡ Some size) }
+    ensures some { IfSome result (λ _. limit ≢ Some size) }
+{
+    let doubled = (size * 2).max(least);
+    match limit {
+        Some(most) if size == most => None,
+        Some(most) => Some(doubled.min(most)),
+        None => Some(doubled),
+    }
+}
+
+// Fills up with zeros to `wanted` bytes. An error leaves the bytes as they are.
+fn grow<A: Allocator>(bytes: &mut Vec<u8, A>, wanted: usize) -> Result<(), AllocError>
+    requires { vec_len bytes.old ≤ wanted }
+    ensures capacity { vec_capacity bytes.old ≤ vec_capacity bytes.new }
+    ensures ok { OnOk result (bytes.new.items
+        ≡ bytes.old.items ++ replicate (wanted - vec_len bytes.old) 0) }
+    ensures err { OnErr result ((bytes.new.items ≡ bytes.old.items)
+        × (vec_capacity bytes.old < wanted)) }
+{
+    bytes.reserve_exact(wanted - bytes.len())?;
+    bytes.resize(wanted, 0)
+}
+
+// Reads once into the bytes from `end` on.
+pub(crate) fn read_after<B: Allocator, R: Source>(
+    decoder: &mut Decoder<B>,
+    reader: &mut R,
+    bytes: &mut [u8],
+    end: usize,
+) -> io::Result<usize>
+    requires { end < length bytes.old }
+    ensures capacity { decoder.new.capacity ≡ decoder.old.capacity }
+    ensures bound { IfOk result (λ count. end + count ≤ length bytes.new) }
+    ensures front { take end bytes.new ≡ take end bytes.old }
+    ensures reads { IfOk result (λ count. Reads R.remaining R.step decoder.old reader.old
+        (take count (drop end bytes.new)) decoder.new reader.new) }
+    ensures failed { IfErr result (λ e.
+        FailsToRead R.remaining R.step decoder.old reader.old e decoder.new reader.new) }
+{
+    read_once(decoder, reader, &mut bytes[end..])
+}
+
+// Reads once into the front of a buffer with room.
+fn read_once<B: Allocator, R: Source>(
+    decoder: &mut Decoder<B>,
+    reader: &mut R,
+    buffer: &mut [u8],
+) -> io::Result<usize>
+    requires { 0 < length buffer.old }
+    ensures capacity { decoder.new.capacity ≡ decoder.old.capacity }
+    ensures bound { ReadsAtMost result buffer.new }
+    ensures reads { IfOk result (λ count. Reads R.remaining R.step decoder.old reader.old
+        (take count buffer.new) decoder.new reader.new) }
+    ensures failed { IfErr result (λ e.
+        FailsToRead R.remaining R.step decoder.old reader.old e decoder.new reader.new) }
+{
+    match decoder.read(reader, buffer) {
+        Ok(count) => Ok(count),
+        Err(e) => Err(e),
+    }
+}

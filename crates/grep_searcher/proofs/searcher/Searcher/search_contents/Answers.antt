@@ -1,0 +1,79 @@
+use Rattle.std.proofs.Common.{Bool, true, None, length, refl, ap, subst, sym}
+use Rattle.std.proofs.lemmas.Result.{err_from_is_err_and}
+use Rattle.std.specs.Prelude.{vec_capacity}
+use Rattle.grep_line_buffer.specs.Contents.{IsBelow, ContentsFail}
+use Rattle.grep_definitions.specs.ReaderSearches.{IsUnreadIn, of_reading}
+use Rattle.grep_definitions.specs.Searches.{ErrorMakers, MatcherFacts, IsFaultIn}
+use Rattle.grep_definitions.specs.SearchTurns.{calls_across}
+use Rattle.grep_definitions.specs.Settings.{SearcherState}
+use Rattle.grep_searcher.proofs.ContentsSearchLemmas as whole
+use Rattle.grep_searcher.proofs.searcher.Searcher.search_contents.Given.{Over}
+use Rattle.grep_searcher.proofs.searcher.Searcher.search_contents.Goals as goal
+
+abbrev errors-of : (g : Over) → ErrorMakers g.row.S-Error.Denot
+errors-of g =
+    let maker = g.S.Error.SinkError in
+    record { is_message = maker.is_message; is_io = maker.is_io; is_config = maker.is_config }
+
+abbrev facts-of : (g : Over) → g.row.M.Denot → MatcherFacts g.row.M-Error.Denot
+facts-of g matcher =
+    let meant = g.M.Matcher in
+    record {
+      meaning = meant.meaning matcher;
+      fails = meant.fails matcher;
+      is_lawful = meant.is_lawful matcher;
+      text_of = g.M.Error.Display.output;
+    }
+
+-- why not all was read
+unread : (g : Over) (c : goal.After-error_io g) (has_buffers : Bool)
+    → IsUnreadIn g.R.Source.remaining g.R.Source.step true
+    (record { settings = c.args.self.now.settings; has_buffers = has_buffers })
+    (g.M.Matcher.meaning c.args.matcher.now) c.args.reader.now None c.io_error.result c.read_contents.new.reader
+unread g c has_buffers =
+    whole.unread-read g.R.Source.remaining g.R.Source.step c.args.self.now.settings c.args.decoder.now.capacity c.args.decoder.now
+    c.requires.started c.args.reader.now c.read_contents.new.contents.items c.read_contents.new.decoder c.read_contents.new.reader
+    c.done_gives_nothing.ensures c.unchanged_is_searched.ensures.input has_buffers (g.M.Matcher.meaning c.args.matcher.now)
+    c.in-Err.error c.io_error.result c.io_error.ensures (vec_capacity c.args.contents.now)
+    (subst (λ limit. ContentsFail limit (vec_capacity c.args.contents.now) c.read_contents.new.contents.items c.in-Err.error)
+    (ap (λ (s : SearcherState). s.settings.heap_limit) c.self.view_is) c.in-Err.ensures.error)
+    c.in-Err.ensures.reads c.in-Err.ensures.read
+    c.in-Err.ensures.passed c.in-Err.ensures.empty c.in-Err.ensures.few
+
+pub returns-in-Err-clause-searched : goal.returns-in-Err-clause-searched
+returns-in-Err-clause-searched g c = λ has_buffers.
+    of_reading None c.io_error.result (unread g c has_buffers) c.error_io.ensures refl
+
+pub returns-in-Err-clause-succeeds : goal.returns-in-Err-clause-succeeds
+returns-in-Err-clause-succeeds g c = λ never infallible has_buffers.
+    (None, c.io_error.result, unread g c has_buffers, c.error_io.ensures)
+
+pub returns-in_err-count-clause-searched : goal.returns-in_err-count-clause-searched
+returns-in_err-count-clause-searched g c = λ has_buffers.
+    let reads = c.in_default.ensures.reads in
+    let below = subst (λ limit. IsBelow limit (length c.read_contents.new.contents.items))
+    (ap (λ (s : SearcherState). s.settings.heap_limit) c.self.view_is) c.in_default.ensures.below in
+    let error = err_from_is_err_and c.from_residual.result c.from_residual.ensures.1 in
+    let fault = rw c.deref.ensures.value at c.in_err-count.ensures.fault in
+    rw error.1
+    (whole.contents-fault-read g.R.Source.remaining g.R.Source.step c.args.self.now.settings c.args.decoder.now.capacity
+    c.args.decoder.now c.requires.started c.args.reader.now c.read_contents.new.contents.items c.read_contents.new.decoder
+    c.read_contents.new.reader reads c.done_gives_nothing.ensures c.lines_join.ensures c.in_default.ensures.done
+    below g.S.Sink.step (errors-of g) (facts-of g c.args.matcher.now) has_buffers c.args.sink.now
+    error.0 c.match_across.new.sink (subst (λ e. IsFaultIn g.S.Sink.step (errors-of g) (facts-of g c.args.matcher.now)
+    (calls_across c.args.self.now.settings (g.M.Matcher.meaning c.args.matcher.now)) c.args.self.now.settings
+    c.read_contents.new.contents.items c.args.sink.now e c.match_across.new.sink) (sym error.2) fault))
+
+pub returns-clause-searched : goal.returns-clause-searched
+returns-clause-searched g c = λ has_buffers.
+    let reads = c.in_default.ensures.reads in
+    let below = subst (λ limit. IsBelow limit (length c.read_contents.new.contents.items))
+    (ap (λ (s : SearcherState). s.settings.heap_limit) c.self.view_is) c.in_default.ensures.below in
+    let finish = rw c.new.ensures at c.finish.ensures.step in
+    let reported = rw c.deref.ensures.value at c.in_ok-count.ensures.reported in
+    whole.contents-searched g.R.Source.remaining g.R.Source.step c.args.self.now.settings c.args.decoder.now.capacity
+    c.args.decoder.now c.requires.started c.args.reader.now c.read_contents.new.contents.items c.read_contents.new.decoder
+    c.read_contents.new.reader reads c.done_gives_nothing.ensures c.lines_join.ensures c.in_default.ensures.done
+    below g.S.Sink.step (errors-of g) (facts-of g c.args.matcher.now) has_buffers c.args.sink.now
+    c.in_ok-count.count reported.0 c.match_across.new.sink c.finish.result c.finish.new.self
+    reported.1 finish

@@ -1,0 +1,70 @@
+//! The search of a reader across lines, for which all of it is read first.
+ghost use Rattle.std.specs.Prelude.{◌≡◌, ℕ, Bool, List, Option, true, IfErr};
+ghost use Rattle.std.specs.declared.io.Error.{Error};
+ghost use Rattle.grep_matcher.specs.Matching.{IsInfallible};
+ghost use Rattle.grep_decode.specs.DecoderStates.{started};
+ghost use Rattle.grep_definitions.specs.ReaderSearches.{IsUnreadIn};
+ghost use Rattle.grep_definitions.specs.SearchTurns.{calls_across};
+ghost use Rattle.grep_definitions.specs.SinkRuns.{NeverFails};
+ghost use Rattle.grep_searcher.specs.InputSearches.{IsSourceSearchedIn};
+
+use crate::searcher::Searcher;
+use crate::searcher::read_by_line::io_error;
+use crate::sink::Sink;
+use grep_decode::laws::{done_gives_nothing, reads_continue};
+use grep_decode::{Decoder, Source};
+use grep_definitions::laws::unchanged_is_searched;
+use grep_line_buffer::read_contents;
+use grep_lines::laws::lines_join;
+use grep_matcher::Matcher;
+use grep_report::{SinkError, SinkFinish};
+use std::alloc::Allocator;
+
+impl<A: Allocator + Copy> Searcher<A> {
+    // Searches the decoded bytes of a reader across lines. All of them are read into `contents` before `begin`. The caller
+    // ensures that the decoder was started with the searcher's label.
+    pub(crate) fn search_contents<M: Matcher, R: Source, S: Sink>(
+        &self,
+        matcher: &M,
+        decoder: &mut Decoder<A>,
+        contents: &mut Vec<u8, A>,
+        reader: &mut R,
+        sink: &mut S,
+    ) -> Result<(), S::Error>
+    where
+        S::Error: SinkError<A>,
+        requires started { decoder.old ≡ started decoder.old.capacity self.now.settings.encoding
+            self.now.settings.bom_sniffing }
+        requires may_call { S.may_call sink.old }
+        ensures searched { (has_buffers : Bool) → IsSourceSearchedIn S.step
+            (record {
+              is_message = S.Error.is_message;
+              is_io = S.Error.is_io;
+              is_config = S.Error.is_config;
+            })
+            (record {
+              meaning = M.meaning matcher.now;
+              fails = M.fails matcher.now;
+              is_lawful = M.is_lawful matcher.now;
+              text_of = M.Error.output;
+            })
+            (calls_across self.now.settings (M.meaning matcher.now))
+            R.remaining R.step (record { settings = self.now.settings; has_buffers = has_buffers })
+            reader.old sink.old result reader.new sink.new }
+        ensures succeeds { NeverFails S.step S.may_call → IsInfallible (M.fails matcher.now)
+            → IfErr result (λ e. (has_buffers : Bool) → (seen : Option (List ℕ)) × (error : Error)
+            × IsUnreadIn R.remaining R.step true (record { settings = self.now.settings; has_buffers = has_buffers })
+            (M.meaning matcher.now) reader.old seen error reader.new × S.Error.is_io error e) }
+        ensures may_call { S.may_call sink.new }
+    {
+        unchanged_is_searched();
+        reads_continue::<R>();
+        done_gives_nothing();
+        lines_join();
+        if let Err(error) = read_contents(decoder, reader, self.config.heap_limit, contents) {
+            return Err(S::Error::error_io(self.alloc, io_error(error)));
+        }
+        let count = self.match_across(matcher, contents, sink)?;
+        sink.finish(self, &SinkFinish::new(count, None))
+    }
+}
