@@ -1,5 +1,5 @@
--- The walk of a search across lines: what it knows of the unit of lines that it comes to, where it goes from there, and how
--- it ends in an error. The contracts of private functions cite these definitions; no public contract does.
+-- The walk of a search across lines: what it knows of the lines before it and of the unit that it comes to, and how lines
+-- move it on. The contracts of private functions cite these definitions; no public contract does.
 use Rattle.std.specs.Prelude.{◌≡◌, ℕ, ◌+◌, ◌-◌, ◌<◌, ◌≤◌, Bool, true, false, not, ◌&&◌, ◌==◌, if◌then◌else◌, nat_lt}
 use Rattle.std.specs.Prelude.{List, ◌∷◌, length}
 use Rattle.grep_matcher.specs.Lines.{lines}
