@@ -17,7 +17,7 @@ use Rattle.grep_definitions.specs.SinkCalls.{Turn}
 use Rattle.grep_definitions.proofs.BelowLemmas.{below_next, below_none, count_below-le, is_below-le}
 use Rattle.grep_definitions.proofs.BoolLemmas.{both_true, clash, not_false}
 use Rattle.grep_searcher.specs.declared.searcher.walk.Walk.{Walk}
-use Rattle.grep_searcher.specs.AcrossWalks.{IsAcross, IsLimited, is_joined, is_silent, turns_before, walk_after, walk_past}
+use Rattle.grep_searcher.specs.AcrossWalks.{IsAcross, IsLimited, is_joined, turns_before, walk_after, walk_past}
 use Rattle.grep_searcher.specs.Walks.{IsOrdered, IsPlaced, line_end, line_turns, next_walk}
 use Rattle.grep_definitions.proofs.AcrossWalkLemmas as calls
 use Rattle.grep_searcher.proofs.AcrossUnitLemmas.{IsChosen, IsNext, selected-inverted}
@@ -129,11 +129,8 @@ module _ (k : Settings) (meaning : Meaning) (bytes : List ℕ) where
       count : w.line + length (lines t here) ≡ next.last
       count = omega (arith, lines-between t bytes p q w.line next.last at-start next.at next.from next.within next.low, next.low)
 
-      pub across-past : is_silent k w ≡ true → IsAcross k meaning bytes (walk_past k w here)
-      across-past silent =
-          let parts = both_true (not k.passthru) (w.after_context_left == 0) silent in
-          let plain = not_false k.passthru parts.0 in
-          let none : w.after_context_left ≡ 0 = eqb-true w.after_context_left 0 parts.1 in
+      pub across-past : k.passthru ≡ false → w.after_context_left ≡ 0 → IsAcross k meaning bytes (walk_past k w here)
+      across-past plain none =
           let near = calls.near-skipped k meaning bytes w.reported_through w.line next.last
           (subst (λ l. calls.Near k meaning bytes w.reported_through w.line l) none across.near) plain next.low next.at.listed
           next.missed in

@@ -259,13 +259,13 @@ module _ (k : Settings) (meaning : Meaning) (bytes : List ℕ) where
             let here = come goes in (
               ready.ordered,
               λ less. record {
-                  low = here.low;
-                  is_unit = here.is_unit;
-                  after = omega (arith, here.after, here.whole is_b);
-                  before = ready.ordered;
-                  whole = λ plain. omega arith;
-                  alone = here.alone;
-                },
+                low = here.low;
+                is_unit = here.is_unit;
+                after = omega (arith, here.after, here.whole is_b);
+                before = ready.ordered;
+                whole = λ plain. omega arith;
+                alone = here.alone;
+              },
             )
         go true true d is_b is_c = absurd (clash (and-both k.invert_match full is_b is_c) goes)
         go true false true is_b is_c = (omega (arith, ahead goes), λ less. come goes)

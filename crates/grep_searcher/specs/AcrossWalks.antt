@@ -28,10 +28,6 @@ next_chosen settings bytes start unit w =
     else (if is_at w.match_count settings.max_matches then length bytes
     else (if nat_lt start unit.0 then start else unit.1))
 
--- whether lines that aren't chosen are passed unreported
-abbrev pub is_silent : Settings → Walk → Bool
-is_silent settings w = not settings.passthru && w.after_context_left == 0
-
 -- whether a chosen line is reported with the other lines of its unit
 abbrev pub is_joined : Settings → Bool → Bool
 is_joined settings chosen = chosen && not settings.invert_match

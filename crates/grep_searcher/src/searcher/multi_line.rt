@@ -9,7 +9,7 @@ ghost use Rattle.grep_definitions.specs.Searches.{IsFaultIn};
 ghost use Rattle.grep_definitions.specs.SearchTurns.{calls_across};
 ghost use Rattle.grep_definitions.specs.SinkCalls.{begins};
 ghost use Rattle.grep_definitions.specs.SinkRuns.{Outcome, NeverFails};
-ghost use Rattle.grep_searcher.specs.AcrossWalks.{is_done, is_joined, is_silent, next_chosen, walk_after, walk_past};
+ghost use Rattle.grep_searcher.specs.AcrossWalks.{is_done, is_joined, next_chosen, walk_after, walk_past};
 ghost use Rattle.grep_searcher.specs.AcrossWalks.{IsReady};
 ghost use Rattle.grep_searcher.specs.Walks.{Counted, IsOrdered};
 
@@ -99,7 +99,6 @@ impl<A: Allocator + Copy> Searcher<A> {
             → IsOk result }
         ensures may_call { S.may_call sink.new }
     {
-        let _config = &self.config;
         let mut blocks = self.first_block::<M, S::Error>(matcher, bytes)?;
         let mut unit = Match::zero(0);
         let mut walk = START;
@@ -107,7 +106,7 @@ impl<A: Allocator + Copy> Searcher<A> {
         'lines: while start < bytes.len() {
             unit = self.unit_at::<M, S::Error>(matcher, bytes, start, &walk, unit, &mut blocks)?;
             let next = self.next_chosen(bytes, start, &unit, &walk);
-            if start < next && self.is_silent(&walk) {
+            if start < next && !self.config.passthru && walk.after_context_left == 0 {
                 walk = self.walk_past(&walk, &bytes[start..next]);
                 start = next;
                 continue;
@@ -163,13 +162,6 @@ impl<A: Allocator + Copy> Searcher<A> {
         } else {
             unit.end()
         }
-    }
-
-    // Whether lines that aren't chosen are passed unreported.
-    fn is_silent(&self, walk: &Walk) -> bool
-        ensures { result ≡ is_silent self.now.settings walk.now }
-    {
-        !self.config.passthru && walk.after_context_left == 0
     }
 
     // Where the unit ends that begins at `start`, if that is chosen, and the line, if it isn't. Under inversion a unit is

@@ -17,9 +17,9 @@ returns-then-blocks-bytes-clause-none g c =
     no-more c.args.self.now.settings meaning c.args.bytes.now b
     (elim c.then-blocks-bytes.branch [
       | goal.then-blocks-bytes-via-then-blocks-bytes w ↦
-        matches_left-end meaning c.args.bytes.now b.position b.left (omega (arith, w.if-blocks-bytes.true))
+          matches_left-end meaning c.args.bytes.now b.position b.left (omega (arith, w.if-blocks-bytes.true))
       | goal.then-blocks-bytes-via-else-blocks-bytes+then-not-has_room w ↦
-        matches_left-full meaning c.args.bytes.now b.position b.left (sym w.has_room.ensures ∙ w.if-not-has_room.true)
+          matches_left-full meaning c.args.bytes.now b.position b.left (sym w.has_room.ensures ∙ w.if-not-has_room.true)
     ])
 
 pub returns-in_default-clause-none : goal.returns-in_default-clause-none
