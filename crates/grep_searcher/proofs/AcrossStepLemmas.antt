@@ -1,8 +1,8 @@
 -- A walk across lines, from line to line and from unit to unit.
-use Rattle.std.proofs.Common.{◌≡◌, ℕ, zero, suc, ◌+◌, ◌-◌, ◌<◌, ◌≤◌, ◌==◌, Bool, true, false, not, ◌&&◌, List, [], ◌∷◌, ◌++◌, length, drop}
+use Rattle.std.proofs.Common.{◌≡◌, ℕ, zero, suc, ◌+◌, ◌-◌, ◌<◌, ◌≤◌, Bool, true, false, not, ◌&&◌, List, [], ◌++◌, length, drop}
 use Rattle.std.proofs.Common.{refl, sym, ◌∙◌, ap, subst, arith, ⊎_elim, if◌then◌else◌, length-take, length-drop}
 use Rattle.std.proofs.Math.Path.{ap₂}
-use Rattle.std.proofs.lemmas.Bool.{cases_Bool, eqb-true}
+use Rattle.std.proofs.lemmas.Bool.{cases_Bool}
 use Rattle.std.specs.Prelude.{nat_lt}
 use Rattle.grep_matcher.specs.Lines.{lines, line_start}
 use Rattle.grep_matcher.specs.Matching.{Meaning}
@@ -15,14 +15,14 @@ use Rattle.grep_definitions.specs.LineTurns.{context_turns, match_turns, number_
 use Rattle.grep_definitions.specs.Settings.{Settings}
 use Rattle.grep_definitions.specs.SinkCalls.{Turn}
 use Rattle.grep_definitions.proofs.BelowLemmas.{below_next, below_none, count_below-le, is_below-le}
-use Rattle.grep_definitions.proofs.BoolLemmas.{both_true, clash, not_false}
+use Rattle.grep_definitions.proofs.BoolLemmas.{both_true, clash}
 use Rattle.grep_searcher.specs.declared.searcher.walk.Walk.{Walk}
-use Rattle.grep_searcher.specs.AcrossWalks.{IsAcross, IsLimited, is_joined, turns_before, walk_after, walk_past}
-use Rattle.grep_searcher.specs.Walks.{IsOrdered, IsPlaced, line_end, line_turns, next_walk}
+use Rattle.grep_searcher.specs.AcrossWalks.{IsAcross, IsLimited, turns_before, walk_after, walk_past}
+use Rattle.grep_searcher.specs.Walks.{line_end, line_turns, next_walk}
 use Rattle.grep_definitions.proofs.AcrossWalkLemmas as calls
 use Rattle.grep_searcher.proofs.AcrossUnitLemmas.{IsChosen, IsNext, selected-inverted}
 use Rattle.grep_searcher.proofs.LineRangeLemmas.{lines-between}
-use Rattle.grep_searcher.proofs.WalkLemmas.{end-is, placed-next, placed-start, start-after, start_walk}
+use Rattle.grep_searcher.proofs.WalkLemmas.{placed-next, placed-start, start-after, start_walk}
 
 -- one more number
 count-next : (p : ℕ → Bool) (i : ℕ) → count_below p (i + 1) ≡ (if p i then count_below p i + 1 else count_below p i)
@@ -62,7 +62,8 @@ module _ (k : Settings) (meaning : Meaning) (bytes : List ℕ) where
       record { below = over ∙ sym (ap not full); counted = λ room. absurd (clash full room) })
       (λ (room : is_at c k.max_matches ≡ false).
       let none : free i ≡ false =
-      sym (and-true (free i)) ∙ (ap (λ b. free i && b) (sym (limited.below ∙ ap not room)) ∙ (sym (selected-inverted k meaning bytes inverted i) ∙ missed)) in
+      sym (and-true (free i))
+      ∙ (ap (λ b. free i && b) (sym (limited.below ∙ ap not room)) ∙ (sym (selected-inverted k meaning bytes inverted i) ∙ missed)) in
       let same : count_below free (i + 1) ≡ count_below free i =
       count-next free i ∙ ap (λ b. if b then count_below free i + 1 else count_below free i) none in
       record {

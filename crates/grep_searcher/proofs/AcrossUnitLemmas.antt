@@ -372,7 +372,9 @@ module _ (k : Settings) (meaning : Meaning) (bytes : List ℕ) where
                     higher (j + 1) here.is_unit.last (omega (arith, high)),
                     here.is_unit.ends.begins,
                   ));
-              closed = λ plain inside. selected-plain is_b here.is_unit.last ∙ here.is_unit.past here.is_unit.last inside here.is_unit.ends.begins;
+              closed = λ plain inside.
+                  selected-plain is_b here.is_unit.last
+                  ∙ here.is_unit.past here.is_unit.last inside here.is_unit.ends.begins;
               single = λ inverted. absurd (clash inverted is_b);
               first = ⊎_elim
                   (λ above.

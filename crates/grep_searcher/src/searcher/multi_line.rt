@@ -1,6 +1,6 @@
 //! The walk of a search across lines, from one unit of lines that matches touch to the next.
-ghost use Rattle.std.specs.Prelude.{◌≡◌, ◌≤◌, ◌<◌, ◌+◌, ◌-◌, ◌^◌, ◌&&◌, ◌==◌, ℕ, not, true, false, length};
-ghost use Rattle.std.specs.Prelude.{List, Ok, IfOk, IfErr, IsOk};
+ghost use Rattle.std.specs.Prelude.{◌≡◌, ◌≤◌, ◌<◌, ◌+◌, ◌-◌, ◌^◌, ◌&&◌, ◌==◌, ℕ, true, false};
+ghost use Rattle.std.specs.Prelude.{List, length, Ok, IfOk, IfErr, IsOk};
 ghost use Rattle.grep_matcher.specs.Terminators.{byte_of};
 ghost use Rattle.grep_matcher.specs.Matching.{IsInfallible};
 ghost use Rattle.grep_lines.specs.Positions.{IsLine, IsLineStart};
@@ -9,8 +9,8 @@ ghost use Rattle.grep_definitions.specs.Searches.{IsFaultIn};
 ghost use Rattle.grep_definitions.specs.SearchTurns.{calls_across};
 ghost use Rattle.grep_definitions.specs.SinkCalls.{begins};
 ghost use Rattle.grep_definitions.specs.SinkRuns.{Outcome, NeverFails};
-ghost use Rattle.grep_searcher.specs.AcrossWalks.{is_done, is_joined, next_chosen, walk_after, walk_past};
-ghost use Rattle.grep_searcher.specs.AcrossWalks.{IsReady};
+ghost use Rattle.grep_searcher.specs.AcrossWalks.{is_done, is_joined, next_chosen};
+ghost use Rattle.grep_searcher.specs.AcrossWalks.{walk_after, walk_past, IsReady};
 ghost use Rattle.grep_searcher.specs.Walks.{Counted, IsOrdered};
 
 use crate::searcher::Searcher;
@@ -134,11 +134,15 @@ impl<A: Allocator + Copy> Searcher<A> {
         blocks: &mut Blocks,
     ) -> Result<Match, E>
         requires some { start < length bytes.now }
-        requires at { IsLineStart (byte_of self.now.settings.line_terminator) bytes.now start walk.now.line }
-        requires ready { IsReady self.now.settings (M.meaning matcher.now) bytes.now start walk.now unit blocks.old }
+        requires at { IsLineStart (byte_of self.now.settings.line_terminator) bytes.now start
+            walk.now.line }
+        requires ready { IsReady self.now.settings (M.meaning matcher.now) bytes.now start
+            walk.now unit blocks.old }
         ensures ready { IfOk result (λ next.
-            IsReady self.now.settings (M.meaning matcher.now) bytes.now start walk.now next blocks.new) }
-        ensures ahead { IfOk result (λ next. is_done self.now.settings walk.now ≡ false → start < next.1) }
+            IsReady self.now.settings (M.meaning matcher.now) bytes.now start
+            walk.now next blocks.new) }
+        ensures ahead { IfOk result (λ next.
+            is_done self.now.settings walk.now ≡ false → start < next.1) }
         ensures fault { IfErr result (λ e. (haystack : List ℕ) × (error : M.Error)
             × IsAskedAcross self.now.settings (M.meaning matcher.now) bytes.now haystack
             × M.fails matcher.now haystack error × E.is_message (M.Error.output error) e) }
@@ -164,8 +168,8 @@ impl<A: Allocator + Copy> Searcher<A> {
         }
     }
 
-    // Where the unit ends that begins at `start`, if that is chosen, and the line, if it isn't. Under inversion a unit is
-    // one line.
+    // Where the unit ends that begins at `start`, if it is chosen, and the line, if it isn't. Under inversion a unit
+    // is one line.
     fn end_across(&self, bytes: &[u8], start: usize, unit: &Match, chosen: bool) -> usize
         requires some { start < length bytes.now }
         requires within { unit.now.1 ≤ length bytes.now }

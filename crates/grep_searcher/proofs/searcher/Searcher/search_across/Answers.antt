@@ -46,8 +46,15 @@ lines-preserved-then-walk-eq0 g c =
     let plain = sym (ap (λ (s : SearcherState). s.settings.passthru) c.self.view_is) ∙ shut in
     rw c.walk_past-walk.ensures.walk (record {
       within = next.within;
-      same = omega (arith, c.lines.invariant.same, next.from, next.within, length-take (c.next_chosen-next.result - c.lines.start)
-          (drop c.lines.start c.args.bytes.now), length-drop c.lines.start c.args.bytes.now);
+      same = omega (
+        arith,
+        c.lines.invariant.same,
+        next.from,
+        next.within,
+        length-take (c.next_chosen-next.result - c.lines.start)
+            (drop c.lines.start c.args.bytes.now),
+        length-drop c.lines.start c.args.bytes.now,
+      );
       ordered = rw c.walk_past-walk.ensures.walk at c.walk_past-walk.ensures.ordered;
       ready = units.ready-past k meaning c.args.bytes.now c.lines.start c.lines.walk c.in_ok-unit.unit c.unit_at.new.blocks
           c.lines.invariant.walk at c.in_ok-unit.ensures.ready c.lines-test.true c.in_ok-unit.ensures.ahead _ c.next_chosen-next.result
