@@ -64,6 +64,7 @@ const ROWS: &[Row] = &[
     (Some(5), 1, false, End::Limit, b"homer", 5),
     (Some(5), 8, false, End::Limit, b"homer", 1),
     (Some(2), 8, false, End::Limit, b"ho", 1),
+    (Some(0), 8, false, End::Limit, b"", 0),
     (None, 2, true, End::Interrupted, b"homer", 4),
     (Some(5), 2, true, End::Limit, b"homer", 3),
 ];
