@@ -103,6 +103,7 @@ fn searcher(alloc: Global, options: &Options) -> Result<Searcher, SearchError>
 {
     SearcherBuilder::new()
         .invert_match(options.invert)
+        .multi_line(options.multi_line)
         .after_context(options.after)
         .before_context(options.before)
         .passthru(options.passthru)
