@@ -25,7 +25,7 @@ use Rattle.grep_definitions.proofs.BoolLemmas.{and-both, both_true, clash}
 use Rattle.grep_definitions.proofs.LineStartLemmas.{line_start-within, line_start-last}
 use Rattle.grep_definitions.proofs.TouchLemmas.{rises}
 use Rattle.grep_definitions.proofs.SuccessiveMatchLemmas.{position_after-start, position_after-later}
-use Rattle.grep_searcher.specs.Units.{is_in, is_hit, IsRange, IsUnit, AreTouched}
+use Rattle.grep_searcher.specs.Units.{is_in, is_hit, IsPart, IsUnit, AreTouched}
 
 -- a position in a range is at its start or after it, and before its end
 in-range : (u : ℕ × ℕ) (s : ℕ) → u.0 ≤ s → s < u.1 → is_in (Some u) s ≡ true
@@ -279,31 +279,23 @@ module _ (k : Settings) (meaning : Meaning) (bytes : List ℕ) where
   }
 
   -- the whole lines of a match from a line start on
-  pub record IsPart (e : ℕ) (m p : ℕ × ℕ) : Type 0 where
-    pub start_is : p.0 ≡ e + block_start t (drop e bytes) (m.0 - e, m.1 - e)
-    pub end_is : p.1 ≡ e + block_end t (drop e bytes) (m.0 - e, m.1 - e)
-    pub low : e ≤ p.0
-    pub starts : e ≤ m.0 → p.0 ≤ m.0
-    pub ends : m.1 ≤ p.1
-    pub within : p.1 ≤ length bytes
-
-  module _ (e a : ℕ) (here : IsLineStart t bytes e a) (m p : ℕ × ℕ) (part : IsPart e m p) (order : m.0 ≤ m.1) (reach : e ≤ m.1) where
+  module _ (e a : ℕ) (here : IsLineStart t bytes e a) (m p : ℕ × ℕ) (part : IsPart t bytes e m p) (order : m.0 ≤ m.1) (reach : e ≤ m.1) where
     -- if the match starts before it, they start there
     part-before : m.0 < e → p.0 ≡ e
     part-before before =
         let none : m.0 - e ≡ 0 = omega arith in
         let first : block_start t (drop e bytes) (m.0 - e, m.1 - e) ≡ 0 = ap (λ x. block_start t (drop e bytes) (x, m.1 - e)) none in
-        omega (arith, part.start_is, first)
+        omega (arith, part.begins, first)
 
     -- if not, they start with the block of the match
     part-start : e < length bytes → e ≤ m.0 → p.0 ≡ block_start t bytes m
     part-start below after =
-        part.start_is ∙ block_start-part t bytes e a here below m (m.0 - e, m.1 - e) after refl
+        part.begins ∙ block_start-part t bytes e a here below m (m.0 - e, m.1 - e) after refl
 
     -- they end with it
     part-end : e < length bytes → (m.0 < e → e < m.1) → p.1 ≡ block_end t bytes m
     part-end below over =
-        part.end_is ∙ block_end-part t bytes e a here below m (m.0 - e, m.1 - e) reach inner refl alike
+        part.ends ∙ block_end-part t bytes e a here below m (m.0 - e, m.1 - e) reach inner refl alike
       where
         inner : m.0 < m.1 → e < m.1
         inner some = ⊎_elim over (λ after. omega (arith, after, some)) (cases_lt m.0 e)
@@ -324,12 +316,12 @@ module _ (k : Settings) (meaning : Meaning) (bytes : List ℕ) where
     pub part-apart : e < p.0 → p ≡ block m
     part-apart apart =
         let after = starts-there apart in
-        let below : e < length bytes = omega (arith, apart, part.starts after, order, part.ends, part.within) in
+        let below : e < length bytes = omega (arith, apart, part.before after, order, part.past, part.within) in
         ap₂ (λ x y. (x, y)) (part-start below after) (part-end below (λ before. absurd (omega (arith, before, after))))
 
   -- a match whose lines lead on from the range
   pub touched-part : (low position : ℕ) (found : List (ℕ × ℕ)) (u m p : ℕ × ℕ) → AreTouched k meaning bytes low position found (Some u)
-      → position ≤ m.0 → m.0 ≤ m.1 → (m.0 < u.1 → u.1 < m.1) → IsPart u.1 m p → p.0 ≤ u.1
+      → position ≤ m.0 → m.0 ≤ m.1 → (m.0 < u.1 → u.1 < m.1) → IsPart t bytes u.1 m p → p.0 ≤ u.1
       → AreTouched k meaning bytes low (position_after m) (found ++ m ∷ []) (Some (u.0, p.1))
   touched-part low position found u m p touched next order over part joins = ⊎_elim
       (λ below.
@@ -339,9 +331,9 @@ module _ (k : Settings) (meaning : Meaning) (bytes : List ℕ) where
       (λ after. omega (arith, part-start u.1 last ends m p part order reach below after, joins))
       (cases_lt m.0 u.1) in
       subst (λ x. AreTouched k meaning bytes low (position_after m) (found ++ m ∷ []) (Some (u.0, x))) (sym stop)
-      (touched-joined low position found u m touched next order start (omega (arith, stop, part.ends, reach)) (omega (arith, stop, part.within))))
+      (touched-joined low position found u m touched next order start (omega (arith, stop, part.past, reach)) (omega (arith, stop, part.within))))
       (λ all.
-      let same : u.1 ≡ p.1 = omega (arith, all, touched.range.within, part.ends, part.within, reach) in
+      let same : u.1 ≡ p.1 = omega (arith, all, touched.range.within, part.past, part.within, reach) in
       subst (λ x. AreTouched k meaning bytes low (position_after m) (found ++ m ∷ []) (Some (u.0, x))) same
       (absorbed low position found u m touched next order (λ j inside less. omega (arith, starts-inside j inside, all))))
       (cases_lt u.1 (length bytes))
