@@ -1,14 +1,13 @@
 -- Which lines the matches that were found across lines touch, from one match to the next.
-use Rattle.std.proofs.Common.{◌≡◌, ℕ, ◌+◌, ◌-◌, ◌<◌, ◌≤◌, Bool, true, false, ◌&&◌, ◌||◌, List, [], ◌∷◌, ◌++◌, length, drop, refl, sym, ◌∙◌, ap, ap₂, subst, arith, ⊎_elim}
-use Rattle.std.proofs.Common.{Option, Some, None}
+use Rattle.std.proofs.Common.{◌≡◌, ℕ, ◌+◌, ◌-◌, ◌<◌, ◌≤◌, Bool, true, false, ◌||◌, List, [], ◌∷◌, ◌++◌, length, drop, refl, sym, ◌∙◌, ap, ap₂, subst, arith, ⊎_elim}
+use Rattle.std.proofs.Common.{Some, None}
 use Rattle.std.proofs.lemmas.Bool.{cases_lt, lt-ltb, le-ltb, le-leb, lt-leb, leb-true, ltb-true, false_from_ne_true, and_left, or_from, or_left}
 use Rattle.std.proofs.lemmas.List.{append-nil}
 use Rattle.std.proofs.Math.Bool.{or-false}
 use Rattle.std.proofs.lemmas.List.Elements.{All-weaker}
 use Rattle.std.proofs.lemmas.List.Folds.{list_any-append, list_any_none}
-use Rattle.std.specs.Prelude.{nat_lt, nat_le, All}
+use Rattle.std.specs.Prelude.{nat_lt, All}
 use Rattle.std.specs.List.{list_any}
-use Rattle.grep_matcher.specs.Lines.{line_start}
 use Rattle.grep_matcher.specs.Matching.{Meaning}
 use Rattle.grep_matcher.specs.Terminators.{byte_of}
 use Rattle.grep_lines.specs.Blocks.{block_start, block_end}
@@ -21,10 +20,10 @@ use Rattle.grep_definitions.specs.Settings.{Settings}
 use Rattle.grep_definitions.specs.SuccessiveMatches.{position_after}
 use Rattle.grep_definitions.proofs.BlockLemmas.{within-block, block_start-edge, block_end-edge, block_start-le, block_start-low, block_end-within, block-some}
 use Rattle.grep_definitions.proofs.BlockLemmas.{block_start-part, block_end-part}
-use Rattle.grep_definitions.proofs.BoolLemmas.{and-both, both_true, clash}
+use Rattle.grep_definitions.proofs.BoolLemmas.{and-both, both_true}
 use Rattle.grep_definitions.proofs.LineStartLemmas.{line_start-within, line_start-last}
 use Rattle.grep_definitions.proofs.TouchLemmas.{rises}
-use Rattle.grep_definitions.proofs.SuccessiveMatchLemmas.{position_after-start, position_after-later}
+use Rattle.grep_definitions.proofs.SuccessiveMatchLemmas.{position_after-start}
 use Rattle.grep_searcher.specs.Units.{is_in, is_hit, IsPart, IsUnit, AreTouched}
 
 -- a position in a range is at its start or after it, and before its end

@@ -1,4 +1,4 @@
-use Rattle.std.proofs.Common.{[], Some, subst}
+use Rattle.std.proofs.Common.{[], subst}
 use Rattle.std.proofs.lemmas.Result.{err_from_is_err_and}
 use Rattle.std.specs.Prelude.{IfSome, IfNone}
 use Rattle.grep_searcher.specs.Units.{IsFound, HasNoMore}
