@@ -18,6 +18,7 @@ pub mod SearchLawLemmas
 pub mod MatchCallLemmas
 pub mod SuccessiveMatchLemmas
 pub mod TouchLemmas
+pub mod BlockLemmas
 pub mod RunLemmas
 pub mod AcrossLemmas
 pub mod UnitLemmas

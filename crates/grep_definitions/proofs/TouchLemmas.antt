@@ -19,7 +19,7 @@ use Rattle.grep_definitions.proofs.LineStartLemmas.{line_start-ascends, line_sta
 use Rattle.grep_definitions.proofs.TurnEndLemmas.{line_start-le}
 
 -- a test for at most that passes if a test for less does, and no other time
-same-tests : (x y z w : ℕ) → (x ≤ y → w ≤ z → ⊥) → (z < w → y < x → ⊥) → nat_le x y ≡ nat_lt z w
+pub same-tests : (x y z w : ℕ) → (x ≤ y → w ≤ z → ⊥) → (z < w → y < x → ⊥) → nat_le x y ≡ nat_lt z w
 same-tests x y z w first second = ⊎_elim
     (λ less. ⊎_elim
     (λ over. absurd (second less over))
@@ -39,7 +39,7 @@ module _ (t : ℕ) (bytes : List ℕ) where
   abbrev from : ℕ → ℕ
   from = line_start t bytes
 
-  rises : (i : ℕ) → i < n → from i < from (i + 1)
+  pub rises : (i : ℕ) → i < n → from i < from (i + 1)
   rises = line_start-ascends AreLines-lines t bytes
 
   high : (i : ℕ) → from i ≤ length bytes
@@ -49,7 +49,7 @@ module _ (t : ℕ) (bytes : List ℕ) where
   end = line_start-last AreLines-lines t bytes
 
   -- each byte is in a line
-  holder : (p : ℕ) → p < length bytes → (a : ℕ) × (a < n) × (from a ≤ p) × (p < from (a + 1))
+  pub holder : (p : ℕ) → p < length bytes → (a : ℕ) × (a < n) × (from a ≤ p) × (p < from (a + 1))
   holder p below = find n (omega arith) (omega (arith, end))
     where
       find : (k : ℕ) → k ≤ n → p < from k → (a : ℕ) × (a < n) × (from a ≤ p) × (p < from (a + 1))
@@ -60,12 +60,12 @@ module _ (t : ℕ) (bytes : List ℕ) where
           (cases_lt p (from k))
 
   -- the block of a match that starts in a line starts with the line
-  block_start-line : (m : ℕ × ℕ) (a : ℕ) → a < n → from a ≤ m.0 → m.0 < from (a + 1) → from a ≡ block_start t bytes m
+  pub block_start-line : (m : ℕ × ℕ) (a : ℕ) → a < n → from a ≤ m.0 → m.0 < from (a + 1) → from a ≡ block_start t bytes m
   block_start-line m a inside low below =
       block_start-is t bytes m m.0 (from a) (omega (arith, high (a + 1))) refl (IsLastStart-line t bytes a m.0 inside low below)
 
   -- so many lines come before a position in a line
-  lines_before-line : (p a : ℕ) → a < n → from a ≤ p → p < from (a + 1) → lines_before t bytes p ≡ a
+  pub lines_before-line : (p a : ℕ) → a < n → from a ≤ p → p < from (a + 1) → lines_before t bytes p ≡ a
   lines_before-line p a inside low below =
       let same = block_start-line (p, p) a inside low below in
       ⊎_elim
@@ -82,7 +82,7 @@ module _ (t : ℕ) (bytes : List ℕ) where
       (cases_lt (lines_before t bytes p) a)
 
   -- the block of a match that isn't empty and ends in a line ends with the line
-  block_end-line : (m : ℕ × ℕ) (b : ℕ) → m.0 < m.1 → b < n → from b < m.1 → m.1 ≤ from (b + 1) → from (b + 1) ≡ block_end t bytes m
+  pub block_end-line : (m : ℕ × ℕ) (b : ℕ) → m.0 < m.1 → b < n → from b < m.1 → m.1 ≤ from (b + 1) → from (b + 1) ≡ block_end t bytes m
   block_end-line m b some inside low below = ⊎_elim
       (λ less.
       let open_end : slice_index bytes (m.1 - 1) ≢ t =
@@ -109,7 +109,7 @@ module _ (t : ℕ) (bytes : List ℕ) where
           ∙ lines_before-line (m.1 - 1) b inside (omega arith) (omega arith))
 
   -- the block of an empty match in a line ends with the line
-  block_end-empty : (p a : ℕ) → a < n → from a ≤ p → p < from (a + 1) → from (a + 1) ≡ block_end t bytes (p, p)
+  pub block_end-empty : (p a : ℕ) → a < n → from a ≤ p → p < from (a + 1) → from (a + 1) ≡ block_end t bytes (p, p)
   block_end-empty p a inside low below =
       block_end-open t bytes (p, p) (from (a + 1)) (λ less. absurd (omega (arith, less)))
       (ap (λ q. from (q + 1)) (sym (lines_before-line p a inside low below)))

@@ -5,7 +5,7 @@ use Rattle.std.specs.Prelude.{List, [], ◌∷◌, length, count_by, Some, None}
 use Rattle.std.specs.List.{flat_map}
 use Rattle.std.specs.List.Sorted.{IsStrictlyIncreasing}
 use Rattle.grep_matcher.specs.Lawful.{ExcludesTerminator, HoldsPosition}
-use Rattle.grep_matcher.specs.Matching.{Meaning, IsWithin}
+use Rattle.grep_matcher.specs.Matching.{Meaning}
 use Rattle.grep_definitions.specs.Settings.{Settings}
 use Rattle.grep_definitions.specs.SinkCalls.{Call, begins, matches, context, breaks}
 use Rattle.grep_definitions.specs.SinkCalls.{binary_data, finishes}
@@ -36,12 +36,10 @@ SearchesAcrossLines =
     × (search_turn_count settings meaning bytes ≡ AcrossLines.turn_count settings meaning bytes)
     × (search_byte_count settings meaning bytes ≡ AcrossLines.byte_count settings meaning bytes)
 
--- if a matcher's matches are within their haystacks, no match is left out: asking more often than there are bytes finds
--- no more of them
+-- no match is left out: asking more often than there are bytes finds no more of them
 abbrev pub MatchesAreAll : Type 0
 MatchesAreAll =
-    (meaning : Meaning) (bytes : List ℕ) (n : ℕ)
-    → ((haystack : List ℕ) → IsWithin haystack (meaning.first haystack)) → length bytes ≤ n
+    (meaning : Meaning) (bytes : List ℕ) (n : ℕ) → length bytes ≤ n
     → matches_from meaning bytes 0 n ≡ all_matches meaning bytes
 
 -- a match that isn't empty touches the lines that it has a byte of, and no other line

@@ -1,5 +1,5 @@
 -- The successive matches in some bytes. No search uses these definitions yet.
-use Rattle.std.specs.Prelude.{ℕ, zero, suc, ◌+◌, if◌then◌else◌, nat_lt}
+use Rattle.std.specs.Prelude.{ℕ, zero, suc, ◌+◌, ◌&&◌, if◌then◌else◌, nat_lt, nat_le}
 use Rattle.std.specs.Prelude.{List, [], ◌∷◌, length, take, drop, Option, Some, None}
 use Rattle.std.specs.Option.{option_map}
 use Rattle.grep_matcher.specs.Matching.{Meaning}
@@ -13,12 +13,20 @@ abbrev pub position_past : ℕ → List (ℕ × ℕ) → ℕ
 position_past position [] = position
 position_past position (m ∷ later) = position_past (position_after m) later
 
+-- a match, if it is within its haystack; a matcher returns no other
+abbrev pub if_within : List ℕ → Option (ℕ × ℕ) → Option (ℕ × ℕ)
+if_within haystack None = None
+if_within haystack (Some m) =
+    if nat_le m.0 m.1 && nat_le m.1 (length haystack) then Some m else None
+
 module _ (meaning : Meaning) (bytes : List ℕ) where
   -- the first match in the bytes from a position on, if bytes are left there
   abbrev pub match_from : ℕ → Option (ℕ × ℕ)
   match_from position =
       if nat_lt position (length bytes)
-      then option_map (λ m. (position + m.0, position + m.1)) (meaning.first (drop position bytes))
+      then option_map
+      (λ m. (position + m.0, position + m.1))
+      (if_within (drop position bytes) (meaning.first (drop position bytes)))
       else None
 
   -- the first n of the successive matches from a position on
@@ -37,3 +45,8 @@ module _ (meaning : Meaning) (bytes : List ℕ) where
   abbrev pub matches_up_to : Option ℕ → List (ℕ × ℕ)
   matches_up_to None = all_matches
   matches_up_to (Some limit) = take limit all_matches
+
+  -- those from a position on, if so many more count
+  abbrev pub matches_left : ℕ → Option ℕ → List (ℕ × ℕ)
+  matches_left position None = matches_from position (length bytes)
+  matches_left position (Some left) = take left (matches_from position (length bytes))

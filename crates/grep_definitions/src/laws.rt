@@ -114,7 +114,7 @@ pub fn searches_across_lines()
     ensures { SearchesAcrossLines }
 {}
 
-/// Of a matcher whose matches are within their haystacks no match is left out.
+/// No match is left out of the successive ones.
 pub fn matches_are_all()
     ensures { MatchesAreAll }
 {}

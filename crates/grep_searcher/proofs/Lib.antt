@@ -14,3 +14,6 @@ pub mod ModeLemmas
 pub mod ContentsSearchLemmas
 pub mod LookAheadLemmas
 pub mod ClosureSinkLemmas
+pub mod FoundMatchLemmas
+pub mod TouchedLemmas
+pub mod UnitStepLemmas

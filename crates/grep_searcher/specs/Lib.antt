@@ -4,6 +4,7 @@ pub mod InputSearches
 pub mod LookAheads
 pub mod Rolls
 pub mod SearchBuffers
+pub mod Units
 pub mod Walks
 pub mod Windows
 pub use Rattle.grep_definitions.specs.Settings

@@ -20,6 +20,7 @@ ghost use Rattle.grep_searcher.specs.InputSearches.{IsInputSearched};
 ghost use Rattle.grep_searcher.specs.SearchBuffers.{AreFitting};
 ghost use Rattle.grep_searcher.specs.Walks.{Counted};
 
+mod blocks;
 mod buffers;
 mod builder;
 mod contents;
