@@ -1,10 +1,11 @@
 //! All decoded bytes of a reader, for a search across lines.
-ghost use Rattle.std.specs.Prelude.{◌≡◌, ◌≢◌, ◌⊎◌, ◌+◌, ◌<◌, ◌≤◌, [], Some, length, take, OnOk, OnErr, IfErr, vec_len, vec_capacity};
+ghost use Rattle.std.specs.Prelude.{◌≡◌, ◌≢◌, ◌⊎◌, ◌+◌, ◌<◌, ◌≤◌, [], Some, length, take, OnOk, OnErr};
+ghost use Rattle.std.specs.Prelude.{IfErr, vec_len, vec_capacity};
 ghost use Rattle.std.specs.Io.KnownBytes.{Consumes, IsAtEnd};
 ghost use Rattle.grep_decode.specs.Source.{FailsWith};
 ghost use Rattle.grep_decode.specs.declared.mode.Mode.TheVariants.{Passing};
 ghost use Rattle.grep_decode.specs.DecoderStates.{Decodes, IsDone, IsSettled, TakesAtMost, runs_ahead, yet};
-ghost use Rattle.grep_line_buffer.specs.Contents.{IsBelow, ContentsFail, FailsAfter};
+ghost use Rattle.grep_line_buffer.specs.Contents.{first_size, IsBelow, ContentsFail, FailsAfter};
 ghost use Rattle.grep_line_buffer.specs.BufferStates.{IsWithin};
 ghost use Rattle.grep_line_buffer.specs.Fills.{IfRead, UnlessRead};
 ghost use Rattle.grep_line_buffer.specs.Room.{IsFullFault, IsLarge, next_size};
@@ -38,12 +39,12 @@ pub fn read_contents<A: Allocator, B: Allocator, R: Source>(
     ensures kept { vec_capacity contents.old ≤ vec_capacity contents.new }
 
     // the contents are what reads of the decoder gave, and nothing is lost
-    ensures reads { UnlessRead result
-        (Decodes R.remaining R.step decoder.old reader.old contents.new.items decoder.new reader.new) }
-    ensures read { IfRead result (λ e.
-        FailsAfter R.remaining R.step e decoder.old reader.old contents.new.items decoder.new reader.new) }
-    ensures gives { Consumes (yet decoder.old (R.remaining reader.old)) (yet decoder.new (R.remaining reader.new))
-        contents.new.items }
+    ensures reads { UnlessRead result (Decodes R.remaining R.step decoder.old reader.old
+        contents.new.items decoder.new reader.new) }
+    ensures read { IfRead result (λ e. FailsAfter R.remaining R.step e decoder.old reader.old
+        contents.new.items decoder.new reader.new) }
+    ensures gives { Consumes (yet decoder.old (R.remaining reader.old))
+        (yet decoder.new (R.remaining reader.new)) contents.new.items }
 
     // they are all that was left and shorter than the limit, or why not
     ensures done { OnOk result (IsDone decoder.new) }
@@ -85,7 +86,7 @@ pub fn read_contents<A: Allocator, B: Allocator, R: Source>(
     }
 }
 
-// Makes room for another byte after the first `len` ones, if there is none.
+// Makes room for another byte after the first `len` ones, if there is none. An error leaves them as they are.
 fn make_room<A: Allocator>(
     contents: &mut Vec<u8, A>,
     len: usize,
@@ -102,7 +103,8 @@ fn make_room<A: Allocator>(
     ensures full { OnErr result ((contents.new.items ≡ contents.old.items)
         × (length contents.old.items ≡ len)) }
     ensures error { IfErr result (λ e. IsFullFault limit len e) }
-    ensures memory { OnErr result (limit ≢ Some len → vec_capacity contents.old < next_size 65536 limit len) }
+    ensures memory { OnErr result (limit ≢ Some len
+        → vec_capacity contents.old < next_size first_size limit len) }
 {
     if len < contents.len() {
         return Ok(());

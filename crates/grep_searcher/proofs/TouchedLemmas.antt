@@ -1,14 +1,13 @@
 -- Which lines the matches that were found across lines touch, from one match to the next.
-use Rattle.std.proofs.Common.{◌≡◌, ℕ, ◌+◌, ◌-◌, ◌<◌, ◌≤◌, Bool, true, false, ◌&&◌, ◌||◌, List, [], ◌∷◌, ◌++◌, length, drop, refl, sym, ◌∙◌, ap, ap₂, subst, arith, ⊎_elim}
-use Rattle.std.proofs.Common.{Option, Some, None}
+use Rattle.std.proofs.Common.{◌≡◌, ℕ, ◌+◌, ◌-◌, ◌<◌, ◌≤◌, Bool, true, false, ◌||◌, List, [], ◌∷◌, ◌++◌, length, drop, refl, sym, ◌∙◌, ap, ap₂, subst, arith, ⊎_elim}
+use Rattle.std.proofs.Common.{Some, None}
 use Rattle.std.proofs.lemmas.Bool.{cases_lt, lt-ltb, le-ltb, le-leb, lt-leb, leb-true, ltb-true, false_from_ne_true, and_left, or_from, or_left}
 use Rattle.std.proofs.lemmas.List.{append-nil}
 use Rattle.std.proofs.Math.Bool.{or-false}
 use Rattle.std.proofs.lemmas.List.Elements.{All-weaker}
 use Rattle.std.proofs.lemmas.List.Folds.{list_any-append, list_any_none}
-use Rattle.std.specs.Prelude.{nat_lt, nat_le, All}
+use Rattle.std.specs.Prelude.{nat_lt, All}
 use Rattle.std.specs.List.{list_any}
-use Rattle.grep_matcher.specs.Lines.{line_start}
 use Rattle.grep_matcher.specs.Matching.{Meaning}
 use Rattle.grep_matcher.specs.Terminators.{byte_of}
 use Rattle.grep_lines.specs.Blocks.{block_start, block_end}
@@ -21,11 +20,11 @@ use Rattle.grep_definitions.specs.Settings.{Settings}
 use Rattle.grep_definitions.specs.SuccessiveMatches.{position_after}
 use Rattle.grep_definitions.proofs.BlockLemmas.{within-block, block_start-edge, block_end-edge, block_start-le, block_start-low, block_end-within, block-some}
 use Rattle.grep_definitions.proofs.BlockLemmas.{block_start-part, block_end-part}
-use Rattle.grep_definitions.proofs.BoolLemmas.{and-both, both_true, clash}
+use Rattle.grep_definitions.proofs.BoolLemmas.{and-both, both_true}
 use Rattle.grep_definitions.proofs.LineStartLemmas.{line_start-within, line_start-last}
 use Rattle.grep_definitions.proofs.TouchLemmas.{rises}
-use Rattle.grep_definitions.proofs.SuccessiveMatchLemmas.{position_after-start, position_after-later}
-use Rattle.grep_searcher.specs.Units.{is_in, is_hit, IsRange, IsUnit, AreTouched}
+use Rattle.grep_definitions.proofs.SuccessiveMatchLemmas.{position_after-start}
+use Rattle.grep_searcher.specs.Units.{is_in, is_hit, IsPart, IsUnit, AreTouched}
 
 -- a position in a range is at its start or after it, and before its end
 in-range : (u : ℕ × ℕ) (s : ℕ) → u.0 ≤ s → s < u.1 → is_in (Some u) s ≡ true
@@ -279,31 +278,23 @@ module _ (k : Settings) (meaning : Meaning) (bytes : List ℕ) where
   }
 
   -- the whole lines of a match from a line start on
-  pub record IsPart (e : ℕ) (m p : ℕ × ℕ) : Type 0 where
-    pub start_is : p.0 ≡ e + block_start t (drop e bytes) (m.0 - e, m.1 - e)
-    pub end_is : p.1 ≡ e + block_end t (drop e bytes) (m.0 - e, m.1 - e)
-    pub low : e ≤ p.0
-    pub starts : e ≤ m.0 → p.0 ≤ m.0
-    pub ends : m.1 ≤ p.1
-    pub within : p.1 ≤ length bytes
-
-  module _ (e a : ℕ) (here : IsLineStart t bytes e a) (m p : ℕ × ℕ) (part : IsPart e m p) (order : m.0 ≤ m.1) (reach : e ≤ m.1) where
+  module _ (e a : ℕ) (here : IsLineStart t bytes e a) (m p : ℕ × ℕ) (part : IsPart t bytes e m p) (order : m.0 ≤ m.1) (reach : e ≤ m.1) where
     -- if the match starts before it, they start there
     part-before : m.0 < e → p.0 ≡ e
     part-before before =
         let none : m.0 - e ≡ 0 = omega arith in
         let first : block_start t (drop e bytes) (m.0 - e, m.1 - e) ≡ 0 = ap (λ x. block_start t (drop e bytes) (x, m.1 - e)) none in
-        omega (arith, part.start_is, first)
+        omega (arith, part.begins, first)
 
     -- if not, they start with the block of the match
     part-start : e < length bytes → e ≤ m.0 → p.0 ≡ block_start t bytes m
     part-start below after =
-        part.start_is ∙ block_start-part t bytes e a here below m (m.0 - e, m.1 - e) after refl
+        part.begins ∙ block_start-part t bytes e a here below m (m.0 - e, m.1 - e) after refl
 
     -- they end with it
     part-end : e < length bytes → (m.0 < e → e < m.1) → p.1 ≡ block_end t bytes m
     part-end below over =
-        part.end_is ∙ block_end-part t bytes e a here below m (m.0 - e, m.1 - e) reach inner refl alike
+        part.ends ∙ block_end-part t bytes e a here below m (m.0 - e, m.1 - e) reach inner refl alike
       where
         inner : m.0 < m.1 → e < m.1
         inner some = ⊎_elim over (λ after. omega (arith, after, some)) (cases_lt m.0 e)
@@ -324,12 +315,12 @@ module _ (k : Settings) (meaning : Meaning) (bytes : List ℕ) where
     pub part-apart : e < p.0 → p ≡ block m
     part-apart apart =
         let after = starts-there apart in
-        let below : e < length bytes = omega (arith, apart, part.starts after, order, part.ends, part.within) in
+        let below : e < length bytes = omega (arith, apart, part.before after, order, part.past, part.within) in
         ap₂ (λ x y. (x, y)) (part-start below after) (part-end below (λ before. absurd (omega (arith, before, after))))
 
   -- a match whose lines lead on from the range
   pub touched-part : (low position : ℕ) (found : List (ℕ × ℕ)) (u m p : ℕ × ℕ) → AreTouched k meaning bytes low position found (Some u)
-      → position ≤ m.0 → m.0 ≤ m.1 → (m.0 < u.1 → u.1 < m.1) → IsPart u.1 m p → p.0 ≤ u.1
+      → position ≤ m.0 → m.0 ≤ m.1 → (m.0 < u.1 → u.1 < m.1) → IsPart t bytes u.1 m p → p.0 ≤ u.1
       → AreTouched k meaning bytes low (position_after m) (found ++ m ∷ []) (Some (u.0, p.1))
   touched-part low position found u m p touched next order over part joins = ⊎_elim
       (λ below.
@@ -339,9 +330,9 @@ module _ (k : Settings) (meaning : Meaning) (bytes : List ℕ) where
       (λ after. omega (arith, part-start u.1 last ends m p part order reach below after, joins))
       (cases_lt m.0 u.1) in
       subst (λ x. AreTouched k meaning bytes low (position_after m) (found ++ m ∷ []) (Some (u.0, x))) (sym stop)
-      (touched-joined low position found u m touched next order start (omega (arith, stop, part.ends, reach)) (omega (arith, stop, part.within))))
+      (touched-joined low position found u m touched next order start (omega (arith, stop, part.past, reach)) (omega (arith, stop, part.within))))
       (λ all.
-      let same : u.1 ≡ p.1 = omega (arith, all, touched.range.within, part.ends, part.within, reach) in
+      let same : u.1 ≡ p.1 = omega (arith, all, touched.range.within, part.past, part.within, reach) in
       subst (λ x. AreTouched k meaning bytes low (position_after m) (found ++ m ∷ []) (Some (u.0, x))) same
       (absorbed low position found u m touched next order (λ j inside less. omega (arith, starts-inside j inside, all))))
       (cases_lt u.1 (length bytes))

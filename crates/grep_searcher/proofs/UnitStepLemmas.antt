@@ -1,10 +1,10 @@
 -- How a search across lines puts one unit together, from one match to the next.
-use Rattle.std.proofs.Common.{◌≡◌, ℕ, ◌+◌, ◌-◌, ◌<◌, ◌≤◌, List, [], ◌∷◌, ◌++◌, length, refl, sym, ◌∙◌, ap, ap₂, subst, arith, ⊎_elim}
+use Rattle.std.proofs.Common.{◌≡◌, ℕ, ◌-◌, ◌<◌, ◌≤◌, List, [], ◌∷◌, ◌++◌, length, refl, sym, ◌∙◌, ap, ap₂, subst, arith, ⊎_elim}
 use Rattle.std.proofs.Common.{Option, Some, None}
 use Rattle.std.proofs.lemmas.Bool.{cases_lt}
 use Rattle.std.proofs.lemmas.List.{append-nil}
 use Rattle.std.proofs.lemmas.List.Elements.{All-nil, All-cons, All-weaker}
-use Rattle.std.specs.Prelude.{All, IfNone}
+use Rattle.std.specs.Prelude.{IfNone}
 use Rattle.grep_matcher.specs.Matching.{Meaning}
 use Rattle.grep_matcher.specs.Terminators.{byte_of}
 use Rattle.grep_matcher.specs.Lines.{lines}
@@ -17,25 +17,26 @@ use Rattle.grep_definitions.proofs.BlockLemmas.{block_start-le}
 use Rattle.grep_definitions.proofs.LineStartLemmas.{line_start-within}
 use Rattle.grep_definitions.proofs.SuccessiveMatchLemmas.{matches_left-after, position_after-start}
 use Rattle.grep_searcher.specs.declared.searcher.blocks.Blocks.{Blocks}
-use Rattle.grep_searcher.specs.Units.{IsUnit, AreFound, IsFound, HasNoMore, AreTouched, AreLeft, IsReached}
+use Rattle.grep_searcher.specs.Units.{IsPart, IsUnit, AreFound, IsFound, HasNoMore, AreTouched, AreLeft, IsReached}
 use Rattle.grep_searcher.proofs.FoundMatchLemmas.{found-start}
-use Rattle.grep_searcher.proofs.TouchedLemmas.{IsPart, touched-none, touched-passed, touched-first, touched-inside, touched-part, touched-end}
+use Rattle.grep_searcher.proofs.TouchedLemmas.{touched-none, touched-passed, touched-first, touched-inside, touched-part, touched-end}
 use Rattle.grep_searcher.proofs.TouchedLemmas.{unit-of, unit-none, last_start, starts-there, part-apart}
+
+-- before the first match
+abbrev pub starts : Option ℕ → Blocks
+starts limit = record { position = 0; left = limit; end = 0; next = None }
 
 module _ (k : Settings) (meaning : Meaning) (bytes : List ℕ) where
   abbrev t : ℕ
   t = byte_of k.line_terminator
 
-  -- before the first match
+  -- of so many matches
   module _ (limit : Option ℕ) (limit_is : limit ≡ match_limit k) where
-    abbrev starts : Blocks
-    starts = record { position = 0; left = limit; end = 0; next = None }
-
-    none_found : AreFound k meaning bytes 0 limit []
+    pub none_found : AreFound k meaning bytes 0 limit []
     none_found = subst (λ l. AreFound k meaning bytes 0 l []) (sym limit_is) (found-start k meaning bytes)
 
     -- there is no match
-    pub left-start-none : (b' : Blocks) → HasNoMore k meaning bytes starts b' → b'.next ≡ None → b'.end ≡ 0 → AreLeft k meaning bytes b'
+    pub left-start-none : (b' : Blocks) → HasNoMore k meaning bytes (starts limit) b' → b'.next ≡ None → b'.end ≡ 0 → AreLeft k meaning bytes b'
     left-start-none b' more next_is end_is = record {
       asked = [];
       found = more.found [] none_found;
@@ -46,15 +47,15 @@ module _ (k : Settings) (meaning : Meaning) (bytes : List ℕ) where
     }
 
     -- the first match was found
-    pub left-start : (b' : Blocks) (m p : ℕ × ℕ) → IsFound k meaning bytes starts b' m → b'.end ≡ 0 → IsPart k meaning bytes 0 m p
+    pub left-start : (b' : Blocks) (m p : ℕ × ℕ) → IsFound k meaning bytes (starts limit) b' m → b'.end ≡ 0 → IsPart t bytes 0 m p
         → AreLeft k meaning bytes (record b' { next = Some p })
     left-start b' m p found end_is part =
         let from_start : m.0 - 0 ≡ m.0 = omega arith in
         let from_end : m.1 - 0 ≡ m.1 = omega arith in
-        let start : p.0 ≡ block_start t bytes m = omega (arith, part.start_is, ap (λ x. block_start t bytes (x, m.1 - 0)) from_start) in
-        let end : p.1 ≡ block_end t bytes m = omega (arith, part.end_is, ap₂ (λ x y. block_end t bytes (x, y)) from_start from_end) in
+        let start : p.0 ≡ block_start t bytes m = omega (arith, part.begins, ap (λ x. block_start t bytes (x, m.1 - 0)) from_start) in
+        let end : p.1 ≡ block_end t bytes m = omega (arith, part.ends, ap₂ (λ x y. block_end t bytes (x, y)) from_start from_end) in
         let touched = touched-first k meaning bytes 0 0 [] m p (touched-none k meaning bytes 0 0) (ap₂ (λ x y. (x, y)) start end)
-        (omega arith) (λ some. absurd (omega (arith, some))) (part.starts (omega arith)) found.ordered part.ends part.within in
+        (omega arith) (λ some. absurd (omega (arith, some))) (part.before (omega arith)) found.ordered part.past part.within in
         record {
           asked = m ∷ [];
           found = found.found [] none_found;
@@ -131,7 +132,7 @@ module _ (k : Settings) (meaning : Meaning) (bytes : List ℕ) where
         taken = same ∙ so_far.taken;
       }
 
-      module _ (p : ℕ × ℕ) (over : m.0 < u.1 → u.1 < m.1) (part : IsPart k meaning bytes u.1 m p) where
+      module _ (p : ℕ × ℕ) (over : m.0 < u.1 → u.1 < m.1) (part : IsPart t bytes u.1 m p) where
         pub reached-joined : p.0 ≤ u.1 → IsReached k meaning bytes low b' (u.0, p.1)
         reached-joined joins = record {
           asked = so_far.asked ++ m ∷ [];
@@ -175,7 +176,7 @@ module _ (k : Settings) (meaning : Meaning) (bytes : List ℕ) where
             touched = looked-after u.1 p
                 (touched-first k meaning bytes u.1 b.position so_far.asked m p
                 (touched-passed k meaning bytes low b.position b.position so_far.asked u so_far.touched)
-                is_block (omega (arith, apart)) (λ _. apart) (part.starts after) found.ordered part.ends part.within);
+                is_block (omega (arith, apart)) (λ _. apart) (part.before after) found.ordered part.past part.within);
             none = tt;
             line = so_far.touched.range.last;
             ends = so_far.touched.range.ends;

@@ -1,12 +1,12 @@
 -- The units of lines that the matches of a search across lines touch, one after another. The contracts of private
 -- functions cite these definitions; no public contract does.
-use Rattle.std.specs.Prelude.{◌≡◌, ℕ, ◌-◌, ◌<◌, ◌≤◌, Bool, true, false, ◌&&◌, nat_lt, nat_le, List, [], ◌∷◌, ◌++◌}
-use Rattle.std.specs.Prelude.{length, Option, Some, None, IfSome, IfNone}
+use Rattle.std.specs.Prelude.{◌≡◌, ℕ, ◌+◌, ◌-◌, ◌<◌, ◌≤◌, Bool, true, false, ◌&&◌, nat_lt, nat_le, List, [], ◌∷◌, ◌++◌}
+use Rattle.std.specs.Prelude.{length, drop, Option, Some, None, IfSome, IfNone}
 use Rattle.std.specs.List.{list_any}
 use Rattle.std.specs.Option.{option_map}
 use Rattle.grep_matcher.specs.Matching.{Meaning}
 use Rattle.grep_matcher.specs.Terminators.{byte_of}
-use Rattle.grep_lines.specs.Blocks.{block_start}
+use Rattle.grep_lines.specs.Blocks.{block_start, block_end}
 use Rattle.grep_lines.specs.Positions.{IsLineStart}
 use Rattle.grep_definitions.specs.Settings.{Settings}
 use Rattle.grep_definitions.specs.LineSearch.{line_count, start}
@@ -19,6 +19,15 @@ use Rattle.grep_searcher.specs.declared.searcher.blocks.Blocks.{Blocks}
 abbrev pub is_in : Option (ℕ × ℕ) → ℕ → Bool
 is_in None position = false
 is_in (Some block) position = nat_le block.0 position && nat_lt position block.1
+
+-- the whole lines of a match from a line start on, by the block of what is there of the match
+pub record IsPart (t : ℕ) (bytes : List ℕ) (low : ℕ) (found part : ℕ × ℕ) : Type 0 where
+  pub begins : part.0 ≡ low + block_start t (drop low bytes) (found.0 - low, found.1 - low)
+  pub ends : part.1 ≡ low + block_end t (drop low bytes) (found.0 - low, found.1 - low)
+  pub after : low ≤ part.0
+  pub before : low ≤ found.0 → part.0 ≤ found.0
+  pub past : found.1 ≤ part.1
+  pub within : part.1 ≤ length bytes
 
 module _ (settings : Settings) (meaning : Meaning) (bytes : List ℕ) where
   -- whether a match that counts touches the line

@@ -13,6 +13,10 @@ naming terminator first = record { first = first; terminator = Some terminator; 
 abbrev pub empty_match : List ℕ → Option (ℕ × ℕ)
 empty_match haystack = if length haystack == 0 then Some (0, 0) else None
 
+-- each haystack matches, at its end
+abbrev pub end_match : List ℕ → Option (ℕ × ℕ)
+end_match haystack = Some (length haystack, length haystack)
+
 -- the match of the first literal, or else that of the second
 abbrev pub either_match : List ℕ → List ℕ → List ℕ → Option (ℕ × ℕ)
 either_match first second haystack = option_or (literal_match first haystack) (literal_match second haystack)

@@ -10,6 +10,6 @@ mod recorder;
 
 pub use candidates::{CandidatesOnly, ConfirmsEnd, Contrary, EveryLine};
 pub use counting::{Counting, Counts};
-pub use matchers::{Either, Empty, FAILING_MESSAGE, Failing, Naming};
+pub use matchers::{AtEnd, Either, Empty, FAILING_MESSAGE, Failing, Naming};
 pub use pieces::Pieces;
 pub use recorder::{RECORDER_MESSAGE, Recorder};

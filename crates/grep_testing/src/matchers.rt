@@ -75,6 +75,35 @@ impl Matcher for Empty {
     }
 }
 
+/// Matches each haystack, with the empty match at its end. It never fails.
+#[derive(Drop)]
+pub struct AtEnd;
+
+impl Matcher for AtEnd {
+    type Error = io::Error;
+
+    ghost use Rattle.grep_matcher.specs.Matching.{plain};
+    ghost use Rattle.grep_testing.specs.Matchers.{end_match};
+
+    ghost meaning = { λ _. plain end_match };
+
+    ghost fails = { λ _ _ _. ⊥ };
+
+    ghost is_lawful = { λ _ _. Unit {0} };
+
+    fn find(&self, haystack: &[u8]) -> Result<Option<Match>, io::Error> {
+        Ok(Some(Match::zero(haystack.len())))
+    }
+
+    fn line_terminator(&self) -> Option<LineTerminator> {
+        None
+    }
+
+    fn non_matching_bytes(&self) -> Option<&ByteSet> {
+        None
+    }
+}
+
 /// Either of two literals. The match is that of the first literal, or that of the second if the first has none. It
 /// never fails.
 #[derive(Drop)]

@@ -11,12 +11,13 @@ use Rattle.std.proofs.lemmas.Slice.Eq.{bytes_eq-Decides}
 use Rattle.lgrep_cli.specs.declared.options.Options.{Options}
 use Rattle.lgrep_cli.specs.declared.options.OptionsFault.{OptionsFault}
 use Rattle.lgrep_cli.specs.declared.options.OptionsFault.TheVariants.{Usage, Memory}
-use Rattle.lgrep_cli.specs.CommandLine.{Request, AreLast, AreOptionsOf, AskFor, bare, is_dashed, operands, operands_in, operands_of, with_number, request_of, text_of, texts, with_invert, with_passthru, with_after, with_before, with_max}
+use Rattle.lgrep_cli.specs.CommandLine.{Request, AreLast, AreOptionsOf, AskFor, bare, is_dashed, operands, operands_in, operands_of, with_number, request_of, text_of, texts, with_invert, with_multi_line, with_passthru, with_after, with_before, with_max}
 use Rattle.lgrep_cli.specs.Numerals.{number_of}
 
 -- what a request comes to
 pub record Values : Type 0 where
   pub invert : Bool
+  pub multi_line : Bool
   pub after : ℕ
   pub before : ℕ
   pub passthru : Bool
@@ -27,6 +28,7 @@ pub record Values : Type 0 where
 abbrev pub settled : Request → Values
 settled request = record {
   invert = request.invert;
+  multi_line = request.multi_line;
   after = unwrap_or request.after 0;
   before = unwrap_or request.before 0;
   passthru = request.passthru;
@@ -39,6 +41,7 @@ settled request = record {
 abbrev pub over : Options → Request → Values
 over options request = record {
   invert = request.invert || options.invert;
+  multi_line = request.multi_line || options.multi_line;
   after = unwrap_or request.after options.after;
   before = unwrap_or request.before options.before;
   passthru = request.passthru || options.passthru;
@@ -78,11 +81,13 @@ read-none all options none = record { same = option_map-same settled (over optio
     unset : (request : Request) → settled request ≡ over options request
     unset request = rw (
       none.invert,
+      none.multi_line,
       none.after,
       none.before,
       none.passthru,
       none.max,
       or-false request.invert,
+      or-false request.multi_line,
       or-false request.passthru,
       option_or-none request.max,
     ) refl
@@ -117,6 +122,10 @@ invert-flag : IsFlag (codes "-v") with_invert
 invert-flag [] = refl
 invert-flag (next ∷ later) = refl
 
+multi_line-flag : IsFlag (codes "-U") with_multi_line
+multi_line-flag [] = refl
+multi_line-flag (next ∷ later) = refl
+
 passthru-flag : IsFlag (codes "--passthru") with_passthru
 passthru-flag [] = refl
 passthru-flag (next ∷ later) = refl
@@ -125,6 +134,13 @@ pub invert-read : (all before later : List (String Global)) (argument : String G
     → string_bytes argument ≡ codes "-v" → IsRead all before options → IsRead all later (record options { invert = true })
 invert-read all before later argument options = flag-read all before later argument options (record options { invert = true })
     (codes "-v") with_invert invert-flag (λ request. rw (or-true request.invert) refl)
+
+pub multi_line-read : (all before later : List (String Global)) (argument : String Global) (options : Options)
+    → before ≡ argument ∷ later → string_bytes argument ≡ codes "-U" → IsRead all before options
+    → IsRead all later (record options { multi_line = true })
+multi_line-read all before later argument options = flag-read all before later argument options
+    (record options { multi_line = true }) (codes "-U") with_multi_line multi_line-flag
+    (λ request. rw (or-true request.multi_line) refl)
 
 pub passthru-read : (all before later : List (String Global)) (argument : String Global) (options : Options)
     → before ≡ argument ∷ later → string_bytes argument ≡ codes "--passthru" → IsRead all before options
@@ -250,6 +266,7 @@ other argument flag differs = go (bytes_eq argument flag) (bytes_eq-Decides argu
 -- none of the options
 pub record IsNoOption (argument : List ℕ) : Type 0 where
   pub invert : argument ≡ codes "-v" → ⊥
+  pub multi_line : argument ≡ codes "-U" → ⊥
   pub passthru : argument ≡ codes "--passthru" → ⊥
   pub after : argument ≡ codes "-A" → ⊥
   pub before : argument ≡ codes "-B" → ⊥
@@ -262,6 +279,7 @@ no-option argument [] otherwise = refl
 no-option argument (next ∷ later) otherwise =
     rw (
       other argument (codes "-v") otherwise.invert,
+      other argument (codes "-U") otherwise.multi_line,
       other argument (codes "--passthru") otherwise.passthru,
       other argument (codes "-A") otherwise.after,
       other argument (codes "-B") otherwise.before,
@@ -301,6 +319,7 @@ same-options : (request : Request) (options new : Options) → new ≡ record op
     → AreOptionsOf request new
 same-options request options new same values = record {
   invert = ap (λ (o : Options). o.invert) same ∙ sym (ap (λ (v : Values). v.invert) values);
+  multi_line = ap (λ (o : Options). o.multi_line) same ∙ sym (ap (λ (v : Values). v.multi_line) values);
   after = ap (λ (o : Options). o.after) same ∙ sym (ap (λ (v : Values). v.after) values);
   before = ap (λ (o : Options). o.before) same ∙ sym (ap (λ (v : Values). v.before) values);
   passthru = ap (λ (o : Options). o.passthru) same ∙ sym (ap (λ (v : Values). v.passthru) values);
@@ -433,21 +452,25 @@ request-last (argument ∷ next ∷ later) request is =
     elim (either (bytes_eq argument (codes "-v")) _ _ request is) [
       | inl is ↦ more (last-set with_invert (next ∷ later) (λ r. refl) (request_of (next ∷ later)) (request-last (next ∷ later))
           request is)
-      | inr is ↦ elim (either (bytes_eq argument (codes "--passthru")) _ _ request is) [
-        | inl is ↦ more (last-set with_passthru (next ∷ later) (λ r. refl) (request_of (next ∷ later))
+      | inr is ↦ elim (either (bytes_eq argument (codes "-U")) _ _ request is) [
+        | inl is ↦ more (last-set with_multi_line (next ∷ later) (λ r. refl) (request_of (next ∷ later))
             (request-last (next ∷ later)) request is)
-        | inr is ↦ elim (either (bytes_eq argument (codes "-A")) _ _ request is) [
-          | inl is ↦ numbered (last-numbered with_after later (λ n r. refl) (number_of next) (request_of later)
-              (request-last later) request is)
-          | inr is ↦ elim (either (bytes_eq argument (codes "-B")) _ _ request is) [
-            | inl is ↦ numbered (last-numbered with_before later (λ n r. refl) (number_of next) (request_of later)
+        | inr is ↦ elim (either (bytes_eq argument (codes "--passthru")) _ _ request is) [
+          | inl is ↦ more (last-set with_passthru (next ∷ later) (λ r. refl) (request_of (next ∷ later))
+              (request-last (next ∷ later)) request is)
+          | inr is ↦ elim (either (bytes_eq argument (codes "-A")) _ _ request is) [
+            | inl is ↦ numbered (last-numbered with_after later (λ n r. refl) (number_of next) (request_of later)
                 (request-last later) request is)
-            | inr is ↦ elim (either (bytes_eq argument (codes "-m")) _ _ request is) [
-              | inl is ↦ numbered (last-numbered with_max later (λ n r. refl) (number_of next) (request_of later)
+            | inr is ↦ elim (either (bytes_eq argument (codes "-B")) _ _ request is) [
+              | inl is ↦ numbered (last-numbered with_before later (λ n r. refl) (number_of next) (request_of later)
                   (request-last later) request is)
-              | inr is ↦ elim (either (bytes_eq argument (codes "--")) _ _ request is) [
-                | inl is ↦ more (operands-last (next ∷ later) request is)
-                | inr is ↦ undashed-last argument (next ∷ later) request is
+              | inr is ↦ elim (either (bytes_eq argument (codes "-m")) _ _ request is) [
+                | inl is ↦ numbered (last-numbered with_max later (λ n r. refl) (number_of next) (request_of later)
+                    (request-last later) request is)
+                | inr is ↦ elim (either (bytes_eq argument (codes "--")) _ _ request is) [
+                  | inl is ↦ more (operands-last (next ∷ later) request is)
+                  | inr is ↦ undashed-last argument (next ∷ later) request is
+                ]
               ]
             ]
           ]

@@ -19,6 +19,11 @@ dash = refl
 pub twice : request_of (codes "-v" ∷ codes "-v" ∷ codes "a" ∷ []) ≡ Some (record (bare (codes "a")) { invert = true })
 twice = refl
 
+-- lgrep -U -v a
+pub across_lines : request_of (codes "-U" ∷ codes "-v" ∷ codes "a" ∷ []) ≡ Some
+    (record (bare (codes "a")) { invert = true; multi_line = true })
+across_lines = refl
+
 -- lgrep -m 1 -m 2 a
 pub last_counts : request_of (codes "-m" ∷ codes "1" ∷ codes "-m" ∷ codes "2" ∷ codes "a" ∷ []) ≡ Some
     (record (bare (codes "a")) { max = Some 2 })

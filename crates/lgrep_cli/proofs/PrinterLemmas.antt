@@ -8,7 +8,7 @@ use Rattle.std.specs.declared.io.Error.{Error}
 use Rattle.grep_searcher.specs.declared.SearchError.{SearchError}
 use Rattle.grep_searcher.specs.declared.SearchError.TheVariants.{Io}
 use Rattle.grep_searcher.specs.Settings.{Settings}
-use Rattle.grep_searcher.specs.LineSearch.{turns, byte_count}
+use Rattle.grep_searcher.specs.SearchTurns.{search_turns, search_byte_count}
 use Rattle.grep_searcher.specs.SinkCalls.{Turn, finishes}
 use Rattle.grep_searcher.specs.SinkRuns.{Outcome, all_true, stopped, failed, AreReported, IsFinished, IsRun}
 use Rattle.grep_matcher.specs.Matching.{IsInfallible}
@@ -43,7 +43,7 @@ module _ {W : Type 0} (contents : W → Option (List ℕ)) (settings : Settings)
   IsOutcome old calls (failed e) new = IsCut old calls e new
 
   -- no call
-  written-none : (old : Printer W) → AreWritten old [] old
+  pub written-none : (old : Printer W) → AreWritten old [] old
   written-none old = record {
     same_writer = refl;
     written = Writes-none contents old.writer.now;
@@ -131,8 +131,9 @@ module _ {W : Type 0} (contents : W → Option (List ℕ)) (settings : Settings)
   pub fault-written : {F : Type 0} → (errors : ErrorMakers (SearchError Global)) (matcher : MatcherFacts F) (bytes : List ℕ)
       → IsInfallible matcher.fails → (old : Printer W) (e : SearchError Global) (new : Printer W)
       → IsFault (Prints contents) errors matcher settings bytes old e new
-      → IsCut old (turns settings matcher.meaning bytes) e new
+      → IsCut old (search_turns settings matcher.meaning bytes) e new
   fault-written errors matcher bytes infallible old e new (of_sink run) =
-      run-written (turns settings matcher.meaning bytes) (byte_count settings matcher.meaning bytes) None old (Err e) new run
-  fault-written errors matcher bytes infallible old e new (of_matcher i haystack error has_turn room asked fails message reported) =
-      absurd (infallible _ error fails)
+      run-written (search_turns settings matcher.meaning bytes) (search_byte_count settings matcher.meaning bytes) None old
+      (Err e) new run
+  fault-written errors matcher bytes infallible old e new (of_matcher haystack error made asked fails message reported) =
+      absurd (infallible haystack error fails)

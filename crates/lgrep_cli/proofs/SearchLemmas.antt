@@ -8,18 +8,18 @@ use Rattle.std.specs.declared.io.Error.{Error}
 use Rattle.grep_decode.specs.DecoderStates.{Calls}
 use Rattle.grep_decode.specs.Source.{ReadResult}
 use Rattle.grep_matcher.specs.Literals.{literal_meaning}
-use Rattle.grep_matcher.specs.Matching.{Meaning}
 use Rattle.grep_searcher.specs.declared.ConfigError.{ConfigError}
 use Rattle.grep_searcher.specs.declared.SearchError.{SearchError}
 use Rattle.grep_searcher.specs.declared.SearchError.TheVariants.{Io}
 use Rattle.grep_searcher.specs.SearchErrors.{IsOutOfMemory}
 use Rattle.grep_searcher.specs.Settings.{Settings, SearcherState}
 use Rattle.grep_searcher.specs.DecodedInputs.{searched_bytes, IsInput}
-use Rattle.grep_searcher.specs.ReaderSearches.{Taken, IsReaderFault, IsReaderSearched, IsUnread, of_buffers, of_search, of_reading}
-use Rattle.grep_searcher.specs.Searches.{ErrorMakers, MatcherFacts, HasReported}
+use Rattle.grep_searcher.specs.ReaderSearches.{Taken, IsReaderFault, IsReaderSearched, IsUnread, of_search, of_reading}
+use Rattle.grep_searcher.specs.Searches.{ErrorMakers, MatcherFacts, HasReportedIn}
+use Rattle.grep_searcher.specs.SearchTurns.{search_calls}
 use Rattle.lgrep_cli.specs.OptionSettings.{settings_of_options}
 use Rattle.lgrep_cli.specs.Printers.{Prints}
-use Rattle.lgrep_cli.specs.ProgramRuns.{searcher_of, meaning_of, calls_of, Input, IsPrinted, IsPrintedWhole, IsProgramRun}
+use Rattle.lgrep_cli.specs.ProgramRuns.{searcher_of, meaning_of, calls_of, calls_over, Input, IsPrinted, IsPrintedWhole, IsProgramRun}
 use Rattle.lgrep_cli.specs.ProgramRuns.{IsFailure, of_memory, of_reader, of_write}
 use Rattle.lgrep_cli.specs.Texts.{text, has_match}
 use Rattle.lgrep_cli.specs.Writing.{Writer, Writes}
@@ -27,7 +27,7 @@ use Rattle.lgrep_cli.specs.declared.options.Options.{Options}
 use Rattle.lgrep_cli.specs.declared.printer.Printer.{Printer}
 use Rattle.lgrep_cli.specs.declared.writing.LastCall.TheVariants.{Flush}
 use Rattle.lgrep_cli.proofs.WritingLemmas.{Writes-kept}
-use Rattle.lgrep_cli.proofs.PrinterLemmas.{AreWritten, IsCut, reported-written, run-written, fault-written}
+use Rattle.lgrep_cli.proofs.PrinterLemmas.{AreWritten, IsCut, written-none, reported-written, run-written, fault-written}
 
 -- an input with nothing after the pieces that came
 abbrev bytes_of : Settings → List (List ℕ) → List ℕ
@@ -43,13 +43,6 @@ same-error e a b first second = cc
 -- a value isn't both true and false
 not-both : (b : Bool) → b ≡ true → b ≡ false → ⊥
 not-both b is isnt = let never : true ≡ false = sym is ∙ isnt in absurd (cc)
-
--- a searcher that has its buffers isn't without memory for them
-never-without : {R : Type 0} → (remaining : R → Option (List ℕ)) (read_step : R → ReadResult → R → Type 0) (state : SearcherState)
-    (meaning : Meaning) (reader reader' : R) (error : Error) → state.has_buffers ≡ true
-    → IsUnread remaining read_step state meaning reader None error reader' → ⊥
-never-without remaining read_step state meaning reader reader' error has (of_buffers none kind) =
-    let never : true ≡ false = sym has ∙ none in absurd (cc)
 
 module _ {R W : Type 0} (remaining : R → Option (List ℕ)) (read_step : R → ReadResult → R → Type 0) (contents : W
     → Option (List ℕ)) where
@@ -130,23 +123,17 @@ module _ {R W : Type 0} (remaining : R → Option (List ℕ)) (read_step : R →
         of_reading = λ ok. absurd (not-both new.has_failed first.has_failed ok);
       }
 
-  -- the calls were made over some lines, and the input wasn't read to its end
+  -- the calls were made over the lines that were seen, and the input wasn't read to its end
   unread : (seen : Option (List ℕ)) (error : Error) (e : SearchError Global) → e ≡ Io error → old.has_failed ≡ false
       → IsUnread remaining read_step (searcher_of options) (meaning_of options) reader seen error reader'
-      → ((lines : List ℕ) → seen ≡ Some lines
-      → AreWritten contents (settings_of_options options) old (calls_of options lines) new)
-      → IsSearched (Err e)
-  unread None error e io none fails all =
-      absurd (never-without remaining read_step (searcher_of options) (meaning_of options) reader reader' error refl fails)
-  unread (Some seen) error e io none fails all =
-      let written = all seen refl in
-      record {
-        same_writer = written.same_writer;
-        printed = tt;
-        of_writer = λ failed. absurd (not-both new.has_failed failed (written.has_failed ∙ none));
-        of_reading = λ ok writer flushed kept last. subst (λ x. Fails x writer) (sym io) (of_reader seen flushed fails
-            (Writes-kept contents old.writer.now new.writer.now writer (text (calls_of options seen)) written.written kept) last);
-      }
+      → AreWritten contents (settings_of_options options) old (calls_over options seen) new → IsSearched (Err e)
+  unread seen error e io none fails written = record {
+    same_writer = written.same_writer;
+    printed = tt;
+    of_writer = λ failed. absurd (not-both new.has_failed failed (written.has_failed ∙ none));
+    of_reading = λ ok writer flushed kept last. subst (λ x. Fails x writer) (sym io) (of_reader seen flushed fails
+        (Writes-kept contents old.writer.now new.writer.now writer (text (calls_over options seen)) written.written kept) last);
+  }
 
   module _ {F : Type 0} (is_message : Option (List ℕ) → SearchError Global → Type 0)
       (is_config : ConfigError → SearchError Global → Type 0)
@@ -163,17 +150,14 @@ module _ {R W : Type 0} (remaining : R → Option (List ℕ)) (read_step : R →
       text_of = text_of;
     }
 
-    -- the lines over which the calls were made
-    reported : (seen : Option (List ℕ)) → HasReported (Prints contents) errors (facts (string_bytes options.literal))
-        (settings_of_options options) seen old new → (lines : List ℕ) → seen ≡ Some lines
-        → AreWritten contents (settings_of_options options) old (calls_of options lines) new
-    reported None none lines is = absurd (cc)
-    reported (Some seen) made lines is =
-        subst (λ xs. AreWritten contents (settings_of_options options) old (calls_of options xs) new) (same seen lines is)
-        (reported-written contents (settings_of_options options) (calls_of options seen) old _ new made)
-      where
-        same : (xs ys : List ℕ) → Some xs ≡ Some ys → xs ≡ ys
-        same xs ys is = cc
+    -- the calls over the lines that were seen, or none
+    reported : (seen : Option (List ℕ)) → HasReportedIn (Prints contents) errors (facts (string_bytes options.literal))
+        (search_calls (settings_of_options options) (meaning_of options)) (settings_of_options options) seen old new
+        → AreWritten contents (settings_of_options options) old (calls_over options seen) new
+    reported None same = subst (AreWritten contents (settings_of_options options) old []) (sym same)
+        (written-none contents (settings_of_options options) old)
+    reported (Some seen) made =
+        reported-written contents (settings_of_options options) (calls_of options seen) old _ new made
 
     -- the calls of a whole search
     run : (taken : Taken remaining read_step reader reader')
@@ -205,7 +189,7 @@ module _ {R W : Type 0} (remaining : R → Option (List ℕ)) (read_step : R →
       where
         go : IsReaderFault remaining read_step (Prints contents) errors (facts (string_bytes options.literal)) (searcher_of options)
             reader old e reader' new → IsSearched (Err e)
-        go (of_search taken seen fault all) =
+        go (of_search taken seen ended fault all) =
             cut e taken (λ bytes input. fault-written contents (settings_of_options options) errors
             (facts (string_bytes options.literal)) bytes (λ _ _ h. h) old e new (all bytes input).1)
         go (of_reading seen error fails io made) = unread seen error e io ok fails (reported seen made)

@@ -10,6 +10,7 @@ use Rattle.lgrep_cli.specs.declared.options.Options.{Options}
 -- what a command line asks for; `None` is a number that it leaves open, or no path
 pub record Request : Type 0 where
   pub invert : Bool
+  pub multi_line : Bool
   pub after : Option ℕ
   pub before : Option ℕ
   pub passthru : Bool
@@ -21,6 +22,7 @@ pub record Request : Type 0 where
 abbrev pub bare : List ℕ → Request
 bare literal = record {
   invert = false;
+  multi_line = false;
   after = None;
   before = None;
   passthru = false;
@@ -32,6 +34,9 @@ bare literal = record {
 -- an option in front of a command line, which sets what the rest of the line leaves open
 abbrev pub with_invert : Request → Request
 with_invert later = record later { invert = true }
+
+abbrev pub with_multi_line : Request → Request
+with_multi_line later = record later { multi_line = true }
 
 abbrev pub with_passthru : Request → Request
 with_passthru later = record later { passthru = true }
@@ -68,6 +73,7 @@ request_of [] = None
 request_of (argument ∷ []) = if is_dashed argument then None else operands_of (argument ∷ [])
 request_of (argument ∷ next ∷ later) =
     if bytes_eq argument (codes "-v") then option_map with_invert (request_of (next ∷ later))
+    else if bytes_eq argument (codes "-U") then option_map with_multi_line (request_of (next ∷ later))
     else if bytes_eq argument (codes "--passthru") then option_map with_passthru (request_of (next ∷ later))
     else if bytes_eq argument (codes "-A") then with_number with_after (number_of next) (request_of later)
     else if bytes_eq argument (codes "-B") then with_number with_before (number_of next) (request_of later)
@@ -100,6 +106,7 @@ pub record AreLast (last arguments : List (List ℕ)) : Type 0 where
 -- these options are what is asked for; a context that is left open is 0
 pub record AreOptionsOf (request : Request) (options : Options) : Type 0 where
   pub invert : options.invert ≡ request.invert
+  pub multi_line : options.multi_line ≡ request.multi_line
   pub after : options.after ≡ unwrap_or request.after 0
   pub before : options.before ≡ unwrap_or request.before 0
   pub passthru : options.passthru ≡ request.passthru

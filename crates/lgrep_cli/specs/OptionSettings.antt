@@ -7,6 +7,7 @@ use Rattle.lgrep_cli.specs.declared.options.Options.{Options}
 abbrev pub settings_of_options : Options → Settings
 settings_of_options options = built (record default_settings {
   invert_match = options.invert;
+  multi_line = options.multi_line;
   after_context = options.after;
   before_context = options.before;
   passthru = options.passthru;

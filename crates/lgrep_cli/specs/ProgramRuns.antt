@@ -1,5 +1,5 @@
 -- What a run of lgrep does: it searches what a reader or a file gives, and writes the text of the calls.
-use Rattle.std.specs.Prelude.{◌≡◌, ℕ, Bool, true, false, List, Option, Some, None, string_bytes}
+use Rattle.std.specs.Prelude.{◌≡◌, ℕ, Bool, true, false, List, [], Option, Some, None, string_bytes}
 use Rattle.std.specs.Prelude.{Result, Ok, Err, IfOk, IfErr, OnOk}
 use Rattle.std.specs.Global.{Global}
 use Rattle.std.specs.IoError.{error_kind}
@@ -15,7 +15,7 @@ use Rattle.grep_searcher.specs.DecodedInputs.{IsInput, searched_bytes}
 use Rattle.grep_searcher.specs.SinkCalls.{Turn}
 use Rattle.grep_searcher.specs.Settings.{SearcherState}
 use Rattle.grep_searcher.specs.ReaderSearches.{Taken, IsUnread}
-use Rattle.grep_searcher.specs.LineSearch.{turns}
+use Rattle.grep_searcher.specs.SearchTurns.{search_turns}
 use Rattle.lgrep_cli.specs.OptionSettings.{settings_of_options}
 use Rattle.lgrep_cli.specs.Texts.{text, has_match}
 use Rattle.lgrep_cli.specs.Writing.{Writer, Writes}
@@ -40,7 +40,12 @@ opened file = record { inner = file; failed = false }
 
 -- the calls that are defined for some input, of the literal under the options' settings
 abbrev pub calls_of : Options → List ℕ → List Turn
-calls_of options bytes = turns (settings_of_options options) (meaning_of options) bytes
+calls_of options bytes = search_turns (settings_of_options options) (meaning_of options) bytes
+
+-- those that were made when no more of an input was read: the calls over the lines that were seen, or none
+abbrev pub calls_over : Options → Option (List ℕ) → List Turn
+calls_over options None = []
+calls_over options (Some seen) = calls_of options seen
 
 -- the decoded bytes of an input that begins with what was taken of a reader, and ends there if the reader ended
 abbrev pub Input : {R : Type 0} {remaining : R → Option (List ℕ)} {read_step : R → ReadResult → R → Type 0} → Options
@@ -75,10 +80,10 @@ module _ {R W : Type 0} (remaining : R → Option (List ℕ)) (read_step : R →
     of_memory : {error : Error} → error_kind error ≡ OutOfMemory
         → IsFailure options reader writer (Io error) reader writer
     -- by this error the input wasn't read to its end: the text of the calls over the lines that were seen is written,
-    -- and the last call was a flush, whatever it returned
-    of_reader : {error : Error} {reader' : R} {writer' : Writer W} (seen : List ℕ) (flushed : Result (Unit {0}) Error)
-        → IsUnread remaining read_step (searcher_of options) (meaning_of options) reader (Some seen) error reader'
-        → Writes contents writer (text (calls_of options seen)) (Ok tt) writer'
+    -- which is none in a search across lines, and the last call was a flush, whatever it returned
+    of_reader : {error : Error} {reader' : R} {writer' : Writer W} (seen : Option (List ℕ)) (flushed : Result (Unit {0}) Error)
+        → IsUnread remaining read_step (searcher_of options) (meaning_of options) reader seen error reader'
+        → Writes contents writer (text (calls_over options seen)) (Ok tt) writer'
         → writer'.last ≡ Flush flushed
         → IsFailure options reader writer (Io error) reader' writer'
     -- the writer failed with this error. Whatever follows what was taken of the reader, the text of the calls is

@@ -10,7 +10,7 @@ ghost use Rattle.lgrep_cli.specs.Numerals.{is_numeral, number_of};
 use std::alloc::Global;
 use thiserror::Error;
 
-/// How the program is called. `-U` and `-c` aren't supported yet: they are usage errors.
+/// How the program is called. `-c` isn't supported yet: it is a usage error.
 pub const USAGE: &str =
     "usage: lgrep [-v] [-A N] [-B N] [-m N] [-U] [--passthru] [-c] LITERAL [PATH]";
 
@@ -19,13 +19,17 @@ pub const USAGE: &str =
 pub struct Options {
     /// Whether the lines without the literal are selected, instead of those with it.
     pub invert: bool,
+    /// Whether the literal is also looked for across lines: if it contains a line feed, and so never matches within a
+    /// line. Any other literal is searched for line by line all the same.
+    pub multi_line: bool,
     /// How many lines are reported after each match.
     pub after: usize,
     /// How many lines are reported before each match.
     pub before: usize,
     /// Whether every line is reported.
     pub passthru: bool,
-    /// How many lines are selected at most; `None` is no limit.
+    /// How many lines are selected at most, and across lines, unless `invert` is set, how many matches count; `None` is
+    /// no limit.
     pub max: Option<u64>,
     /// The text that lines are searched for. The empty text is in each line.
     pub literal: String,
@@ -63,6 +67,7 @@ impl Options {
         while let Some(argument) = later.next() {
             match argument.as_str() {
                 "-v" => options.invert = true,
+                "-U" => options.multi_line = true,
                 "--passthru" => options.passthru = true,
                 "-A" => options.after = number_in(later.next())? as usize,
                 "-B" => options.before = number_in(later.next())? as usize,
@@ -86,6 +91,7 @@ impl Options {
     {
         Options {
             invert: false,
+            multi_line: false,
             after: 0,
             before: 0,
             passthru: false,

@@ -17,13 +17,15 @@ use std::path::Path;
 use std::rt::Files;
 
 /// Searches what a reader gives, line by line as it comes, writes the text of what is found, flushes the writer, and
-/// returns whether a match was reported. The reader is read no further than the search needs.
+/// returns whether a match was reported. The reader is read no further than the search needs. With `multi_line` and a
+/// literal that contains a line feed the search is across lines: then the reader is read to its end first.
 ///
 /// An error is a `SearchError::Io`:
 /// - of kind `OutOfMemory`, if there is no memory for the search: nothing is read or written;
 /// - an error of reading: the reader's own, or of kind `OutOfMemory`, if there is no memory for a line that is longer
-///   than the buffer, or of kind `InvalidData`, if the decoded input is longer than 2^64 - 1 bytes. The text of the
-///   lines before it is written, and the writer is flushed; if that fails too, the error of reading is returned;
+///   than the buffer, or across lines for the input, or of kind `InvalidData`, if the decoded input is longer than
+///   2^64 - 1 bytes. The text of the lines before it is written, which across lines is nothing, and the writer is
+///   flushed; if that fails too, the error of reading is returned;
 /// - what the writer's last call returned, or of kind `WriteZero` if that call took nothing: at a write, after some
 ///   first bytes of the text, or at the flush, after all of it.
 pub fn run<R: Source, W: Write>(
@@ -103,6 +105,7 @@ fn searcher(alloc: Global, options: &Options) -> Result<Searcher, SearchError>
 {
     SearcherBuilder::new()
         .invert_match(options.invert)
+        .multi_line(options.multi_line)
         .after_context(options.after)
         .before_context(options.before)
         .passthru(options.passthru)

@@ -47,7 +47,7 @@ fn refuses_arguments(rt: HostRuntime) {
         "-m a",
         "-A",
         "-x a",
-        "-U a",
+        "-U",
         "-v",
         "a b c",
         "a b -v",
@@ -64,9 +64,10 @@ fn refuses_arguments(rt: HostRuntime) {
     );
 }
 
-// A line, and its options: `invert`, `after`, `before`, `passthru`, `max`, `literal` and `path`.
+// A line, and its options: `invert`, `multi_line`, `after`, `before`, `passthru`, `max`, `literal` and `path`.
 type OptionsRow = (
     &'static str,
+    bool,
     bool,
     usize,
     usize,
@@ -77,11 +78,13 @@ type OptionsRow = (
 );
 
 const OPTIONS_ROWS: &[OptionsRow] = &[
-    ("a", false, 0, 0, false, None, "a", None),
-    ("", false, 0, 0, false, None, "", None),
-    ("-v -v ", true, 0, 0, false, None, "", None),
+    ("a", false, false, 0, 0, false, None, "a", None),
+    ("", false, false, 0, 0, false, None, "", None),
+    ("-v -v ", true, false, 0, 0, false, None, "", None),
+    ("-U a", false, true, 0, 0, false, None, "a", None),
     (
         "-B 4294967295 a",
+        false,
         false,
         0,
         4294967295,
@@ -90,9 +93,20 @@ const OPTIONS_ROWS: &[OptionsRow] = &[
         "a",
         None,
     ),
-    ("-m 1 --passthru a", false, 0, 0, true, Some(1), "a", None),
+    (
+        "-m 1 --passthru a",
+        false,
+        false,
+        0,
+        0,
+        true,
+        Some(1),
+        "a",
+        None,
+    ),
     (
         "-m 1 -A 3 -m 2 -A 4 a",
+        false,
         false,
         4,
         0,
@@ -101,24 +115,35 @@ const OPTIONS_ROWS: &[OptionsRow] = &[
         "a",
         None,
     ),
-    ("-v -- --", true, 0, 0, false, None, "--", None),
-    ("-", false, 0, 0, false, None, "-", None),
-    ("-A 1 a b", false, 1, 0, false, None, "a", Some("b")),
-    ("a -v", false, 0, 0, false, None, "a", Some("-v")),
-    ("a -", false, 0, 0, false, None, "a", Some("-")),
-    ("a ", false, 0, 0, false, None, "a", Some("")),
-    ("-- -v --", false, 0, 0, false, None, "-v", Some("--")),
+    ("-v -- --", true, false, 0, 0, false, None, "--", None),
+    ("-", false, false, 0, 0, false, None, "-", None),
+    ("-A 1 a b", false, false, 1, 0, false, None, "a", Some("b")),
+    ("a -v", false, false, 0, 0, false, None, "a", Some("-v")),
+    ("a -", false, false, 0, 0, false, None, "a", Some("-")),
+    ("a ", false, false, 0, 0, false, None, "a", Some("")),
+    (
+        "-- -v --",
+        false,
+        false,
+        0,
+        0,
+        false,
+        None,
+        "-v",
+        Some("--"),
+    ),
 ];
 
 // Whether options are those of a row.
 fn has_options(options: &Options, row: &OptionsRow) -> bool {
     options.invert == row.1
-        && options.after == row.2
-        && options.before == row.3
-        && options.passthru == row.4
-        && options.max == row.5
-        && options.literal.as_str() == row.6
-        && options.path.as_ref().map(|path| path.as_str()) == row.7
+        && options.multi_line == row.2
+        && options.after == row.3
+        && options.before == row.4
+        && options.passthru == row.5
+        && options.max == row.6
+        && options.literal.as_str() == row.7
+        && options.path.as_ref().map(|path| path.as_str()) == row.8
 }
 
 #[test]
@@ -144,6 +169,14 @@ const SEARCH_ROWS: &[(&str, &[u8], &str, bool)] = &[
         true,
     ),
     ("-m 1 -A 2 a", b"a\na\nb\na\n", "1:a\n2-a\n3-b\n", true),
+    (
+        "-U abc\ndef",
+        b"xxx\nabc\ndefxxxabc\ndefxxx\nxxx",
+        "2:abc\n3:defxxxabc\n4:defxxx\n",
+        true,
+    ),
+    ("abc\ndef", b"abc\ndef\n", "", false),
+    ("-U a", b"a\na\n", "1:a\n2:a\n", true),
     ("a", b"", "", false),
     ("a", b"\xFF\xFEb\0\n\0a\0\n\0", "2:a\n", true),
     (
@@ -292,6 +325,19 @@ fn writes_the_lines_before_a_read_that_fails(rt: HostRuntime) {
     let ended = search(rt.alloc(), "a", &mut Cut { is_read: false }, &mut writer);
     assert!(rt; is_fault(ended, io::ErrorKind::ConnectionReset));
     assert!(rt; writer.into_inner().as_slice() == b"1:a\n".as_slice());
+}
+
+#[test]
+fn writes_nothing_across_lines_if_a_read_fails(rt: HostRuntime) {
+    let mut writer = Writing::new(Vec::new(rt.alloc()));
+    let ended = search(
+        rt.alloc(),
+        "-U a\na",
+        &mut Cut { is_read: false },
+        &mut writer,
+    );
+    assert!(rt; is_fault(ended, io::ErrorKind::ConnectionReset));
+    assert!(rt; writer.into_inner().is_empty());
 }
 
 // A path of this process alone, in the directory for temporary files.

@@ -10,11 +10,11 @@ use std::{slice, str};
 #[derive(Clone, Copy)]
 pub(crate) enum CaseError {
     /// A field isn't known, or its value isn't one of the field's, or the input or the literal is missing. A value of
-    /// `multi` or `bin` is never this, but `Unsupported`.
+    /// `bin` is never this, but `Unsupported`.
     Malformed,
     /// The label of `enc` isn't one of an encoding that is known.
     UnknownEncoding,
-    /// `multi` or `bin`, for which there is no setting yet, has another value than its default.
+    /// `bin`, for which there is no setting yet, has another value than its default.
     Unsupported,
     /// There was no memory for the input, a literal or a label.
     OutOfMemory,
@@ -48,6 +48,8 @@ pub(crate) enum Pattern {
     Either,
     /// One that the empty haystack alone matches.
     Empty,
+    /// One that each haystack matches, at its end alone.
+    AtEnd,
     /// One that fails at a haystack with `!`, and that any other matches.
     Failing,
 }
@@ -62,6 +64,7 @@ impl FromStr for Pattern {
             "end" => Ok(Pattern::End),
             "either" => Ok(Pattern::Either),
             "empty" => Ok(Pattern::Empty),
+            "at_end" => Ok(Pattern::AtEnd),
             "fail" => Ok(Pattern::Failing),
             _ => Err(CaseError::Malformed),
         }
@@ -264,7 +267,6 @@ impl Options {
             "err_at" => self.error_at = ordinal(value)?,
             "false_at" => self.false_at = ordinal(value)?,
             "fail_at" => self.fail_at = ordinal(value)?,
-            "multi" => self.support(value == "0"),
             "bin" => self.support(value == "none"),
             "enc" => self.encode(encoding(alloc, value)?),
             _ => self.set_search(key, value)?,
@@ -329,6 +331,7 @@ fn configure(settings: &mut SearcherBuilder, key: &str, value: &str) -> Result<(
         "term" => settings.line_terminator(terminator(value)?),
         "invert" => settings.invert_match(flag(value)?),
         "nums" => settings.line_number(flag(value)?),
+        "multi" => settings.multi_line(flag(value)?),
         "after" => settings.after_context(number(value)?),
         "before" => settings.before_context(number(value)?),
         "passthru" => settings.passthru(flag(value)?),

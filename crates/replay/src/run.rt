@@ -3,7 +3,8 @@ use crate::case::{Case, CaseError, Mode, Pattern, Place, Way};
 use grep_matcher::{LiteralMatcher, Matcher, Plain};
 use grep_searcher::{ConfigError, SearchError, Searcher};
 use grep_testing::{
-    CandidatesOnly, ConfirmsEnd, Either, Empty, Failing, Naming, Pieces, RECORDER_MESSAGE, Recorder,
+    AtEnd, CandidatesOnly, ConfirmsEnd, Either, Empty, Failing, Naming, Pieces, RECORDER_MESSAGE,
+    Recorder,
 };
 use std::alloc::{AllocError, Global};
 use std::io;
@@ -43,7 +44,8 @@ fn write_calls<W: io::Write>(
     writeln!(output)
 }
 
-// Whether the search of a case makes the same calls at a place and ends so, plain or not.
+// Whether the search of a case makes the same calls at a place and ends so, plain or not. Under `multi_line` that can be
+// a search in the other mode, so it is only made again as it was.
 fn repeats(
     alloc: Global,
     searcher: &mut Searcher,
@@ -53,7 +55,8 @@ fn repeats(
     end: &str,
 ) -> bool {
     for plain in [false, true] {
-        if !has_calls(alloc, searcher, case, Way { plain, place }, calls, end) {
+        let is_repeated = plain == case.options.way.plain || !searcher.multi_line();
+        if is_repeated && !has_calls(alloc, searcher, case, Way { plain, place }, calls, end) {
             return false;
         }
     }
@@ -159,6 +162,7 @@ fn search(
         }
         Pattern::End => search_by(ConfirmsEnd, searcher, case, way, recorder),
         Pattern::Empty => search_by(Empty, searcher, case, way, recorder),
+        Pattern::AtEnd => search_by(AtEnd, searcher, case, way, recorder),
         Pattern::Failing => search_by(Failing, searcher, case, way, recorder),
     }
 }

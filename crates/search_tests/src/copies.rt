@@ -1,7 +1,7 @@
 //! Copies of a searcher that a sink makes during a search.
 use crate::searches::search_reader;
 use crate::tally::{Tally, Totals};
-use grep_matcher::LiteralMatcher;
+use grep_matcher::{LiteralMatcher, Plain};
 use grep_searcher::{
     ConfigError, SearchError, Searcher, SearcherBuilder, Sink, SinkContext, SinkError, SinkFinish,
     SinkMatch,
@@ -88,6 +88,23 @@ const INPUT: &[u8] = b"a\nb\na\na\n";
 
 const TOTALS: Totals = (2, 4, 4, 4, 6);
 
+// The sums across lines, where the limit doesn't end the search.
+const TOTALS_ACROSS: Totals = (2, 4, 4, 4, 8);
+
+// The sums of a searcher.
+fn totals<A: Allocator + Copy>(searcher: &Searcher<A>) -> Totals {
+    if searcher.multi_line() {
+        TOTALS_ACROSS
+    } else {
+        TOTALS
+    }
+}
+
+// Its matcher, which may search across lines.
+fn matcher() -> Plain<LiteralMatcher<'static>> {
+    Plain(LiteralMatcher::borrowed(b"a"))
+}
+
 // Whether a copy of a searcher finds the same twice over a reader, and then over a slice.
 fn copy_finds<A: Allocator + Copy>(searcher: &Searcher<A>) -> bool {
     let Ok(mut copy) = searcher.clone() else {
@@ -99,16 +116,14 @@ fn copy_finds<A: Allocator + Copy>(searcher: &Searcher<A>) -> bool {
 fn reader_finds<A: Allocator + Copy>(searcher: &mut Searcher<A>) -> bool {
     let mut found = Found(Tally::new());
     let mut reader = Pieces::new(INPUT, 1, None);
-    let matcher = LiteralMatcher::borrowed(b"a");
-    let ended = searcher.search_reader(matcher, &mut reader, &mut found);
-    ended.is_ok() && found.0.has(TOTALS)
+    let ended = searcher.search_reader(matcher(), &mut reader, &mut found);
+    ended.is_ok() && found.0.has(totals(searcher))
 }
 
 fn slice_finds<A: Allocator + Copy>(searcher: &mut Searcher<A>) -> bool {
     let mut found = Found(Tally::new());
-    let matcher = LiteralMatcher::borrowed(b"a");
-    let ended = searcher.search_slice(matcher, INPUT, &mut found);
-    ended.is_ok() && found.0.has(TOTALS)
+    let ended = searcher.search_slice(matcher(), INPUT, &mut found);
+    ended.is_ok() && found.0.has(totals(searcher))
 }
 
 // Adds up what is reported, and counts the matches at which a copy of the searcher that it is lent finds the same.
@@ -165,16 +180,18 @@ impl Sink for Copying {
 }
 
 // How many copies found the same, if the search during which they were made found it too.
-fn copies(alloc: Global) -> Result<u64, SearchError> {
-    let mut searcher = SearcherBuilder::new().max_matches(Some(2)).build(alloc)?;
+fn copies(alloc: Global, multi_line: bool) -> Result<u64, SearchError> {
+    let mut searcher = SearcherBuilder::new()
+        .multi_line(multi_line)
+        .max_matches(Some(2))
+        .build(alloc)?;
     let mut sink = Copying {
         tally: Tally::new(),
         copies: 0,
     };
     let mut reader = Pieces::new(INPUT, 1, None);
-    let matcher = LiteralMatcher::borrowed(b"a");
-    search_reader(&mut searcher, matcher, &mut reader, &mut sink)?;
-    if !sink.tally.has(TOTALS) {
+    search_reader(&mut searcher, matcher(), &mut reader, &mut sink)?;
+    if !sink.tally.has(totals(&searcher)) {
         return Ok(0);
     }
     Ok(sink.copies)
@@ -182,6 +199,7 @@ fn copies(alloc: Global) -> Result<u64, SearchError> {
 
 #[test]
 fn made_in_a_search_of_a_reader(rt: HostRuntime) -> Result<(), Fail> {
-    assert!(rt; copies(rt.alloc())? == 2);
+    assert!(rt; copies(rt.alloc(), false)? == 2);
+    assert!(rt; copies(rt.alloc(), true)? == 2);
     Ok(())
 }

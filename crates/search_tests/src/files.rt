@@ -164,10 +164,14 @@ impl Read for Unread {
 // The configuration that a search of a file is refused for, if nothing was read or called.
 fn refused(
     alloc: Global,
+    multi_line: bool,
     heap_limit: Option<usize>,
     terminator: LineTerminator,
 ) -> Result<Option<ConfigError>, ConfigError> {
-    let mut searcher = SearcherBuilder::new().heap_limit(heap_limit).build(alloc)?;
+    let mut searcher = SearcherBuilder::new()
+        .multi_line(multi_line)
+        .heap_limit(heap_limit)
+        .build(alloc)?;
     let mut file = Unread { reads: 0 };
     let mut recorder = Recorder::new(alloc, None, None);
     let matcher = Naming {
@@ -186,12 +190,14 @@ fn refused(
 #[test]
 fn refuses_before_any_read(rt: HostRuntime) -> Result<(), Fail> {
     let (named, searcher) = (LineTerminator::byte(b'z'), LineTerminator::default());
-    let limit = refused(rt.alloc(), Some(0), named)?;
-    assert!(rt; limit == Some(ConfigError::SearchUnavailable));
-    let mismatch = ConfigError::MismatchedLineTerminators {
-        matcher: named,
-        searcher,
-    };
-    assert!(rt; refused(rt.alloc(), None, named)? == Some(mismatch));
+    for multi_line in [false, true] {
+        let limit = refused(rt.alloc(), multi_line, Some(0), named)?;
+        assert!(rt; limit == Some(ConfigError::SearchUnavailable));
+        let mismatch = ConfigError::MismatchedLineTerminators {
+            matcher: named,
+            searcher,
+        };
+        assert!(rt; refused(rt.alloc(), multi_line, None, named)? == Some(mismatch));
+    }
     Ok(())
 }

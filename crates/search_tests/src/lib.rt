@@ -5,6 +5,8 @@
 #![tactic(auto)]
 
 #[cfg(test)]
+mod across;
+#[cfg(test)]
 mod candidates;
 #[cfg(test)]
 mod closures;

@@ -1,13 +1,12 @@
 //! The matches of a search across lines, and the units of lines that they touch, one after another.
-ghost use Rattle.std.specs.Prelude.{◌≡◌, ◌≤◌, ◌<◌, ◌+◌, ◌-◌, ◌^◌, ℕ, true, List, length, drop};
+ghost use Rattle.std.specs.Prelude.{◌≡◌, ◌≤◌, ◌<◌, ◌+◌, ◌-◌, ◌^◌, ℕ, true, false, List, length};
 ghost use Rattle.std.specs.Prelude.{IfOk, IfErr, IfSome, IfNone};
 ghost use Rattle.std.specs.Option.{option_map};
 ghost use Rattle.grep_matcher.specs.Terminators.{byte_of};
-ghost use Rattle.grep_lines.specs.Blocks.{block_start, block_end};
 ghost use Rattle.grep_definitions.specs.AcrossQuestions.{IsAskedAcross, match_limit};
 ghost use Rattle.grep_definitions.specs.Below.{is_below};
 ghost use Rattle.grep_definitions.specs.SuccessiveMatches.{position_after};
-ghost use Rattle.grep_searcher.specs.Units.{AreFound, AreLeft, IsFound, HasNoMore, IsUnit};
+ghost use Rattle.grep_searcher.specs.Units.{AreFound, AreLeft, IsFound, HasNoMore, IsPart, IsUnit};
 
 use crate::searcher::Searcher;
 use grep_lines::locate;
@@ -87,7 +86,7 @@ impl<A: Allocator + Copy> Searcher<A> {
             return Ok(Match::zero(bytes.len()));
         };
         'matches: while let Some(found) = self.next_match::<M, E>(matcher, bytes, blocks)? {
-            if found.start() < unit.end() && found.end() <= unit.end() {
+            if is_passed(found, unit.end()) {
                 continue;
             }
             let block = self.block_from(bytes, unit.end(), found);
@@ -143,18 +142,19 @@ impl<A: Allocator + Copy> Searcher<A> {
     fn block_from(&self, bytes: &[u8], low: usize, found: Match) -> Match
         requires low { low ≤ found.1 }
         requires within { found.1 ≤ length bytes.now }
-        ensures start { result.0 ≡ low + block_start (byte_of self.now.settings.line_terminator)
-            (drop low bytes.now) (found.0 - low, found.1 - low) }
-        ensures end { result.1 ≡ low + block_end (byte_of self.now.settings.line_terminator)
-            (drop low bytes.now) (found.0 - low, found.1 - low) }
-        ensures low { low ≤ result.0 }
-        ensures starts { low ≤ found.0 → result.0 ≤ found.0 }
-        ensures ends { found.1 ≤ result.1 }
-        ensures within { result.1 ≤ length bytes.now }
+        ensures { IsPart (byte_of self.now.settings.line_terminator) bytes.now low found result }
     {
         let part = Match::new(found.start().saturating_sub(low), found.end() - low);
         locate(&bytes[low..], self.config.line_terminator.as_byte(), part).offset(low)
     }
+}
+
+// Whether a match begins before a position and ends no later.
+fn is_passed(found: Match, position: usize) -> bool
+    ensures yes { result ≡ true → (found.0 < position) × (found.1 ≤ position) }
+    ensures not_yet { result ≡ false → found.0 < position → position < found.1 }
+{
+    found.start() < position && found.end() <= position
 }
 
 // Where the match after a match is looked for: from its end, and after an empty match from one byte later.

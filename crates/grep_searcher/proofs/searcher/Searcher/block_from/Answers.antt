@@ -1,23 +1,38 @@
-use Rattle.std.proofs.Common.{◌≡◌, ◌∙◌, ◌-◌, ◌+◌, length, drop, ap, arith, take, take_all, length-drop, ap₂}
-use Rattle.grep_lines.specs.Blocks.{block_end}
+use Rattle.std.proofs.Common.{◌≡◌, ◌∙◌, ◌-◌, ◌+◌, length, drop, refl, ap, ap₂, arith, take, take_all, length-drop}
+use Rattle.grep_lines.specs.Blocks.{block_start, block_end}
 use Rattle.grep_matcher.specs.Terminators.{byte_of}
 use Rattle.grep_definitions.specs.Settings.{SearcherState}
 use Rattle.grep_searcher.proofs.searcher.Searcher.block_from.Goals as goal
 
-pub returns-clause-end : goal.returns-clause-end
-returns-clause-end g c =
+pub returns : goal.returns
+returns g c =
     let low = c.args.low in
+    let found = c.args.found in
     let rest = drop low c.args.bytes.now in
-    let whole : take (length c.args.bytes.now - low) rest ≡ rest =
-    take_all (length c.args.bytes.now - low) rest (omega (arith, length-drop low c.args.bytes.now)) in
-    let terminator : c.as_byte.result ≡ byte_of c.args.self.now.settings.line_terminator = c.as_byte.ensures
+    let shown = take (length c.args.bytes.now - low) rest in
+    let t = byte_of c.args.self.now.settings.line_terminator in
+    let part = c.new-part.result in
+    let size = length-drop low c.args.bytes.now in
+    let whole : shown ≡ rest = take_all (length c.args.bytes.now - low) rest (omega (arith, size)) in
+    let terminator : c.as_byte.result ≡ t = c.as_byte.ensures
     ∙ ap (λ (s : SearcherState). byte_of s.settings.line_terminator) c.self.view_is in
-    let part : c.new-part.result ≡ (c.args.found.0 - low, c.args.found.1 - low) = c.new-part.ensures
+    let part_is : part ≡ (found.0 - low, found.1 - low) = c.new-part.ensures
     ∙ ap₂ (λ x y. (x, y)) (c.saturating_sub.ensures ∙ ap (λ x. x - low) c.start.ensures.value) (ap (λ x. x - low) c.end.ensures.value) in
-    let end = ap (λ x. x.1) c.locate.ensures.value in
-    let same : block_end c.as_byte.result (take (length c.args.bytes.now - low) rest) c.new-part.result
-    ≡ block_end (byte_of c.args.self.now.settings.line_terminator) rest (c.args.found.0 - low, c.args.found.1 - low) =
-    ap (λ b. block_end b (take (length c.args.bytes.now - low) rest) c.new-part.result) terminator
-    ∙ (ap (λ bs. block_end (byte_of c.args.self.now.settings.line_terminator) bs c.new-part.result) whole
-    ∙ ap (block_end (byte_of c.args.self.now.settings.line_terminator) rest) part) in
-    omega (arith, ap (λ x. x.1) c.offset.ensures, end, same)
+    let from_start : part.0 ≡ found.0 - low = ap (λ x. x.0) part_is in
+    let from_end : part.1 ≡ found.1 - low = ap (λ x. x.1) part_is in
+    let start : block_start c.as_byte.result shown part ≡ block_start t rest (found.0 - low, found.1 - low) =
+    rw (terminator, whole, part_is) refl in
+    let end : block_end c.as_byte.result shown part ≡ block_end t rest (found.0 - low, found.1 - low) =
+    rw (terminator, whole, part_is) refl in
+    let at = c.locate.ensures in
+    let at_start : c.offset.result.0 ≡ c.locate.result.0 + low = ap (λ x. x.0) c.offset.ensures in
+    let at_end : c.offset.result.1 ≡ c.locate.result.1 + low = ap (λ x. x.1) c.offset.ensures in
+    let all : length shown ≡ length c.args.bytes.now - low = ap length whole ∙ size in
+    record {
+      begins = omega (arith, at_start, ap (λ x. x.0) at.value, start);
+      ends = omega (arith, at_end, ap (λ x. x.1) at.value, end);
+      after = omega (arith, at_start);
+      before = λ over. omega (arith, at_start, at.starts, from_start, over);
+      past = omega (arith, at_end, at.ends, from_end, c.requires.low);
+      within = omega (arith, at_end, at.within, all, c.requires.low, c.requires.within);
+    }

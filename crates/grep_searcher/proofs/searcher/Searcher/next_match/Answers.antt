@@ -1,8 +1,7 @@
-use Rattle.std.proofs.Common.{◌≡◌, ◌∙◌, ◌-◌, ℕ, List, Some, None, length, drop, sym, ap, subst, arith, take, take_all, length-drop}
+use Rattle.std.proofs.Common.{◌≡◌, ◌∙◌, ◌-◌, ℕ, List, Some, None, length, drop, sym, subst, arith, take, take_all, length-drop}
 use Rattle.grep_matcher.specs.Matching.{IsWithin}
 use Rattle.grep_definitions.proofs.SuccessiveMatchLemmas.{matches_left-end, matches_left-full}
-use Rattle.grep_searcher.proofs.FoundMatchLemmas.{no-more, no-more-missed, found-next, asked-next}
-use Rattle.grep_searcher.proofs.UnitStepLemmas as touched
+use Rattle.grep_searcher.proofs.FoundMatchLemmas.{no-more, no-more-missed, found-next}
 use Rattle.grep_searcher.proofs.searcher.Searcher.next_match.Goals as goal
 
 -- the bytes from a position on, as a slice of them is

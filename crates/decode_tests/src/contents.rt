@@ -1,0 +1,108 @@
+//! All decoded bytes of a reader.
+use grep_decode::{Decoder, Source};
+use grep_line_buffer::{FillError, read_contents};
+use std::io;
+use std::io::ErrorKind;
+use std::process::Abort;
+use std::test::Fail;
+
+// A reader that gives at most so many bytes at a call, then fails if it is to, and counts its calls.
+#[derive(Drop)]
+struct Pieces<'a> {
+    bytes: &'a [u8],
+    piece: usize,
+    fails: bool,
+    calls: usize,
+}
+
+impl Source for Pieces<'_> {
+    ghost step = { λ _ _ _. Unit {0} };
+
+    ghost gives = { λ _ _ _ _. tt };
+
+    ghost keeps = { λ _ _ _ _. tt };
+
+    fn pull(&mut self, buffer: &mut [u8]) -> io::Result<usize> {
+        self.calls = self.calls.wrapping_add(1);
+        if self.bytes.is_empty() && self.fails {
+            self.fails = false;
+            return Err(io::Error::from(ErrorKind::Interrupted));
+        }
+        let count = self.bytes.len().min(buffer.len()).min(self.piece);
+        let (given, rest) = self.bytes.split_at(count);
+        buffer[..count].copy_from_slice(given);
+        self.bytes = rest;
+        Ok(count)
+    }
+}
+
+// How reading ends.
+#[derive(Clone, Copy)]
+enum End {
+    Whole,
+    Limit,
+    Interrupted,
+}
+
+fn ends_so(read: &Result<(), FillError>, end: End) -> bool {
+    match (read, end) {
+        (Ok(()), End::Whole) | (Err(FillError::HeapLimit), End::Limit) => true,
+        (Err(FillError::Read(error)), End::Interrupted) => error.kind() == ErrorKind::Interrupted,
+        _ => false,
+    }
+}
+
+// The limit, the bytes of a piece, whether the reader of `homer` fails then, how reading ends, the contents, and how
+// many calls of the reader were made.
+type Row = (Option<usize>, usize, bool, End, &'static [u8], usize);
+
+const ROWS: &[Row] = &[
+    (None, 1, false, End::Whole, b"homer", 6),
+    (None, 8, false, End::Whole, b"homer", 2),
+    (Some(6), 1, false, End::Whole, b"homer", 6),
+    (Some(6), 8, false, End::Whole, b"homer", 2),
+    (Some(5), 1, false, End::Limit, b"homer", 5),
+    (Some(5), 8, false, End::Limit, b"homer", 1),
+    (Some(2), 8, false, End::Limit, b"ho", 1),
+    (Some(0), 8, false, End::Limit, b"", 0),
+    (None, 2, true, End::Interrupted, b"homer", 4),
+    (Some(5), 2, true, End::Limit, b"homer", 3),
+];
+
+#[test]
+fn rows(rt: HostRuntime) -> Result<(), Fail> {
+    let mut contents = Vec::new(rt.alloc());
+    for (limit, piece, fails, end, bytes, calls) in ROWS {
+        let mut reader = Pieces {
+            bytes: b"homer",
+            piece: *piece,
+            fails: *fails,
+            calls: 0,
+        };
+        let mut decoder = Decoder::new(rt.alloc(), 8)?;
+        let read = read_contents(&mut decoder, &mut reader, *limit, &mut contents);
+        assert!(rt; ends_so(&read, *end) && contents.as_slice() == *bytes);
+        assert!(rt; reader.calls == *calls);
+    }
+    Ok(())
+}
+
+// Reads 200,000 bytes below a limit, and returns how many came and for how many there is room.
+fn read_many(rt: &(impl Abort + AllocGlobal), limit: usize) -> Result<(usize, usize), Fail> {
+    let bytes = vec![in rt.alloc(); 7u8; 200_000]?;
+    let mut reader = bytes.as_slice();
+    let mut decoder = Decoder::new(rt.alloc(), 8)?;
+    let mut contents = Vec::new(rt.alloc());
+    if read_contents(&mut decoder, &mut reader, Some(limit), &mut contents).is_err() {
+        return Ok((0, contents.capacity()));
+    }
+    Ok((contents.len(), contents.capacity()))
+}
+
+#[test]
+fn room(rt: HostRuntime) -> Result<(), Fail> {
+    assert!(rt; read_many(&rt, 1_000_000)? == (200_000, 262_144));
+    assert!(rt; read_many(&rt, 200_001)? == (200_000, 200_001));
+    assert!(rt; read_many(&rt, 200_000)? == (0, 200_000));
+    Ok(())
+}
