@@ -19,8 +19,14 @@ module _ (t : ℕ) (bytes : List ℕ) where
   edge : (i : ℕ) → (k : ℕ) × IsLineStart t bytes (line_start t bytes i) k
   edge i = ⊎_elim
       (λ few. (i, record { listed = omega arith; begins = refl }))
-      (λ many. (length (lines t bytes), record { listed = omega arith; begins = ap (λ ls. length (concat ls))
-          (take_all (length (lines t bytes)) (lines t bytes) (omega arith) ∙ sym (take_all i (lines t bytes) many)) }))
+      (λ many. (
+        length (lines t bytes),
+        record {
+          listed = omega arith;
+          begins = ap (λ ls. length (concat ls))
+              (take_all (length (lines t bytes)) (lines t bytes) (omega arith) ∙ sym (take_all i (lines t bytes) many));
+        },
+      ))
       (cases_lt i (length (lines t bytes)))
 
   -- the edges of a block are line starts
