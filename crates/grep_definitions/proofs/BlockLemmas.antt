@@ -1,6 +1,6 @@
 -- The whole lines that matches extend over: in which order they are, and where they are in the bytes from a line on.
-use Rattle.std.proofs.Common.{◌≡◌, ℕ, zero, suc, ◌+◌, ◌-◌, ◌<◌, ◌≤◌, ◌==◌, Bool, true, false, ◌&&◌, List, ◌++◌, length, take, drop, slice_index, refl, sym, ◌∙◌, ap, arith, ⊎_elim, cond, if◌then◌else◌, length-append, length-drop, take_all}
-use Rattle.std.proofs.lemmas.Bool.{cases_lt, lt-ltb, le-ltb, ltb-true}
+use Rattle.std.proofs.Common.{◌≡◌, ℕ, ◌+◌, ◌-◌, ◌<◌, ◌≤◌, ◌==◌, Bool, true, false, ◌&&◌, List, ◌++◌, length, take, drop, slice_index, refl, sym, ◌∙◌, ap, arith, ⊎_elim, cond, if◌then◌else◌, length-append, take_all}
+use Rattle.std.proofs.lemmas.Bool.{cases_lt, le-ltb}
 use Rattle.std.proofs.lemmas.List.{get_or-drop}
 use Rattle.std.proofs.lemmas.List.Folds.{concat-append}
 use Rattle.std.proofs.lemmas.List.Sums.{sum_by-append}
