@@ -1,5 +1,9 @@
 pub mod BeforeContextLemmas
 pub mod WalkLemmas
+pub mod AcrossUnitLemmas
+pub mod AcrossStepLemmas
+pub mod AcrossTurnLemmas
+pub mod AcrossEndLemmas
 pub mod FrontLemmas
 pub mod LineRangeLemmas
 pub mod ReadingLemmas

@@ -1,3 +1,4 @@
+pub mod AcrossWalks
 pub mod ClosureSinks
 pub mod Configs
 pub mod InputSearches

@@ -243,7 +243,7 @@ impl<A: Allocator + Copy> Searcher<A> {
     }
 
     // The walk after a line.
-    fn advance(&self, walk: &Walk, line: &[u8], chosen: bool) -> Walk
+    pub(crate) fn advance(&self, walk: &Walk, line: &[u8], chosen: bool) -> Walk
         requires fits { walk.now.offset + length line.now < 2 ^ 64 }
         requires number { walk.now.line + 1 < 2 ^ 64 }
         requires few { walk.now.match_count ≤ walk.now.line }

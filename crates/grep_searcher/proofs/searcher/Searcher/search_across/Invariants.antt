@@ -1,0 +1,23 @@
+use Rattle.std.proofs.Common.{◌≡◌, ◌≤◌, ◌-◌, true, length}
+use Rattle.std.specs.Prelude.{Ok}
+use Rattle.grep_definitions.specs.SinkCalls.{begins}
+use Rattle.grep_definitions.specs.SinkRuns.{AreReported, all_true}
+use Rattle.grep_searcher.specs.AcrossWalks.{IsAcross, IsReady, turns_before}
+use Rattle.grep_searcher.specs.Walks.{IsOrdered}
+use Rattle.grep_searcher.proofs.searcher.Searcher.search_across.Given as goal
+
+abbrev pub invariant-lines : goal.invariant-lines
+invariant-lines g l = record {
+  within : l.start ≤ length l.bytes;
+  same : l.walk.offset ≡ l.start;
+  ordered : IsOrdered l.walk;
+  ready : IsReady l.self.settings (g.M.Matcher.meaning l.matcher) l.bytes l.start l.walk l.unit l.blocks;
+  walk : IsAcross l.self.settings (g.M.Matcher.meaning l.matcher) l.bytes l.walk;
+  reported : (first : g.row.S.Denot) → g.S.Sink.step first l.self.settings begins (Ok true) l.fn.sink
+      → AreReported g.S.Sink.step l.self.settings first
+      (turns_before l.self.settings (g.M.Matcher.meaning l.matcher) l.bytes l.walk.reported_through) all_true l.sink;
+  may_call : g.S.Sink.may_call l.sink;
+}
+
+abbrev pub decreases-lines : goal.decreases-lines
+decreases-lines g l = length l.bytes - l.start
