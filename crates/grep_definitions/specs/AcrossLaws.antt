@@ -1,4 +1,4 @@
--- Laws of the defined calls across lines, and of the mode. No search uses these definitions yet.
+-- Laws of the defined calls across lines, and of the mode.
 use Rattle.std.specs.Prelude.{◌≡◌, ℕ, ◌+◌, ◌<◌, ◌≤◌, Bool, true, false, not, ◌&&◌, ◌⊎◌}
 use Rattle.std.specs.Prelude.{if◌then◌else◌, nat_lt}
 use Rattle.std.specs.Prelude.{List, [], ◌∷◌, length, count_by, Some, None}

@@ -1,6 +1,6 @@
 -- Which calls a search across lines makes, said of the successive matches and of the whole list of lines, by offsets
 -- and distances alone. The lines are those of a search by line. They are counted from 0 here, and the numbers that are
--- reported from 1. No search uses these definitions yet.
+-- reported from 1.
 use Rattle.std.specs.Prelude.{ℕ, ◌+◌, ◌-◌, Bool, not, ◌&&◌, if◌then◌else◌, nat_lt, nat_le}
 use Rattle.std.specs.Prelude.{List, [], ◌∷◌, Option, Some, None, is_some}
 use Rattle.std.specs.List.{list_any}

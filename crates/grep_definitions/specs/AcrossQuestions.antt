@@ -1,5 +1,4 @@
--- What a search across lines asks a matcher: for the next match, in the bytes after those that it found. No search uses
--- these definitions yet.
+-- What a search across lines asks a matcher: for the next match, in the bytes after those that it found.
 use Rattle.std.specs.Prelude.{◌≡◌, ℕ, ◌<◌, true, if◌then◌else◌, List, ◌++◌, length, drop, Option, None}
 use Rattle.grep_matcher.specs.Matching.{Meaning}
 use Rattle.grep_definitions.specs.Settings.{Settings}

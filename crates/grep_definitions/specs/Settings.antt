@@ -1,5 +1,5 @@
--- The settings of a search, as a sink sees them: all that there will ever be. `multi_line` and `binary_detection`
--- have no setter yet: they are always at their defaults.
+-- The settings of a search, as a sink sees them: all that there will ever be. `binary_detection` has no setter yet: it is
+-- always at its default.
 use Rattle.std.specs.Prelude.{ℕ, Bool, true, false, Option, None, if◌then◌else◌}
 use Rattle.grep_decode.specs.declared.label.Label.{Label}
 use Rattle.grep_matcher.specs.declared.line_terminator.LineTerminator.{LineTerminator}

@@ -1,7 +1,8 @@
 //! The lines of all matches.
-ghost use Rattle.std.specs.Prelude.{◌≡◌, ◌⊎◌, true, None, IfOk, IfErr};
+ghost use Rattle.std.specs.Prelude.{◌≡◌, ◌⊎◌, true, false, None, IfOk, IfErr};
 ghost use Rattle.grep_searcher.specs.DecodedInputs.{searched_bytes};
 ghost use Rattle.grep_searcher.specs.Matching.{IsInfallible};
+ghost use Rattle.grep_searcher.specs.Modes.{is_across};
 ghost use Rattle.grep_searcher.specs.Questions.{IsLawfulFor};
 ghost use Rattle.grep_searcher.specs.Refusals.{refusal_of};
 ghost use Rattle.grep_searcher.specs.SearchErrors.{IsOutOfMemory};
@@ -13,7 +14,8 @@ use grep_searcher::{Matcher, SearchError, Searcher, Sink, SinkContext, SinkFinis
 use std::alloc::{Allocator, Global};
 use std::marker::Model;
 
-/// Returns the selected lines of `bytes`, decoded and joined: each with its terminator, in order.
+/// Returns the selected lines of `bytes`, decoded and joined: each with its terminator, in order. That is
+/// promised of a search by line.
 ///
 /// An error is made of the matcher's, of a configuration that the searcher refuses, or of being out
 /// of memory. If the bytes have to be decoded, it may also be of the heap limit, or of more than
@@ -27,6 +29,7 @@ pub fn matching_lines<M: Matcher + Drop>(
     bytes: &[u8],
 ) -> Result<Vec<u8>, SearchError>
     ensures lines { IsLawfulFor searcher.old.settings (M.meaning matcher) (M.is_lawful matcher)
+        → is_across searcher.old.settings (M.meaning matcher) ≡ false
         → IfOk result (λ text. text.items
         ≡ selected_bytes searcher.old.settings (M.meaning matcher)
         (searched_bytes searcher.old.settings bytes.now)) }

@@ -1,7 +1,8 @@
 //! How many lines match.
-ghost use Rattle.std.specs.Prelude.{◌≡◌, ◌-◌, ◌^◌, None, true, min, IfOk, IfErr, IsOk};
+ghost use Rattle.std.specs.Prelude.{◌≡◌, ◌-◌, ◌^◌, None, true, false, min, IfOk, IfErr, IsOk};
 ghost use Rattle.grep_searcher.specs.DecodedInputs.{searched_bytes, is_searched_unchanged};
 ghost use Rattle.grep_searcher.specs.Matching.{IsInfallible};
+ghost use Rattle.grep_searcher.specs.Modes.{is_across};
 ghost use Rattle.grep_searcher.specs.Questions.{IsLawfulFor};
 ghost use Rattle.grep_searcher.specs.Refusals.{refusal_of};
 ghost use Rattle.uses.specs.DecodingErrors.{IsDecodingError};
@@ -14,7 +15,8 @@ use grep_searcher::{Matcher, SearchError, Searcher, Sink, SinkContext, SinkFinis
 use std::alloc::{Allocator, Global};
 
 /// Returns how many lines of `bytes` are selected. If the bytes have to be decoded, it is how many of
-/// the decoded lines are, up to the largest `u64`.
+/// the decoded lines are, up to the largest `u64`. The count is promised of a search by line: across lines,
+/// under `multi_line`, a match may be several lines.
 ///
 /// An error is made of the matcher's, or of a configuration that the searcher refuses. If the bytes
 /// have to be decoded, it may also be of the heap limit, of being out of memory, or of more than
@@ -27,9 +29,11 @@ pub fn count_matching_lines<M: Matcher + Drop>(
     bytes: &[u8],
 ) -> Result<u64, SearchError>
     ensures count { IsLawfulFor searcher.old.settings (M.meaning matcher) (M.is_lawful matcher)
+        → is_across searcher.old.settings (M.meaning matcher) ≡ false
         → is_searched_unchanged searcher.old.settings bytes.now ≡ true → IfOk result (λ count.
         count ≡ selected_count searcher.old.settings (M.meaning matcher) bytes.now) }
     ensures decoded { IsLawfulFor searcher.old.settings (M.meaning matcher) (M.is_lawful matcher)
+        → is_across searcher.old.settings (M.meaning matcher) ≡ false
         → IfOk result (λ count. count
         ≡ min (selected_count searcher.old.settings (M.meaning matcher)
         (searched_bytes searcher.old.settings bytes.now))

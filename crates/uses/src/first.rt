@@ -1,8 +1,9 @@
 //! The first match of a reader.
-ghost use Rattle.std.specs.Prelude.{◌≡◌, ℕ, true, Option, None, List, IfOk, IfErr};
+ghost use Rattle.std.specs.Prelude.{◌≡◌, ℕ, true, false, Option, None, List, IfOk, IfErr};
 ghost use Rattle.std.specs.declared.io.Error.{Error};
 ghost use Rattle.grep_searcher.specs.DecodedInputs.{IsInput};
 ghost use Rattle.grep_searcher.specs.Matching.{IsInfallible};
+ghost use Rattle.grep_searcher.specs.Modes.{is_across};
 ghost use Rattle.grep_searcher.specs.Questions.{IsLawfulFor};
 ghost use Rattle.grep_searcher.specs.ReaderSearches.{Taken, IsUnread};
 ghost use Rattle.grep_searcher.specs.Refusals.{refusal_of};
@@ -18,8 +19,8 @@ use std::alloc::{Allocator, Global};
 /// offset in the decoded bytes; `None` if no line is selected. The caller ensures that the searcher numbers
 /// lines.
 ///
-/// Whatever follows what was taken of the reader, this is the first selected line. The reader is read no
-/// further than the search needs, and not again once a line is selected.
+/// Whatever follows what was taken of the reader, this is the first selected line, in a search by line. The
+/// reader is read no further than the search needs, and by line not again once a line is selected.
 ///
 /// An error is made of the reader's, of the matcher's, of a configuration that the searcher refuses,
 /// of the heap limit, of being out of memory, or of more than 2^64 - 1 decoded bytes.
@@ -32,6 +33,7 @@ pub fn first_match<M: Matcher + Drop, R: Source>(
 ) -> Result<Option<(u64, u64)>, SearchError>
     requires { searcher.old.settings.line_number ≡ true }
     ensures first { IsLawfulFor searcher.old.settings (M.meaning matcher) (M.is_lawful matcher)
+        → is_across searcher.old.settings (M.meaning matcher) ≡ false
         → IfOk result (λ found. (taken : Taken R.remaining R.step reader.old reader.new)
         × ((bytes : List ℕ) → IsInput searcher.old.settings taken.ended taken.pieces bytes
         → found ≡ first_selected searcher.old.settings (M.meaning matcher) bytes)) }

@@ -1,6 +1,7 @@
 //! The numbers and the texts of all matches, by a closure.
-ghost use Rattle.std.specs.Prelude.{◌≡◌, ◌++◌, ◌∷◌, [], true, IfOk};
+ghost use Rattle.std.specs.Prelude.{◌≡◌, ◌++◌, ◌∷◌, [], true, false, IfOk};
 ghost use Rattle.grep_searcher.specs.DecodedInputs.{searched_bytes};
+ghost use Rattle.grep_searcher.specs.Modes.{is_across};
 ghost use Rattle.grep_searcher.specs.Questions.{IsLawfulFor};
 ghost use Rattle.uses.specs.NumberedTexts.{texts_of};
 ghost use Rattle.uses.specs.SelectedLines.{numbered_lines_of};
@@ -19,7 +20,7 @@ use std::io;
 /// searcher doesn't number lines. If the bytes have to be decoded, it may also be of the heap limit, or, of the kind
 /// `InvalidData`, of more than 2^64 - 1 decoded bytes. What an error is isn't in the contract.
 ///
-/// The lines are promised for a matcher that is lawful for the searcher's terminator.
+/// The lines are promised of a search by line, for a matcher that is lawful for the searcher's terminator.
 pub fn numbered_lines<M: Matcher + Drop>(
     alloc: Global,
     searcher: &mut Searcher,
@@ -27,6 +28,7 @@ pub fn numbered_lines<M: Matcher + Drop>(
     bytes: &[u8],
 ) -> io::Result<Vec<(u64, String)>>
     ensures lines { IsLawfulFor searcher.old.settings (M.meaning matcher) (M.is_lawful matcher)
+        → is_across searcher.old.settings (M.meaning matcher) ≡ false
         → IfOk result (λ lines. texts_of lines.items
         ≡ numbered_lines_of searcher.old.settings (M.meaning matcher)
         (searched_bytes searcher.old.settings bytes.now)) }

@@ -1,8 +1,9 @@
 //! How many lines of a file match.
-ghost use Rattle.std.specs.Prelude.{◌≡◌, ◌-◌, ◌^◌, ℕ, List, Some, None, true, min, IfOk, IfErr};
+ghost use Rattle.std.specs.Prelude.{◌≡◌, ◌-◌, ◌^◌, ℕ, List, Some, None, true, false, min, IfOk, IfErr};
 ghost use Rattle.std.specs.declared.io.Error.{Error};
 ghost use Rattle.grep_searcher.specs.DecodedInputs.{searched_bytes};
 ghost use Rattle.grep_searcher.specs.Matching.{IsInfallible};
+ghost use Rattle.grep_searcher.specs.Modes.{is_across};
 ghost use Rattle.grep_searcher.specs.Questions.{IsLawfulFor};
 ghost use Rattle.grep_searcher.specs.Refusals.{refusal_of};
 ghost use Rattle.uses.specs.SelectedLines.{selected_count};
@@ -19,8 +20,8 @@ use std::rt::Files;
 /// An error is that of opening the file, or one of reading it; or it is made of the matcher's, of a configuration that
 /// the searcher refuses, of the heap limit, of being out of memory, or of more than 2^64 - 1 decoded bytes.
 ///
-/// All this is promised for a matcher that is lawful for the searcher's terminator, and the count for a file that was
-/// opened, if it says which bytes remain.
+/// All this is promised for a matcher that is lawful for the searcher's terminator, and the count of a search by line, for
+/// a file that was opened, if it says which bytes remain.
 pub fn count_in_path<R: Files, M: Matcher + Drop, P: AsPath>(
     rt: &R,
     searcher: &mut Searcher,
@@ -28,6 +29,7 @@ pub fn count_in_path<R: Files, M: Matcher + Drop, P: AsPath>(
     path: P,
 ) -> Result<u64, SearchError>
     ensures count { IsLawfulFor searcher.old.settings (M.meaning matcher) (M.is_lawful matcher)
+        → is_across searcher.old.settings (M.meaning matcher) ≡ false
         → IfOk result (λ count. (file : R.File) × ((input : List ℕ)
         → R.File.remaining file ≡ Some input → count
         ≡ min (selected_count searcher.old.settings (M.meaning matcher)

@@ -6,7 +6,7 @@ use Rattle.uses.proofs.FoldLemmas.{fold_while-joined}
 use Rattle.uses.proofs.collect.matching_lines.Goals as goal
 
 pub returns-clause-lines : goal.returns-clause-lines
-returns-clause-lines g c = λ lawful.
+returns-clause-lines g c = λ lawful by_line.
     let settings = c.args.searcher.now.settings in
     let meaning = g.M.Matcher.meaning c.args.matcher in
     let bytes = searched_bytes settings c.args.bytes.now in
@@ -14,6 +14,6 @@ returns-clause-lines g c = λ lawful.
     (c.in_ok-search_slice.ensures.searched.1 lawful) in
     cc (
       folded,
-      c.matches_are_selected.ensures settings meaning bytes,
+      c.matches_are_selected.ensures settings meaning bytes by_line,
       fold_while-joined settings meaning bytes [] (selected_lines settings meaning bytes),
     )

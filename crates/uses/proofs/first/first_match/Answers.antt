@@ -5,7 +5,7 @@ use Rattle.uses.proofs.FoldLemmas.{fold_while-kept, position_of-match}
 use Rattle.uses.proofs.first.first_match.Goals as goal
 
 pub returns-clause-first : goal.returns-clause-first
-returns-clause-first g c = λ lawful.
+returns-clause-first g c = λ lawful by_line.
     let settings = c.args.searcher.now.settings in
     let meaning = g.M.Matcher.meaning c.args.matcher in
     let run = c.in_ok-search_reader.ensures.searched.1 lawful in (
@@ -13,6 +13,6 @@ returns-clause-first g c = λ lawful.
       λ bytes input. ap (λ sink. sink.position)
           (c.runs_fold_matches.ensures (λ _ _. false) kept (λ _ _ _ _ _ h. h) _ _ _ _ _ _ (run.run bytes input))
           ∙ fold_while-kept _
-          ∙ ap (option_and_then position_of) (c.first_match_is_first.ensures settings meaning bytes)
+          ∙ ap (option_and_then position_of) (c.first_match_is_first.ensures settings meaning bytes by_line)
           ∙ position_of-match settings meaning bytes c.requires _,
     )

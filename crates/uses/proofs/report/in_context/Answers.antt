@@ -2,7 +2,7 @@ use Rattle.std.proofs.lemmas.Result.{err_from_is_err_and}
 use Rattle.std.proofs.Common.{◌≡◌, inl, inr, None, true, ap, subst, ◌∙◌}
 use Rattle.grep_searcher.specs.ReadingFaults.{IsUndecoded}
 use Rattle.grep_searcher.specs.Refusals.{refusal_of}
-use Rattle.grep_searcher.specs.LineSearch.{turns}
+use Rattle.grep_searcher.specs.SearchTurns.{search_turns}
 use Rattle.grep_searcher.specs.Literals.{literal_meaning}
 use Rattle.grep_searcher.specs.Settings.{Settings, built}
 use Rattle.grep_searcher.specs.DecodedInputs.{searched_bytes}
@@ -18,10 +18,10 @@ returns-clause-report c =
     let folded = c.runs_fold_all.ensures reported (λ _ _ _ _ _ h. h) _ _ _ _ _ _
     (c.in_ok-search_slice.ensures.searched.1 (λ _. tt)) in
     c.into_text.ensures ∙ folded
-    ∙ reported-run _ (turns c.in_ok-searcher.searcher.settings (literal_meaning c.in_ok-matcher.matcher)
+    ∙ reported-run _ (search_turns c.in_ok-searcher.searcher.settings (literal_meaning c.in_ok-matcher.matcher)
     (searched_bytes c.in_ok-searcher.searcher.settings c.args.log.now)) c.new-3.ensures.items
-    ∙ ap (λ s. report_of (turns s (literal_meaning c.in_ok-matcher.matcher) (searched_bytes s c.args.log.now))) settings
-    ∙ ap (λ m. report_of (turns one_before (literal_meaning m) (searched_bytes one_before c.args.log.now))) c.in_ok-matcher.ensures
+    ∙ ap (λ s. report_of (search_turns s (literal_meaning c.in_ok-matcher.matcher) (searched_bytes s c.args.log.now))) settings
+    ∙ ap (λ m. report_of (search_turns one_before (literal_meaning m) (searched_bytes one_before c.args.log.now))) c.in_ok-matcher.ensures
 
 pub returns-in_err-search_slice-clause-error : goal.returns-in_err-search_slice-clause-error
 returns-in_err-search_slice-clause-error c =
