@@ -17,8 +17,8 @@ use Rattle.grep_definitions.specs.SinkCalls.{Turn}
 use Rattle.grep_definitions.proofs.BelowLemmas.{below_next, below_none, count_below-le, is_below-le}
 use Rattle.grep_definitions.proofs.BoolLemmas.{both_true, clash}
 use Rattle.grep_searcher.specs.declared.searcher.walk.Walk.{Walk}
-use Rattle.grep_searcher.specs.AcrossWalks.{IsAcross, IsLimited, turns_before, walk_after, walk_past}
-use Rattle.grep_searcher.specs.Walks.{line_end, line_turns, next_walk}
+use Rattle.grep_searcher.specs.AcrossWalks.{IsAcross, IsLimited, turns_before, walk_after}
+use Rattle.grep_searcher.specs.Walks.{line_end, line_turns, next_walk, walk_past}
 use Rattle.grep_definitions.proofs.AcrossWalkLemmas as calls
 use Rattle.grep_searcher.proofs.AcrossUnitLemmas.{IsChosen, IsNext, selected-inverted}
 use Rattle.grep_searcher.proofs.LineRangeLemmas.{lines-between}

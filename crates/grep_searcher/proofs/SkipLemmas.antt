@@ -21,8 +21,8 @@ use Rattle.grep_definitions.specs.Settings.{Settings}
 use Rattle.grep_definitions.specs.SinkRuns.{Steps, all_true, AreReported}
 use Rattle.grep_searcher.specs.declared.searcher.look_ahead.Ahead.{Ahead}
 use Rattle.grep_searcher.specs.declared.searcher.walk.Walk.{Walk}
-use Rattle.grep_searcher.specs.LookAheads.{IsKnown, MayAskAhead, can_skip, known_at, skipped, skips}
-use Rattle.grep_searcher.specs.Walks.{is_over, line_end, line_turns, next_walk}
+use Rattle.grep_searcher.specs.LookAheads.{IsKnown, MayAskAhead, can_skip, known_at, skips}
+use Rattle.grep_searcher.specs.Walks.{is_over, line_end, line_turns, next_walk, walk_past}
 use Rattle.grep_searcher.specs.Windows.{HasSearched}
 use Rattle.grep_searcher.proofs.LineRangeLemmas.{line-at, lines-between, starts-ordered}
 use Rattle.grep_searcher.proofs.WalkLemmas.{Bare}
@@ -186,11 +186,11 @@ module _ {S E F : Type 0} (join : LinesJoin) (append : LinesAppend) (step : Step
   pub searched-skipped : (w : Walk) (p : ℕ) (a : Ahead) → Searched p w → a.misses ≤ length window
       → IsKnown k matcher.meaning window p a
       → Searched (if skips k w p a.misses then a.misses else p)
-      (if skips k w p a.misses then skipped k window p a.misses w else w)
+      (if skips k w p a.misses then walk_past k w (slice window p a.misses) else w)
   searched-skipped w p a so_far within known = go (skips k w p a.misses) refl
     where
       go : (b : Bool) → skips k w p a.misses ≡ b
-          → Searched (if b then a.misses else p) (if b then skipped k window p a.misses w else w)
+          → Searched (if b then a.misses else p) (if b then walk_past k w (slice window p a.misses) else w)
       go false is = so_far
       go true is =
           let parts = both_true (nat_lt p a.misses) (can_skip k w) is in
@@ -200,14 +200,16 @@ module _ {S E F : Type 0} (join : LinesJoin) (append : LinesAppend) (step : Step
           let ordered = starts-ordered join t window p a.misses i known.index from known.at (omega (arith, less)) in
           let sum : i + (known.index - i) ≡ known.index = omega (arith, ordered) in
           let many = lines-between t window p a.misses i known.index from known.at (omega (arith, less)) within ordered in
+          let size : w.offset + (a.misses - p) ≡ w.offset + length (slice window p a.misses) =
+          omega (arith, length-take (a.misses - p) (drop p window), length-drop p window, within) in
           subst (Searched a.misses)
-          (same-walk (skipped k window p a.misses w) _ _ _ _ _ refl (ap (λ n. w.line + n) (sym many)) refl refl refl)
+          (same-walk (walk_past k w (slice window p a.misses)) _ _ _ _ _ size (ap (λ n. w.line + n) (sym many)) refl refl refl)
           (searched-lines (known.index - i) w p a.misses i so_far (is_skipping k w parts.1) from
           (subst (IsLineStart t window a.misses) (sym sum) known.at) known.miss)
 
   pub searched-on : (w : Walk) (p : ℕ) (a : Ahead) → Searched p w → a.misses ≤ length window → IsKnown k matcher.meaning window p a
       → (r : ℕ) (next : Walk) → r ≡ (if skips k w p a.misses then a.misses else p)
-      → next ≡ (if skips k w p a.misses then skipped k window p a.misses w else w) → Searched r next
+      → next ≡ (if skips k w p a.misses then walk_past k w (slice window p a.misses) else w) → Searched r next
   searched-on w p a so_far within known r next is_r is_next = subst (λ q. Searched q next) (sym is_r)
       (subst (Searched (if skips k w p a.misses then a.misses else p)) (sym is_next) (searched-skipped w p a so_far within known))
 

@@ -31,13 +31,6 @@ next_chosen settings bytes start unit w =
 abbrev pub is_joined : Settings → Bool → Bool
 is_joined settings chosen = chosen && not settings.invert_match
 
--- the walk after lines that were passed unreported
-abbrev pub walk_past : Settings → Walk → List ℕ → Walk
-walk_past settings w passed = record w {
-  offset = w.offset + length passed;
-  line = w.line + length (lines (byte_of settings.line_terminator) passed);
-}
-
 -- the walk after a line, or after a unit of chosen lines
 abbrev pub walk_after : Settings → Walk → List ℕ → Bool → Walk
 walk_after settings w unit chosen =

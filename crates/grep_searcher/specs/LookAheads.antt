@@ -1,9 +1,8 @@
 -- What a walk knows of the lines from its line on, and which of them it may skip. The contracts of private functions
 -- cite these definitions; no public contract does.
-use Rattle.std.specs.Prelude.{◌≡◌, ℕ, ◌+◌, ◌-◌, ◌<◌, ◌≤◌, Bool, true, false, not, ◌&&◌, ◌==◌, if◌then◌else◌, nat_lt}
+use Rattle.std.specs.Prelude.{◌≡◌, ℕ, ◌<◌, ◌≤◌, Bool, true, false, not, ◌&&◌, ◌==◌, if◌then◌else◌, nat_lt}
 use Rattle.std.specs.Prelude.{List, length, Option, Some, None}
 use Rattle.grep_lines.specs.Positions.{slice, IsLine, IsLineStart}
-use Rattle.grep_matcher.specs.Lines.{lines}
 use Rattle.grep_matcher.specs.Matching.{Meaning}
 use Rattle.grep_matcher.specs.Terminators.{byte_of}
 use Rattle.grep_definitions.specs.Below.{is_at}
@@ -58,10 +57,3 @@ can_skip settings w =
 -- whether it skips the lines from `start` up to another position
 abbrev pub skips : Settings → Walk → ℕ → ℕ → Bool
 skips settings w start end = nat_lt start end && can_skip settings w
-
--- the walk after it skipped them
-abbrev pub skipped : Settings → List ℕ → ℕ → ℕ → Walk → Walk
-skipped settings window start end w = record w {
-  offset = w.offset + (end - start);
-  line = w.line + length (lines (byte_of settings.line_terminator) (slice window start end));
-}

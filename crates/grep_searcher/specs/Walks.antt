@@ -3,6 +3,7 @@
 use Rattle.std.specs.Prelude.{◌≡◌, ℕ, ◌+◌, ◌-◌, ◌≤◌, Bool, not, ◌&&◌, ◌||◌, ◌==◌, if◌then◌else◌, nat_lt, List, []}
 use Rattle.std.specs.Prelude.{◌++◌, length, All}
 use Rattle.grep_matcher.specs.Terminators.{byte_of}
+use Rattle.grep_matcher.specs.Lines.{lines}
 use Rattle.grep_matcher.specs.Matching.{Meaning}
 use Rattle.grep_lines.specs.Positions.{IsLineStart}
 use Rattle.grep_report.specs.declared.sink_context.SinkContextKind.TheVariants.{After, Other}
@@ -44,6 +45,13 @@ next_walk settings w line chosen = record {
   reported_through = if reports_line settings w chosen then w.line + 1 else w.reported_through;
   after_context_left = if chosen then settings.after_context else w.after_context_left - 1;
   match_count = if chosen then w.match_count + 1 else w.match_count;
+}
+
+-- the walk after lines that were passed unreported
+abbrev pub walk_past : Settings → Walk → List ℕ → Walk
+walk_past settings w passed = record w {
+  offset = w.offset + length passed;
+  line = w.line + length (lines (byte_of settings.line_terminator) passed);
 }
 
 -- whether no later line has a turn, by whether the last line was chosen

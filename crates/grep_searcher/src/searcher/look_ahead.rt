@@ -1,20 +1,19 @@
 //! What a walk knows of the lines from its line on: what a matcher found in many lines at once, and which of them the
 //! walk skips.
 ghost use Rattle.std.specs.Prelude.{◌≡◌, ◌≤◌, ◌<◌, ◌+◌, ◌-◌, ◌^◌, ℕ, true, if◌then◌else◌, length, drop, IfOk, IfErr, IfSome, IfNone};
-ghost use Rattle.grep_lines.specs.Positions.{IsLine, IsLineStart};
+ghost use Rattle.grep_lines.specs.Positions.{slice, IsLine, IsLineStart};
 ghost use Rattle.grep_matcher.specs.Lines.{lines};
 ghost use Rattle.grep_matcher.specs.Lawful.{IsInside, IsLawfulResult};
 ghost use Rattle.grep_matcher.specs.Matching.{Meaning};
 ghost use Rattle.grep_matcher.specs.Terminators.{byte_of};
 ghost use Rattle.grep_definitions.specs.Questions.{IsLawfulFor};
 ghost use Rattle.grep_searcher.specs.LookAheads.{known_at, IsBounded, IsExact, IsKnown, MayAskAhead};
-ghost use Rattle.grep_searcher.specs.LookAheads.{can_skip, skips, skipped};
-ghost use Rattle.grep_searcher.specs.Walks.{IsOrdered};
+ghost use Rattle.grep_searcher.specs.LookAheads.{can_skip, skips};
+ghost use Rattle.grep_searcher.specs.Walks.{walk_past, IsOrdered};
 
 use crate::searcher::Searcher;
 use crate::searcher::walk::Walk;
-use grep_lines::laws::lines_are_few;
-use grep_lines::{LineStep, line_count, line_of};
+use grep_lines::{LineStep, line_of};
 use grep_matcher::{LineMatchKind, LineTerminator, Matcher};
 use grep_report::SinkError;
 use std::alloc::Allocator;
@@ -156,19 +155,17 @@ impl<A: Allocator + Copy> Searcher<A> {
         ensures position { result ≡ (if skips self.now.settings walk.old start ahead.now.misses
             then ahead.now.misses else start) }
         ensures walk { walk.new ≡ (if skips self.now.settings walk.old start ahead.now.misses
-            then skipped self.now.settings window.now start ahead.now.misses walk.old else walk.old) }
+            then walk_past self.now.settings walk.old (slice window.now start ahead.now.misses)
+            else walk.old) }
         ensures ordered { IsOrdered walk.new }
         ensures moved { walk.new.offset + start ≡ walk.old.offset + result }
         ensures low { start ≤ result }
         ensures within { result ≤ length window.now }
     {
-        lines_are_few();
         if start >= ahead.misses || !self.can_skip(walk) {
             return start;
         }
-        let lines = &window[start..ahead.misses];
-        walk.offset += lines.len() as u64;
-        walk.line += line_count(lines, self.config.line_terminator.as_byte());
+        *walk = self.walk_past(walk, &window[start..ahead.misses]);
         ahead.misses
     }
 

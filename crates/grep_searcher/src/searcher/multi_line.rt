@@ -9,8 +9,7 @@ ghost use Rattle.grep_definitions.specs.Searches.{IsFaultIn};
 ghost use Rattle.grep_definitions.specs.SearchTurns.{calls_across};
 ghost use Rattle.grep_definitions.specs.SinkCalls.{begins};
 ghost use Rattle.grep_definitions.specs.SinkRuns.{Outcome, NeverFails};
-ghost use Rattle.grep_searcher.specs.AcrossWalks.{is_done, is_joined, next_chosen};
-ghost use Rattle.grep_searcher.specs.AcrossWalks.{walk_after, walk_past, IsReady};
+ghost use Rattle.grep_searcher.specs.AcrossWalks.{is_done, is_joined, next_chosen, walk_after, IsReady};
 ghost use Rattle.grep_searcher.specs.Walks.{Counted, IsOrdered};
 
 use crate::searcher::Searcher;
@@ -187,21 +186,6 @@ impl<A: Allocator + Copy> Searcher<A> {
         match self.next_line(bytes, start) {
             Some(end) => end,
             None => bytes.len(),
-        }
-    }
-
-    // The walk after lines that are passed unreported.
-    fn walk_past(&self, walk: &Walk, lines: &[u8]) -> Walk
-        requires fits { walk.now.offset + length lines.now < 2 ^ 64 }
-        requires ordered { IsOrdered walk.now }
-        ensures walk { result ≡ walk_past self.now.settings walk.now lines.now }
-        ensures ordered { IsOrdered result }
-    {
-        lines_are_few();
-        Walk {
-            offset: walk.offset + lines.len() as u64,
-            line: walk.line + line_count(lines, self.config.line_terminator.as_byte()),
-            ..*walk
         }
     }
 

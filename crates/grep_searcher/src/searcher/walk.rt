@@ -12,14 +12,14 @@ ghost use Rattle.grep_definitions.specs.LineTurns.{number_of, matches_line};
 ghost use Rattle.grep_definitions.specs.Questions.{IsLawfulFor};
 ghost use Rattle.grep_definitions.specs.Searches.{IsLineFault};
 ghost use Rattle.grep_definitions.specs.SinkRuns.{Outcome, NeverFails};
-ghost use Rattle.grep_searcher.specs.Walks.{next_walk, is_over, Counted, IsOrdered};
+ghost use Rattle.grep_searcher.specs.Walks.{next_walk, walk_past, is_over, Counted, IsOrdered};
 ghost use Rattle.grep_searcher.specs.Windows.{HasSearched, HasPassed};
 
 use crate::searcher::Searcher;
 use crate::searcher::look_ahead::UNKNOWN;
 use crate::sink::Sink;
-use grep_lines::laws::{lines_append, lines_join};
-use grep_lines::{LineStep, without_terminator};
+use grep_lines::laws::{lines_append, lines_are_few, lines_join};
+use grep_lines::{LineStep, line_count, without_terminator};
 use grep_matcher::Matcher;
 use grep_report::SinkError;
 use std::alloc::Allocator;
@@ -268,6 +268,21 @@ impl<A: Allocator + Copy> Searcher<A> {
             } else {
                 walk.match_count
             },
+        }
+    }
+
+    // The walk after lines that are passed unreported.
+    pub(crate) fn walk_past(&self, walk: &Walk, lines: &[u8]) -> Walk
+        requires fits { walk.now.offset + length lines.now < 2 ^ 64 }
+        requires ordered { IsOrdered walk.now }
+        ensures walk { result ≡ walk_past self.now.settings walk.now lines.now }
+        ensures ordered { IsOrdered result }
+    {
+        lines_are_few();
+        Walk {
+            offset: walk.offset + lines.len() as u64,
+            line: walk.line + line_count(lines, self.config.line_terminator.as_byte()),
+            ..*walk
         }
     }
 
