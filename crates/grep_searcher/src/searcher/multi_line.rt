@@ -9,7 +9,8 @@ ghost use Rattle.grep_definitions.specs.Searches.{IsFaultIn};
 ghost use Rattle.grep_definitions.specs.SearchTurns.{calls_across};
 ghost use Rattle.grep_definitions.specs.SinkCalls.{begins};
 ghost use Rattle.grep_definitions.specs.SinkRuns.{Outcome, NeverFails};
-ghost use Rattle.grep_searcher.specs.AcrossWalks.{is_done, is_joined, next_chosen, walk_after, IsReady};
+ghost use Rattle.grep_searcher.specs.AcrossWalks.{is_done, is_joined, next_chosen, walk_after};
+ghost use Rattle.grep_searcher.specs.AcrossWalks.{IsReady};
 ghost use Rattle.grep_searcher.specs.Walks.{Counted, IsOrdered};
 
 use crate::searcher::Searcher;
