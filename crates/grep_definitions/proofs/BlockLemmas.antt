@@ -1,6 +1,6 @@
 -- The whole lines that matches extend over: in which order they are, and where they are in the bytes from a line on.
-use Rattle.std.proofs.Common.{◌≡◌, ℕ, zero, suc, ◌+◌, ◌-◌, ◌<◌, ◌≤◌, ◌==◌, Bool, true, false, ◌&&◌, List, ◌++◌, length, take, drop, slice_index, refl, sym, ◌∙◌, ap, arith, ⊎_elim, cond, if◌then◌else◌, length-append, length-drop, take_all}
-use Rattle.std.proofs.lemmas.Bool.{cases_lt, lt-ltb, le-ltb, ltb-true}
+use Rattle.std.proofs.Common.{◌≡◌, ℕ, ◌+◌, ◌-◌, ◌<◌, ◌≤◌, ◌==◌, Bool, true, false, ◌&&◌, List, ◌++◌, length, take, drop, slice_index, refl, sym, ◌∙◌, ap, arith, ⊎_elim, cond, if◌then◌else◌, length-append, take_all}
+use Rattle.std.proofs.lemmas.Bool.{cases_lt, le-ltb}
 use Rattle.std.proofs.lemmas.List.{get_or-drop}
 use Rattle.std.proofs.lemmas.List.Folds.{concat-append}
 use Rattle.std.proofs.lemmas.List.Sums.{sum_by-append}
@@ -19,8 +19,14 @@ module _ (t : ℕ) (bytes : List ℕ) where
   edge : (i : ℕ) → (k : ℕ) × IsLineStart t bytes (line_start t bytes i) k
   edge i = ⊎_elim
       (λ few. (i, record { listed = omega arith; begins = refl }))
-      (λ many. (length (lines t bytes), record { listed = omega arith; begins = ap (λ ls. length (concat ls))
-          (take_all (length (lines t bytes)) (lines t bytes) (omega arith) ∙ sym (take_all i (lines t bytes) many)) }))
+      (λ many. (
+        length (lines t bytes),
+        record {
+          listed = omega arith;
+          begins = ap (λ ls. length (concat ls))
+              (take_all (length (lines t bytes)) (lines t bytes) (omega arith) ∙ sym (take_all i (lines t bytes) many));
+        },
+      ))
       (cases_lt i (length (lines t bytes)))
 
   -- the edges of a block are line starts
@@ -72,7 +78,8 @@ module _ (t : ℕ) (bytes : List ℕ) where
   block_end-within m e k here within low order high = ⊎_elim
       (λ some.
       let line = holder t bytes (m.1 - 1) (omega arith) in
-      omega (arith, block_end-line t bytes m line.0 some line.1 (omega (arith, line.2)) (omega (arith, line.3)), next line.0 (omega (arith, line.2))))
+      let last = block_end-line t bytes m line.0 some line.1 (omega (arith, line.2)) (omega (arith, line.3)) in
+      omega (arith, last, next line.0 (omega (arith, line.2))))
       (λ none.
       let line = holder t bytes m.0 (omega arith) in
       let same : m.1 ≡ m.0 = omega arith in
@@ -116,20 +123,23 @@ module _ (t : ℕ) (bytes : List ℕ) where
         let cut = ap (λ ls. length (concat ls)) (take-add a k (lines t bytes)) in
         let joined = ap length (concat-append (take a (lines t bytes)) (take k (drop a (lines t bytes)))) in
         let rest = ap (λ ls. length (concat (take k ls))) at.rest in
-        omega (arith, cut, joined, length-append (concat (take a (lines t bytes))) (concat (take k (drop a (lines t bytes)))), rest, at.start)
+        let sizes = length-append (concat (take a (lines t bytes))) (concat (take k (drop a (lines t bytes)))) in
+        omega (arith, cut, joined, sizes, rest, at.start)
 
     lines_before-part : (p : ℕ) → e ≤ p → lines_before t bytes p ≡ a + lines_before t (drop e bytes) (p - e)
     lines_before-part p low =
         let at = IsAt-start t bytes e a here in
         let sum : e + (p - e) ≡ p = omega arith in
-        let cut : take p bytes ≡ take e bytes ++ take (p - e) (drop e bytes) = ap (λ n. take n bytes) (sym sum) ∙ take-add e (p - e) bytes in
+        let cut : take p bytes ≡ take e bytes ++ take (p - e) (drop e bytes) = ap (λ n. take n bytes) (sym sum)
+        ∙ take-add e (p - e) bytes in
         rw (cut, sum_by-append (λ b. cond (b == t) 1 0) (take e bytes), at.counted below) refl
 
     -- the block of a match that starts there or later
     pub block_start-part : (m o : ℕ × ℕ) → e ≤ m.0 → o.0 ≡ m.0 - e → e + block_start t (drop e bytes) o ≡ block_start t bytes m
     block_start-part m o low is =
         sym (line_start-part (lines_before t (drop e bytes) o.0))
-        ∙ (ap (λ p. line_start t bytes (a + lines_before t (drop e bytes) p)) is ∙ ap (line_start t bytes) (sym (lines_before-part m.0 low)))
+        ∙ (ap (λ p. line_start t bytes (a + lines_before t (drop e bytes) p)) is
+        ∙ ap (line_start t bytes) (sym (lines_before-part m.0 low)))
 
     -- and of one that ends there or later
     pub block_end-part : (m o : ℕ × ℕ) → e ≤ m.1 → (m.0 < m.1 → e < m.1) → o.1 ≡ m.1 - e → nat_lt o.0 o.1 ≡ nat_lt m.0 m.1
@@ -153,8 +163,10 @@ module _ (t : ℕ) (bytes : List ℕ) where
         moved : (b : Bool) → e + edge_of t (drop e bytes) o.1 b ≡ edge_of t bytes m.1 b
         moved true =
             sym (line_start-part (lines_before t (drop e bytes) o.1))
-            ∙ (ap (λ p. line_start t bytes (a + lines_before t (drop e bytes) p)) is ∙ ap (line_start t bytes) (sym (lines_before-part m.1 low)))
+            ∙ (ap (λ p. line_start t bytes (a + lines_before t (drop e bytes) p)) is
+            ∙ ap (line_start t bytes) (sym (lines_before-part m.1 low)))
         moved false =
-            let sum : a + (lines_before t (drop e bytes) (m.1 - e) + 1) ≡ lines_before t bytes m.1 + 1 = omega (arith, lines_before-part m.1 low) in
+            let sum : a + (lines_before t (drop e bytes) (m.1 - e) + 1) ≡ lines_before t bytes m.1 + 1 =
+            omega (arith, lines_before-part m.1 low) in
             sym (line_start-part (lines_before t (drop e bytes) o.1 + 1))
             ∙ (ap (λ p. line_start t bytes (a + (lines_before t (drop e bytes) p + 1))) is ∙ ap (line_start t bytes) sum)

@@ -52,7 +52,9 @@ module _ (meaning : Meaning) (bytes : List ℕ) where
           → IfSome {T = ℕ × ℕ} (if b then option_map (λ m. (p + m.0, p + m.1)) found else None)
           (λ m. (p ≤ m.0) × (m.0 ≤ m.1) × (m.1 ≤ length bytes))
       go true is None inside = tt
-      go true is (Some m) inside = (omega arith, omega (arith, inside.0), omega (arith, inside.1, ltb-true p (length bytes) is, length-drop p bytes))
+      go true is (Some m) inside =
+          let below = ltb-true p (length bytes) is in
+          (omega arith, omega (arith, inside.0), omega (arith, inside.1, below, length-drop p bytes))
       go false is found inside = tt
 
   -- none is found from the end on
@@ -82,8 +84,8 @@ module _ (meaning : Meaning) (bytes : List ℕ) where
   matches_from-found p m is = ⊎_elim
       (λ some.
       let size : length bytes ≡ suc (length bytes - 1) = omega arith in
-      let first : matches_from meaning bytes p (suc (length bytes - 1)) ≡ m ∷ matches_from meaning bytes (position_after m) (length bytes - 1)
-      = rw (is, matches_from) refl in
+      let first : matches_from meaning bytes p (suc (length bytes - 1))
+      ≡ m ∷ matches_from meaning bytes (position_after m) (length bytes - 1) = rw (is, matches_from) refl in
       let later = matches_from-enough (position_after m) (length bytes - 1) (length bytes)
       (omega (arith, position_after-later p m order.0 order.1)) (omega arith) in
       ap (matches_from meaning bytes p) size ∙ (first ∙ ap (λ xs. m ∷ xs) later))

@@ -1,5 +1,5 @@
 -- How the calls of a walk across lines end, against those that are defined.
-use Rattle.std.proofs.Common.{◌≡◌, ℕ, ◌+◌, ◌-◌, ◌<◌, ◌≤◌, true, List, ◌∷◌, ◌++◌, length, take, inl, inr}
+use Rattle.std.proofs.Common.{◌≡◌, ℕ, ◌+◌, ◌-◌, ◌≤◌, true, List, ◌++◌, length, take, inl, inr}
 use Rattle.std.proofs.Common.{refl, sym, ◌∙◌, ap, subst, arith, ⊎_elim}
 use Rattle.std.proofs.lemmas.Bool.{cases_lt}
 use Rattle.std.specs.Prelude.{Ok, Err, false}
@@ -7,7 +7,6 @@ use Rattle.grep_lines.proofs.LawLemmas.{AreLines-lines}
 use Rattle.grep_matcher.specs.Lines.{lines}
 use Rattle.grep_matcher.specs.Matching.{Meaning}
 use Rattle.grep_matcher.specs.Terminators.{byte_of}
-use Rattle.grep_definitions.specs.AcrossLines
 use Rattle.grep_definitions.specs.AcrossLines.{byte_count, turns, turns_at}
 use Rattle.grep_definitions.specs.AcrossQuestions.{IsAskedAcross}
 use Rattle.grep_definitions.specs.Below.{joined_from}
@@ -90,14 +89,14 @@ module _ (k : Settings) (meaning : Meaning) (bytes : List ℕ) where
     pub counted-end : (w : Walk) (new : State) → IsAcross k meaning bytes w → w.offset ≡ length bytes
         → AreReported step k first (front w.reported_through) all_true new → IsCounted w.offset all_true new
     counted-end w new across end reported =
-      let all = all-passed w across end in
-      record {
-      reported = subst (λ ts. AreReported step k first ts all_true new)
-          (sym (calls.front-done k meaning bytes w.reported_through w.after_context_left
-          (subst (λ i. calls.Near k meaning bytes w.reported_through i w.after_context_left) all across.near)))
-          reported;
-      is_count = sym across.placed.at.begins ∙ ap (start k meaning bytes) all;
-    }
+        let all = all-passed w across end in
+        record {
+          reported = subst (λ ts. AreReported step k first ts all_true new)
+              (sym (calls.front-done k meaning bytes w.reported_through w.after_context_left
+              (subst (λ i. calls.Near k meaning bytes w.reported_through i w.after_context_left) all across.near)))
+              reported;
+          is_count = sym across.placed.at.begins ∙ ap (start k meaning bytes) all;
+        }
 
     -- the calls so far are some first calls
     pub taken : (w : Walk) (now : State) → IsAcross k meaning bytes w

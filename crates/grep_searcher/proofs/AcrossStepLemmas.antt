@@ -1,8 +1,8 @@
 -- A walk across lines, from line to line and from unit to unit.
-use Rattle.std.proofs.Common.{◌≡◌, ℕ, zero, suc, ◌+◌, ◌-◌, ◌<◌, ◌≤◌, ◌==◌, Bool, true, false, not, ◌&&◌, List, [], ◌∷◌, ◌++◌, length, drop}
+use Rattle.std.proofs.Common.{◌≡◌, ℕ, zero, suc, ◌+◌, ◌-◌, ◌<◌, ◌≤◌, Bool, true, false, not, ◌&&◌, List, [], ◌++◌, length, drop}
 use Rattle.std.proofs.Common.{refl, sym, ◌∙◌, ap, subst, arith, ⊎_elim, if◌then◌else◌, length-take, length-drop}
 use Rattle.std.proofs.Math.Path.{ap₂}
-use Rattle.std.proofs.lemmas.Bool.{cases_Bool, eqb-true}
+use Rattle.std.proofs.lemmas.Bool.{cases_Bool}
 use Rattle.std.specs.Prelude.{nat_lt}
 use Rattle.grep_matcher.specs.Lines.{lines, line_start}
 use Rattle.grep_matcher.specs.Matching.{Meaning}
@@ -15,14 +15,14 @@ use Rattle.grep_definitions.specs.LineTurns.{context_turns, match_turns, number_
 use Rattle.grep_definitions.specs.Settings.{Settings}
 use Rattle.grep_definitions.specs.SinkCalls.{Turn}
 use Rattle.grep_definitions.proofs.BelowLemmas.{below_next, below_none, count_below-le, is_below-le}
-use Rattle.grep_definitions.proofs.BoolLemmas.{both_true, clash, not_false}
+use Rattle.grep_definitions.proofs.BoolLemmas.{both_true, clash}
 use Rattle.grep_searcher.specs.declared.searcher.walk.Walk.{Walk}
-use Rattle.grep_searcher.specs.AcrossWalks.{IsAcross, IsLimited, is_joined, is_silent, turns_before, walk_after, walk_past}
-use Rattle.grep_searcher.specs.Walks.{IsOrdered, IsPlaced, line_end, line_turns, next_walk}
+use Rattle.grep_searcher.specs.AcrossWalks.{IsAcross, IsLimited, turns_before, walk_after, walk_past}
+use Rattle.grep_searcher.specs.Walks.{line_end, line_turns, next_walk}
 use Rattle.grep_definitions.proofs.AcrossWalkLemmas as calls
 use Rattle.grep_searcher.proofs.AcrossUnitLemmas.{IsChosen, IsNext, selected-inverted}
 use Rattle.grep_searcher.proofs.LineRangeLemmas.{lines-between}
-use Rattle.grep_searcher.proofs.WalkLemmas.{end-is, placed-next, placed-start, start-after, start_walk}
+use Rattle.grep_searcher.proofs.WalkLemmas.{placed-next, placed-start, start-after, start_walk}
 
 -- one more number
 count-next : (p : ℕ → Bool) (i : ℕ) → count_below p (i + 1) ≡ (if p i then count_below p i + 1 else count_below p i)
@@ -62,7 +62,8 @@ module _ (k : Settings) (meaning : Meaning) (bytes : List ℕ) where
       record { below = over ∙ sym (ap not full); counted = λ room. absurd (clash full room) })
       (λ (room : is_at c k.max_matches ≡ false).
       let none : free i ≡ false =
-      sym (and-true (free i)) ∙ (ap (λ b. free i && b) (sym (limited.below ∙ ap not room)) ∙ (sym (selected-inverted k meaning bytes inverted i) ∙ missed)) in
+      sym (and-true (free i))
+      ∙ (ap (λ b. free i && b) (sym (limited.below ∙ ap not room)) ∙ (sym (selected-inverted k meaning bytes inverted i) ∙ missed)) in
       let same : count_below free (i + 1) ≡ count_below free i =
       count-next free i ∙ ap (λ b. if b then count_below free i + 1 else count_below free i) none in
       record {
@@ -129,11 +130,8 @@ module _ (k : Settings) (meaning : Meaning) (bytes : List ℕ) where
       count : w.line + length (lines t here) ≡ next.last
       count = omega (arith, lines-between t bytes p q w.line next.last at-start next.at next.from next.within next.low, next.low)
 
-      pub across-past : is_silent k w ≡ true → IsAcross k meaning bytes (walk_past k w here)
-      across-past silent =
-          let parts = both_true (not k.passthru) (w.after_context_left == 0) silent in
-          let plain = not_false k.passthru parts.0 in
-          let none : w.after_context_left ≡ 0 = eqb-true w.after_context_left 0 parts.1 in
+      pub across-past : k.passthru ≡ false → w.after_context_left ≡ 0 → IsAcross k meaning bytes (walk_past k w here)
+      across-past plain none =
           let near = calls.near-skipped k meaning bytes w.reported_through w.line next.last
           (subst (λ l. calls.Near k meaning bytes w.reported_through w.line l) none across.near) plain next.low next.at.listed
           next.missed in

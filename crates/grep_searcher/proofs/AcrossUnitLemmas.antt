@@ -259,13 +259,13 @@ module _ (k : Settings) (meaning : Meaning) (bytes : List ℕ) where
             let here = come goes in (
               ready.ordered,
               λ less. record {
-                  low = here.low;
-                  is_unit = here.is_unit;
-                  after = omega (arith, here.after, here.whole is_b);
-                  before = ready.ordered;
-                  whole = λ plain. omega arith;
-                  alone = here.alone;
-                },
+                low = here.low;
+                is_unit = here.is_unit;
+                after = omega (arith, here.after, here.whole is_b);
+                before = ready.ordered;
+                whole = λ plain. omega arith;
+                alone = here.alone;
+              },
             )
         go true true d is_b is_c = absurd (clash (and-both k.invert_match full is_b is_c) goes)
         go true false true is_b is_c = (omega (arith, ahead goes), λ less. come goes)
@@ -372,7 +372,9 @@ module _ (k : Settings) (meaning : Meaning) (bytes : List ℕ) where
                     higher (j + 1) here.is_unit.last (omega (arith, high)),
                     here.is_unit.ends.begins,
                   ));
-              closed = λ plain inside. selected-plain is_b here.is_unit.last ∙ here.is_unit.past here.is_unit.last inside here.is_unit.ends.begins;
+              closed = λ plain inside.
+                  selected-plain is_b here.is_unit.last
+                  ∙ here.is_unit.past here.is_unit.last inside here.is_unit.ends.begins;
               single = λ inverted. absurd (clash inverted is_b);
               first = ⊎_elim
                   (λ above.

@@ -246,7 +246,8 @@ module _ (k : Settings) (meaning : Meaning) (bytes : List ℕ) where
     where
       missed : (j : ℕ) → from j ≤ u.1 → touched_of later j ≡ false
       missed j low = missed-before later j
-          (All-weaker (λ m. u.1 < block_start t bytes m) (λ m. from j < block_start t bytes m) (λ m high. omega (arith, low, high)) later after)
+          (All-weaker (λ m. u.1 < block_start t bytes m) (λ m. from j < block_start t bytes m)
+          (λ m high. omega (arith, low, high)) later after)
 
   -- if there are no more matches, there is no other unit
   pub unit-none : (low position : ℕ) (found : List (ℕ × ℕ)) → AreTouched k meaning bytes low position found None
@@ -278,7 +279,8 @@ module _ (k : Settings) (meaning : Meaning) (bytes : List ℕ) where
   }
 
   -- the whole lines of a match from a line start on
-  module _ (e a : ℕ) (here : IsLineStart t bytes e a) (m p : ℕ × ℕ) (part : IsPart t bytes e m p) (order : m.0 ≤ m.1) (reach : e ≤ m.1) where
+  module _ (e a : ℕ) (here : IsLineStart t bytes e a) (m p : ℕ × ℕ) (part : IsPart t bytes e m p) (order : m.0 ≤ m.1)
+      (reach : e ≤ m.1) where
     -- if the match starts before it, they start there
     part-before : m.0 < e → p.0 ≡ e
     part-before before =
@@ -330,7 +332,8 @@ module _ (k : Settings) (meaning : Meaning) (bytes : List ℕ) where
       (λ after. omega (arith, part-start u.1 last ends m p part order reach below after, joins))
       (cases_lt m.0 u.1) in
       subst (λ x. AreTouched k meaning bytes low (position_after m) (found ++ m ∷ []) (Some (u.0, x))) (sym stop)
-      (touched-joined low position found u m touched next order start (omega (arith, stop, part.past, reach)) (omega (arith, stop, part.within))))
+      (touched-joined low position found u m touched next order start (omega (arith, stop, part.past, reach))
+      (omega (arith, stop, part.within))))
       (λ all.
       let same : u.1 ≡ p.1 = omega (arith, all, touched.range.within, part.past, part.within, reach) in
       subst (λ x. AreTouched k meaning bytes low (position_after m) (found ++ m ∷ []) (Some (u.0, x))) same

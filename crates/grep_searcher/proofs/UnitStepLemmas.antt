@@ -36,7 +36,8 @@ module _ (k : Settings) (meaning : Meaning) (bytes : List ℕ) where
     none_found = subst (λ l. AreFound k meaning bytes 0 l []) (sym limit_is) (found-start k meaning bytes)
 
     -- there is no match
-    pub left-start-none : (b' : Blocks) → HasNoMore k meaning bytes (starts limit) b' → b'.next ≡ None → b'.end ≡ 0 → AreLeft k meaning bytes b'
+    pub left-start-none : (b' : Blocks) → HasNoMore k meaning bytes (starts limit) b' → b'.next ≡ None → b'.end ≡ 0
+        → AreLeft k meaning bytes b'
     left-start-none b' more next_is end_is = record {
       asked = [];
       found = more.found [] none_found;

@@ -1,11 +1,10 @@
--- The walk of a search across lines: what it knows of the lines before it and of the unit that it comes to, and how lines
--- move it on. The contracts of private functions cite these definitions; no public contract does.
-use Rattle.std.specs.Prelude.{◌≡◌, ℕ, ◌+◌, ◌-◌, ◌<◌, ◌≤◌, Bool, true, false, not, ◌&&◌, ◌==◌, if◌then◌else◌, nat_lt}
-use Rattle.std.specs.Prelude.{List, ◌∷◌, length}
+-- The walk of a search across lines: what it knows of the lines before it and of the unit that it comes to, and how
+-- lines move it on. The contracts of private functions cite these definitions; no public contract does.
+use Rattle.std.specs.Prelude.{◌≡◌, ℕ, ◌+◌, ◌-◌, ◌<◌, ◌≤◌, Bool, true, false, not, ◌&&◌, nat_lt}
+use Rattle.std.specs.Prelude.{if◌then◌else◌, List, ◌∷◌, length}
 use Rattle.grep_matcher.specs.Lines.{lines}
 use Rattle.grep_matcher.specs.Matching.{Meaning}
 use Rattle.grep_matcher.specs.Terminators.{byte_of}
-use Rattle.grep_lines.specs.Positions.{IsLineStart}
 use Rattle.grep_definitions.specs.AcrossLines.{is_free, is_selected, turns_at}
 use Rattle.grep_definitions.specs.Below.{count_below, is_at, is_below, joined_from}
 use Rattle.grep_definitions.specs.LineSearch.{line_count}
@@ -27,10 +26,6 @@ next_chosen settings bytes start unit w =
     if not settings.invert_match then unit.0
     else (if is_at w.match_count settings.max_matches then length bytes
     else (if nat_lt start unit.0 then start else unit.1))
-
--- whether lines that aren't chosen are passed unreported
-abbrev pub is_silent : Settings → Walk → Bool
-is_silent settings w = not settings.passthru && w.after_context_left == 0
 
 -- whether a chosen line is reported with the other lines of its unit
 abbrev pub is_joined : Settings → Bool → Bool
@@ -59,22 +54,26 @@ walk_after settings w unit chosen =
 module _ (settings : Settings) (meaning : Meaning) (bytes : List ℕ) where
   -- `begin`, and the calls of the first i lines
   abbrev pub turns_before : ℕ → List Turn
-  turns_before i = record { call = begins; end = 0 } ∷ joined_from (turns_at settings meaning bytes) 0 i
+  turns_before i =
+      record { call = begins; end = 0 } ∷ joined_from (turns_at settings meaning bytes) 0 i
 
   -- what a walk at line i knows of the limit under inversion, if c lines were chosen
   pub record IsLimited (i c : ℕ) : Type 0 where
     pub below : is_below (count_below (is_free settings meaning bytes) i) settings.max_matches
         ≡ not (is_at c settings.max_matches)
-    pub counted : is_at c settings.max_matches ≡ false → count_below (is_free settings meaning bytes) i ≡ c
+    pub counted : is_at c settings.max_matches ≡ false
+        → count_below (is_free settings meaning bytes) i ≡ c
 
   -- where a walk is, and what it knows of the lines before it
   pub record IsAcross (w : Walk) : Type 0 where
     pub placed : IsPlaced settings meaning bytes w
-    pub near : IsNear settings (is_selected settings meaning bytes) (line_count settings meaning bytes)
-        (line_count settings meaning bytes) w.reported_through w.line w.after_context_left
+    pub near : IsNear settings (is_selected settings meaning bytes)
+        (line_count settings meaning bytes) (line_count settings meaning bytes)
+        w.reported_through w.line w.after_context_left
     pub limited : settings.invert_match ≡ true → IsLimited w.line w.match_count
 
-  -- a walk at `start` comes to a unit or is in it: without inversion it comes to it. No match touches the line before it
+  -- a walk at `start` comes to a unit or is in it: without inversion it comes to it. No match touches the line before
+  -- the unit
   pub record IsComing (start : ℕ) (unit : ℕ × ℕ) : Type 0 where
     pub low : ℕ
     pub is_unit : IsUnit settings meaning bytes low unit

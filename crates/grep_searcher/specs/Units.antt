@@ -1,7 +1,7 @@
 -- The units of lines that the matches of a search across lines touch, one after another. The contracts of private
 -- functions cite these definitions; no public contract does.
-use Rattle.std.specs.Prelude.{◌≡◌, ℕ, ◌+◌, ◌-◌, ◌<◌, ◌≤◌, Bool, true, false, ◌&&◌, nat_lt, nat_le, List, [], ◌∷◌, ◌++◌}
-use Rattle.std.specs.Prelude.{length, drop, Option, Some, None, IfSome, IfNone}
+use Rattle.std.specs.Prelude.{◌≡◌, ℕ, ◌+◌, ◌-◌, ◌<◌, ◌≤◌, Bool, true, false, ◌&&◌, nat_lt, nat_le}
+use Rattle.std.specs.Prelude.{List, [], ◌∷◌, ◌++◌, length, drop, Option, Some, None, IfSome, IfNone}
 use Rattle.std.specs.List.{list_any}
 use Rattle.std.specs.Option.{option_map}
 use Rattle.grep_matcher.specs.Matching.{Meaning}
@@ -71,7 +71,8 @@ module _ (settings : Settings) (meaning : Meaning) (bytes : List ℕ) where
 
   -- which matches were found, and which are still to be found
   pub record AreFound (position : ℕ) (left : Option ℕ) (asked : List (ℕ × ℕ)) : Type 0 where
-    pub all : counted_matches settings meaning bytes ≡ asked ++ matches_left meaning bytes position left
+    pub all : counted_matches settings meaning bytes
+        ≡ asked ++ matches_left meaning bytes position left
     pub room : left ≡ option_map (λ limit. limit - length asked) (match_limit settings)
     pub at : position < length bytes → position_past 0 asked ≡ position
 
@@ -96,11 +97,15 @@ module _ (settings : Settings) (meaning : Meaning) (bytes : List ℕ) where
 
   -- the matches that were found touch the lines of one range, of those from a position on, and no match that is still
   -- to be found touches a line before it
-  pub record AreTouched (end position : ℕ) (asked : List (ℕ × ℕ)) (unit : Option (ℕ × ℕ)) : Type 0 where
-    pub same : (j : ℕ) → j < line_count settings meaning bytes → end ≤ start settings meaning bytes j
-        → list_any (touches settings meaning bytes j) asked ≡ is_in unit (start settings meaning bytes j)
+  pub record AreTouched (end position : ℕ) (asked : List (ℕ × ℕ)) (unit : Option (ℕ × ℕ))
+      : Type 0 where
+    pub same : (j : ℕ) → j < line_count settings meaning bytes
+        → end ≤ start settings meaning bytes j
+        → list_any (touches settings meaning bytes j) asked
+        ≡ is_in unit (start settings meaning bytes j)
     pub range : IfSome unit (IsRange end)
-    pub later : IfSome unit (λ u. u.0 ≤ block_start (byte_of settings.line_terminator) bytes (position, position))
+    pub later : IfSome unit
+        (λ u. u.0 ≤ block_start (byte_of settings.line_terminator) bytes (position, position))
 
   -- what is known of the matches between two units
   pub record AreLeft (blocks : Blocks) : Type 0 where

@@ -1,6 +1,6 @@
 //! The walk of a search across lines, from one unit of lines that matches touch to the next.
-ghost use Rattle.std.specs.Prelude.{◌≡◌, ◌≤◌, ◌<◌, ◌+◌, ◌-◌, ◌^◌, ◌&&◌, ◌==◌, ℕ, not, true, false, length};
-ghost use Rattle.std.specs.Prelude.{List, Ok, IfOk, IfErr, IsOk};
+ghost use Rattle.std.specs.Prelude.{◌≡◌, ◌≤◌, ◌<◌, ◌+◌, ◌-◌, ◌^◌, ◌&&◌, ◌==◌, ℕ, true, false};
+ghost use Rattle.std.specs.Prelude.{List, length, Ok, IfOk, IfErr, IsOk};
 ghost use Rattle.grep_matcher.specs.Terminators.{byte_of};
 ghost use Rattle.grep_matcher.specs.Matching.{IsInfallible};
 ghost use Rattle.grep_lines.specs.Positions.{IsLine, IsLineStart};
@@ -9,8 +9,8 @@ ghost use Rattle.grep_definitions.specs.Searches.{IsFaultIn};
 ghost use Rattle.grep_definitions.specs.SearchTurns.{calls_across};
 ghost use Rattle.grep_definitions.specs.SinkCalls.{begins};
 ghost use Rattle.grep_definitions.specs.SinkRuns.{Outcome, NeverFails};
-ghost use Rattle.grep_searcher.specs.AcrossWalks.{is_done, is_joined, is_silent, next_chosen, walk_after, walk_past};
-ghost use Rattle.grep_searcher.specs.AcrossWalks.{IsReady};
+ghost use Rattle.grep_searcher.specs.AcrossWalks.{is_done, is_joined, next_chosen};
+ghost use Rattle.grep_searcher.specs.AcrossWalks.{walk_after, walk_past, IsReady};
 ghost use Rattle.grep_searcher.specs.Walks.{Counted, IsOrdered};
 
 use crate::searcher::Searcher;
@@ -99,7 +99,6 @@ impl<A: Allocator + Copy> Searcher<A> {
             → IsOk result }
         ensures may_call { S.may_call sink.new }
     {
-        let _config = &self.config;
         let mut blocks = self.first_block::<M, S::Error>(matcher, bytes)?;
         let mut unit = Match::zero(0);
         let mut walk = START;
@@ -107,7 +106,7 @@ impl<A: Allocator + Copy> Searcher<A> {
         'lines: while start < bytes.len() {
             unit = self.unit_at::<M, S::Error>(matcher, bytes, start, &walk, unit, &mut blocks)?;
             let next = self.next_chosen(bytes, start, &unit, &walk);
-            if start < next && self.is_silent(&walk) {
+            if start < next && !self.config.passthru && walk.after_context_left == 0 {
                 walk = self.walk_past(&walk, &bytes[start..next]);
                 start = next;
                 continue;
@@ -135,11 +134,15 @@ impl<A: Allocator + Copy> Searcher<A> {
         blocks: &mut Blocks,
     ) -> Result<Match, E>
         requires some { start < length bytes.now }
-        requires at { IsLineStart (byte_of self.now.settings.line_terminator) bytes.now start walk.now.line }
-        requires ready { IsReady self.now.settings (M.meaning matcher.now) bytes.now start walk.now unit blocks.old }
+        requires at { IsLineStart (byte_of self.now.settings.line_terminator) bytes.now start
+            walk.now.line }
+        requires ready { IsReady self.now.settings (M.meaning matcher.now) bytes.now start
+            walk.now unit blocks.old }
         ensures ready { IfOk result (λ next.
-            IsReady self.now.settings (M.meaning matcher.now) bytes.now start walk.now next blocks.new) }
-        ensures ahead { IfOk result (λ next. is_done self.now.settings walk.now ≡ false → start < next.1) }
+            IsReady self.now.settings (M.meaning matcher.now) bytes.now start
+            walk.now next blocks.new) }
+        ensures ahead { IfOk result (λ next.
+            is_done self.now.settings walk.now ≡ false → start < next.1) }
         ensures fault { IfErr result (λ e. (haystack : List ℕ) × (error : M.Error)
             × IsAskedAcross self.now.settings (M.meaning matcher.now) bytes.now haystack
             × M.fails matcher.now haystack error × E.is_message (M.Error.output error) e) }
@@ -165,15 +168,8 @@ impl<A: Allocator + Copy> Searcher<A> {
         }
     }
 
-    // Whether lines that aren't chosen are passed unreported.
-    fn is_silent(&self, walk: &Walk) -> bool
-        ensures { result ≡ is_silent self.now.settings walk.now }
-    {
-        !self.config.passthru && walk.after_context_left == 0
-    }
-
-    // Where the unit ends that begins at `start`, if that is chosen, and the line, if it isn't. Under inversion a unit is
-    // one line.
+    // Where the unit ends that begins at `start`, if it is chosen, and the line, if it isn't. Under inversion a unit
+    // is one line.
     fn end_across(&self, bytes: &[u8], start: usize, unit: &Match, chosen: bool) -> usize
         requires some { start < length bytes.now }
         requires within { unit.now.1 ≤ length bytes.now }

@@ -1,7 +1,7 @@
 use Rattle.std.proofs.Common.{◌≡◌, ◌∙◌, ◌-◌, ℕ, List, Some, None, length, drop, sym, subst, arith, take, take_all, length-drop}
 use Rattle.grep_matcher.specs.Matching.{IsWithin}
 use Rattle.grep_definitions.proofs.SuccessiveMatchLemmas.{matches_left-end, matches_left-full}
-use Rattle.grep_searcher.proofs.FoundMatchLemmas.{no-more, no-more-missed, found-next}
+use Rattle.grep_searcher.proofs.FoundMatchLemmas.{no-more, no-more-missed, found-next, asked-next}
 use Rattle.grep_searcher.proofs.searcher.Searcher.next_match.Goals as goal
 
 -- the bytes from a position on, as a slice of them is
@@ -16,9 +16,9 @@ returns-then-blocks-bytes-clause-none g c =
     no-more c.args.self.now.settings meaning c.args.bytes.now b
     (elim c.then-blocks-bytes.branch [
       | goal.then-blocks-bytes-via-then-blocks-bytes w ↦
-        matches_left-end meaning c.args.bytes.now b.position b.left (omega (arith, w.if-blocks-bytes.true))
+          matches_left-end meaning c.args.bytes.now b.position b.left (omega (arith, w.if-blocks-bytes.true))
       | goal.then-blocks-bytes-via-else-blocks-bytes+then-not-has_room w ↦
-        matches_left-full meaning c.args.bytes.now b.position b.left (sym w.has_room.ensures ∙ w.if-not-has_room.true)
+          matches_left-full meaning c.args.bytes.now b.position b.left (sym w.has_room.ensures ∙ w.if-not-has_room.true)
     ])
 
 pub returns-in_default-clause-none : goal.returns-in_default-clause-none
@@ -46,3 +46,16 @@ returns-clause-some g c =
     (subst (λ rest. meaning.first rest ≡ Some c.in-Some.found) whole some)
     (subst (λ rest. IsWithin rest (Some c.in-Some.found)) whole inside)
     c.offset-found.ensures c.position_after-blocks.ensures c.one_less-blocks.ensures
+
+pub returns-in-Err-clause-fault : goal.returns-in-Err-clause-fault
+returns-in-Err-clause-fault g c = λ asked so_far.
+    let b = c.args.blocks.now in
+    let bytes = c.args.bytes.now in
+    let meaning = g.M.Matcher.meaning c.args.matcher.now in (
+      drop b.position bytes,
+      c.in-Err.e,
+      asked-next c.args.self.now.settings meaning bytes b.position b.left asked so_far
+          (omega (arith, c.if-blocks-bytes.false)) (sym c.has_room.ensures ∙ c.if-not-has_room.false),
+      subst (λ rest. g.M.Matcher.fails c.args.matcher.now rest c.in-Err.e) (rest-is bytes b.position) c.in-Err.ensures.error,
+      c.error_message.ensures,
+    )

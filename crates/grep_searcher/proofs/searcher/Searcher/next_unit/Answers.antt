@@ -2,7 +2,7 @@ use Rattle.std.proofs.Common.{◌≡◌, ◌<◌, ◌∙◌, Some, None, length,
 use Rattle.std.specs.Prelude.{IfSome, IfNone}
 use Rattle.grep_matcher.specs.Terminators.{byte_of}
 use Rattle.grep_searcher.specs.Units.{IsPart, IsUnit, IsFound, HasNoMore, AreLeft, IsReached}
-use Rattle.grep_searcher.proofs.UnitStepLemmas.{unit-last, left-last, left-done, reached-inside, reached-joined, unit-apart, left-apart}
+use Rattle.grep_searcher.proofs.UnitStepLemmas.{unit-last, left-last, unit-done, left-done, reached-inside, reached-joined, unit-apart, left-apart}
 use Rattle.grep_searcher.proofs.searcher.Searcher.next_unit.Goals as goal
 
 pub returns-in_default-clause-unit : goal.returns-in_default-clause-unit
@@ -119,3 +119,15 @@ returns-clause-left g c =
     subst (λ e. AreLeft settings meaning bytes (record now { end = e })) (sym c.end-blocks-2.ensures.value)
     (left-done settings meaning bytes c.args.blocks.now.end b now c.matches.unit c.matches.invariant.reached
     c.next_match.ensures.next more)
+
+pub returns-clause-unit : goal.returns-clause-unit
+returns-clause-unit g c =
+    let settings = c.args.self.now.settings in
+    let meaning = g.M.Matcher.meaning c.args.matcher.now in
+    let bytes = c.args.bytes.now in
+    let b = c.matches.blocks in
+    let now = c.next_match.new.blocks in
+    let more : HasNoMore settings meaning bytes b now =
+    subst (λ o. IfNone o (HasNoMore settings meaning bytes b now)) c.in_default-2.is c.in_ok-found.ensures.none in
+    unit-done settings meaning bytes c.args.blocks.now.end b now c.matches.unit c.matches.invariant.reached
+    c.next_match.ensures.next more

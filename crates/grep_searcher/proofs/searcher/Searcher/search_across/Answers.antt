@@ -33,8 +33,8 @@ returns-in_err-unit-clause-fault g c =
     c.lines.sink c.lines.invariant.walk (c.lines.invariant.reported first begun)
     fault.0 fault.1 _ fault.2 fault.3 fault.4)
 
-pub lines-preserved-then-is_silent : goal.lines-preserved-then-is_silent
-lines-preserved-then-is_silent g c =
+pub lines-preserved-then-walk-eq0 : goal.lines-preserved-then-walk-eq0
+lines-preserved-then-walk-eq0 g c =
     let k = c.args.self.now.settings in
     let meaning = g.M.Matcher.meaning c.args.matcher.now in
     let at = subst (λ o. IsLineStart (byte_of k.line_terminator) c.args.bytes.now o c.lines.walk.line) c.lines.invariant.same
@@ -42,16 +42,25 @@ lines-preserved-then-is_silent g c =
     let next = subst (units.IsNext k meaning c.args.bytes.now c.lines.walk c.lines.start) (sym c.next_chosen-next.ensures)
     (units.next-is k meaning c.args.bytes.now c.lines.start c.lines.walk c.in_ok-unit.unit c.unit_at.new.blocks c.lines.invariant.walk
     at c.in_ok-unit.ensures.ready c.lines-test.true c.in_ok-unit.ensures.ahead) in
+    let shut : c.self.inside.config.passthru ≡ false = search rules in
+    let plain = sym (ap (λ (s : SearcherState). s.settings.passthru) c.self.view_is) ∙ shut in
     rw c.walk_past-walk.ensures.walk (record {
       within = next.within;
-      same = omega (arith, c.lines.invariant.same, next.from, next.within, length-take (c.next_chosen-next.result - c.lines.start)
-          (drop c.lines.start c.args.bytes.now), length-drop c.lines.start c.args.bytes.now);
+      same = omega (
+        arith,
+        c.lines.invariant.same,
+        next.from,
+        next.within,
+        length-take (c.next_chosen-next.result - c.lines.start)
+            (drop c.lines.start c.args.bytes.now),
+        length-drop c.lines.start c.args.bytes.now,
+      );
       ordered = rw c.walk_past-walk.ensures.walk at c.walk_past-walk.ensures.ordered;
       ready = units.ready-past k meaning c.args.bytes.now c.lines.start c.lines.walk c.in_ok-unit.unit c.unit_at.new.blocks
           c.lines.invariant.walk at c.in_ok-unit.ensures.ready c.lines-test.true c.in_ok-unit.ensures.ahead _ c.next_chosen-next.result
           c.next_chosen-next.ensures refl;
       walk = steps.across-past k meaning c.args.bytes.now c.lines.walk c.lines.start c.next_chosen-next.result c.lines.invariant.same
-          c.lines.invariant.walk next (sym c.is_silent.ensures ∙ c.if-is_silent.true);
+          c.lines.invariant.walk next plain c.if-walk-eq0.true;
       reported = c.lines.invariant.reported;
       may_call = c.lines.invariant.may_call;
     })

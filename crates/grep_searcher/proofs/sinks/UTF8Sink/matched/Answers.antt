@@ -1,0 +1,17 @@
+use Rattle.std.proofs.Common.{rules}
+use Rattle.grep_searcher.proofs.sinks.UTF8Sink.matched.Goals as goal
+
+pub returns-in_err-number_of-in-Ok-clause-step : goal.returns-in_err-number_of-in-Ok-clause-step
+returns-in_err-number_of-in-Ok-clause-step g c = search rules
+
+pub returns-in_err-number_of-in-Ok-clause-may_call : goal.returns-in_err-number_of-in-Ok-clause-may_call
+returns-in_err-number_of-in-Ok-clause-may_call g c = search rules
+
+pub returns-in_ok-number_of-in-Ok-clause-step : goal.returns-in_ok-number_of-in-Ok-clause-step
+returns-in_ok-number_of-in-Ok-clause-step g c = search rules
+
+pub returns-in-Err-clause-step : goal.returns-in-Err-clause-step
+returns-in-Err-clause-step g c = search rules
+
+pub returns-in-Err-clause-may_call : goal.returns-in-Err-clause-may_call
+returns-in-Err-clause-may_call g c = search rules
