@@ -108,8 +108,8 @@ WholeCount =
     → turn_count settings meaning bytes ≡ line_count settings meaning bytes
     → byte_count settings meaning bytes ≡ length bytes
 
--- the calls, how many lines have a turn, and the byte count depend on a matcher's matches alone, not on what it says
--- of terminators: a search with `Plain` of it has the same
+-- by line the calls, how many lines have a turn, and the byte count depend on a matcher's matches alone, not on what it
+-- says of terminators: a search by line with `Plain` of it has the same
 abbrev pub MatchesDecide : Type 0
 MatchesDecide =
     (settings : Settings) (meaning : Meaning) (bytes : List ℕ)

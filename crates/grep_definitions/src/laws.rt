@@ -59,9 +59,9 @@ pub fn whole_count()
     lines_join();
 }
 
-/// The calls depend on a matcher's matches alone, not on the terminator or the bytes that it excludes: a search with
-/// `Plain` of a matcher, which asks about one line at a time, makes the same calls as one with the matcher. It has as
-/// many turns and the same byte count.
+/// By line the calls depend on a matcher's matches alone, not on the terminator or the bytes that it excludes: a search
+/// by line with `Plain` of a matcher, which asks about one line at a time, makes the same calls as one with the matcher.
+/// It has as many turns and the same byte count.
 pub fn matches_decide()
     ensures { MatchesDecide }
 {}

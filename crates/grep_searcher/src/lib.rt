@@ -2,8 +2,8 @@
 //! `Sink` the matching lines, the lines near them, and how far it came.
 //!
 //! Which calls a search makes is defined in grep_definitions: `specs/LineSearch.antt` says it of the whole list of
-//! lines, `specs/SinkRuns.antt` what a sink makes of the calls, and `specs/Searches.antt` what a search does, with its
-//! faults.
+//! lines, `specs/AcrossLines.antt` of a search across lines, `specs/SinkRuns.antt` what a sink makes of the calls, and
+//! `specs/Searches.antt` what a search does, with its faults.
 #![tactic(auto)]
 
 mod config;

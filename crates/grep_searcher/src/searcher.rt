@@ -44,7 +44,7 @@ use std::alloc::{Allocator, Global};
 use std::io;
 use std::marker::Model;
 
-/// A search by line, as a `SearcherBuilder` configured it. It can be used for any number of searches; each begins anew.
+/// A search, as a `SearcherBuilder` configured it. It can be used for any number of searches; each begins anew.
 #[derive(Drop)]
 pub struct Searcher<A: Allocator + Copy = Global> {
     config: Config,
@@ -172,7 +172,8 @@ impl<A: Allocator + Copy> Searcher<A> {
     }
 
     /// Searches the decoded bytes of a reader, line by line as they come, in bounded memory, and reports to the sink
-    /// what it finds, as `search_slice` does. The caller ensures that the sink may be called.
+    /// what it finds, as `search_slice` does. The caller ensures that the sink may be called. How a reader is searched
+    /// across lines is said at the end.
     ///
     /// `begin` comes before any read. The reader is read no further than the search needs: a false, the limit or a
     /// stop ends it without another read, and so does an unterminated last line. A buffer shows whole lines; between
@@ -188,6 +189,10 @@ impl<A: Allocator + Copy> Searcher<A> {
     /// - one of kind `OutOfMemory`, if the buffer has to grow and can't, which it never does under a heap limit of
     ///   at most 65,536; or if the searcher has no buffers, as a clone that was made in a sink, and there is no
     ///   memory for them: then the sink had no call.
+    ///
+    /// A search across lines (`multi_line_with_matcher`) first reads the reader to its end, and keeps all decoded bytes
+    /// in memory. If an error of reading comes then, the sink has no call: the reader's error; one of kind `Other`, once
+    /// as many decoded bytes have come as the heap limit; or one of kind `OutOfMemory`.
     ///
     /// The settings stay as they were, and a searcher that has its buffers has them afterwards, whatever comes.
     pub fn search_reader<M: Matcher, R: Source, S: Sink>(
