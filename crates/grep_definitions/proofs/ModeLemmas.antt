@@ -1,5 +1,5 @@
 -- A search in the mode that it runs in.
-use Rattle.std.proofs.Common.{◌≡◌, ℕ, Bool, true, false, List, ap}
+use Rattle.std.proofs.Common.{◌≡◌, ℕ, false, List, ap}
 use Rattle.grep_matcher.specs.Matching.{Meaning}
 use Rattle.grep_definitions.specs.LineSearch
 use Rattle.grep_definitions.specs.Modes.{is_across}

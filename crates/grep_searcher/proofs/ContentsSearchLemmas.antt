@@ -1,12 +1,9 @@
 -- A search of a reader across lines, for which all of it was read first.
-use Rattle.std.proofs.Common.{◌≡◌, ◌⊎◌, ◌≢◌, ℕ, ◌<◌, Bool, true, false, List, [], ◌∷◌, ◌++◌, length, Option, Some, None, Result, Ok, Err}
+use Rattle.std.proofs.Common.{◌≡◌, ◌⊎◌, ℕ, ◌<◌, Bool, true, false, List, [], ◌∷◌, ◌++◌, length, Option, None, Result, Ok, Err}
 use Rattle.std.proofs.Common.{refl, sym, ◌∙◌, ap, subst, arith, ⊎_elim, inl, inr, append-nil, length-append, ◌≤◌}
 use Rattle.std.proofs.lemmas.Bool.{false≢true}
 use Rattle.std.proofs.lemmas.List.Elements.{All-weaker}
-use Rattle.std.specs.List.{concat}
 use Rattle.std.specs.declared.io.Error.{Error}
-use Rattle.std.specs.IoError.{error_kind}
-use Rattle.std.specs.declared.io.ErrorKind.TheVariants.{Other, OutOfMemory}
 use Rattle.grep_decode.specs.declared.mode.Mode.TheVariants.{Passing}
 use Rattle.grep_decode.specs.DecoderStates.{DecoderState, Decodes, IsDone, IsSettled, TakesAtMost, started, still_to_give}
 use Rattle.grep_decode.specs.Source.{ReadResult}
@@ -20,15 +17,15 @@ use Rattle.grep_matcher.specs.Matching.{Meaning}
 use Rattle.grep_matcher.specs.Terminators.{byte_of}
 use Rattle.grep_definitions.specs.DecodedInputs.{IsInput}
 use Rattle.grep_definitions.specs.InputFronts.{IsFront, IsTooLong}
-use Rattle.grep_definitions.specs.ReaderSearches.{Taken, IsUnreadIn, IsReaderRunIn, IsReaderFaultIn}
-use Rattle.grep_definitions.specs.ReaderSearches.{of_contents, of_failed_read, of_search, of_reading}
+use Rattle.grep_definitions.specs.ReaderSearches.{Taken, IsUnreadIn, IsReaderFaultIn}
+use Rattle.grep_definitions.specs.ReaderSearches.{of_contents, of_failed_read, of_search}
 use Rattle.grep_definitions.specs.ReadingFaults.{CutsContents, of_full, of_no_memory}
 use Rattle.grep_definitions.specs.SearchLaws.{UnchangedIsInput}
 use Rattle.grep_definitions.specs.SearchTurns.{SearchCalls, calls_across}
 use Rattle.grep_definitions.specs.Searches.{ErrorMakers, MatcherFacts, IsFaultIn, of_sink}
 use Rattle.grep_definitions.specs.Settings.{Settings, SearcherState}
 use Rattle.grep_definitions.specs.SinkCalls.{Turn, begins, finishes}
-use Rattle.grep_definitions.specs.SinkRuns.{Steps, Outcome, all_true, stopped, failed, AreReported, IsFinished, IsRun}
+use Rattle.grep_definitions.specs.SinkRuns.{Steps, Outcome, AreReported, IsFinished, IsRun}
 use Rattle.grep_definitions.specs.SinkRuns.{finish_result}
 use Rattle.grep_definitions.proofs.LineLengthLemmas.{lines-within}
 use Rattle.grep_searcher.specs.InputSearches.{IsSourceSearchedIn}

@@ -7,7 +7,7 @@ use Rattle.grep_definitions.specs.Modes.{is_across}
 use Rattle.grep_definitions.specs.ReaderSearches.{IsUnread, IsUnreadIn}
 use Rattle.grep_definitions.specs.Searches.{ErrorMakers, MatcherFacts}
 use Rattle.grep_definitions.specs.SearchTurns.{calls_if}
-use Rattle.grep_definitions.specs.Settings.{Settings, SearcherState}
+use Rattle.grep_definitions.specs.Settings.{SearcherState}
 use Rattle.grep_definitions.specs.SinkRuns.{Steps}
 use Rattle.grep_searcher.specs.InputSearches.{IsSourceSearched, IsSourceSearchedIn}
 
