@@ -1,4 +1,4 @@
--- What a search asks a matcher: about one line, or about many lines at once.
+-- What a search by line asks a matcher: about one line, or about many lines at once.
 use Rattle.std.specs.Prelude.{◌≡◌, ◌≢◌, ◌⊎◌, ℕ, ◌<◌, ◌≤◌, ◌&&◌, true, false, List, Some}
 use Rattle.grep_lines.specs.Positions.{slice}
 use Rattle.grep_matcher.specs.declared.line_terminator.LineTerminator.{LineTerminator}

@@ -1,5 +1,5 @@
--- What a search of a reader does: it makes the calls for the decoded bytes of what the reader gives, and reads no
--- more than it needs. What it promises holds whatever would follow what it read.
+-- What a search of a reader does: it makes the calls for the decoded bytes of what the reader gives. By line it reads
+-- no more than it needs, and across lines all. What it promises holds whatever would follow what it read.
 use Rattle.std.specs.Prelude.{◌≡◌, ◌≤◌, ◌<◌, ◌+◌, ◌&&◌, ℕ, Bool, true, false, not, List, length}
 use Rattle.std.specs.Prelude.{Option, Some, None, Result, Ok, Err}
 use Rattle.std.specs.List.{concat}
@@ -16,7 +16,7 @@ use Rattle.grep_report.specs.declared.config_error.ConfigError.{ConfigError}
 use Rattle.grep_definitions.specs.Below.{is_at}
 use Rattle.grep_definitions.specs.DecodedInputs.{IsInput, is_searched_unchanged}
 use Rattle.grep_definitions.specs.InputFronts.{GoesOnAfter, HasOpenLine, IsFront}
-use Rattle.grep_definitions.specs.ReadingFaults.{CutsShort, CutsContents}
+use Rattle.grep_definitions.specs.ReadingFaults.{CutsShort, CutsContents, IsBelowLimit}
 use Rattle.grep_definitions.specs.Refusals.{refusal_of}
 use Rattle.grep_definitions.specs.Searches.{ErrorMakers, MatcherFacts, IsFaultIn, HasReportedIn, IsLawful}
 use Rattle.grep_definitions.specs.SearchTurns.{SearchCalls, search_calls, calls_by_line}
@@ -108,7 +108,8 @@ module _ {R : Type 0} (remaining : R → Option (List ℕ)) (read_step : R → R
       pub unread : calls.across ≡ false → (begun && not (is_idle settings)) ≡ false → reader' ≡ reader
       -- across lines all was read, and it is shorter than the heap limit
       pub whole : calls.across ≡ true → taken.ended ≡ true
-      pub below : calls.across ≡ true → (limit : ℕ) → settings.heap_limit ≡ Some limit → length seen < limit
+      pub below : calls.across ≡ true → (bytes : List ℕ) → IsInput settings taken.ended taken.pieces bytes
+          → IsBelowLimit settings bytes
       -- how far the reader is ahead of the byte count, under a heap limit, if what came is searched unchanged
       pub ahead : calls.across ≡ false → (limit : ℕ) → settings.heap_limit ≡ Some limit
           → is_searched_unchanged settings (concat taken.pieces) ≡ true
@@ -118,12 +119,13 @@ module _ {R : Type 0} (remaining : R → Option (List ℕ)) (read_step : R → R
     pub data IsReaderFaultIn (calls : SearchCalls) (state : SearcherState) (reader : R) (old : S)
         : E → R → S → Type 0 where
       -- the sink's own error or the matcher's, over the lines that were seen, and whatever follows what was taken.
-      -- Across lines all was read
+      -- Across lines all was read, and it is shorter than the heap limit
       of_search : {e : E} {reader' : R} {new : S} (taken : Taken reader reader') (seen : List ℕ)
           → (calls.across ≡ true → taken.ended ≡ true)
           → IsFaultIn step errors matcher calls state.settings seen old e new
           → ((bytes : List ℕ) → IsInput state.settings taken.ended taken.pieces bytes
-          → IsFront state.settings bytes seen × IsFaultIn step errors matcher calls state.settings bytes old e new)
+          → IsFront state.settings bytes seen × IsFaultIn step errors matcher calls state.settings bytes old e new
+          × (calls.across ≡ true → IsBelowLimit state.settings bytes))
           → IsReaderFaultIn calls state reader old e reader' new
       -- the input wasn't searched to its end
       of_reading : {e : E} {reader' : R} {new : S} (seen : Option (List ℕ)) (error : Error)

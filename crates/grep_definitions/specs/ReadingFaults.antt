@@ -27,6 +27,10 @@ pub data CutsShort (settings : Settings) (meaning : Meaning) (input seen : List 
       → IsCrowded settings meaning input seen buffer_capacity
       → CutsShort settings meaning input seen error
 
+-- an input is shorter than the heap limit, if there is one
+abbrev pub IsBelowLimit : Settings → List ℕ → Type 0
+IsBelowLimit settings input = (limit : ℕ) → settings.heap_limit ≡ Some limit → length input < limit
+
 -- why all of an input isn't read before a search across lines begins, by the error: as many bytes have come as the
 -- heap limit, or there was no memory for them
 pub data CutsContents (settings : Settings) (input : List ℕ) : Error → Type 0 where

@@ -19,7 +19,7 @@ use Rattle.grep_definitions.specs.DecodedInputs.{IsInput}
 use Rattle.grep_definitions.specs.InputFronts.{IsFront, IsTooLong}
 use Rattle.grep_definitions.specs.ReaderSearches.{Taken, IsUnreadIn, IsReaderFaultIn}
 use Rattle.grep_definitions.specs.ReaderSearches.{of_contents, of_failed_read, of_search}
-use Rattle.grep_definitions.specs.ReadingFaults.{CutsContents, of_full, of_no_memory}
+use Rattle.grep_definitions.specs.ReadingFaults.{CutsContents, IsBelowLimit, of_full, of_no_memory}
 use Rattle.grep_definitions.specs.SearchLaws.{UnchangedIsInput}
 use Rattle.grep_definitions.specs.SearchTurns.{SearchCalls, calls_across}
 use Rattle.grep_definitions.specs.Searches.{ErrorMakers, MatcherFacts, IsFaultIn, of_sink}
@@ -99,12 +99,17 @@ module _ {R : Type 0} (remaining : R → Option (List ℕ)) (read_step : R → R
     front-is : (bytes : List ℕ) → IsInput k d.has_ended reads.pieces bytes → IsFront k bytes given
     front-is bytes input = subst (λ xs. IsFront k xs given) (given-is bytes input) (front-whole join k given below)
 
+    below-limit : (bytes : List ℕ) → IsInput k d.has_ended reads.pieces bytes → IsBelowLimit k bytes
+    below-limit bytes input limit is =
+        subst (λ xs. length xs < limit) (given-is bytes input) (subst (λ l. IsBelow l (length given)) is below)
+
     pub contents-fault : (e : E) (new : S) → IsFaultIn step errors matcher calls k given old e new
         → IsReaderFaultIn remaining read_step step errors matcher calls state reader old e reader' new
     contents-fault e new fault = of_search taken given (λ _. done.ended) fault
         (λ bytes input. (
           front-is bytes input,
           subst (λ xs. IsFaultIn step errors matcher calls k xs old e new) (given-is bytes input) fault,
+          (λ _. below-limit bytes input),
         ))
 
     -- `finish` ends what was counted
@@ -134,7 +139,7 @@ module _ {R : Type 0} (remaining : R → Option (List ℕ)) (read_step : R → R
           begin = begun.2;
           unread = λ by_line. absurd (false≢true (sym by_line));
           whole = λ _. done.ended;
-          below = λ _ limit is. subst (λ l. IsBelow l (length given)) is below;
+          below = λ _. below-limit;
           ahead = λ by_line. absurd (false≢true (sym by_line));
         }
     contents-finished count outcome mid (Err e) new counted finish = contents-fault e new

@@ -107,6 +107,7 @@ module _ {S E F : Type 0} (step : Steps S E) (errors : ErrorMakers E) (matcher :
         counted.front bytes input,
         of_sink (run-finish step k old (turns k matcher.meaning bytes) (byte_count k matcher.meaning bytes)
             count counted.outcome mid (Err e) new (counted.over_all bytes input) finish),
+        (λ across. absurd (false≢true across)),
       ))
 
   -- a search that made no report and reads nothing
@@ -155,6 +156,7 @@ module _ {S E F : Type 0} (step : Steps S E) (errors : ErrorMakers E) (matcher :
       (λ bytes input. (
         front-none state.settings bytes,
         walks.fault-begin step errors matcher state.settings bytes old e new fails,
+        (λ across. absurd (false≢true across)),
       ))
 
   -- there are no buffers, and no memory for them, in any mode

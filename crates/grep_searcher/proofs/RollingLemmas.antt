@@ -294,6 +294,7 @@ module _ {R : Type 0} (remaining : R → Option (List ℕ)) (read_step : R → R
             front bytes input,
             subst (λ xs. IsLineFault step errors matcher k xs first e now') (after-is bytes input)
                 (fault gone first ready (after bytes input) (closes bytes input)),
+            (λ across. absurd (false≢true across)),
           ))
 
       -- the search ended within what is shown, or with it

@@ -172,11 +172,10 @@ impl<A: Allocator + Copy> Searcher<A> {
     }
 
     /// Searches the decoded bytes of a reader, line by line as they come, in bounded memory, and reports to the sink
-    /// what it finds, as `search_slice` does. The caller ensures that the sink may be called. How a reader is searched
-    /// across lines is said at the end.
+    /// what it finds, as `search_slice` does. The caller ensures that the sink may be called.
     ///
-    /// `begin` comes before any read. The reader is read no further than the search needs: a false, the limit or a
-    /// stop ends it without another read, and so does an unterminated last line. A buffer shows whole lines; between
+    /// By line `begin` comes before any read. The reader is read no further than the search needs: a false, the limit or
+    /// a stop ends it without another read, and so does an unterminated last line. A buffer shows whole lines; between
     /// two reads it keeps at most as many of them as are reported before a match. It has 65,536 bytes at first, or
     /// the heap limit if that is lower, and grows to the heap limit.
     ///

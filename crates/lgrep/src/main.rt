@@ -1,4 +1,4 @@
-//! Searches a file or standard input for a literal, line by line.
+//! Searches a file or standard input for a literal, line by line or across lines.
 #![tactic(auto)]
 
 use grep_searcher::{Reading, SearchError};

@@ -19,8 +19,8 @@ use std::alloc::{Allocator, Global};
 /// offset in the decoded bytes; `None` if no line is selected. The caller ensures that the searcher numbers
 /// lines.
 ///
-/// Whatever follows what was taken of the reader, this is the first selected line, in a search by line. The
-/// reader is read no further than the search needs, and by line not again once a line is selected.
+/// Whatever follows what was taken of the reader, in a search by line this is the first selected line. The reader
+/// is read no further than the search needs, and by line not again once a line is selected.
 ///
 /// An error is made of the reader's, of the matcher's, of a configuration that the searcher refuses,
 /// of the heap limit, of being out of memory, or of more than 2^64 - 1 decoded bytes.

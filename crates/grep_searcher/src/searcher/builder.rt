@@ -117,7 +117,7 @@ impl SearcherBuilder {
 
     /// Whether a match may extend over several lines; not by default.
     ///
-    /// Then a search runs across lines, unless the matcher says that no match of its contains the line terminator
+    /// Then a search runs across lines, unless the matcher says that none of its matches contains the line terminator
     /// (`Searcher::multi_line_with_matcher`). It looks for matches in all bytes at once, and reports the lines of
     /// matches that overlap or follow each other as one match; under inversion it reports each line that no match
     /// extends over. The limit counts matches, and under inversion lines. `stop_on_nonmatch` is ignored. All of a
@@ -158,8 +158,8 @@ impl SearcherBuilder {
     }
 
     /// How many decoded bytes of a reader, or of a slice that needs decoding, a search holds at most; no limit by
-    /// default. A line that doesn't fit ends the search in an error, as `Searcher::search_reader` says. A limit of 0
-    /// refuses each search. The bytes of any other slice don't count, nor do the 8,192 of the decoder.
+    /// default. A line that doesn't fit ends the search in an error, as `Searcher::search_reader` says; across lines all
+    /// decoded bytes have to be fewer. A limit of 0 refuses each search. The bytes of any other slice don't count, nor do the 8,192 of the decoder.
     pub fn heap_limit(&mut self, bytes: Option<usize>) -> &mut SearcherBuilder
         ensures reference { result.ghost_name ≡ self.entry.ghost_name }
         ensures set { result.now ≡ record self.old { heap_limit = bytes } }
@@ -195,7 +195,8 @@ impl SearcherBuilder {
         self
     }
 
-    /// Whether the first line that isn't selected, after one that is, ends the search; not by default.
+    /// Whether the first line that isn't selected, after one that is, ends the search; not by default. Across lines it
+    /// is ignored.
     pub fn stop_on_nonmatch(&mut self, yes: bool) -> &mut SearcherBuilder
         ensures reference { result.ghost_name ≡ self.entry.ghost_name }
         ensures set { result.now ≡ record self.old { stop_on_nonmatch = yes } }
@@ -205,7 +206,7 @@ impl SearcherBuilder {
     }
 
     /// How many lines are selected at most; no limit by default. At 0 none is, and without `passthru`
-    /// nothing is reported.
+    /// nothing is reported. Across lines it is how many matches count, unless `invert_match` is set.
     pub fn max_matches(&mut self, limit: Option<u64>) -> &mut SearcherBuilder
         ensures reference { result.ghost_name ≡ self.entry.ghost_name }
         ensures set { result.now ≡ record self.old { max_matches = limit } }

@@ -102,14 +102,15 @@ impl<A: Allocator + Copy> Searcher<A> {
         self.config.memory_map
     }
 
-    /// Whether the first line that isn't selected, after one that is, ends the search.
+    /// Whether the first line that isn't selected, after one that is, ends the search. Across lines it is ignored.
     pub fn stop_on_nonmatch(&self) -> bool
         ensures { result ≡ self.now.settings.stop_on_nonmatch }
     {
         self.config.stop_on_nonmatch
     }
 
-    /// How many lines are selected at most, if there is a limit.
+    /// How many lines are selected at most, if there is a limit; across lines how many matches count, unless
+    /// `invert_match` is set.
     pub fn max_matches(&self) -> Option<u64>
         ensures { result ≡ self.now.settings.max_matches }
     {
