@@ -1,17 +1,12 @@
--- The settings of a search, as a sink sees them: all that there will ever be. `binary_detection` has no setter yet: it is
--- always at its default.
+-- The settings of a search, as a sink sees them: all that there will ever be.
 use Rattle.std.specs.Prelude.{ℕ, Bool, true, false, Option, None, if◌then◌else◌}
 use Rattle.grep_decode.specs.declared.label.Label.{Label}
 use Rattle.grep_matcher.specs.declared.line_terminator.LineTerminator.{LineTerminator}
 use Rattle.grep_matcher.specs.declared.line_terminator.LineTerminator.TheVariants.{Byte}
+use Rattle.grep_report.specs.declared.binary_detection.BinaryDetection.{BinaryDetection}
+use Rattle.grep_report.specs.declared.binary_detection.BinaryDetection.TheVariants.{None as no_detection}
 use Rattle.grep_report.specs.declared.mmap_choice.MmapChoice.{MmapChoice}
 use Rattle.grep_report.specs.declared.mmap_choice.MmapChoice.TheVariants.{Never}
-
--- what a search does about a binary byte: nothing, stop at it, or take it for the terminator; for now always nothing
-pub data Detection : Type 0 where
-  none : Detection
-  quit : ℕ → Detection
-  convert : ℕ → Detection
 
 -- the settings, as a builder has them or as a searcher was built, where both contexts are 0 under passthru
 pub record Settings : Type 0 where
@@ -24,7 +19,7 @@ pub record Settings : Type 0 where
   pub passthru : Bool
   pub heap_limit : Option ℕ
   pub memory_map : MmapChoice
-  pub binary_detection : Detection
+  pub binary_detection : BinaryDetection
   pub encoding : Option Label
   pub bom_sniffing : Bool
   pub stop_on_nonmatch : Bool
@@ -48,7 +43,7 @@ default_settings = record {
   passthru = false;
   heap_limit = None;
   memory_map = Never;
-  binary_detection = none;
+  binary_detection = no_detection;
   encoding = None;
   bom_sniffing = true;
   stop_on_nonmatch = false;

@@ -1,3 +1,4 @@
+pub mod BinaryDetections
 pub mod ConfigErrors
 pub mod SinkReports
 pub mod SearchErrors

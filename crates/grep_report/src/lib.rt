@@ -1,6 +1,7 @@
 //! What a search reports to its sink, and the errors that it can end in.
 #![tactic(auto)]
 
+mod binary_detection;
 mod config_error;
 mod encoding;
 mod mmap_choice;
@@ -9,6 +10,7 @@ mod sink_error;
 mod sink_finish;
 mod sink_match;
 
+pub use binary_detection::BinaryDetection;
 pub use config_error::ConfigError;
 pub use encoding::Encoding;
 pub use grep_decode::Label;

@@ -1,6 +1,7 @@
 -- The settings that a configuration holds.
 use Rattle.grep_searcher.specs.declared.config.Config.{Config}
-use Rattle.grep_definitions.specs.Settings.{Settings, none}
+use Rattle.grep_report.specs.declared.binary_detection.BinaryDetection.TheVariants.{None as no_detection}
+use Rattle.grep_definitions.specs.Settings.{Settings}
 
 -- as set
 abbrev pub settings_of : Config → Settings
@@ -14,7 +15,7 @@ settings_of c = record {
   passthru = c.passthru;
   heap_limit = c.heap_limit;
   memory_map = c.memory_map;
-  binary_detection = none;
+  binary_detection = no_detection;
   encoding = c.encoding;
   bom_sniffing = c.bom_sniffing;
   stop_on_nonmatch = c.stop_on_nonmatch;

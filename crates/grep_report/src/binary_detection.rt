@@ -1,0 +1,71 @@
+//! What a search does about binary bytes.
+ghost use Rattle.std.specs.Prelude.{◌≡◌, Some, None};
+ghost use Rattle.grep_report.specs.BinaryDetections.{convert_byte_of, quit_byte_of};
+
+/// What a search does about a byte that marks its input as binary, such as NUL. By default it does nothing. It follows
+/// grep-searcher's `BinaryDetection`.
+#[derive(Clone, Copy, Debug, PartialEq, Eq)]
+pub enum BinaryDetection {
+    /// No byte marks an input as binary: all bytes are searched as text.
+    None,
+    /// The search ends at the first such byte, and no line that holds it is reported.
+    Quit(u8),
+    /// Each such byte is replaced by the line terminator's byte, in an input that is searched line by line as it is
+    /// read. Elsewhere it means nothing.
+    Convert(u8),
+}
+
+impl BinaryDetection {
+    /// No byte marks an input as binary.
+    pub fn none() -> BinaryDetection
+        ensures { result ≡ BinaryDetection.None }
+    {
+        BinaryDetection::None
+    }
+
+    /// A search ends at the first `binary_byte`.
+    pub fn quit(binary_byte: u8) -> BinaryDetection
+        ensures { result ≡ BinaryDetection.Quit binary_byte }
+    {
+        BinaryDetection::Quit(binary_byte)
+    }
+
+    /// Each `binary_byte` is replaced by the line terminator's byte.
+    pub fn convert(binary_byte: u8) -> BinaryDetection
+        ensures { result ≡ BinaryDetection.Convert binary_byte }
+    {
+        BinaryDetection::Convert(binary_byte)
+    }
+
+    /// The byte at which a search ends, if there is one.
+    pub fn quit_byte(&self) -> Option<u8>
+        ensures { result ≡ quit_byte_of self.now }
+    {
+        match *self {
+            BinaryDetection::Quit(byte) => Some(byte),
+            _ => None,
+        }
+    }
+
+    /// The byte that is replaced, if there is one.
+    pub fn convert_byte(&self) -> Option<u8>
+        ensures { result ≡ convert_byte_of self.now }
+    {
+        match *self {
+            BinaryDetection::Convert(byte) => Some(byte),
+            _ => None,
+        }
+    }
+}
+
+/// No byte marks an input as binary.
+impl Default for BinaryDetection {
+    ghost use Rattle.std.specs.Prelude.{◌≡◌};
+    ghost use Rattle.grep_report.specs.declared.binary_detection.BinaryDetection.TheVariants.{None as no_detection};
+
+    ghost is_default = { λ detection. detection ≡ no_detection };
+
+    fn default() -> BinaryDetection {
+        BinaryDetection::None
+    }
+}
