@@ -66,6 +66,6 @@ impl Default for BinaryDetection {
     ghost is_default = { λ detection. detection ≡ no_detection };
 
     fn default() -> BinaryDetection {
-        BinaryDetection::None
+        BinaryDetection::none()
     }
 }

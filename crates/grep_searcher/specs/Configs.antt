@@ -1,6 +1,5 @@
 -- The settings that a configuration holds.
 use Rattle.grep_searcher.specs.declared.config.Config.{Config}
-use Rattle.grep_report.specs.declared.binary_detection.BinaryDetection.TheVariants.{None as no_detection}
 use Rattle.grep_definitions.specs.Settings.{Settings}
 
 -- as set
@@ -15,7 +14,7 @@ settings_of c = record {
   passthru = c.passthru;
   heap_limit = c.heap_limit;
   memory_map = c.memory_map;
-  binary_detection = no_detection;
+  binary_detection = c.binary_detection;
   encoding = c.encoding;
   bom_sniffing = c.bom_sniffing;
   stop_on_nonmatch = c.stop_on_nonmatch;

@@ -1,6 +1,6 @@
 //! The settings of a searcher.
 use grep_matcher::LineTerminator;
-use grep_report::{Encoding, MmapChoice};
+use grep_report::{BinaryDetection, Encoding, MmapChoice};
 
 /// What a builder sets and a searcher keeps.
 #[derive(Clone, Copy, Debug)]
@@ -14,6 +14,7 @@ pub(crate) struct Config {
     pub(crate) passthru: bool,
     pub(crate) heap_limit: Option<usize>,
     pub(crate) memory_map: MmapChoice,
+    pub(crate) binary_detection: BinaryDetection,
     pub(crate) encoding: Option<Encoding>,
     pub(crate) bom_sniffing: bool,
     pub(crate) stop_on_nonmatch: bool,

@@ -18,8 +18,8 @@ pub use grep_matcher::{
     ByteSet, LineMatchKind, LineTerminator, LiteralMatcher, Match, Matcher, Plain,
 };
 pub use grep_report::{
-    ConfigError, Encoding, Label, MmapChoice, SearchError, SinkContext, SinkContextKind, SinkError,
-    SinkFinish, SinkMatch,
+    BinaryDetection, ConfigError, Encoding, Label, MmapChoice, SearchError, SinkContext,
+    SinkContextKind, SinkError, SinkFinish, SinkMatch,
 };
 pub use searcher::{Searcher, SearcherBuilder};
 pub use sink::Sink;

@@ -3,7 +3,8 @@ ghost use Rattle.std.specs.Prelude.{◌≡◌, ◌+◌, ◌<◌, ◌^◌, Bool, 
 ghost use Rattle.grep_matcher.specs.Terminators.{byte_of};
 ghost use Rattle.grep_definitions.specs.Settings.{Settings};
 ghost use Rattle.grep_report.specs.SinkReports.{match_bytes};
-ghost use Rattle.grep_definitions.specs.SinkCalls.{Call, begins, breaks, match_call, context_call, finish_call};
+ghost use Rattle.grep_definitions.specs.SinkCalls.{Call, begins, breaks, binary_data};
+ghost use Rattle.grep_definitions.specs.SinkCalls.{match_call, context_call, finish_call};
 ghost use Rattle.grep_definitions.specs.SinkRuns.{finish_result};
 
 mod boxes;
@@ -13,7 +14,7 @@ use grep_report::{SinkContext, SinkFinish, SinkMatch};
 use std::alloc::Allocator;
 
 /// What a search reports to: `begin`, then the matches, the lines near them and the breaks between, in the order of
-/// lines, then `finish`. Each call gets the searcher, whose queries give the settings.
+/// lines, and at most once that the input is binary, then `finish`. Each call gets the searcher, whose queries give the settings.
 ///
 /// A sink that returns false ends the search: `finish` alone follows. An error ends it at once, and nothing follows.
 pub trait Sink {
@@ -73,6 +74,21 @@ pub trait Sink {
         ensures step { step self.old searcher.now.settings breaks result self.new }
         ensures may_call { may_call self.new };
 
+    /// The input is binary: `binary_byte_offset` is the offset, in bytes, of its first binary byte, counted from 0 at the
+    /// start of the decoded input. Returns whether the search goes on; an error is the sink's own.
+    ///
+    /// A search calls it once at most, before `finish`. If the binary byte ends the search (`BinaryDetection::Quit`), it
+    /// does so whatever this returns.
+    fn binary_data<A: Allocator + Copy>(
+        &mut self,
+        searcher: &Searcher<A>,
+        binary_byte_offset: u64,
+    ) -> Result<bool, Self::Error>
+        requires { may_call self.old }
+        ensures step { step self.old searcher.now.settings (binary_data binary_byte_offset) result
+            self.new }
+        ensures may_call { may_call self.new };
+
     /// The search ends. An error is the sink's own.
     fn finish<A: Allocator + Copy>(
         &mut self,
@@ -119,6 +135,14 @@ impl<S: Sink> Sink for &mut S {
         searcher: &Searcher<A>,
     ) -> Result<bool, S::Error> {
         (**self).context_break(searcher)
+    }
+
+    fn binary_data<A: Allocator + Copy>(
+        &mut self,
+        searcher: &Searcher<A>,
+        binary_byte_offset: u64,
+    ) -> Result<bool, S::Error> {
+        (**self).binary_data(searcher, binary_byte_offset)
     }
 
     fn finish<A: Allocator + Copy>(

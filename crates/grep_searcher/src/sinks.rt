@@ -55,6 +55,14 @@ impl<F: FnMut(u64, &str) -> Result<bool, io::Error>> Sink for UTF8<F> {
         Ok(true)
     }
 
+    fn binary_data<A: Allocator + Copy>(
+        &mut self,
+        _: &Searcher<A>,
+        _: u64,
+    ) -> Result<bool, io::Error> {
+        Ok(true)
+    }
+
     fn finish<A: Allocator + Copy>(
         &mut self,
         _: &Searcher<A>,
@@ -112,6 +120,14 @@ impl<F: FnMut(u64, &str) -> Result<bool, io::Error>> Sink for Lossy<F> {
         Ok(true)
     }
 
+    fn binary_data<A: Allocator + Copy>(
+        &mut self,
+        _: &Searcher<A>,
+        _: u64,
+    ) -> Result<bool, io::Error> {
+        Ok(true)
+    }
+
     fn finish<A: Allocator + Copy>(
         &mut self,
         _: &Searcher<A>,
@@ -158,6 +174,14 @@ impl<F: FnMut(u64, &[u8]) -> Result<bool, io::Error>> Sink for Bytes<F> {
     }
 
     fn context_break<A: Allocator + Copy>(&mut self, _: &Searcher<A>) -> Result<bool, io::Error> {
+        Ok(true)
+    }
+
+    fn binary_data<A: Allocator + Copy>(
+        &mut self,
+        _: &Searcher<A>,
+        _: u64,
+    ) -> Result<bool, io::Error> {
         Ok(true)
     }
 

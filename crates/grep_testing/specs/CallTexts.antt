@@ -23,6 +23,10 @@ abbrev pub finish_text : ℕ → Option ℕ → List ℕ
 finish_text count binary =
     codes "finish " ++ (decimal count ++ (codes " " ++ (number_text binary ++ codes ";")))
 
+-- the call at a binary byte: its offset
+abbrev pub binary_text : ℕ → List ℕ
+binary_text offset = codes "binary " ++ (decimal offset ++ codes ";")
+
 -- the kind of a context line
 abbrev pub kind_text : SinkContextKind → List ℕ
 kind_text Before = codes "before"
@@ -35,7 +39,7 @@ call_text begins = codes "begin;"
 call_text (matches number offset bytes) = line_text (codes "match") number offset bytes
 call_text (context kind number offset bytes) = line_text (kind_text kind) number offset bytes
 call_text breaks = codes "break;"
-call_text (binary_data offset) = codes "binary " ++ (decimal offset ++ codes ";")
+call_text (binary_data offset) = binary_text offset
 call_text (finishes count binary) = finish_text count binary
 
 -- whether a call's result says if the search goes on: each but the last

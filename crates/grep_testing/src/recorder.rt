@@ -1,6 +1,6 @@
 //! A sink that writes down its calls.
 ghost use Rattle.std.specs.Prelude.{◌≡◌, [], true, IfOk, OnOk, OnErr, string_bytes};
-ghost use Rattle.grep_testing.specs.CallTexts.{IsWritten, IsFailed, goes_on, line_text, finish_text, kind_text};
+ghost use Rattle.grep_testing.specs.CallTexts.{IsWritten, IsFailed, goes_on, line_text, binary_text, finish_text, kind_text};
 
 use grep_searcher::{
     SearchError, Searcher, Sink, SinkContext, SinkContextKind, SinkError, SinkFinish, SinkMatch,
@@ -18,6 +18,7 @@ pub const RECORDER_MESSAGE: &str = "the recorder fails here";
 /// begin
 /// match NUMBER OFFSET HEX      also before, after, other; NUMBER is - without line numbers
 /// break
+/// binary OFFSET
 /// finish COUNT BINARY_OFFSET   BINARY_OFFSET is - without one
 /// ```
 ///
@@ -139,6 +140,15 @@ impl Sink for Recorder {
         self.ask("break;")
     }
 
+    fn binary_data<A: Allocator + Copy>(
+        &mut self,
+        _searcher: &Searcher<A>,
+        binary_byte_offset: u64,
+    ) -> Result<bool, SearchError> {
+        let call = binary_line(self.alloc, binary_byte_offset).map_err(no_memory)?;
+        self.ask(call.as_str())
+    }
+
     fn finish<A: Allocator + Copy>(
         &mut self,
         _searcher: &Searcher<A>,
@@ -163,6 +173,13 @@ fn line(
     let number = Number(number);
     let bytes = hex::encode(alloc, bytes)?;
     format!(in alloc; "{kind} {number} {offset} {bytes};")
+}
+
+// The text of the call at a binary byte.
+fn binary_line(alloc: Global, offset: u64) -> Result<String, AllocError>
+    ensures { IfOk result (λ text. string_bytes text ≡ binary_text offset) }
+{
+    format!(in alloc; "binary {offset};")
 }
 
 // The text of the last call.

@@ -90,6 +90,14 @@ impl<'w, W: Write> Sink for Printer<'w, W> {
         self.returned(written)
     }
 
+    fn binary_data<A: Allocator + Copy>(
+        &mut self,
+        _searcher: &Searcher<A>,
+        _binary_byte_offset: u64,
+    ) -> Result<bool, SearchError> {
+        Ok(true)
+    }
+
     fn finish<A: Allocator + Copy>(
         &mut self,
         _searcher: &Searcher<A>,

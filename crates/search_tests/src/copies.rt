@@ -74,6 +74,16 @@ impl Sink for Found {
         self.0.context_break(searcher).map_err(|_| Failed)
     }
 
+    fn binary_data<A: Allocator + Copy>(
+        &mut self,
+        searcher: &Searcher<A>,
+        binary_byte_offset: u64,
+    ) -> Result<bool, Failed> {
+        self.0
+            .binary_data(searcher, binary_byte_offset)
+            .map_err(|_| Failed)
+    }
+
     fn finish<A: Allocator + Copy>(
         &mut self,
         searcher: &Searcher<A>,
@@ -168,6 +178,14 @@ impl Sink for Copying {
         searcher: &Searcher<A>,
     ) -> Result<bool, SearchError> {
         self.tally.context_break(searcher)
+    }
+
+    fn binary_data<A: Allocator + Copy>(
+        &mut self,
+        searcher: &Searcher<A>,
+        binary_byte_offset: u64,
+    ) -> Result<bool, SearchError> {
+        self.tally.binary_data(searcher, binary_byte_offset)
     }
 
     fn finish<A: Allocator + Copy>(

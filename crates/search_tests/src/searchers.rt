@@ -1,7 +1,9 @@
 //! Settings, and searchers that are used again or copied.
 use crate::searches::{search_reader, search_slice};
 use grep_matcher::LineTerminator;
-use grep_searcher::{ConfigError, MmapChoice, SearchError, Searcher, SearcherBuilder};
+use grep_searcher::{
+    BinaryDetection, ConfigError, MmapChoice, SearchError, Searcher, SearcherBuilder,
+};
 use grep_testing::{Failing, Naming, Pieces, Recorder};
 use std::alloc::Global;
 use std::io;
@@ -19,6 +21,7 @@ fn changed() -> SearcherBuilder {
         .before_context(5)
         .heap_limit(Some(7))
         .memory_map(MmapChoice::never())
+        .binary_detection(BinaryDetection::quit(8))
         .stop_on_nonmatch(true)
         .max_matches(Some(6));
     builder
@@ -38,7 +41,25 @@ fn settings(rt: HostRuntime) -> Result<(), Fail> {
     assert!(rt; searcher.heap_limit() == Some(7) && searcher.max_matches() == Some(6));
     assert!(rt; searcher.memory_map() == MmapChoice::never());
     assert!(rt; has_contexts(&searcher, 4, 5));
+    assert!(rt; *searcher.binary_detection() == BinaryDetection::Quit(8));
     Ok(())
+}
+
+// Whether a searcher has this binary detection, and so has a copy of it.
+fn has_detection(searcher: &Searcher, detection: BinaryDetection) -> Result<bool, ConfigError> {
+    let copy = searcher.clone()?;
+    Ok(*searcher.binary_detection() == detection && *copy.binary_detection() == detection)
+}
+
+#[test]
+fn binary_detection(rt: HostRuntime) -> Result<(), Fail> {
+    let mut searcher = near(rt.alloc())?;
+    assert!(rt; has_detection(&searcher, BinaryDetection::None)?);
+    searcher.set_binary_detection(BinaryDetection::convert(0));
+    assert!(rt; has_detection(&searcher, BinaryDetection::Convert(0))?);
+    searcher.set_binary_detection(BinaryDetection::none());
+    assert!(rt; has_detection(&searcher, BinaryDetection::None)?);
+    check_near(&rt, &mut searcher)
 }
 
 #[test]

@@ -77,6 +77,14 @@ impl Sink for Tally {
         Ok(true)
     }
 
+    fn binary_data<A: Allocator + Copy>(
+        &mut self,
+        _searcher: &Searcher<A>,
+        _binary_byte_offset: u64,
+    ) -> Result<bool, SearchError> {
+        Ok(true)
+    }
+
     fn finish<A: Allocator + Copy>(
         &mut self,
         _searcher: &Searcher<A>,

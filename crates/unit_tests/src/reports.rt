@@ -2,8 +2,8 @@
 use crate::texts::{debugs, displays};
 use grep_matcher::LineTerminator;
 use grep_report::{
-    ConfigError, MmapChoice, SearchError, SinkContext, SinkContextKind, SinkError, SinkFinish,
-    SinkMatch,
+    BinaryDetection, ConfigError, MmapChoice, SearchError, SinkContext, SinkContextKind, SinkError,
+    SinkFinish, SinkMatch,
 };
 use std::alloc::Global;
 use std::io;
@@ -59,6 +59,28 @@ fn ends(rt: HostRuntime) {
     let form = "SinkFinish { byte_count: 9, binary_byte_offset: Some(4) }";
     assert!(rt; debugs(rt.alloc(), &finish, form));
     assert!(rt; MmapChoice::default() == MmapChoice::never());
+}
+
+// Whether a binary detection ends a search at this byte, and replaces that one.
+fn heeds(detection: BinaryDetection, quit: Option<u8>, convert: Option<u8>) -> bool {
+    detection.quit_byte() == quit && detection.convert_byte() == convert
+}
+
+#[test]
+fn binary_bytes(rt: HostRuntime) {
+    assert!(rt; heeds(BinaryDetection::none(), None, None));
+    assert!(rt; heeds(BinaryDetection::quit(0), Some(0), None));
+    assert!(rt; heeds(BinaryDetection::convert(255), None, Some(255)));
+    assert!(rt; heeds(BinaryDetection::default(), None, None));
+}
+
+#[test]
+fn binary_detections(rt: HostRuntime) {
+    let (quit, convert) = (BinaryDetection::quit(7), BinaryDetection::convert(7));
+    assert!(rt; quit == BinaryDetection::Quit(7) && convert == BinaryDetection::Convert(7));
+    assert!(rt; quit != convert && quit != BinaryDetection::quit(8));
+    assert!(rt; BinaryDetection::none() == BinaryDetection::default());
+    assert!(rt; debugs(rt.alloc(), &quit, "Quit(7)"));
 }
 
 // A matcher that names the byte `z`, and a searcher whose lines end at both.

@@ -110,6 +110,14 @@ impl Sink for MatchText {
         Ok(true)
     }
 
+    fn binary_data<A: Allocator + Copy>(
+        &mut self,
+        _: &Searcher<A>,
+        _: u64,
+    ) -> Result<bool, SearchError> {
+        Ok(true)
+    }
+
     fn finish<A: Allocator + Copy>(
         &mut self,
         _: &Searcher<A>,

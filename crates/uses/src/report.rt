@@ -111,6 +111,14 @@ impl Sink for Report {
         Ok(true)
     }
 
+    fn binary_data<A: Allocator + Copy>(
+        &mut self,
+        _: &Searcher<A>,
+        _: u64,
+    ) -> Result<bool, SearchError> {
+        Ok(true)
+    }
+
     fn finish<A: Allocator + Copy>(
         &mut self,
         _: &Searcher<A>,

@@ -5,7 +5,7 @@ ghost use Rattle.grep_definitions.specs.Settings.{default_settings, built};
 use crate::config::Config;
 use crate::searcher::Searcher;
 use grep_matcher::LineTerminator;
-use grep_report::{ConfigError, Encoding, MmapChoice};
+use grep_report::{BinaryDetection, ConfigError, Encoding, MmapChoice};
 use std::alloc::{AllocError, Allocator};
 use std::marker::Model;
 
@@ -65,6 +65,7 @@ impl SearcherBuilder {
                 passthru: false,
                 heap_limit: None,
                 memory_map: MmapChoice::Never,
+                binary_detection: BinaryDetection::None,
                 encoding: None,
                 bom_sniffing: true,
                 stop_on_nonmatch: false,
@@ -174,6 +175,18 @@ impl SearcherBuilder {
         ensures set { result.now ≡ record self.old { memory_map = choice } }
     {
         self.config.memory_map = choice;
+        self
+    }
+
+    /// Which bytes mark the input as binary, and what a search does about them; none by default.
+    ///
+    /// A slice that is searched as it is, and any search across lines, heed `Quit` alone. An input that is read line by
+    /// line heeds `Convert` too. What is looked at are the decoded bytes.
+    pub fn binary_detection(&mut self, detection: BinaryDetection) -> &mut SearcherBuilder
+        ensures reference { result.ghost_name ≡ self.entry.ghost_name }
+        ensures set { result.now ≡ record self.old { binary_detection = detection } }
+    {
+        self.config.binary_detection = detection;
         self
     }
 

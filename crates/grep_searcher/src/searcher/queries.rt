@@ -4,7 +4,7 @@ ghost use Rattle.grep_definitions.specs.Modes.{is_across};
 
 use crate::searcher::Searcher;
 use grep_matcher::{LineTerminator, Matcher};
-use grep_report::MmapChoice;
+use grep_report::{BinaryDetection, MmapChoice};
 use std::alloc::Allocator;
 use std::fmt;
 
@@ -100,6 +100,23 @@ impl<A: Allocator + Copy> Searcher<A> {
         ensures { result ≡ self.now.settings.memory_map }
     {
         self.config.memory_map
+    }
+
+    /// Which bytes mark the input as binary, and what a search does about them.
+    pub fn binary_detection(&self) -> &BinaryDetection
+        ensures { result.now ≡ self.now.settings.binary_detection }
+    {
+        &self.config.binary_detection
+    }
+
+    /// Sets which bytes mark the input as binary in later searches, and what they do about them, as
+    /// `SearcherBuilder::binary_detection` does. No other setting changes.
+    pub fn set_binary_detection(&mut self, detection: BinaryDetection)
+        ensures { self.new ≡ record self.old {
+          settings = record self.old.settings { binary_detection = detection };
+        } }
+    {
+        self.config.binary_detection = detection;
     }
 
     /// Whether the first line that isn't selected, after one that is, ends the search. Across lines it is ignored.

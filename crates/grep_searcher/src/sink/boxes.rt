@@ -39,6 +39,14 @@ impl<S: Sink> Sink for Box<S> {
         (**self).context_break(searcher)
     }
 
+    fn binary_data<A: Allocator + Copy>(
+        &mut self,
+        searcher: &Searcher<A>,
+        binary_byte_offset: u64,
+    ) -> Result<bool, S::Error> {
+        (**self).binary_data(searcher, binary_byte_offset)
+    }
+
     fn finish<A: Allocator + Copy>(
         &mut self,
         searcher: &Searcher<A>,

@@ -1,0 +1,6 @@
+use Rattle.std.proofs.Common.{ap}
+use Rattle.grep_definitions.specs.Settings.{SearcherState}
+use Rattle.grep_searcher.proofs.searcher.Searcher.binary_detection.Goals as goal
+
+pub returns : goal.returns
+returns g c = ap (λ (s : SearcherState). s.settings.binary_detection) c.self.view_is
