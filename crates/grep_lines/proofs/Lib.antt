@@ -2,3 +2,4 @@ pub mod LineLemmas
 pub mod LawLemmas
 pub mod WalkLemmas
 pub mod PositionLemmas
+pub mod ReplaceLemmas

@@ -7,6 +7,7 @@ pub mod laws;
 mod line_iter;
 mod line_step;
 mod preceding_lines;
+mod replace;
 mod strip;
 mod whole_lines;
 
@@ -14,5 +15,6 @@ pub use counts::{count, line_count};
 pub use line_iter::LineIter;
 pub use line_step::LineStep;
 pub use preceding_lines::{preceding, preceding_by_pos};
+pub use replace::replace_bytes;
 pub use strip::without_terminator;
 pub use whole_lines::{line_of, locate};

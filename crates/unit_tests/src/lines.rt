@@ -1,6 +1,7 @@
 //! Lines of some bytes. Lines end at a line feed if a row says no more.
 use grep_lines::{
-    LineIter, LineStep, count, locate, preceding, preceding_by_pos, without_terminator,
+    LineIter, LineStep, count, locate, preceding, preceding_by_pos, replace_bytes,
+    without_terminator,
 };
 use grep_matcher::{LineTerminator, Match};
 use std::test::Fail;
@@ -197,4 +198,55 @@ fn stripped(rt: HostRuntime) {
     for row in STRIPPED_ROWS {
         assert!(rt; without_terminator(row.0, row.1) == row.2, "{row:?}");
     }
+}
+
+// Some bytes, the byte that is replaced, the byte it becomes, the bytes after that, and the index of the first.
+const REPLACED_ROWS: &[(&[u8], u8, u8, &[u8], Option<usize>)] = &[
+    (b"", b'b', b'z', b"", None),
+    (b"abc", b'x', b'z', b"abc", None),
+    (b"abc", b'b', b'z', b"azc", Some(1)),
+    (b"abbbc", b'b', b'z', b"azzzc", Some(1)),
+    (b"abbcbd", b'b', b'z', b"azzczd", Some(1)),
+    (b"a", b'a', b'z', b"z", Some(0)),
+    (b"aa", b'a', b'z', b"zz", Some(0)),
+    (b"aaa", b'a', b'z', b"zzz", Some(0)),
+    (b"abca", b'a', b'z', b"zbcz", Some(0)),
+    (b"bca", b'a', b'z', b"bcz", Some(2)),
+    (b"a\0\0b\0", 0, b'\n', b"a\n\nb\n", Some(1)),
+    (b"abbbc", b'b', b'b', b"abbbc", None),
+    (b"aaa", b'a', b'a', b"aaa", None),
+    (b"abc", b'x', b'x', b"abc", None),
+];
+
+#[test]
+fn replaced(rt: HostRuntime) -> Result<(), Fail> {
+    for row in REPLACED_ROWS {
+        let mut bytes = Vec::new(rt.alloc());
+        for byte in row.0 {
+            bytes.push(*byte)?;
+        }
+        let first = replace_bytes(bytes.as_mut_slice(), row.1, row.2);
+        assert!(rt; first == row.4, "the first of {row:?}");
+        assert!(rt; bytes.as_slice() == row.3, "the bytes of {row:?}");
+    }
+    Ok(())
+}
+
+#[test]
+fn replaced_in_many_bytes(rt: HostRuntime) -> Result<(), Fail> {
+    let mut bytes = Vec::new(rt.alloc());
+    for index in 0..1000 {
+        bytes.push(if index % 7 == 6 || index > 900 {
+            LF
+        } else {
+            b'x'
+        })?;
+    }
+    let first = replace_bytes(bytes.as_mut_slice(), LF, b'x');
+    assert!(rt; first == Some(6), "the first of many bytes");
+    assert!(rt;
+        bytes.as_slice().iter().all(|byte: &u8| *byte == b'x'),
+        "the many bytes"
+    );
+    Ok(())
 }

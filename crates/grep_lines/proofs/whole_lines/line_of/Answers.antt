@@ -1,4 +1,4 @@
-use Rattle.std.proofs.Common.{refl, ◌≡◌, ◌≢◌, ◌∙◌, ◌≤◌, ◌<◌, ◌+◌, ℕ, ap, ap₂, sym, arith, slice_index}
+use Rattle.std.proofs.Common.{refl, ◌≢◌, ◌∙◌, ◌≤◌, ◌<◌, ◌+◌, ℕ, ap₂, arith, slice_index}
 use Rattle.std.proofs.lemmas.Bool.{eqb-true, eq-eqb}
 use Rattle.grep_lines.proofs.PositionLemmas.{block_end-open, block_start-is, end-count}
 use Rattle.grep_lines.proofs.whole_lines.line_of.Goals as goal
