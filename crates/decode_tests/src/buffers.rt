@@ -147,3 +147,121 @@ fn free_part(rt: HostRuntime) -> Result<(), Fail> {
     assert!(rt; reader.asked == 432_432);
     Ok(())
 }
+
+// Asserts what a buffer with detection shows at once, and the offsets after it.
+fn check_detection(
+    rt: &(impl Abort + AllocGlobal),
+    bytes: &[u8],
+    detection: Detection,
+    shown: &[u8],
+    binary: Option<u64>,
+) -> Result<(), Fail> {
+    let mut reader = bytes;
+    let mut decoder = Decoder::new(rt.alloc(), 8)?;
+    let mut buffer = LineBuffer::new(rt.alloc(), 65_536, None, LF, detection)?;
+    if !shown.is_empty() {
+        assert!(rt; matches!(buffer.fill(&mut decoder, &mut reader), Ok(true)));
+        assert!(rt; buffer.buffer() == shown);
+        assert!(rt; buffer.binary_byte_offset() == binary);
+        buffer.consume(buffer.buffer().len());
+    }
+    assert!(rt; matches!(buffer.fill(&mut decoder, &mut reader), Ok(false)));
+    assert!(rt; buffer.absolute_byte_offset() == shown.len() as u64);
+    assert!(rt; buffer.binary_byte_offset() == binary);
+    buffer.clear();
+    assert!(rt; buffer.binary_byte_offset().is_none());
+    Ok(())
+}
+
+#[test]
+fn quit(rt: HostRuntime) -> Result<(), Fail> {
+    let quit = Detection::Quit(0);
+    check_detection(&rt, b"homer\nli\0sa\nmaggie\n", quit, b"homer\nli", Some(8))?;
+    check_detection(&rt, b"\0homer\nlisa\nmaggie\n", quit, b"", Some(0))?;
+    check_detection(
+        &rt,
+        b"homer\nlisa\nmaggie\n\0",
+        quit,
+        b"homer\nlisa\nmaggie\n",
+        Some(18),
+    )?;
+    check_detection(&rt, b"homer\nlisa\n", quit, b"homer\nlisa\n", None)
+}
+
+#[test]
+fn convert(rt: HostRuntime) -> Result<(), Fail> {
+    let convert = Detection::Convert(0);
+    check_detection(
+        &rt,
+        b"homer\nli\0sa\nmaggie\n",
+        convert,
+        b"homer\nli\nsa\nmaggie\n",
+        Some(8),
+    )?;
+    check_detection(
+        &rt,
+        b"homer\nlisa\nmaggie\n\0",
+        convert,
+        b"homer\nlisa\nmaggie\n\n",
+        Some(18),
+    )?;
+    check_detection(&rt, b"a\0b\0", convert, b"a\nb\n", Some(1))?;
+    check_detection(
+        &rt,
+        b"homer\nlisa\n",
+        Detection::Convert(LF),
+        b"homer\nlisa\n",
+        None,
+    )
+}
+
+// Asserts what a buffer of one byte shows of a reader that gives one byte at a time, fill by fill.
+fn check_single_bytes(
+    rt: &(impl Abort + AllocGlobal),
+    detection: Detection,
+    fills: &[(bool, &[u8], Option<u64>)],
+) -> Result<(), Fail> {
+    let mut reader = Bytes {
+        bytes: b"homer\nli\0sa\n",
+        asked: 0,
+    };
+    let mut decoder = Decoder::new(rt.alloc(), 8)?;
+    let mut buffer = LineBuffer::new(rt.alloc(), 1, None, LF, Detection::None)?;
+    buffer.set_binary_detection(detection);
+    for (some, shown, binary) in fills {
+        let filled = match buffer.fill(&mut decoder, &mut reader) {
+            Ok(some) => some,
+            Err(_) => panic!(rt; "an error"),
+        };
+        assert!(rt; filled == *some);
+        assert!(rt; buffer.buffer() == *shown);
+        assert!(rt; buffer.binary_byte_offset() == *binary);
+        let count = buffer.buffer().len();
+        buffer.consume(count);
+    }
+    Ok(())
+}
+
+#[test]
+fn detection_in_single_bytes(rt: HostRuntime) -> Result<(), Fail> {
+    check_single_bytes(
+        &rt,
+        Detection::Quit(0),
+        &[
+            (true, b"homer\n", None),
+            (true, b"li", Some(8)),
+            (false, b"", Some(8)),
+            (false, b"", Some(8)),
+        ],
+    )?;
+    check_single_bytes(
+        &rt,
+        Detection::Convert(0),
+        &[
+            (true, b"homer\n", None),
+            (true, b"li\n", Some(8)),
+            (true, b"sa\n", Some(8)),
+            (false, b"", Some(8)),
+        ],
+    )
+}

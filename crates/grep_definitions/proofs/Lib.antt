@@ -1,7 +1,12 @@
 pub mod BoolLemmas
 pub mod ListLemmas
+pub mod PositionLemmas
 pub mod BelowLemmas
+pub mod BreakLemmas
 pub mod SinkRunLemmas
+pub mod NotedLemmas
+pub mod SinkViewLemmas
+pub mod PlainStreamLemmas
 pub mod SinkFoldLemmas
 pub mod KnownReaderLemmas
 pub mod ReaderViewLemmas
@@ -12,6 +17,7 @@ pub mod ContextLemmas
 pub mod LineStartLemmas
 pub mod LineLengthLemmas
 pub mod TurnEndLemmas
+pub mod LineReportLemmas
 pub mod FirstLineLemmas
 pub mod FirstTurnLemmas
 pub mod SearchLawLemmas
@@ -24,6 +30,8 @@ pub mod AcrossLemmas
 pub mod UnitLemmas
 pub mod AcrossWalkLemmas
 pub mod AsByLineLemmas
+pub mod BinaryLawLemmas
 pub mod DecodedLemmas
 pub mod WorkedExamples
 pub mod AcrossExamples
+pub mod BinaryExamples

@@ -10,7 +10,7 @@ use Rattle.grep_matcher.specs.Lines.{lines, line_start}
 use Rattle.grep_lines.specs.LineLaws.{LinesJoin}
 
 -- a line starts after all of the line before it
-line_start-more : (t : ℕ) (bytes : List ℕ) (i : ℕ) → i < length (lines t bytes) → line_start t bytes (i + 1)
+pub line_start-more : (t : ℕ) (bytes : List ℕ) (i : ℕ) → i < length (lines t bytes) → line_start t bytes (i + 1)
     ≡ line_start t bytes i + length (get_or (lines t bytes) i [])
 line_start-more t bytes i below =
     let all : List (List ℕ) = lines t bytes in

@@ -1,16 +1,22 @@
 -- A reader that is seen through another that refers to it: if each call of the one is a call of the other, and the
 -- reference stays the same, a search of the one is a search of the other.
-use Rattle.std.proofs.Common.{◌≡◌, ◌∙◌, ℕ, Bool, true, false, List, [], ◌∷◌, Option, Some, None, ap, refl, sym, subst}
+use Rattle.std.proofs.Common.{◌≡◌, ◌∙◌, ℕ, Bool, true, false, List, [], ◌∷◌, Option, Some, None, ap, inl, inr, refl, sym, subst}
 use Rattle.std.specs.Prelude.{Result, Ok, Err}
 use Rattle.std.specs.declared.io.Error.{Error}
 use Rattle.grep_decode.specs.DecoderStates.{Calls}
 use Rattle.grep_decode.specs.Source.{ReadResult, Pulls}
 use Rattle.grep_matcher.specs.Matching.{Meaning}
 use Rattle.grep_report.specs.declared.config_error.ConfigError.{ConfigError}
-use Rattle.grep_definitions.specs.ReaderSearches.{Taken, IsUnread, IsReaderFault, IsReaderFaultUnless, IsReaderRun, IsReaderSearched}
+use Rattle.grep_definitions.specs.BinaryBytes.{Look, nowhere, in_contents, on_stream, look_of, view_of}
+use Rattle.grep_definitions.specs.ReaderSearches.{Taken, IsUnread, IsUnreadIn, IsReaderFaultIn, IsReaderFaultUnless}
+use Rattle.grep_definitions.specs.ReaderSearches.{IsContentsRun, IsNotedReaderRun, IsPlainlySearched, IsReaderCut}
+use Rattle.grep_definitions.specs.ReaderSearches.{IsReaderRunIn, IsReaderSearched, IsSearchedAt}
+use Rattle.grep_definitions.specs.NotedSinks.{noted}
+use Rattle.grep_definitions.specs.StreamSearches.{stream_calls}
 use Rattle.grep_definitions.specs.ReaderSearches.{of_cut, of_reader, of_contents, of_failed_read, of_buffers, of_search, of_reading}
 use Rattle.grep_definitions.specs.Refusals.{refusal_of}
 use Rattle.grep_definitions.specs.Searches.{ErrorMakers, MatcherFacts}
+use Rattle.grep_definitions.specs.SearchTurns.{SearchCalls, search_calls}
 use Rattle.grep_definitions.specs.Settings.{SearcherState}
 use Rattle.grep_definitions.specs.SinkRuns.{Steps}
 
@@ -49,73 +55,128 @@ module _ {R T N : Type 0} (view : R → T) (name : R → N) (remaining : T → O
 
   module _ (state : SearcherState) (reader reader' : R) (last : T)
       (ends : name reader ≡ name reader' → last ≡ view reader') where
-    pub IsUnread-seen : (meaning : Meaning) (lines : Option (List ℕ)) (error : Error)
-        → IsUnread (λ s. remaining (view s)) read state meaning reader lines error reader'
-        → IsUnread remaining seen_read state meaning (view reader) lines error last
-    IsUnread-seen meaning lines error unread = subst (IsUnread remaining seen_read state meaning (view reader) lines error)
+    IsUnreadIn-seen : (across : Bool) (shown : List ℕ → List ℕ) (meaning : Meaning) (lines : Option (List ℕ)) (error : Error)
+        → IsUnreadIn (λ s. remaining (view s)) read across shown state meaning reader lines error reader'
+        → IsUnreadIn remaining seen_read across shown state meaning (view reader) lines error last
+    IsUnreadIn-seen across shown meaning lines error unread =
+        subst (IsUnreadIn remaining seen_read across shown state meaning (view reader) lines error)
         (sym (ends (named lines error reader' unread))) (whole lines error reader' unread)
       where
         named : (lines : Option (List ℕ)) (error : Error) (after : R)
-            → IsUnread (λ s. remaining (view s)) read state meaning reader lines error after → name reader ≡ name after
+            → IsUnreadIn (λ s. remaining (view s)) read across shown state meaning reader lines error after → name reader ≡ name after
         named (Some lines) error after (of_cut by_line taken cut) = Taken-named reader after taken
         named (Some lines) error after (of_reader by_line mid taken unended failed goes_on came) =
             Taken-named reader mid taken ∙ sym (seen mid (Err error) after failed).0
-        named None error after (of_contents across taken cut) = Taken-named reader after taken
-        named None error after (of_failed_read across mid taken unended failed few) =
+        named None error after (of_contents is_across taken cut) = Taken-named reader after taken
+        named None error after (of_failed_read is_across mid taken unended failed few) =
             Taken-named reader mid taken ∙ sym (seen mid (Err error) after failed).0
         named None error after (of_buffers none memory) = refl
 
         whole : (lines : Option (List ℕ)) (error : Error) (after : R)
-            → IsUnread (λ s. remaining (view s)) read state meaning reader lines error after
-            → IsUnread remaining seen_read state meaning (view reader) lines error (view after)
+            → IsUnreadIn (λ s. remaining (view s)) read across shown state meaning reader lines error after
+            → IsUnreadIn remaining seen_read across shown state meaning (view reader) lines error (view after)
         whole (Some lines) error after (of_cut by_line taken cut) = of_cut by_line (Taken-seen reader after taken) cut
         whole (Some lines) error after (of_reader by_line mid taken unended failed goes_on came) =
             of_reader by_line (view mid) (Taken-seen reader mid taken) unended (seen mid (Err error) after failed).1 goes_on came
-        whole None error after (of_contents across taken cut) = of_contents across (Taken-seen reader after taken) cut
-        whole None error after (of_failed_read across mid taken unended failed few) =
-            of_failed_read across (view mid) (Taken-seen reader mid taken) unended (seen mid (Err error) after failed).1 few
+        whole None error after (of_contents is_across taken cut) = of_contents is_across (Taken-seen reader after taken) cut
+        whole None error after (of_failed_read is_across mid taken unended failed few) =
+            of_failed_read is_across (view mid) (Taken-seen reader mid taken) unended (seen mid (Err error) after failed).1 few
         whole None error after (of_buffers none memory) = of_buffers none memory
 
-    module _ {S E F : Type 0} (step : Steps S E) (errors : ErrorMakers E) (matcher : MatcherFacts F) where
-      IsReaderFault-seen : (old : S) (e : E) (new : S)
-          → IsReaderFault (λ s. remaining (view s)) read step errors matcher state reader old e reader' new
-          → IsReaderFault remaining seen_read step errors matcher state (view reader) old e last new
-      IsReaderFault-seen old e new (of_search taken lines ended fault all) =
-          subst (λ after. IsReaderFault remaining seen_read step errors matcher state (view reader) old e after new)
+    pub IsUnread-seen : (meaning : Meaning) (lines : Option (List ℕ)) (error : Error)
+        → IsUnread (λ s. remaining (view s)) read state meaning reader lines error reader'
+        → IsUnread remaining seen_read state meaning (view reader) lines error last
+    IsUnread-seen meaning = IsUnreadIn-seen (search_calls state.settings meaning).across (view_of state.settings) meaning
+
+    module _ {S E F : Type 0} (step : Steps S E) (errors : ErrorMakers E) (matcher : MatcherFacts F) (calls : SearchCalls) where
+      IsReaderFaultIn-seen : (old : S) (e : E) (new : S)
+          → IsReaderFaultIn (λ s. remaining (view s)) read step errors matcher calls state reader old e reader' new
+          → IsReaderFaultIn remaining seen_read step errors matcher calls state (view reader) old e last new
+      IsReaderFaultIn-seen old e new (of_search taken lines ended fault all) =
+          subst (λ after. IsReaderFaultIn remaining seen_read step errors matcher calls state (view reader) old e after new)
           (sym (ends (Taken-named reader reader' taken)))
           (of_search (Taken-seen reader reader' taken) lines ended fault all)
-      IsReaderFault-seen old e new (of_reading lines error unread made reported) =
-          of_reading lines error (IsUnread-seen matcher.meaning lines error unread) made reported
+      IsReaderFaultIn-seen old e new (of_reading lines error unread made reported) =
+          of_reading lines error (IsUnreadIn-seen calls.across calls.view matcher.meaning lines error unread) made reported
 
-      IsReaderRun-seen : (old new : S)
-          → IsReaderRun (λ s. remaining (view s)) read step errors matcher state.settings reader old reader' new
-          → IsReaderRun remaining seen_read step errors matcher state.settings (view reader) old last new
-      IsReaderRun-seen old new run =
-          subst (λ after. IsReaderRun remaining seen_read step errors matcher state.settings (view reader) old after new)
-          (sym (ends (Taken-named reader reader' run.taken))) (record {
-            taken = Taken-seen reader reader' run.taken;
-            seen = run.seen;
-            outcome = run.outcome;
-            mid = run.mid;
-            reported = run.reported;
-            finished = run.finished;
-            front = run.front;
-            run = run.run;
-            all = run.all;
-            begun = run.begun;
-            first = run.first;
-            begin = run.begin;
-            unread = λ by_line idle. ap view (run.unread by_line idle);
-            whole = run.whole;
-            below = run.below;
-            ahead = run.ahead;
-          })
+      abbrev IsReaderRunIn-view : (old new : S)
+          → IsReaderRunIn (λ s. remaining (view s)) read step errors matcher calls state.settings reader old reader' new
+          → IsReaderRunIn remaining seen_read step errors matcher calls state.settings (view reader) old (view reader') new
+      IsReaderRunIn-view old new run = record {
+        taken = Taken-seen reader reader' run.taken;
+        seen = run.seen;
+        outcome = run.outcome;
+        mid = run.mid;
+        reported = run.reported;
+        finished = run.finished;
+        front = run.front;
+        run = run.run;
+        all = run.all;
+        begun = run.begun;
+        first = run.first;
+        begin = run.begin;
+        unread = λ by_line idle. ap view (run.unread by_line idle);
+        whole = run.whole;
+        below = run.below;
+        ahead = run.ahead;
+      }
+
+    module _ {S E F : Type 0} (step : Steps S E) (errors : ErrorMakers E) (matcher : MatcherFacts F) where
+      contents-seen : (Ends : List ℕ → Type 0)
+          → IsContentsRun (λ s. remaining (view s)) read step errors matcher state.settings reader reader' Ends
+          → IsContentsRun remaining seen_read step errors matcher state.settings (view reader) last Ends
+      contents-seen Ends run =
+          subst (λ after. IsContentsRun remaining seen_read step errors matcher state.settings (view reader) after Ends)
+          (sym (ends (Taken-named reader reader' run.taken)))
+          (record { taken = Taken-seen reader reader' run.taken; whole = run.whole; run = run.run; below = run.below })
+
+      cut-seen : (old : S) (result : Result (Unit {0}) E) (new : S)
+          → IsReaderCut (λ s. remaining (view s)) read step errors matcher state.settings reader old result reader' new
+          → IsReaderCut remaining seen_read step errors matcher state.settings (view reader) old result last new
+      cut-seen old result new cut =
+          subst (λ after. IsReaderCut remaining seen_read step errors matcher state.settings (view reader) old result after new)
+          (sym (ends (Taken-named reader reader' cut.taken)))
+          (record { taken = Taken-seen reader reader' cut.taken; run = cut.run })
+
+      at-seen : (look : Look) (old : S) (result : Result (Unit {0}) E) (new : S)
+          → IsSearchedAt (λ s. remaining (view s)) read step errors matcher look state reader old result reader' new
+          → IsSearchedAt remaining seen_read step errors matcher look state (view reader) old result last new
+      at-seen nowhere old (Ok u) new run =
+          subst (λ after. IsPlainlySearched remaining seen_read step errors matcher state (view reader) old (Ok u) after new)
+          (sym (ends (Taken-named reader reader' run.taken)))
+          (IsReaderRunIn-view step errors matcher (search_calls state.settings matcher.meaning) old new run)
+      at-seen nowhere old (Err e) new fault =
+          IsReaderFaultIn-seen step errors matcher (search_calls state.settings matcher.meaning) old e new fault
+      at-seen (in_contents b) old (Ok u) new run = contents-seen _ run
+      at-seen (in_contents b) old (Err e) new (inl run) = inl (contents-seen _ run)
+      at-seen (in_contents b) old (Err e) new (inr (error, unread, made, same)) =
+          inr (error, IsUnreadIn-seen true (view_of state.settings) matcher.meaning None error unread, made, same)
+      at-seen on_stream old (Ok u) new (inl run) = inl (
+          subst (λ after. IsNotedReaderRun remaining seen_read step errors matcher state.settings (view reader) old after new)
+          (sym (ends (Taken-named reader reader' run.run.taken))) (record {
+            found = run.found;
+            run = IsReaderRunIn-view (noted step) errors matcher (stream_calls state.settings matcher.meaning)
+                (old, None) (new, run.found) run.run;
+            noted_for = run.noted_for;
+            clear = run.clear;
+            each = run.each;
+          }))
+      at-seen on_stream old (Ok u) new (inr cut) = inr (cut-seen old (Ok u) new cut)
+      at-seen on_stream old (Err e) new (inl fault) = inl (record {
+        found = fault.found;
+        fault = IsReaderFaultIn-seen (noted step) errors matcher (stream_calls state.settings matcher.meaning)
+            (old, None) e (new, fault.found) fault.fault;
+        mid = view fault.mid;
+        taken = Taken-seen reader fault.mid fault.taken;
+        noted_for = fault.noted_for;
+      })
+      at-seen on_stream old (Err e) new (inr cut) = inr (cut-seen old (Err e) new cut)
 
       pub IsReaderSearched-seen : (old : S) (result : Result (Unit {0}) E) (new : S)
           → IsReaderSearched (λ s. remaining (view s)) read step errors matcher state reader old result reader' new
           → IsReaderSearched remaining seen_read step errors matcher state (view reader) old result last new
       IsReaderSearched-seen old (Ok u) new (allowed, searched) =
-          (allowed, λ lawful. IsReaderRun-seen old new (searched lawful))
+          (allowed, λ lawful. at-seen (look_of state.settings matcher.meaning false) old (Ok u) new (searched lawful))
       IsReaderSearched-seen old (Err e) new searched = fault (refusal_of state.settings matcher.meaning) searched
         where
           fault : (refusal : Option ConfigError)
@@ -123,4 +184,4 @@ module _ {R T N : Type 0} (view : R → T) (name : R → N) (remaining : T → O
               → IsReaderFaultUnless remaining seen_read step errors matcher refusal state (view reader) old e last new
           fault (Some refusal) (made, same, untouched) =
               (made, same, ends (ap name (sym untouched)) ∙ ap view untouched)
-          fault None fails = λ lawful. IsReaderFault-seen old e new (fails lawful)
+          fault None fails = λ lawful. at-seen (look_of state.settings matcher.meaning false) old (Err e) new (fails lawful)

@@ -1,5 +1,5 @@
 -- Runs of sinks whose steps are functions.
-use Rattle.std.proofs.Common.{◌≡◌, ℕ, Bool, true, false, List, [], ◌∷◌, Option, refl, sym, ◌∙◌, ap, subst, inl, inr, ⊎_elim}
+use Rattle.std.proofs.Common.{◌≡◌, ℕ, Bool, true, false, not, ◌&&◌, List, [], ◌∷◌, Option, refl, sym, ◌∙◌, ap, subst, inl, inr}
 use Rattle.std.specs.Prelude.{◌⊎◌, Ok, Err, None, map}
 use Rattle.std.specs.declared.io.Error.{Error}
 use Rattle.std.specs.List.{fold}
@@ -8,12 +8,18 @@ use Rattle.grep_definitions.specs.Settings.{Settings}
 use Rattle.grep_definitions.specs.SinkCalls.{Call, Turn, begins, matches, context, breaks, binary_data, finishes}
 use Rattle.grep_definitions.specs.SinkRuns.{Steps, Outcome, AreReported, IsFinished, IsRun}
 use Rattle.grep_definitions.specs.SearchLaws.{is_match, match_calls}
-use Rattle.grep_definitions.specs.SearchTurns.{search_turns, search_byte_count}
-use Rattle.grep_definitions.specs.Searches.{ErrorMakers, MatcherFacts, IsFault, of_sink, of_matcher, IsFaultUnless}
-use Rattle.grep_definitions.specs.DecodedInputs.{searched_bytes}
+use Rattle.grep_definitions.specs.SearchTurns.{search_calls, search_turns, search_byte_count}
+use Rattle.grep_definitions.specs.Searches.{ErrorMakers, MatcherFacts, IsFault, of_sink, of_matcher, IsFaultUnless, IsSearchedAt}
+use Rattle.grep_definitions.specs.DecodedInputs.{searched_bytes, is_searched_unchanged}
+use Rattle.grep_definitions.specs.BinaryBytes.{look_at, nowhere}
+use Rattle.grep_definitions.specs.Modes.{is_across}
+use Rattle.grep_definitions.specs.ReadingFaults.{IsUndecoded}
 use Rattle.grep_definitions.specs.SinkFolds.{fold_while, run_fold, AreTaken, IsTakenOk, IsTakenBy, StepsBy}
-use Rattle.grep_definitions.specs.SinkFolds.{RunsFold, RunsFoldAll, RunsFoldMatches, SearchesFail, ReaderSearchesFail}
-use Rattle.grep_definitions.specs.ReaderSearches.{IsReaderFaultUnless, IsReaderFault, IsUnread, of_search, of_reading}
+use Rattle.grep_definitions.specs.SinkFolds.{RunsFold, RunsFoldAll, RunsFoldMatches}
+use Rattle.grep_definitions.specs.SinkFolds.{SearchesRun, ReaderSearchesRun, SearchesFail, ReaderSearchesFail}
+use Rattle.grep_definitions.specs.ReaderSearches.{IsReaderFaultUnless, IsReaderFault, IsUnread, IsUnreadIn, of_search, of_reading}
+use Rattle.grep_definitions.specs.ReaderSearches.{IsSearchedAt as reader_at}
+use Rattle.grep_definitions.proofs.PlainStreamLemmas.{view-none}
 use Rattle.grep_decode.specs.Source.{ReadResult}
 
 module _ {V : Type 0} (taken : V → Call → Bool → V → Type 0) where
@@ -171,22 +177,48 @@ module _ {S E F : Type 0} (step : Steps S E) (errors : ErrorMakers E) (matcher :
   fault-fails settings bytes old e new infallible (of_matcher haystack error made asked fails message reported) =
       absurd (infallible _ error fails)
 
+  pub searches-run : SearchesRun step errors matcher
+  searches-run state input old new none lawful searched = subst (λ d. IsSearchedAt step errors matcher
+      (look_at d (not (is_searched_unchanged state.settings input) && not (is_across state.settings matcher.meaning)))
+      state input old (Ok tt) new) none (searched.1 lawful)
+
+  pub reader_searches-run : {R : Type 0} (remaining : R → Option (List ℕ)) (read_step : R → ReadResult → R → Type 0)
+      → ReaderSearchesRun step errors matcher remaining read_step
+  reader_searches-run remaining read_step state reader old reader' new none lawful searched =
+      subst (λ d. reader_at remaining read_step step errors matcher
+      (look_at d (not false && not (is_across state.settings matcher.meaning))) state reader old (Ok tt) reader' new)
+      none (searched.1 lawful)
+
   pub searches-fail : SearchesFail step errors matcher
-  searches-fail state input old e new infallible lawful allowed searched =
-      ⊎_elim
-      (λ fault. inl (fault-fails state.settings (searched_bytes state.settings input) old e new infallible fault))
-      (λ unsearched. inr (unsearched.seen, unsearched.error, unsearched.cause, unsearched.made))
-      (subst (λ refusal. IsFaultUnless step errors matcher refusal state input old e new) allowed searched lawful)
+  searches-fail state input old e new none infallible lawful allowed searched =
+      go (subst (λ d. IsSearchedAt step errors matcher
+      (look_at d (not (is_searched_unchanged state.settings input) && not (is_across state.settings matcher.meaning)))
+      state input old (Err e) new) none
+      (subst (λ refusal. IsFaultUnless step errors matcher refusal state input old e new) allowed searched lawful))
+    where
+      go : IsSearchedAt step errors matcher nowhere state input old (Err e) new
+          → ((mid : S) × (call : Call) × step mid state.settings call (Err e) new)
+          ⊎ ((seen : Option (List ℕ)) × (error : Error) × IsUndecoded state matcher.meaning input seen error × errors.is_io error e)
+      go (inl fault) = inl (fault-fails state.settings (searched_bytes state.settings input) old e new infallible fault)
+      go (inr unsearched) = inr (unsearched.seen, unsearched.error, unsearched.cause, unsearched.made)
 
   pub reader_searches-fail : {R : Type 0} (remaining : R → Option (List ℕ)) (read_step : R → ReadResult → R → Type 0)
       → ReaderSearchesFail step errors matcher remaining read_step
-  reader_searches-fail {R} remaining read_step state reader old e reader' new infallible lawful allowed searched =
-      go (subst (λ refusal. IsReaderFaultUnless remaining read_step step errors matcher refusal state reader old e reader' new)
-      allowed searched lawful)
+  reader_searches-fail {R} remaining read_step state reader old e reader' new none infallible lawful allowed searched =
+      go (subst (λ d. reader_at remaining read_step step errors matcher
+      (look_at d (not false && not (is_across state.settings matcher.meaning))) state reader old (Err e) reader' new) none
+      (subst (λ refusal. IsReaderFaultUnless remaining read_step step errors matcher refusal state reader old e reader' new)
+      allowed searched lawful))
     where
       go : IsReaderFault remaining read_step step errors matcher state reader old e reader' new
           → ((mid : S) × (call : Call) × step mid state.settings call (Err e) new)
           ⊎ ((seen : Option (List ℕ)) × (error : Error)
           × IsUnread remaining read_step state matcher.meaning reader seen error reader' × errors.is_io error e)
       go (of_search taken seen ended fault whole) = inl (fault-fails state.settings seen old e new infallible fault)
-      go (of_reading seen error cause made reported) = inr (seen, error, cause, made)
+      go (of_reading seen error cause made reported) = inr (
+        seen,
+        error,
+        subst (λ v. IsUnreadIn remaining read_step (search_calls state.settings matcher.meaning).across v state matcher.meaning
+            reader seen error reader') (sym (view-none state.settings none)) cause,
+        made,
+      )

@@ -67,7 +67,7 @@ module _ (k : Settings) (meaning : Meaning) (bytes : List ℕ) where
   start = LineSearch.start k meaning bytes
 
   -- a line's turn ends no earlier than the line
-  turn_end-late : (q : ℕ) (kind : Option Kind) → start (q + 1) ≤ LineSearch.turn_end k meaning bytes q kind
+  pub turn_end-late : (q : ℕ) (kind : Option Kind) → start (q + 1) ≤ LineSearch.turn_end k meaning bytes q kind
   turn_end-late q None = omega arith
   turn_end-late q (Some matched) = omega arith
   turn_end-late q (Some (in_context After)) = omega arith

@@ -1,8 +1,9 @@
 -- The front of an input that a search has seen, by whole lines, and which lines a buffer of so many bytes can't hold.
-use Rattle.std.specs.Prelude.{◌≡◌, ◌≢◌, ◌⊎◌, ℕ, ◌+◌, ◌-◌, ◌<◌, ◌≤◌, List, ◌++◌, length, All, Some, slice_index}
+use Rattle.std.specs.Prelude.{◌≡◌, ◌≢◌, ◌⊎◌, ◌&&◌, ◌==◌, false, ℕ, ◌+◌, ◌-◌, ◌<◌, ◌≤◌, List, ◌++◌, length, All, Some, slice_index}
 use Rattle.grep_matcher.specs.Terminators.{byte_of}
 use Rattle.grep_matcher.specs.Lines.{lines}
 use Rattle.grep_matcher.specs.Matching.{Meaning}
+use Rattle.grep_definitions.specs.BinaryBytes.{is_detecting}
 use Rattle.grep_definitions.specs.Settings.{Settings}
 use Rattle.grep_definitions.specs.LineSearch.{line, line_count, start, turn_count}
 
@@ -35,11 +36,13 @@ module _ (settings : Settings) (meaning : Meaning) (input seen : List ℕ) where
   abbrev pub seen_count : ℕ
   seen_count = length (lines (byte_of settings.line_terminator) seen)
 
-  -- a search goes on after whole lines at the front of an input: the next line, if there is one, has a turn
+  -- a search goes on after whole lines at the front of an input: the next line, if there is one, has a turn. Under
+  -- detection the first bytes are read in any case
   pub record GoesOnAfter : Type 0 where
     pub front : IsFront settings input seen
     pub closed : IsClosed (byte_of settings.line_terminator) seen
-    pub has_turn : seen_count < line_count settings meaning input → seen_count < turn_count settings meaning input
+    pub has_turn : (is_detecting settings.binary_detection && seen_count == 0) ≡ false
+        → seen_count < line_count settings meaning input → seen_count < turn_count settings meaning input
 
   -- a buffer of so many bytes can't hold the next line and the lines before it that are kept, at most as many as are
   -- reported before a match. If none is kept, that line alone is too long

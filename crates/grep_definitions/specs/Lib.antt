@@ -2,6 +2,8 @@ pub mod AcrossLaws
 pub mod AcrossLines
 pub mod AcrossQuestions
 pub mod Below
+pub mod BinaryBytes
+pub mod BinaryLaws
 pub mod DecodedInputs
 pub mod FileSearches
 pub mod InputFronts
@@ -9,7 +11,9 @@ pub mod LineSearch
 pub mod LineTurns
 pub mod LineWalks
 pub mod Modes
+pub mod NotedSinks
 pub mod Questions
+pub mod QuitPoints
 pub mod ReaderSearches
 pub mod ReadingFaults
 pub mod Refusals
@@ -21,4 +25,5 @@ pub mod Settings
 pub mod SinkCalls
 pub mod SinkFolds
 pub mod SinkRuns
+pub mod StreamSearches
 pub mod SuccessiveMatches

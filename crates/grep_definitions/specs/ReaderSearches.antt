@@ -1,6 +1,6 @@
 -- What a search of a reader does: it makes the calls for the decoded bytes of what the reader gives. By line it reads
 -- no more than it needs, and across lines all. What it promises holds whatever would follow what it read.
-use Rattle.std.specs.Prelude.{◌≡◌, ◌≤◌, ◌<◌, ◌+◌, ◌&&◌, ℕ, Bool, true, false, not, List, length}
+use Rattle.std.specs.Prelude.{◌≡◌, ◌⊎◌, ◌≤◌, ◌<◌, ◌+◌, ◌&&◌, ◌||◌, ℕ, Bool, true, false, not, List, length}
 use Rattle.std.specs.Prelude.{Option, Some, None, Result, Ok, Err}
 use Rattle.std.specs.List.{concat}
 use Rattle.std.specs.Io.KnownBytes.{Consumes}
@@ -14,25 +14,27 @@ use Rattle.grep_matcher.specs.Matching.{Meaning}
 use Rattle.grep_matcher.specs.Terminators.{byte_of}
 use Rattle.grep_report.specs.declared.config_error.ConfigError.{ConfigError}
 use Rattle.grep_definitions.specs.Below.{is_at}
+use Rattle.grep_definitions.specs.BinaryBytes.{Look, nowhere, in_contents, on_stream, is_detecting, look_of, view_of}
 use Rattle.grep_definitions.specs.DecodedInputs.{IsInput, is_searched_unchanged}
 use Rattle.grep_definitions.specs.InputFronts.{GoesOnAfter, HasOpenLine, IsFront}
+use Rattle.grep_definitions.specs.NotedSinks.{noted}
 use Rattle.grep_definitions.specs.ReadingFaults.{CutsShort, CutsContents, IsBelowLimit}
 use Rattle.grep_definitions.specs.Refusals.{refusal_of}
 use Rattle.grep_definitions.specs.Searches.{ErrorMakers, MatcherFacts, IsFaultIn, HasReportedIn, IsLawful}
-use Rattle.grep_definitions.specs.SearchTurns.{SearchCalls, search_calls, calls_by_line}
+use Rattle.grep_definitions.specs.Searches.{IsQuitFault, IsRunUntil}
+use Rattle.grep_definitions.specs.SearchTurns.{SearchCalls, search_calls, calls_by_line, calls_across}
 use Rattle.grep_definitions.specs.Settings.{Settings, SearcherState}
 use Rattle.grep_definitions.specs.SinkCalls.{begins}
-use Rattle.grep_definitions.specs.SinkRuns.{Steps, Outcome, all_true, stopped, failed, AreReported, IsFinished, IsRun}
-
--- the end of the turn that ended some calls, or the whole count
-abbrev pub count_of : {E : Type 0} → Outcome E → ℕ → ℕ
-count_of all_true count = count
-count_of (stopped end) count = end
-count_of (failed e) count = count
+use Rattle.grep_definitions.specs.StreamSearches.{IsClear, IsCutRun, IsNotedFor, IsNotedRun, stream_calls}
+use Rattle.grep_definitions.specs.SinkRuns.{Steps, Outcome, all_true, AreReported, IsFinished, IsRun, count_of}
 
 -- whether no line may have a turn
 abbrev pub is_idle : Settings → Bool
 is_idle settings = not settings.passthru && is_at 0 settings.max_matches
+
+-- whether a search by line reads after `begin`: a line may have a turn, or it looks for a binary byte
+abbrev pub reads_lines : Settings → Bool
+reads_lines settings = not (is_idle settings) || is_detecting settings.binary_detection
 
 module _ {R : Type 0} (remaining : R → Option (List ℕ)) (read_step : R → ReadResult → R → Type 0) where
   -- What was taken of a reader: its calls returned some pieces, and `ended` says whether one more returned none. If
@@ -44,49 +46,51 @@ module _ {R : Type 0} (remaining : R → Option (List ℕ)) (read_step : R → R
     pub takes : Consumes (remaining old) (remaining new) (concat pieces)
 
   -- why a reader's input wasn't searched to its end, by line or across lines: after the lines that were seen, or
-  -- before `begin`
-  pub data IsUnreadIn (across : Bool) (state : SearcherState) (meaning : Meaning) (reader : R)
+  -- before `begin`. By line it is searched as detection makes it, in a view of it
+  pub data IsUnreadIn (across : Bool) (view : List ℕ → List ℕ) (state : SearcherState) (meaning : Meaning) (reader : R)
       : Option (List ℕ) → Error → R → Type 0 where
     of_cut : {seen : List ℕ} {error : Error} {reader' : R} → across ≡ false → (taken : Taken reader reader')
         → ((bytes : List ℕ) → IsInput state.settings taken.ended taken.pieces bytes
-        → GoesOnAfter state.settings meaning bytes seen × CutsShort state.settings meaning bytes seen error)
-        → IsUnreadIn across state meaning reader (Some seen) error reader'
+        → GoesOnAfter state.settings meaning (view bytes) seen
+        × CutsShort state.settings meaning (view bytes) seen error)
+        → IsUnreadIn across view state meaning reader (Some seen) error reader'
     -- the reader's last call failed. If what came before is searched unchanged, and more than two bytes were taken,
     -- all lines that came whole were seen
     of_reader : {seen : List ℕ} {error : Error} {reader' : R} → across ≡ false → (mid : R) (taken : Taken reader mid)
         → taken.ended ≡ false → read_step mid (Err error) reader'
         → ((bytes : List ℕ) → IsInput state.settings taken.ended taken.pieces bytes
-        → GoesOnAfter state.settings meaning bytes seen)
+        → GoesOnAfter state.settings meaning (view bytes) seen)
         → (is_searched_unchanged state.settings (concat taken.pieces) ≡ true
         → (TakesAtMost (remaining reader) (remaining reader') 2 → ⊥)
-        → HasOpenLine state.settings (concat taken.pieces) seen)
-        → IsUnreadIn across state meaning reader (Some seen) error reader'
+        → HasOpenLine state.settings (view (concat taken.pieces)) seen)
+        → IsUnreadIn across view state meaning reader (Some seen) error reader'
     -- across lines all is read before `begin`: there was no room for it, or the reader's last call failed, before as many
     -- bytes came as the heap limit, if they are searched unchanged and more than two were taken
     of_contents : {error : Error} {reader' : R} → across ≡ true → (taken : Taken reader reader')
         → ((bytes : List ℕ) → IsInput state.settings taken.ended taken.pieces bytes
         → CutsContents state.settings bytes error)
-        → IsUnreadIn across state meaning reader None error reader'
+        → IsUnreadIn across view state meaning reader None error reader'
     of_failed_read : {error : Error} {reader' : R} → across ≡ true → (mid : R) (taken : Taken reader mid)
         → taken.ended ≡ false → read_step mid (Err error) reader'
         → ((limit : ℕ) → state.settings.heap_limit ≡ Some limit
         → is_searched_unchanged state.settings (concat taken.pieces) ≡ true
         → (TakesAtMost (remaining reader) (remaining reader') 2 → ⊥) → length (concat taken.pieces) < limit)
-        → IsUnreadIn across state meaning reader None error reader'
+        → IsUnreadIn across view state meaning reader None error reader'
     -- there were no buffers, and no memory for them
     of_buffers : {error : Error} → state.has_buffers ≡ false → error_kind error ≡ OutOfMemory
-        → IsUnreadIn across state meaning reader None error reader
+        → IsUnreadIn across view state meaning reader None error reader
 
   abbrev pub IsUnread : SearcherState → Meaning → R → Option (List ℕ) → Error → R → Type 0
-  IsUnread state meaning = IsUnreadIn (search_calls state.settings meaning).across state meaning
+  IsUnread state meaning =
+      IsUnreadIn (search_calls state.settings meaning).across (view_of state.settings) state meaning
 
   -- the same by line
   abbrev pub IsLineUnread : SearcherState → Meaning → R → Option (List ℕ) → Error → R → Type 0
-  IsLineUnread = IsUnreadIn false
+  IsLineUnread state = IsUnreadIn false (view_of state.settings) state
 
   module _ {S E F : Type 0} (step : Steps S E) (errors : ErrorMakers E) (matcher : MatcherFacts F) where
     -- A search with these calls that ended in `Ok`: they were made over the lines that were seen, up to the first false
-    -- or the last, and `finish` followed. Whatever follows what was taken, they are those for the whole input, and
+    -- or the last, and `finish` followed; and no call of `binary_data`. Whatever follows what was taken, they are those for the whole input, and
     -- unless one returned false, each line with a turn was seen.
     pub record IsReaderRunIn (calls : SearchCalls) (settings : Settings) (reader : R) (old : S) (reader' : R) (new : S)
         : Type 0 where
@@ -96,16 +100,17 @@ module _ {R : Type 0} (remaining : R → Option (List ℕ)) (read_step : R → R
       pub mid : S
       pub reported : AreReported step settings old (calls.turns seen) outcome mid
       pub finished : IsFinished step settings outcome mid (calls.byte_count seen) None (Ok tt) new
-      pub front : (bytes : List ℕ) → IsInput settings taken.ended taken.pieces bytes → IsFront settings bytes seen
+      pub front : (bytes : List ℕ) → IsInput settings taken.ended taken.pieces bytes → IsFront settings (calls.view bytes) seen
       pub run : (bytes : List ℕ) → IsInput settings taken.ended taken.pieces bytes
-          → IsRun step settings old (calls.turns bytes) (calls.byte_count bytes) None (Ok tt) new
+          → IsRun step settings old (calls.turns (calls.view bytes)) (calls.byte_count (calls.view bytes)) None
+          (Ok tt) new
       pub all : (bytes : List ℕ) → IsInput settings taken.ended taken.pieces bytes → outcome ≡ all_true
-          → calls.turn_count bytes ≤ length (lines (byte_of settings.line_terminator) seen)
-      -- by line nothing was read unless `begin` returned true and a line may have a turn
+          → calls.turn_count (calls.view bytes) ≤ length (lines (byte_of settings.line_terminator) seen)
+      -- by line nothing was read unless `begin` returned true and the search reads lines
       pub begun : Bool
       pub first : S
       pub begin : step old settings begins (Ok begun) first
-      pub unread : calls.across ≡ false → (begun && not (is_idle settings)) ≡ false → reader' ≡ reader
+      pub unread : calls.across ≡ false → (begun && reads_lines settings) ≡ false → reader' ≡ reader
       -- across lines all was read, and it is shorter than the heap limit
       pub whole : calls.across ≡ true → taken.ended ≡ true
       pub below : calls.across ≡ true → (bytes : List ℕ) → IsInput settings taken.ended taken.pieces bytes
@@ -124,12 +129,13 @@ module _ {R : Type 0} (remaining : R → Option (List ℕ)) (read_step : R → R
           → (calls.across ≡ true → taken.ended ≡ true)
           → IsFaultIn step errors matcher calls state.settings seen old e new
           → ((bytes : List ℕ) → IsInput state.settings taken.ended taken.pieces bytes
-          → IsFront state.settings bytes seen × IsFaultIn step errors matcher calls state.settings bytes old e new
+          → IsFront state.settings (calls.view bytes) seen
+          × IsFaultIn step errors matcher calls state.settings (calls.view bytes) old e new
           × (calls.across ≡ true → IsBelowLimit state.settings bytes))
           → IsReaderFaultIn calls state reader old e reader' new
       -- the input wasn't searched to its end
       of_reading : {e : E} {reader' : R} {new : S} (seen : Option (List ℕ)) (error : Error)
-          → IsUnreadIn calls.across state matcher.meaning reader seen error reader' → errors.is_io error e
+          → IsUnreadIn calls.across calls.view state matcher.meaning reader seen error reader' → errors.is_io error e
           → HasReportedIn step errors matcher calls state.settings seen old new
           → IsReaderFaultIn calls state reader old e reader' new
 
@@ -146,19 +152,98 @@ module _ {R : Type 0} (remaining : R → Option (List ℕ)) (read_step : R → R
     abbrev pub IsLineReaderFault : SearcherState → R → S → E → R → S → Type 0
     IsLineReaderFault state = IsReaderFaultIn (calls_by_line state.settings matcher.meaning) state
 
-    -- an error: that of the refusal, which leaves the reader and the sink as they were, or that of the search, which is
-    -- said if the matcher is lawful
-    abbrev pub IsReaderFaultUnless : Option ConfigError → SearcherState → R → S → E → R → S → Type 0
-    IsReaderFaultUnless (Some refusal) state reader old e reader' new =
-        errors.is_config refusal e × (new ≡ old) × (reader' ≡ reader)
-    IsReaderFaultUnless None state reader old e reader' new =
-        IsLawful matcher state.settings → IsReaderFault state reader old e reader' new
+-- how a search of a reader under binary detection ends
+module _ {R : Type 0} (remaining : R → Option (List ℕ)) (read_step : R → ReadResult → R → Type 0)
+    {S E F : Type 0} (step : Steps S E) (errors : ErrorMakers E) (matcher : MatcherFacts F) where
+  -- across lines, if the search ends at a byte: all was read, it is shorter than the heap limit, and that is what the
+  -- search of it comes to
+  pub record IsContentsRun (settings : Settings) (reader reader' : R) (Ends : List ℕ → Type 0) : Type 0 where
+    pub taken : Taken remaining read_step reader reader'
+    pub whole : taken.ended ≡ true
+    pub run : (bytes : List ℕ) → IsInput settings taken.ended taken.pieces bytes → Ends bytes
+    pub below : (bytes : List ℕ) → IsInput settings taken.ended taken.pieces bytes → IsBelowLimit settings bytes
 
-    -- a search of a reader: it isn't refused and, if the matcher is lawful, runs along the calls for its input, or it
-    -- ends in an error
-    abbrev pub IsReaderSearched : SearcherState → R → S → Result (Unit {0}) E → R → S → Type 0
-    IsReaderSearched state reader old (Ok u) reader' new =
-        (refusal_of state.settings matcher.meaning ≡ None)
-        × (IsLawful matcher state.settings → IsReaderRun state.settings reader old reader' new)
-    IsReaderSearched state reader old (Err e) reader' new =
-        IsReaderFaultUnless (refusal_of state.settings matcher.meaning) state reader old e reader' new
+  -- or all wasn't read
+  abbrev pub IsContentsSearched : ℕ → SearcherState → R → S → Result (Unit {0}) E → R → S → Type 0
+  IsContentsSearched b state reader old (Ok u) reader' new =
+      IsContentsRun state.settings reader reader'
+      (λ bytes. IsRunUntil step errors matcher (calls_across state.settings matcher.meaning) b state.settings bytes old (Ok u) new)
+  IsContentsSearched b state reader old (Err e) reader' new =
+      IsContentsRun state.settings reader reader'
+      (λ bytes. IsQuitFault step errors matcher (calls_across state.settings matcher.meaning) b state.settings bytes
+      old e new)
+      ⊎ ((error : Error) × IsUnreadIn remaining read_step true (view_of state.settings) state matcher.meaning reader None
+      error reader'
+      × errors.is_io error e × (new ≡ old))
+
+  -- by line: the search of the view by a sink that is called with `binary_data` in between
+  pub record IsNotedReaderRun (settings : Settings) (reader : R) (old : S) (reader' : R) (new : S) : Type 0 where
+    pub found : Option ℕ
+    pub run : IsReaderRunIn remaining read_step (noted step) errors matcher (stream_calls settings matcher.meaning)
+        settings reader (old, None) reader' (new, found)
+    pub noted_for : (bytes : List ℕ) → IsInput settings run.taken.ended run.taken.pieces bytes
+        → IsNotedFor settings bytes found
+    pub clear : (bytes : List ℕ) → IsInput settings run.taken.ended run.taken.pieces bytes
+        → IsClear settings bytes found
+        (count_of run.outcome ((stream_calls settings matcher.meaning).byte_count run.seen))
+    -- whatever follows what was taken, it is such a run over the whole input
+    pub each : (bytes : List ℕ) → IsInput settings run.taken.ended run.taken.pieces bytes
+        → IsNotedRun step settings matcher.meaning bytes old new
+
+  -- the same that ends in an error, after a first part of what was read in which the byte was
+  pub record IsNotedReaderFault (state : SearcherState) (reader : R) (old : S) (e : E) (reader' : R) (new : S)
+      : Type 0 where
+    pub found : Option ℕ
+    pub fault : IsReaderFaultIn remaining read_step (noted step) errors matcher
+        (stream_calls state.settings matcher.meaning) state reader (old, None) e reader' (new, found)
+    pub mid : R
+    pub taken : Taken remaining read_step reader mid
+    pub noted_for : (bytes : List ℕ) → IsInput state.settings taken.ended taken.pieces bytes
+        → IsNotedFor state.settings bytes found
+
+  -- or it ended at the first binary byte, in `finish` or in the sink's error
+  pub record IsReaderCut (settings : Settings) (reader : R) (old : S) (result : Result (Unit {0}) E)
+      (reader' : R) (new : S) : Type 0 where
+    pub taken : Taken remaining read_step reader reader'
+    pub run : IsCutRun step settings matcher.meaning (IsInput settings taken.ended taken.pieces) old result new
+
+  abbrev pub IsStreamSearched : SearcherState → R → S → Result (Unit {0}) E → R → S → Type 0
+  IsStreamSearched state reader old (Ok u) reader' new =
+      IsNotedReaderRun state.settings reader old reader' new
+      ⊎ IsReaderCut state.settings reader old (Ok u) reader' new
+  IsStreamSearched state reader old (Err e) reader' new =
+      IsNotedReaderFault state reader old e reader' new
+      ⊎ IsReaderCut state.settings reader old (Err e) reader' new
+
+  -- without detection: along the calls for its input, or it ends in an error
+  abbrev pub IsPlainlySearched : SearcherState → R → S → Result (Unit {0}) E → R → S → Type 0
+  IsPlainlySearched state reader old (Ok u) reader' new =
+      IsReaderRun remaining read_step step errors matcher state.settings reader old reader' new
+  IsPlainlySearched state reader old (Err e) reader' new =
+      IsReaderFault remaining read_step step errors matcher state reader old e reader' new
+
+  -- what a search of a reader that isn't refused comes to, by where it looks for binary bytes
+  abbrev pub IsSearchedAt : Look → SearcherState → R → S → Result (Unit {0}) E → R → S → Type 0
+  IsSearchedAt nowhere = IsPlainlySearched
+  IsSearchedAt (in_contents b) = IsContentsSearched b
+  IsSearchedAt on_stream = IsStreamSearched
+
+  abbrev pub IsSourceSearched : SearcherState → R → S → Result (Unit {0}) E → R → S → Type 0
+  IsSourceSearched state = IsSearchedAt (look_of state.settings matcher.meaning false) state
+
+  -- an error: that of the refusal, which leaves the reader and the sink as they were, or that of the search, which is
+  -- said if the matcher is lawful
+  abbrev pub IsReaderFaultUnless : Option ConfigError → SearcherState → R → S → E → R → S → Type 0
+  IsReaderFaultUnless (Some refusal) state reader old e reader' new =
+      errors.is_config refusal e × (new ≡ old) × (reader' ≡ reader)
+  IsReaderFaultUnless None state reader old e reader' new =
+      IsLawful matcher state.settings → IsSourceSearched state reader old (Err e) reader' new
+
+  -- a search of a reader: it isn't refused and, if the matcher is lawful, runs along the calls for its input, or it
+  -- ends in an error
+  abbrev pub IsReaderSearched : SearcherState → R → S → Result (Unit {0}) E → R → S → Type 0
+  IsReaderSearched state reader old (Ok u) reader' new =
+      (refusal_of state.settings matcher.meaning ≡ None)
+      × (IsLawful matcher state.settings → IsSourceSearched state reader old (Ok u) reader' new)
+  IsReaderSearched state reader old (Err e) reader' new =
+      IsReaderFaultUnless (refusal_of state.settings matcher.meaning) state reader old e reader' new

@@ -4,6 +4,7 @@ use Rattle.std.specs.IoError.{error_kind}
 use Rattle.std.specs.declared.io.Error.{Error}
 use Rattle.std.specs.declared.io.ErrorKind.TheVariants.{InvalidData, Other, OutOfMemory}
 use Rattle.grep_matcher.specs.Matching.{Meaning}
+use Rattle.grep_definitions.specs.BinaryBytes.{view_of}
 use Rattle.grep_definitions.specs.Settings.{Settings, SearcherState}
 use Rattle.grep_definitions.specs.InputFronts.{GoesOnAfter, IsCrowded}
 use Rattle.grep_definitions.specs.DecodedInputs.{searched_bytes, is_searched_unchanged}
@@ -39,20 +40,21 @@ pub data CutsContents (settings : Settings) (input : List ℕ) : Error → Type 
   of_no_memory : {error : Error} → error_kind error ≡ OutOfMemory → CutsContents settings input error
 
 -- why an input that is decoded wasn't searched to its end, by line or across lines: after the lines that were seen, or
--- before `begin`
-pub data IsUndecodedIn (across : Bool) (state : SearcherState) (meaning : Meaning) (input : List ℕ)
-    : Option (List ℕ) → Error → Type 0 where
+-- before `begin`. By line it is searched as detection makes it, in a view of it
+pub data IsUndecodedIn (across : Bool) (view : List ℕ → List ℕ) (state : SearcherState) (meaning : Meaning)
+    (input : List ℕ) : Option (List ℕ) → Error → Type 0 where
   of_cut : {seen : List ℕ} {error : Error} → across ≡ false
       → is_searched_unchanged state.settings input ≡ false
-      → GoesOnAfter state.settings meaning (searched_bytes state.settings input) seen
-      → CutsShort state.settings meaning (searched_bytes state.settings input) seen error
-      → IsUndecodedIn across state meaning input (Some seen) error
+      → GoesOnAfter state.settings meaning (view (searched_bytes state.settings input)) seen
+      → CutsShort state.settings meaning (view (searched_bytes state.settings input)) seen error
+      → IsUndecodedIn across view state meaning input (Some seen) error
   of_contents : {error : Error} → across ≡ true → is_searched_unchanged state.settings input ≡ false
       → CutsContents state.settings (searched_bytes state.settings input) error
-      → IsUndecodedIn across state meaning input None error
+      → IsUndecodedIn across view state meaning input None error
   -- there were no buffers, and no memory for them
   of_buffers : {error : Error} → is_searched_unchanged state.settings input ≡ false → state.has_buffers ≡ false
-      → error_kind error ≡ OutOfMemory → IsUndecodedIn across state meaning input None error
+      → error_kind error ≡ OutOfMemory → IsUndecodedIn across view state meaning input None error
 
 abbrev pub IsUndecoded : SearcherState → Meaning → List ℕ → Option (List ℕ) → Error → Type 0
-IsUndecoded state meaning = IsUndecodedIn (search_calls state.settings meaning).across state meaning
+IsUndecoded state meaning =
+    IsUndecodedIn (search_calls state.settings meaning).across (view_of state.settings) state meaning

@@ -20,6 +20,8 @@ pub record SearchCalls : Type 1 where
   pub byte_count : List ℕ → ℕ
   -- what the matcher is asked over some bytes, and the calls that were made before
   pub IsAsked : List ℕ → List ℕ → List Turn → Type 0
+  -- what is searched of decoded bytes
+  pub view : List ℕ → List ℕ
 
 module _ (settings : Settings) (meaning : Meaning) where
   abbrev pub calls_by_line : SearchCalls
@@ -29,6 +31,7 @@ module _ (settings : Settings) (meaning : Meaning) where
     turn_count = LineSearch.turn_count settings meaning;
     byte_count = LineSearch.byte_count settings meaning;
     IsAsked = IsAskedByLine settings meaning;
+    view = λ bytes. bytes;
   }
 
   -- across lines, some first calls were made before a question
@@ -41,11 +44,16 @@ module _ (settings : Settings) (meaning : Meaning) where
     IsAsked = λ bytes haystack made.
         IsAskedAcross settings meaning bytes haystack
         × ((count : ℕ) × (made ≡ take count (AcrossLines.turns settings meaning bytes)));
+    view = λ bytes. bytes;
   }
 
+  -- in either mode the decoded bytes are searched
   abbrev pub calls_if : Bool → SearchCalls
-  calls_if true = calls_across
-  calls_if false = calls_by_line
+  calls_if across = record (choose across) { view = λ bytes. bytes }
+    where
+      choose : Bool → SearchCalls
+      choose true = calls_across
+      choose false = calls_by_line
 
   abbrev pub search_calls : SearchCalls
   search_calls = calls_if (is_across settings meaning)

@@ -5,13 +5,17 @@ use Rattle.grep_matcher.specs.declared.line_terminator.LineTerminator.{LineTermi
 use Rattle.grep_matcher.specs.Matching.{Meaning}
 use Rattle.grep_report.specs.declared.config_error.ConfigError.{ConfigError}
 use Rattle.grep_definitions.specs.Settings.{Settings, SearcherState}
-use Rattle.grep_definitions.specs.DecodedInputs.{searched_bytes}
+use Rattle.grep_definitions.specs.BinaryBytes.{Look, nowhere, in_contents, on_stream, look_of, view_of}
+use Rattle.grep_definitions.specs.DecodedInputs.{searched_bytes, is_searched_unchanged}
+use Rattle.grep_definitions.specs.NotedSinks.{noted}
+use Rattle.grep_definitions.specs.QuitPoints.{quit_point, IsRunTo}
 use Rattle.grep_definitions.specs.Questions.{IsLawfulFor}
 use Rattle.grep_definitions.specs.ReadingFaults.{IsUndecoded}
 use Rattle.grep_definitions.specs.Refusals.{refusal_of}
 use Rattle.grep_definitions.specs.SearchTurns.{SearchCalls, calls_by_line, search_calls}
 use Rattle.grep_definitions.specs.SearchTurns.{search_turns, search_byte_count}
 use Rattle.grep_definitions.specs.SinkCalls.{Turn}
+use Rattle.grep_definitions.specs.StreamSearches.{IsCutRun, IsNotedFor, IsNotedRun, stream_calls}
 use Rattle.grep_definitions.specs.SinkRuns.{Steps, all_true, AreReported, IsRun}
 
 -- how a sink's errors are made: of a message, by its text if that is known, of an io error, of a fault of the
@@ -75,22 +79,87 @@ module _ {S E F : Type 0} (step : Steps S E) (errors : ErrorMakers E) (matcher :
     pub made : errors.is_io error e
     pub reported : HasReportedIn (search_calls state.settings matcher.meaning) state.settings seen old new
 
-  -- an error: that of the refusal, which leaves the sink as it was, or a fault, or the input wasn't decoded to its end;
-  -- of a search that isn't refused this is said if the matcher is lawful
+  -- along the calls for its decoded bytes, or it ends in a fault, or the input wasn't decoded to its end
+  abbrev pub IsPlainlySearched : SearcherState → List ℕ → S → Result (Unit {0}) E → S → Type 0
+  IsPlainlySearched state input old (Ok u) new =
+      IsSearchedAlong state.settings (searched_bytes state.settings input) old (Ok u) new
+  IsPlainlySearched state input old (Err e) new =
+      IsFault state.settings (searched_bytes state.settings input) old e new
+      ⊎ IsUnsearched state input old e new
+
+  -- a search of whole contents that ends at a byte: it is a run along these calls, or up to the point where the byte
+  -- ends it
+  abbrev pub IsRunUntil : SearchCalls → ℕ → Settings → List ℕ → S → Result (Unit {0}) E → S → Type 0
+  IsRunUntil calls b settings bytes old result new =
+      IsRunTo step settings (quit_point b bytes (calls.turns bytes)) old (calls.turns bytes)
+      (calls.byte_count bytes) result new
+
+  -- how it ends in an error: the sink's own, or the matcher's, before the byte
+  pub data IsQuitFault (calls : SearchCalls) (b : ℕ) (settings : Settings) (bytes : List ℕ) (old : S)
+      : E → S → Type 0 where
+    of_quit_sink : {e : E} {new : S} → IsRunUntil calls b settings bytes old (Err e) new
+        → IsQuitFault calls b settings bytes old e new
+    of_quit_matcher : {e : E} {new : S} (haystack : List ℕ) (error : F) (made : List Turn)
+        → calls.IsAsked bytes haystack made → matcher.fails haystack error
+        → errors.is_message (matcher.text_of error) e
+        → quit_point b bytes made ≡ None
+        → AreReported step settings old made all_true new
+        → IsQuitFault calls b settings bytes old e new
+
+  abbrev pub IsContentsSearched : ℕ → SearcherState → List ℕ → S → Result (Unit {0}) E → S → Type 0
+  IsContentsSearched b state input old (Ok u) new =
+      IsRunUntil (search_calls state.settings matcher.meaning) b state.settings
+      (searched_bytes state.settings input) old (Ok u) new
+  IsContentsSearched b state input old (Err e) new =
+      IsQuitFault (search_calls state.settings matcher.meaning) b state.settings
+      (searched_bytes state.settings input) old e new
+      ⊎ IsUnsearched state input old e new
+
+-- how a search of an input ends, also under binary detection
+module _ {S E F : Type 0} (step : Steps S E) (errors : ErrorMakers E) (matcher : MatcherFacts F) where
+  -- by line of an input that is decoded: of the view, by a sink that is called with `binary_data` in between
+  pub record IsNotedFault (state : SearcherState) (input : List ℕ) (old : S) (e : E) (new : S) : Type 0 where
+    pub found : Option ℕ
+    pub noted_for : IsNotedFor state.settings (searched_bytes state.settings input) found
+    pub fault :
+        IsFaultIn (noted step) errors matcher (stream_calls state.settings matcher.meaning) state.settings
+        (view_of state.settings (searched_bytes state.settings input)) (old, None) e (new, found)
+        ⊎ IsUnsearched (noted step) errors matcher state input (old, None) e (new, found)
+
+  -- or it ended at the first binary byte
+  abbrev pub IsStreamSearched : SearcherState → List ℕ → S → Result (Unit {0}) E → S → Type 0
+  IsStreamSearched state input old (Ok u) new =
+      IsNotedRun step state.settings matcher.meaning (searched_bytes state.settings input) old new
+      ⊎ IsCutRun step state.settings matcher.meaning (λ bytes. bytes ≡ searched_bytes state.settings input)
+      old (Ok u) new
+  IsStreamSearched state input old (Err e) new =
+      IsNotedFault state input old e new
+      ⊎ IsCutRun step state.settings matcher.meaning (λ bytes. bytes ≡ searched_bytes state.settings input)
+      old (Err e) new
+
+  -- what a search of an input that isn't refused comes to, by where it looks for binary bytes
+  abbrev pub IsSearchedAt : Look → SearcherState → List ℕ → S → Result (Unit {0}) E → S → Type 0
+  IsSearchedAt nowhere = IsPlainlySearched step errors matcher
+  IsSearchedAt (in_contents b) = IsContentsSearched step errors matcher b
+  IsSearchedAt on_stream = IsStreamSearched
+
+  abbrev pub IsInputSearched : SearcherState → List ℕ → S → Result (Unit {0}) E → S → Type 0
+  IsInputSearched state input =
+      IsSearchedAt (look_of state.settings matcher.meaning (is_searched_unchanged state.settings input))
+      state input
+
+  -- an error: that of the refusal, which leaves the sink as it was, or that of the search, which is said if the matcher
+  -- is lawful
   abbrev pub IsFaultUnless : Option ConfigError → SearcherState → List ℕ → S → E → S → Type 0
   IsFaultUnless (Some refusal) state input old e new = errors.is_config refusal e × (new ≡ old)
   IsFaultUnless None state input old e new =
-      IsLawful matcher state.settings
-      → IsFault state.settings (searched_bytes state.settings input) old e new ⊎ IsUnsearched state input old e new
+      IsLawful matcher state.settings → IsInputSearched state input old (Err e) new
 
   -- a search of an input: it isn't refused and, if the matcher is lawful, runs along the calls for its decoded bytes, or
   -- it ends in an error
   abbrev pub IsSearched : SearcherState → List ℕ → S → Result (Unit {0}) E → S → Type 0
   IsSearched state input old (Ok u) new =
       (refusal_of state.settings matcher.meaning ≡ None)
-      × (IsLawful matcher state.settings
-      → IsRun step state.settings old
-      (search_turns state.settings matcher.meaning (searched_bytes state.settings input))
-      (search_byte_count state.settings matcher.meaning (searched_bytes state.settings input)) None (Ok u) new)
+      × (IsLawful matcher state.settings → IsInputSearched state input old (Ok u) new)
   IsSearched state input old (Err e) new =
       IsFaultUnless (refusal_of state.settings matcher.meaning) state input old e new

@@ -1,5 +1,5 @@
 -- The calls that a search makes of its sink.
-use Rattle.std.specs.Prelude.{ℕ, List, Option}
+use Rattle.std.specs.Prelude.{ℕ, Bool, true, false, List, [], Option}
 use Rattle.grep_report.specs.declared.sink_context.SinkContextKind.{SinkContextKind}
 use Rattle.grep_report.specs.SinkReports.{MatchReport, ContextReport, FinishReport, match_bytes}
 
@@ -11,9 +11,9 @@ pub data Call : Type 0 where
   -- kind, line number, offset, bytes
   context : SinkContextKind → Option ℕ → ℕ → List ℕ → Call
   breaks : Call
-  -- offset; no search makes this call yet
+  -- the offset of the first binary byte
   binary_data : ℕ → Call
-  -- byte count, offset of the first binary byte, of which no search finds one yet
+  -- byte count, and that offset if there was the call before
   finishes : ℕ → Option ℕ → Call
 
 -- a call before the last, with the end of its turn: the byte count if the call returns false
@@ -30,3 +30,36 @@ context_call c = context c.kind c.line_number c.offset c.bytes
 
 abbrev pub finish_call : FinishReport → Call
 finish_call f = finishes f.byte_count f.binary_byte_offset
+
+-- the bytes of the line or the lines that a call reports, and the offset of the first; other calls have none
+abbrev pub reported_bytes : Call → List ℕ
+reported_bytes begins = []
+reported_bytes (matches number offset bytes) = bytes
+reported_bytes (context kind number offset bytes) = bytes
+reported_bytes breaks = []
+reported_bytes (binary_data offset) = []
+reported_bytes (finishes count binary) = []
+
+abbrev pub reported_from : Call → ℕ
+reported_from begins = 0
+reported_from (matches number offset bytes) = offset
+reported_from (context kind number offset bytes) = offset
+reported_from breaks = 0
+reported_from (binary_data offset) = 0
+reported_from (finishes count binary) = 0
+
+abbrev pub is_break : Call → Bool
+is_break begins = false
+is_break (matches number offset bytes) = false
+is_break (context kind number offset bytes) = false
+is_break breaks = true
+is_break (binary_data offset) = false
+is_break (finishes count binary) = false
+
+abbrev pub is_finish : Call → Bool
+is_finish begins = false
+is_finish (matches number offset bytes) = false
+is_finish (context kind number offset bytes) = false
+is_finish breaks = false
+is_finish (binary_data offset) = false
+is_finish (finishes count binary) = true

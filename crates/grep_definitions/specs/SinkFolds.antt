@@ -2,6 +2,7 @@
 use Rattle.std.specs.Prelude.{◌≡◌, ◌⊎◌, ℕ, Bool, true, false, if◌then◌else◌, List, [], ◌∷◌, map}
 use Rattle.std.specs.Prelude.{Option, Some, None, Ok, Err}
 use Rattle.std.specs.List.{fold}
+use Rattle.grep_report.specs.declared.binary_detection.BinaryDetection.TheVariants.{None as no_detection}
 use Rattle.grep_definitions.specs.Settings.{Settings, SearcherState}
 use Rattle.grep_definitions.specs.SinkCalls.{Call, Turn, begins, matches, context, breaks, binary_data, finishes}
 use Rattle.grep_definitions.specs.SinkRuns.{Steps, IsRun}
@@ -11,7 +12,7 @@ use Rattle.grep_definitions.specs.SearchTurns.{search_turns, search_byte_count}
 use Rattle.grep_definitions.specs.Refusals.{refusal_of}
 use Rattle.grep_definitions.specs.ReadingFaults.{IsUndecoded}
 use Rattle.grep_definitions.specs.Searches.{ErrorMakers, MatcherFacts, IsSearched, IsLawful}
-use Rattle.grep_definitions.specs.ReaderSearches.{IsReaderSearched, IsUnread}
+use Rattle.grep_definitions.specs.ReaderSearches.{IsReaderSearched, IsReaderRun, IsUnread}
 use Rattle.grep_decode.specs.Source.{ReadResult}
 use Rattle.std.specs.declared.io.Error.{Error}
 use Rattle.grep_definitions.specs.SearchLaws.{match_calls}
@@ -103,11 +104,24 @@ module _ {S E : Type 0} (step : Steps S E) where
       → new ≡ fold_while goes next old (match_calls turns)
 
 module _ {S E F : Type 0} (step : Steps S E) (errors : ErrorMakers E) (matcher : MatcherFacts F) where
-  -- if the matcher never fails and is lawful, and the search isn't refused, an error is that of a step of the sink, or
-  -- the input wasn't decoded to its end
+  -- without binary detection, a search with a lawful matcher that ended in `Ok` is a run along the calls for the decoded
+  -- bytes of its input
+  abbrev pub SearchesRun : Type 0
+  SearchesRun =
+      (state : SearcherState) (input : List ℕ) (old : S) (new : S)
+      → state.settings.binary_detection ≡ no_detection
+      → IsLawful matcher state.settings
+      → IsSearched step errors matcher state input old (Ok tt) new
+      → IsRun step state.settings old
+      (search_turns state.settings matcher.meaning (searched_bytes state.settings input))
+      (search_byte_count state.settings matcher.meaning (searched_bytes state.settings input)) None (Ok tt) new
+
+  -- without binary detection, if the matcher never fails and is lawful, and the search isn't refused, an error is that
+  -- of a step of the sink, or the input wasn't decoded to its end
   abbrev pub SearchesFail : Type 0
   SearchesFail =
       (state : SearcherState) (input : List ℕ) (old : S) (e : E) (new : S)
+      → state.settings.binary_detection ≡ no_detection
       → IsInfallible matcher.fails → IsLawful matcher state.settings
       → refusal_of state.settings matcher.meaning ≡ None
       → IsSearched step errors matcher state input old (Err e) new
@@ -117,10 +131,20 @@ module _ {S E F : Type 0} (step : Steps S E) (errors : ErrorMakers E) (matcher :
 
 module _ {S E F : Type 0} (step : Steps S E) (errors : ErrorMakers E) (matcher : MatcherFacts F)
     {R : Type 0} (remaining : R → Option (List ℕ)) (read_step : R → ReadResult → R → Type 0) where
-  -- the same of a search of a reader: an error is also one of reading
+  -- the same of a search of a reader: it is a run over what was taken, whatever follows
+  abbrev pub ReaderSearchesRun : Type 0
+  ReaderSearchesRun =
+      (state : SearcherState) (reader : R) (old : S) (reader' : R) (new : S)
+      → state.settings.binary_detection ≡ no_detection
+      → IsLawful matcher state.settings
+      → IsReaderSearched remaining read_step step errors matcher state reader old (Ok tt) reader' new
+      → IsReaderRun remaining read_step step errors matcher state.settings reader old reader' new
+
+  -- so is an error that a search of a reader ended in, or it is one of reading
   abbrev pub ReaderSearchesFail : Type 0
   ReaderSearchesFail =
       (state : SearcherState) (reader : R) (old : S) (e : E) (reader' : R) (new : S)
+      → state.settings.binary_detection ≡ no_detection
       → IsInfallible matcher.fails → IsLawful matcher state.settings
       → refusal_of state.settings matcher.meaning ≡ None
       → IsReaderSearched remaining read_step step errors matcher state reader old (Err e) reader' new
@@ -128,11 +152,12 @@ module _ {S E F : Type 0} (step : Steps S E) (errors : ErrorMakers E) (matcher :
       ⊎ ((seen : Option (List ℕ)) × (error : Error)
       × IsUnread remaining read_step state matcher.meaning reader seen error reader' × errors.is_io error e)
 
-  -- a search of a reader that says which bytes remain, with a lawful matcher, if it ended in `Ok`, is a run along the
-  -- calls for its decoded bytes
+  -- without binary detection, a search of a reader that says which bytes remain, with a lawful matcher, if it ended in
+  -- `Ok`, is a run along the calls for its decoded bytes
   abbrev pub KnownReadersRun : Type 0
   KnownReadersRun =
       (state : SearcherState) (reader : R) (input : List ℕ) (old : S) (reader' : R) (new : S)
+      → state.settings.binary_detection ≡ no_detection
       → remaining reader ≡ Some input
       → IsLawful matcher state.settings
       → IsReaderSearched remaining read_step step errors matcher state reader old (Ok tt) reader' new

@@ -24,6 +24,12 @@ outcome_of end (Ok true) = all_true
 outcome_of end (Ok false) = stopped end
 outcome_of end (Err e) = failed e
 
+-- the end of the turn that ended some calls, or the whole count
+abbrev pub count_of : {E : Type 0} → Outcome E → ℕ → ℕ
+count_of all_true count = count
+count_of (stopped end) count = end
+count_of (failed e) count = count
+
 module _ {S E : Type 0} (step : Steps S E) (settings : Settings) where
   -- the calls are made in order, up to the first that doesn't return true
   abbrev pub AreReported : S → List Turn → Outcome E → S → Type 0

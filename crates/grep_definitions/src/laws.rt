@@ -9,6 +9,7 @@ ghost use Rattle.grep_definitions.specs.AcrossLaws.{SearchesByLine, SearchesAcro
 ghost use Rattle.grep_definitions.specs.AcrossLaws.{MatchTouchesItsLines, EmptyMatchTouchesItsLine};
 ghost use Rattle.grep_definitions.specs.AcrossLaws.{MatchesAreAll, SelectedAreReported};
 ghost use Rattle.grep_definitions.specs.AcrossLaws.{ReportsAreApart, ReportsAreAsByLine};
+ghost use Rattle.grep_definitions.specs.BinaryLaws.{QuitReportsAreClear, ClearLinesAreReported, SeenLinesBegin};
 
 use grep_decode::laws::unchanged_is_decoded;
 use grep_lines::laws::{lines_append, lines_are_few, lines_join};
@@ -171,3 +172,23 @@ pub fn whole_count_across()
 pub fn stop_is_ignored_across()
     ensures { AcrossLaws.StopIsIgnored }
 {}
+
+/// A search of contents that ends at a binary byte reports no bytes that hold it, and one that doesn't end there
+/// reports none either.
+pub fn quit_reports_are_clear()
+    ensures { QuitReportsAreClear }
+{}
+
+/// By line, if a byte isn't among the first bytes, no report whose turn ends among them holds it.
+pub fn clear_lines_are_reported()
+    ensures { ClearLinesAreReported }
+{}
+
+/// The calls for the lines before a binary byte at which a search by line ends begin those for all lines of the input,
+/// under settings as they are built.
+pub fn seen_lines_begin()
+    ensures { SeenLinesBegin }
+{
+    lines_join();
+    lines_append();
+}

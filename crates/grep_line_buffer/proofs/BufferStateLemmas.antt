@@ -6,7 +6,7 @@ use Rattle.grep_line_buffer.specs.BufferStates.{BufferState, Lacks, EndsWith}
 use Rattle.grep_line_buffer.proofs.SliceLemmas.{drop-slice, slice-join, length-slice, slice_index-slice}
 
 -- two windows that differ in what is shown, in what follows it, and in sizes
-pub window-same : (shown shown' rest rest' : List ℕ) (offset size size' free free' : ℕ) (limit : Option ℕ) (terminator : ℕ) (detection : Detection) (has_ended : Bool)
+pub window-same : (shown shown' rest rest' : List ℕ) (offset size size' free free' : ℕ) (limit : Option ℕ) (terminator : ℕ) (detection : Detection) (binary : Option ℕ) (has_ended : Bool)
     → shown ≡ shown' → rest ≡ rest' → size ≡ size' → free ≡ free'
     → let old : BufferState = record {
       shown = shown;
@@ -17,6 +17,7 @@ pub window-same : (shown shown' rest rest' : List ℕ) (offset size size' free f
       free = free;
       terminator = terminator;
       detection = detection;
+      binary = binary;
       has_ended = has_ended;
     } in
     let new : BufferState = record {
@@ -28,9 +29,10 @@ pub window-same : (shown shown' rest rest' : List ℕ) (offset size size' free f
       free = free';
       terminator = terminator;
       detection = detection;
+      binary = binary;
       has_ended = has_ended;
     } in old ≡ new
-window-same shown shown' rest rest' offset size size' free free' limit terminator detection has_ended p q r s =
+window-same shown shown' rest rest' offset size size' free free' limit terminator detection binary has_ended p q r s =
     let F : List ℕ → List ℕ → ℕ → ℕ → BufferState = λ x y z f. record {
       shown = x;
       rest = y;
@@ -40,6 +42,7 @@ window-same shown shown' rest rest' offset size size' free free' limit terminato
       free = f;
       terminator = terminator;
       detection = detection;
+      binary = binary;
       has_ended = has_ended;
     } in
     ap (λ x. F x rest size free) p ∙ ap (λ y. F shown' y size free) q ∙ ap (λ z. F shown' rest' z free) r ∙ ap (F shown' rest' size') s

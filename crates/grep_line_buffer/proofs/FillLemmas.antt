@@ -1,5 +1,5 @@
 -- What a fill of a line buffer has come to.
-use Rattle.std.proofs.Common.{◌≡◌, ◌≢◌, ◌⊎◌, inl, inr, ℕ, ◌+◌, ◌*◌, ◌-◌, ◌^◌, ◌<◌, ◌≤◌, List, [], ◌++◌, length, drop, Bool, true, false, Option, None, Some, Result, Ok, Err, IfErr, OnOk, refl, sym, ap, subst, ◌∙◌, arith, append_assoc, append-nil, length-append, length-drop}
+use Rattle.std.proofs.Common.{◌≡◌, ◌≢◌, ◌⊎◌, inl, inr, ℕ, ◌+◌, ◌*◌, ◌-◌, ◌^◌, ◌<◌, ◌≤◌, List, [], ◌++◌, length, drop, Bool, true, false, ◌&&◌, if◌then◌else◌, take, Option, None, Some, Result, Ok, Err, IfErr, OnOk, refl, sym, ap, subst, ◌∙◌, arith, append_assoc, append-nil, length-append, length-drop}
 use Rattle.std.proofs.lemmas.Bool.{false≢true}
 use Rattle.std.proofs.lemmas.List.{drop_at, nil_from_length}
 use Rattle.std.proofs.lemmas.List.Elements.{All-append}
@@ -12,9 +12,15 @@ use Rattle.grep_decode.specs.Source.{ReadResult}
 use Rattle.grep_line_buffer.specs.declared.detection.Detection.{Detection}
 use Rattle.grep_line_buffer.specs.declared.fill_error.FillError.{FillError}
 use Rattle.grep_line_buffer.specs.declared.fill_error.FillError.TheVariants.{Read, HeapLimit, Offset, Memory}
-use Rattle.grep_line_buffer.specs.BufferStates.{BufferState, held, Lacks, IsWithin, IsSameBuffer, GrowsIfFull, KeepsStream, EndsWith, ShowsLine, IsFilled, HasNoLine}
+use Rattle.std.specs.Option.{option_map, is_some}
+use Rattle.std.proofs.Math.Seq.{take-append_seam}
+use Rattle.grep_line_buffer.specs.declared.detection.Detection.TheVariants.{None as no_detection, Quit, Convert}
+use Rattle.grep_line_buffer.specs.Detections.{detected, found_in, first_of, is_quit}
+use Rattle.grep_line_buffer.proofs.DetectionLemmas.{detected-append, detected-cut, detected-nil, found-next, found-nil, first_of-none}
+use Rattle.grep_line_buffer.proofs.DetectionLemmas.{length-detected, length-uncut, uncut-none}
+use Rattle.grep_line_buffer.specs.BufferStates.{BufferState, coming_to, held, is_cut, stream, Lacks, IsWithin, IsSameBuffer, GrowsIfFull, KeepsStream, EndsWith, ShowsLine, IsFilled, HasNoLine}
 use Rattle.grep_line_buffer.specs.Fills.{IfRead, UnlessRead, Fills, FailsToFill, FillFails, PassesOffsets, IsAtLimit, MayGrow}
-use Rattle.grep_line_buffer.specs.Appends.{Appends, FailsToRead}
+use Rattle.grep_line_buffer.specs.Appends.{Appends, Detects, FailsToRead}
 use Rattle.grep_line_buffer.specs.Room.{IsFullFault}
 use Rattle.grep_line_buffer.proofs.ReadLemmas.{Continues, HasRead, HasRead-none, HasRead-more, HasRead-failed}
 
@@ -36,6 +42,12 @@ size_of w = w.size
 
 abbrev terminator_of : BufferState → ℕ
 terminator_of w = w.terminator
+
+abbrev shown_of : BufferState → List ℕ
+shown_of w = w.shown
+
+abbrev binary_of : BufferState → Option ℕ
+binary_of w = w.binary
 
 abbrev detection_of : BufferState → Detection
 detection_of w = w.detection
@@ -60,30 +72,51 @@ if-read-full X limit size Memory P fault = tt
 
 -- what a buffer shows that had seen the end
 pub filled-before : (w : BufferState) → w.has_ended ≡ true → w.rest ≡ [] → length w.shown < w.size → IsFilled w w
-filled-before w ended all room = inr (record {
+filled-before w ended all room = inr (inl (record {
   none = λ k x below. absurd (omega (arith, length-drop (length (held w)) w.shown, length-append w.shown w.rest));
   all = all;
   room = room;
   ended = ended;
-})
+}))
 
 -- a full buffer at its limit without the end of a line is an error of its own, and no other
 pub only-limit : (old new : BufferState) (result : Result Bool FillError) → IfErr result (FillFails old new) → OnOk result (IsFilled old new)
     → HasNoLine old new → IsAtLimit new → new.offset + length (held new) < 2 ^ 64 → result ≡ Err HeapLimit
 only-limit old new (Ok some) failed (inl line) none full fits = absurd (omega (arith, ap (λ l. length l) none.shown, line.came))
-only-limit old new (Ok some) failed (inr end) none full fits = absurd (false≢true (sym none.unended ∙ end.ended))
+only-limit old new (Ok some) failed (inr (inl end)) none full fits = absurd (false≢true (sym none.unended ∙ end.ended))
+only-limit old new (Ok some) failed (inr (inr cut)) none full fits = absurd (false≢true (sym none.unended ∙ cut.ended))
 only-limit old new (Err (Read e)) failed filled none full fits = absurd (omega (arith, failed.1, full.full))
 only-limit old new (Err HeapLimit) failed filled none full fits = refl
 only-limit old new (Err Offset) failed filled none full fits = absurd (omega (arith, failed.past, fits))
 only-limit old new (Err Memory) failed filled none full fits = absurd (failed.1.limit full.limit)
 
--- bytes move from those to come to those that are held
-stream-moved : (before after : Option (List ℕ)) (old given now : List ℕ) → now ≡ old ++ given → Consumes before after given
-    → Keeps (prepend_known old before) (prepend_known now after)
-stream-moved None after old given now is moved = tt
-stream-moved (Some x) None old given now is moved = absurd moved
-stream-moved (Some x) (Some y) old given now is moved =
-    ap (λ l. l ++ y) is ∙ append_assoc old given y ∙ ap (λ l. old ++ l) (sym moved)
+-- bytes move from those to come to those that are held, as detection makes them
+stream-moved : (detection : Detection) (t : ℕ) (before after : Option (List ℕ)) (old raw now : List ℕ) (cut : Bool)
+    → now ≡ old ++ detected detection t raw
+    → (cut ≡ false → is_quit detection ≡ true → found_in detection t raw ≡ None)
+    → (cut ≡ true → (is_quit detection ≡ true) × ((n : ℕ) × (found_in detection t raw ≡ Some n)))
+    → Consumes before after raw
+    → Keeps (prepend_known old (option_map (detected detection t) before))
+    (prepend_known now (if cut then Some [] else option_map (detected detection t) after))
+stream-moved detection t None after old raw now cut is going ended moved = tt
+stream-moved detection t (Some x) None old raw now cut is going ended moved = absurd moved
+stream-moved detection t (Some x) (Some y) old raw now true is going ended moved =
+    let found = ended refl in
+    append-nil now ∙ is ∙ ap (λ l. old ++ l) (sym (detected-cut detection t raw y found.0 found.1.0 found.1.1) ∙ ap (detected detection t) (sym moved))
+stream-moved detection t (Some x) (Some y) old raw now false is going ended moved =
+    ap (λ l. l ++ detected detection t y) is ∙ append_assoc old (detected detection t raw) (detected detection t y)
+    ∙ ap (λ l. old ++ l) (sym (detected-append detection t raw y (going refl)) ∙ ap (detected detection t) (sym moved))
+
+-- what is known stays
+Keeps-same : (known : Option (List ℕ)) → Keeps known known
+Keeps-same None = tt
+Keeps-same (Some x) = refl
+
+-- the first of them that is there isn't
+first-missing : (before later : Option ℕ) (f : ℕ → ℕ) → first_of before (option_map f later) ≡ None → later ≡ None
+first-missing (Some n) later f none = absurd (cc)
+first-missing None None f none = refl
+first-missing None (Some n) f none = absurd (cc)
 
 -- bytes that were appended have no terminator, so none that aren't shown has
 pub Lacks-more : (t count : ℕ) (before given now : List ℕ) → now ≡ before ++ given → length given ≡ count → Lacks t before
@@ -108,31 +141,48 @@ grows-held : (old now new : BufferState) → GrowsIfFull old now → new.size �
 grows-held old now new (inl same) size more = inl (size ∙ same)
 grows-held old now new (inr grew) size more = inr (omega (arith, grew.0), omega (arith, grew.1), omega (arith, grew.2))
 
+-- what a buffer found, if reads gave these bytes after those that it held
+abbrev found_after : BufferState → List ℕ → Option ℕ
+found_after old raw = first_of old.binary (option_map (λ i. old.offset + length (held old) + i) (found_in old.detection old.terminator raw))
+
 module _ {R : Type 0} (remaining : R → Option (List ℕ)) (step : R → ReadResult → R → Type 0) where
-  -- The bytes that were held before are shown, and those that came since follow them.
+  -- The bytes that were held before are shown, and what detection makes of those that came since follows them.
   pub record IsFilling (old : BufferState) (d : DecoderState) (r : R) (now : BufferState) (d' : DecoderState) (r' : R) : Type 0 where
+    pub raw : List ℕ
+    pub came : now.rest ≡ detected old.detection old.terminator raw
+    pub found : now.binary ≡ found_after old raw
+    pub uncut : is_cut old ≡ false
     pub shown : now.shown ≡ held old
     pub unended : now.has_ended ≡ false
     pub same : IsSameBuffer old now
     pub rolled : now.free + length (held now) ≡ now.size
     pub within : IsWithin now.limit now.size
     pub grows : GrowsIfFull old now
-    pub read : HasRead remaining step d r now.rest d' r'
+    pub read : HasRead remaining step d r raw d' r'
 
-  -- No terminator came yet.
+  -- No terminator came yet, and no byte that ends the input.
   pub record HasNone (old : BufferState) (d : DecoderState) (r : R) (now : BufferState) (d' : DecoderState) (r' : R) : Type 0 where
     pub filling : IsFilling old d r now d' r'
     pub none : Lacks old.terminator now.rest
     pub offset : now.offset + length (held now) < 2 ^ 64
+    pub going : is_cut now ≡ false
 
   -- it begins with all that was held moved to the front
   pub HasNone-first : (old now : BufferState) (d : DecoderState) (r : R) (free : ℕ) → Decodes remaining step d r [] d r
       → now ≡ record old { shown = held old; rest = []; free = free } → free + length (held old) ≡ old.size → old.has_ended ≡ false
-      → IsWithin old.limit old.size → old.offset + length (held old) < 2 ^ 64 → HasNone old d r now d r
-  HasNone-first old now d r free none is rolled unended within offset =
+      → IsWithin old.limit old.size → old.offset + length (held old) < 2 ^ 64 → is_cut old ≡ false → HasNone old d r now d r
+  HasNone-first old now d r free none is rolled unended within offset uncut =
       let all : held old ++ [] ≡ held old = append-nil (held old) in
+      let found : old.binary ≡ found_after old [] =
+      sym (ap (λ o. first_of old.binary (option_map (λ i. old.offset + length (held old) + i) o)) (found-nil old.detection old.terminator)
+      ∙ first_of-none old.binary)
+      in
       subst (λ w. HasNone old d r w d r) (sym is) (record {
         filling = record {
+          raw = [];
+          came = sym (detected-nil old.detection old.terminator);
+          found = found;
+          uncut = uncut;
           shown = refl;
           unended = unended;
           same = record { offset = refl; limit = refl; terminator = refl; detection = refl };
@@ -143,6 +193,7 @@ module _ {R : Type 0} (remaining : R → Option (List ℕ)) (step : R → ReadRe
         };
         none = λ k x below. absurd (omega arith);
         offset = rw all offset;
+        going = uncut;
       })
 
   -- it goes on with more room
@@ -156,6 +207,10 @@ module _ {R : Type 0} (remaining : R → Option (List ℕ)) (step : R → ReadRe
       let len : ℕ = length (held now) in
       subst (λ w. HasNone old d r w d1 r1) (sym is) (record {
         filling = record {
+          raw = f.raw;
+          came = f.came;
+          found = f.found;
+          uncut = f.uncut;
           shown = f.shown;
           unended = f.unended;
           same = record { offset = f.same.offset; limit = f.same.limit; terminator = f.same.terminator; detection = f.same.detection };
@@ -166,6 +221,7 @@ module _ {R : Type 0} (remaining : R → Option (List ℕ)) (step : R → ReadRe
         };
         none = before.none;
         offset = before.offset;
+        going = before.going;
       })
     where
       grew : (size ≡ now.size) ⊎ (now.size < size) × (now.free ≡ 0) × (size ≤ 2 * now.size + 1)
@@ -175,25 +231,87 @@ module _ {R : Type 0} (remaining : R → Option (List ℕ)) (step : R → ReadRe
           let full : length (held now) ≡ now.size = omega (arith, before.filling.rolled, more.1) in
           inr (more.0, omega (arith, full), omega (arith, full, more.2))
 
-  -- it goes on with one read
-  pub IsFilling-more : (old now next : BufferState) (d d1 d2 : DecoderState) (r r1 r2 : R) (count : ℕ)
-      → Continues remaining step → HasNone old d r now d1 r1 → Appends remaining step count now d1 r1 next d2 r2 → d2.capacity ≡ d1.capacity
-      → IsFilling old d r next d2 r2
-  IsFilling-more old now next d d1 d2 r r1 r2 count continues before came capacity =
-      let f = before.filling in
-      let all : held now ++ came.given ≡ now.shown ++ (now.rest ++ came.given) = append_assoc now.shown now.rest came.given in
-      let len : length (now.shown ++ (now.rest ++ came.given)) ≡ length (held now) + count =
-      ap (λ l. length l) (sym all) ∙ length-append (held now) came.given ∙ ap (λ n. length (held now) + n) came.counted in
+  -- nothing that ends the input was among the bytes that came
+  going-none : (old now : BufferState) (d d1 : DecoderState) (r r1 : R) → (f : IsFilling old d r now d1 r1) → is_cut now ≡ false
+      → is_quit old.detection ≡ true → found_in old.detection old.terminator f.raw ≡ None
+  going-none old now d d1 r r1 f going quits =
+      let none : now.binary ≡ None =
+      uncut-none old.detection now.binary (ap (λ x. is_quit x && is_some now.binary) (sym f.same.detection) ∙ going) quits in
+      first-missing old.binary (found_in old.detection old.terminator f.raw) (λ i. old.offset + length (held old) + i) (sym f.found ∙ none)
+
+  -- the bytes of one read, as detection makes them
+  pub record Comes (count : ℕ) (now : BufferState) (given : List ℕ) (made : BufferState) : Type 0 where
+    pub rest : made.rest ≡ now.rest ++ detected now.detection now.terminator given
+    pub binary : made.binary
+        ≡ first_of now.binary (option_map (λ i. now.offset + length (held now) + i) (found_in now.detection now.terminator given))
+    pub whole : made.free + length (held made) ≡ now.free + length (held now)
+    pub others : made ≡ record now { rest = made.rest; free = made.free; binary = made.binary }
+
+  -- a read, and what detection makes of it
+  pub Comes-detected : (now next made : BufferState) (d1 d2 : DecoderState) (r1 r2 : R) (count : ℕ)
+      → (came : Appends remaining step count now d1 r1 next d2 r2) → Detects count next made → Comes count now came.given made
+  Comes-detected now next made d1 d2 r1 r2 count came changed =
       let grown : BufferState = record now { rest = now.rest ++ came.given; free = now.free - count } in
-      subst (λ w. IsFilling old d r w d2 r2) (sym came.appended) (record {
-        shown = f.shown;
-        unended = f.unended;
-        same = record { offset = f.same.offset; limit = f.same.limit; terminator = f.same.terminator; detection = f.same.detection };
-        rolled = omega (arith, len, came.fits, f.rolled);
-        within = f.within;
-        grows = grows-held old now grown f.grows refl (omega (arith, len));
-        read = HasRead-more remaining step d d1 d2 r r1 r2 now.rest came.given continues f.read came.reads capacity;
-      })
+      let len : length (now.rest ++ came.given) - count ≡ length now.rest = omega (arith, length-append now.rest came.given, came.counted) in
+      let front : take (length (now.rest ++ came.given) - count) (now.rest ++ came.given) ≡ now.rest =
+      ap (λ n. take n (now.rest ++ came.given)) len ∙ take-append_seam now.rest came.given in
+      let back : drop (length (now.rest ++ came.given) - count) (now.rest ++ came.given) ≡ came.given =
+      ap (λ n. drop n (now.rest ++ came.given)) len ∙ drop_at now.rest came.given _ refl in
+      let all : length (now.shown ++ (now.rest ++ came.given)) ≡ length (held now) + count =
+      rw (length-append, length-append, length-append, came.counted) (omega arith) in
+      let base : length (now.shown ++ (now.rest ++ came.given)) - count ≡ length (held now) = omega (arith, all) in
+      let of : Detects count grown made = subst (λ w. Detects count w made) came.appended changed in
+      record {
+        rest = of.appended ∙ ap (λ l. l ++ detected now.detection now.terminator (drop (length (now.rest ++ came.given) - count) (now.rest ++ came.given))) front
+            ∙ ap (λ l. now.rest ++ detected now.detection now.terminator l) back;
+        binary = of.found
+            ∙ ap (λ l. first_of now.binary (option_map (λ i. now.offset + (length (now.shown ++ (now.rest ++ came.given)) - count) + i) (found_in now.detection now.terminator l))) back
+            ∙ ap (λ n. first_of now.binary (option_map (λ i. now.offset + n + i) (found_in now.detection now.terminator came.given))) base;
+        whole = omega (arith, of.free, all, came.fits);
+        others = of.others;
+      }
+
+  -- it goes on with one read
+  pub IsFilling-more : (old now next made : BufferState) (d d1 d2 : DecoderState) (r r1 r2 : R) (count : ℕ)
+      → Continues remaining step → HasNone old d r now d1 r1 → (came : Appends remaining step count now d1 r1 next d2 r2)
+      → Comes count now came.given made → d2.capacity ≡ d1.capacity → IsFilling old d r made d2 r2
+  IsFilling-more old now next made d d1 d2 r r1 r2 count continues before came comes capacity =
+      let f = before.filling in
+      let same-d = f.same.detection in
+      let same-t = f.same.terminator in
+      let none = going-none old now d d1 r r1 f before.going in
+      let D = old.detection in
+      let t = old.terminator in
+      let given : detected now.detection now.terminator came.given ≡ detected D t came.given = rw (same-d, same-t) refl in
+      let found : made.binary ≡ first_of now.binary (option_map (λ i. now.offset + length (held now) + i) (found_in D t came.given)) =
+      comes.binary ∙ rw (same-d, same-t) refl in
+      let held-now : length (held now) ≡ length (held old) + length now.rest =
+      ap (λ l. length (l ++ now.rest)) f.shown ∙ length-append (held old) now.rest in
+      let base : now.offset + length (held now) ≡ old.offset + length (held old) + length now.rest = omega (arith, f.same.offset, held-now) in
+      let len : length (held made) ≡ length (held now) + length (detected D t came.given) =
+      ap (λ w. length (held w)) comes.others ∙ ap (λ l. length (now.shown ++ l)) (comes.rest ∙ ap (λ l. now.rest ++ l) given)
+      ∙ (rw (length-append, length-append, length-append) (omega arith)) in
+      record {
+        raw = f.raw ++ came.given;
+        came = comes.rest ∙ ap (λ l. now.rest ++ l) given ∙ ap (λ l. l ++ detected D t came.given) f.came
+            ∙ sym (detected-append D t f.raw came.given none);
+        found = found-next D t (old.offset + length (held old)) (length now.rest) f.raw came.given old.binary now.binary made.binary f.found
+            (λ missing. ap (λ l. length l) f.came ∙ length-detected D t f.raw missing)
+            (found ∙ ap (λ n. first_of now.binary (option_map (λ i. n + i) (found_in D t came.given))) base);
+        uncut = f.uncut;
+        shown = ap shown_of comes.others ∙ f.shown;
+        unended = ap ended_of comes.others ∙ f.unended;
+        same = record {
+          offset = ap offset_of comes.others ∙ f.same.offset;
+          limit = ap limit_of comes.others ∙ f.same.limit;
+          terminator = ap terminator_of comes.others ∙ f.same.terminator;
+          detection = ap detection_of comes.others ∙ f.same.detection;
+        };
+        rolled = comes.whole ∙ f.rolled ∙ sym (ap size_of comes.others);
+        within = subst (λ w. IsWithin w.limit w.size) (sym comes.others) f.within;
+        grows = grows-held old now made f.grows (ap size_of comes.others) (omega (arith, len));
+        read = HasRead-more remaining step d d1 d2 r r1 r2 f.raw came.given continues f.read came.reads capacity;
+      }
 
   -- what a fill says of the bytes that it appended
   pub record Outcome (old : BufferState) (d : DecoderState) (r : R) (new : BufferState) (d' : DecoderState) (r' : R) : Type 0 where
@@ -203,14 +321,55 @@ module _ {R : Type 0} (remaining : R → Option (List ℕ)) (step : R → ReadRe
     pub capacity : d'.capacity ≡ d.capacity
     pub reads : Fills remaining step old d r new d' r'
     pub stream : KeepsStream old new (yet d (remaining r)) (yet d' (remaining r'))
-    pub ahead : d'.mode ≡ Passing → TakesAtMost (remaining r) (remaining r') (length (held new) - length (held old) + runs_ahead d.mode)
+    pub ahead : is_cut new ≡ false → d'.mode ≡ Passing
+        → TakesAtMost (remaining r) (remaining r') (length (held new) - length (held old) + runs_ahead d.mode)
     pub stays : IsSettled d.mode → d'.mode ≡ d.mode
 
+  -- a buffer is cut exactly if the byte was among those that came
+  cut-found : (old now : BufferState) (d d1 : DecoderState) (r r1 : R) → (f : IsFilling old d r now d1 r1) → is_cut now ≡ true
+      → (is_quit old.detection ≡ true) × ((n : ℕ) × (found_in old.detection old.terminator f.raw ≡ Some n))
+  cut-found old now d d1 r r1 f cut = by old.detection old.binary (found_in old.detection old.terminator f.raw) refl
+      (sym (ap (λ x. is_quit x && is_some now.binary) f.same.detection) ∙ cut) f.found f.uncut
+    where
+      by : (D : Detection) (before later : Option ℕ) → found_in old.detection old.terminator f.raw ≡ later
+          → (is_quit D && is_some now.binary) ≡ true
+          → now.binary ≡ first_of before (option_map (λ i. old.offset + length (held old) + i) later)
+          → (is_quit D && is_some before) ≡ false → (is_quit D ≡ true) × ((n : ℕ) × (found_in old.detection old.terminator f.raw ≡ Some n))
+      by (Quit b) before (Some n) same cut found uncut = (refl, (n, same))
+      by (Quit b) None None same cut found uncut = absurd (false≢true (sym (ap (λ o. is_some o) found) ∙ cut))
+      by (Quit b) (Some m) None same cut found uncut = absurd (false≢true (sym uncut))
+      by no_detection before later same cut found uncut = absurd (false≢true cut)
+      by (Convert b) before later same cut found uncut = absurd (false≢true cut)
+
+  stream-filled : (old now new : BufferState) (d d' : DecoderState) (r r' : R) → (f : IsFilling old d r now d' r') (after : Option (List ℕ))
+      → held new ≡ held old ++ detected old.detection old.terminator f.raw → is_cut new ≡ is_cut now → new.detection ≡ old.detection
+      → new.terminator ≡ old.terminator → Consumes (yet d (remaining r)) after f.raw
+      → KeepsStream old new (yet d (remaining r)) after
+  stream-filled old now new d d' r r' f after is cut same-d same-t gives =
+      let D = old.detection in
+      let t = old.terminator in
+      let before = yet d (remaining r) in
+      let was : coming_to old before ≡ option_map (detected D t) before =
+      ap (λ b. if b then Some [] else option_map (detected D t) before) f.uncut in
+      let will : coming_to new after ≡ (if is_cut new then Some [] else option_map (detected D t) after) =
+      ap (λ x. if is_cut new then Some [] else option_map (detected x new.terminator) after) same-d
+      ∙ ap (λ x. if is_cut new then Some [] else option_map (detected D x) after) same-t in
+      subst (λ c. Keeps (prepend_known (held old) c) (stream new after)) (sym was)
+      (subst (λ c. Keeps (prepend_known (held old) (option_map (detected D t) before)) (prepend_known (held new) c)) (sym will)
+      (stream-moved D t before after (held old) f.raw (held new) (is_cut new) is
+      (λ going. going-none old now d d' r r' f (sym cut ∙ going)) (λ ended. cut-found old now d d' r r' f (sym cut ∙ ended)) gives))
+
   pub IsFilling-outcome : (old now new : BufferState) (d d' : DecoderState) (r r' : R) → IsFilling old d r now d' r'
-      → held new ≡ held now → IsSameBuffer now new → new.size ≡ now.size → Outcome old d r new d' r'
-  IsFilling-outcome old now new d d' r r' f whole same size =
-      let is : held new ≡ held old ++ now.rest = whole ∙ ap (λ l. l ++ now.rest) f.shown in
-      let len : length (held new) - length (held old) ≡ length now.rest = rw (is, length-append) (omega arith) in
+      → held new ≡ held now → IsSameBuffer now new → new.size ≡ now.size → new.binary ≡ now.binary → Outcome old d r new d' r'
+  IsFilling-outcome old now new d d' r r' f whole same size binary =
+      let is : held new ≡ held old ++ detected old.detection old.terminator f.raw =
+      whole ∙ ap (λ l. l ++ now.rest) f.shown ∙ ap (λ l. held old ++ l) f.came in
+      let cut : is_cut new ≡ is_cut now = rw (same.detection, binary) refl in
+      let len : is_cut new ≡ false → length (held new) - length (held old) ≡ length f.raw =
+      λ going.
+      let full = length-uncut old.detection old.terminator f.raw (going-none old now d d' r r' f (sym cut ∙ going)) in
+      rw (is, length-append) (omega (arith, full))
+      in
       record {
         same = record {
           offset = same.offset ∙ f.same.offset;
@@ -221,31 +380,58 @@ module _ {R : Type 0} (remaining : R → Option (List ℕ)) (step : R → ReadRe
         within = rw (same.limit, size) f.within;
         grows = grows-held old now new f.grows size (omega (arith, ap (λ l. length l) whole));
         capacity = f.read.capacity;
-        reads = record { given = now.rest; appended = is; decodes = f.read.decodes };
-        stream = stream-moved (yet d (remaining r)) (yet d' (remaining r')) (held old) now.rest (held new) is f.read.gives;
-        ahead = λ passing. rw len (f.read.ahead passing);
+        reads = record {
+          given = f.raw;
+          appended = is;
+          found = binary ∙ f.found;
+          uncut = λ was. absurd (false≢true (sym f.uncut ∙ was));
+          decodes = f.read.decodes;
+        };
+        stream = stream-filled old now new d d' r r' f (yet d' (remaining r')) is cut (same.detection ∙ f.same.detection)
+            (same.terminator ∙ f.same.terminator) f.read.gives;
+        ahead = λ going passing. rw (len going) (f.read.ahead passing);
         stays = f.read.stays;
       }
 
   -- without a read
   pub Outcome-none : (old : BufferState) (d : DecoderState) (r : R) → Decodes remaining step d r [] d r → IsWithin old.limit old.size → Outcome old d r old d r
-  Outcome-none old d r none within =
-      let is : held old ≡ held old ++ [] = sym (append-nil (held old)) in
-      record {
-        same = record { offset = refl; limit = refl; terminator = refl; detection = refl };
-        within = within;
-        grows = inl refl;
-        capacity = refl;
-        reads = record { given = []; appended = is; decodes = none };
-        stream = stream-moved (yet d (remaining r)) (yet d (remaining r)) (held old) [] (held old) is (Consumes-nil (yet d (remaining r)));
-        ahead = λ passing. ([], omega arith, Consumes-nil (remaining r));
-        stays = λ settled. refl;
-      }
+  Outcome-none old d r none within = record {
+    same = record { offset = refl; limit = refl; terminator = refl; detection = refl };
+    within = within;
+    grows = inl refl;
+    capacity = refl;
+    reads = record {
+      given = [];
+      appended = sym (ap (λ l. held old ++ l) (detected-nil old.detection old.terminator) ∙ append-nil (held old));
+      found = sym (ap (λ o. first_of old.binary (option_map (λ i. old.offset + length (held old) + i) o)) (found-nil old.detection old.terminator)
+          ∙ first_of-none old.binary);
+      uncut = λ was. refl;
+      decodes = none;
+    };
+    stream = Keeps-same (stream old (yet d (remaining r)));
+    ahead = λ going passing. ([], omega arith, Consumes-nil (remaining r));
+    stays = λ settled. refl;
+  }
+
+  -- the bytes that are held are moved to the front, and all of them are shown
+  pub Fills-none : (old rolled new : BufferState) (d : DecoderState) (r : R) (free : ℕ) → Decodes remaining step d r [] d r
+      → rolled ≡ record old { shown = held old; rest = []; free = free }
+      → new ≡ record rolled { shown = held rolled; rest = []; has_ended = true } → Fills remaining step old d r new d r
+  Fills-none old rolled new d r free none moved ended = record {
+    given = [];
+    appended = ap (λ w. held w) ended ∙ append-nil (held rolled) ∙ ap (λ w. held w) moved ∙ append-nil (held old)
+        ∙ sym (append-nil (held old)) ∙ ap (λ l. held old ++ l) (sym (detected-nil old.detection old.terminator));
+    found = ap binary_of ended ∙ ap binary_of moved
+        ∙ sym (ap (λ o. first_of old.binary (option_map (λ i. old.offset + length (held old) + i) o)) (found-nil old.detection old.terminator)
+        ∙ first_of-none old.binary);
+    uncut = λ was. refl;
+    decodes = none;
+  }
 
   -- once nothing more can be read
   pub IsFilling-stopped : (old now new : BufferState) (d d' : DecoderState) (r r' : R) → IsFilling old d r now d' r' → new ≡ now → Outcome old d r new d' r'
   IsFilling-stopped old now new d d' r r' f is = subst (λ w. Outcome old d r w d' r') (sym is)
-      (IsFilling-outcome old now now d d' r r' f refl (record { offset = refl; limit = refl; terminator = refl; detection = refl }) refl)
+      (IsFilling-outcome old now now d d' r r' f refl (record { offset = refl; limit = refl; terminator = refl; detection = refl }) refl refl)
 
   -- once lines are shown
   pub IsFilling-shown : (old now new : BufferState) (d d' : DecoderState) (r r' : R) (count : ℕ) → IsFilling old d r now d' r' → ShowsLine now new count
@@ -257,14 +443,14 @@ module _ {R : Type 0} (remaining : R → Option (List ℕ)) (step : R → ReadRe
         terminator = ap terminator_of shows.others;
         detection = ap detection_of shows.others;
       })
-      (ap size_of shows.others)
+      (ap size_of shows.others) (ap binary_of shows.others)
 
   -- once the end was seen
   pub IsFilling-ended : (old now new : BufferState) (d d' : DecoderState) (r r' : R) → IsFilling old d r now d' r'
       → new ≡ record now { shown = held now; rest = []; has_ended = true } → Outcome old d r new d' r'
   IsFilling-ended old now new d d' r r' f is = IsFilling-outcome old now new d d' r r' f (ap (λ w. held w) is ∙ append-nil (held now))
       (record { offset = ap offset_of is; limit = ap limit_of is; terminator = ap terminator_of is; detection = ap detection_of is })
-      (ap size_of is)
+      (ap size_of is) (ap binary_of is)
 
   -- a fill that ends in the reader's error
   pub record ReadFault (old : BufferState) (d : DecoderState) (r : R) (e : Error) (new : BufferState) (d' : DecoderState) (r' : R) : Type 0 where
@@ -279,14 +465,16 @@ module _ {R : Type 0} (remaining : R → Option (List ℕ)) (step : R → ReadRe
     pub line : HasNoLine old new
     pub room : length (held new) < new.size
     pub unended : new.has_ended ≡ false
+    pub uncut : is_cut new ≡ false
 
   pub HasNone-fault : (old now new : BufferState) (d d1 d2 : DecoderState) (r r1 r2 : R) (e : Error)
       → Continues remaining step → HasNone old d r now d1 r1 → FailsToRead remaining step d1 r1 e d2 r2 → 0 < now.free → d2.capacity ≡ d1.capacity → new ≡ now
       → ReadFault old d r e new d2 r2
   HasNone-fault old now new d d1 d2 r r1 r2 e continues before failed some capacity is =
       let f = before.filling in
-      let appended : held now ≡ held old ++ now.rest = ap (λ l. l ++ now.rest) f.shown in
-      let out = HasRead-failed remaining step d d1 d2 r r1 r2 now.rest e continues f.read failed capacity in
+      let appended : held now ≡ held old ++ detected old.detection old.terminator f.raw =
+      ap (λ l. l ++ now.rest) f.shown ∙ ap (λ l. held old ++ l) f.came in
+      let out = HasRead-failed remaining step d d1 d2 r r1 r2 f.raw e continues f.read failed capacity in
       subst (λ w. ReadFault old d r e w d2 r2) (sym is) (record {
         same = f.same;
         within = f.within;
@@ -294,42 +482,102 @@ module _ {R : Type 0} (remaining : R → Option (List ℕ)) (step : R → ReadRe
         capacity = out.capacity;
         read = record {
           mid = out.after.mid;
-          fills = record { given = now.rest; appended = appended; decodes = out.after.decodes };
+          fills = record {
+            given = f.raw;
+            appended = appended;
+            found = f.found;
+            uncut = λ was. absurd (false≢true (sym f.uncut ∙ was));
+            decodes = out.after.decodes;
+          };
           unended = out.after.unended;
           failed = out.after.failed;
         };
-        stream = stream-moved _ _ (held old) now.rest (held now) appended out.gives;
+        stream = stream-filled old now now d d1 r r1 f _ appended refl f.same.detection f.same.terminator out.gives;
         stays = out.stays;
         few = out.few;
         line = record { shown = f.shown; none = before.none; unended = f.unended };
         room = omega (arith, f.rolled);
         unended = f.unended;
+        uncut = before.going;
       })
 
   -- what is shown at the end
   pub HasNone-end : (old now next new : BufferState) (d d1 d2 : DecoderState) (r r1 r2 : R) (count : ℕ) → HasNone old d r now d1 r1
-      → Appends remaining step count now d1 r1 next d2 r2 → IsFilling old d r next d2 r2 → count ≡ 0 → 0 < now.free
+      → Appends remaining step count now d1 r1 next d2 r2 → count ≡ 0 → 0 < now.free
       → new ≡ record next { shown = held next; rest = []; has_ended = true } → IsFilled old new
-  HasNone-end old now next new d d1 d2 r r1 r2 count before came f zero some is =
+  HasNone-end old now next new d d1 d2 r r1 r2 count before came zero some is =
+      let f = before.filling in
       let empty : came.given ≡ [] = nil_from_length came.given (came.counted ∙ zero) in
       let rest : next.rest ≡ now.rest = ap rest_of came.appended ∙ ap (λ l. now.rest ++ l) empty ∙ append-nil now.rest in
       let free : next.free ≡ now.free - count = ap free_of came.appended in
-      let whole : held next ≡ held old ++ next.rest = ap (λ l. l ++ next.rest) f.shown in
-      let last : drop (length (held old)) (held next) ≡ next.rest =
-      ap (drop (length (held old))) whole ∙ drop_at (held old) next.rest _ refl in
+      let whole : held next ≡ held old ++ now.rest = ap (λ l. l ++ next.rest) (ap shown_of came.appended ∙ f.shown) ∙ ap (λ l. held old ++ l) rest in
+      let held-now : held now ≡ held old ++ now.rest = ap (λ l. l ++ now.rest) f.shown in
+      let last : drop (length (held old)) (held next) ≡ now.rest =
+      ap (drop (length (held old))) whole ∙ drop_at (held old) now.rest _ refl in
+      let size : next.size ≡ now.size = ap size_of came.appended in
       let P : List ℕ → Type 0 = Lacks old.terminator in
-      let none : P (drop (length (held old)) (held next)) = subst P (sym (last ∙ rest)) before.none in
-      subst (IsFilled old) (sym is) (inr (record { none = none; all = refl; room = omega (arith, f.rolled, free, zero, some); ended = refl }))
+      let none : P (drop (length (held old)) (held next)) = subst P (sym last) before.none in
+      subst (IsFilled old) (sym is) (inr (inl (record {
+        none = none;
+        all = refl;
+        room = omega (arith, f.rolled, some, size, ap (λ l. length l) whole, ap (λ l. length l) held-now);
+        ended = refl;
+      })))
+
+  -- the end of such a read, which gave none
+  pub IsFilling-none : (old now next : BufferState) (d d1 d2 : DecoderState) (r r1 r2 : R) (count : ℕ)
+      → Continues remaining step → HasNone old d r now d1 r1 → Appends remaining step count now d1 r1 next d2 r2 → count ≡ 0
+      → d2.capacity ≡ d1.capacity → IsFilling old d r next d2 r2
+  IsFilling-none old now next d d1 d2 r r1 r2 count continues before came zero capacity =
+      let empty : came.given ≡ [] = nil_from_length came.given (came.counted ∙ zero) in
+      let rest : next.rest ≡ now.rest ++ detected now.detection now.terminator came.given =
+      ap rest_of came.appended ∙ ap (λ l. now.rest ++ l) (empty ∙ sym (detected-nil now.detection now.terminator)
+      ∙ ap (detected now.detection now.terminator) (sym empty)) in
+      let found : next.binary ≡ first_of now.binary (option_map (λ i. now.offset + length (held now) + i) (found_in now.detection now.terminator came.given)) =
+      ap binary_of came.appended ∙ sym (first_of-none now.binary)
+      ∙ ap (λ o. first_of now.binary (option_map (λ i. now.offset + length (held now) + i) o))
+      (sym (found-nil now.detection now.terminator) ∙ ap (found_in now.detection now.terminator) (sym empty))
+      in
+      let len : length (now.shown ++ (now.rest ++ came.given)) ≡ length (held now) =
+      ap (λ l. length (now.shown ++ (now.rest ++ l))) empty ∙ ap (λ l. length (now.shown ++ l)) (append-nil now.rest) in
+      IsFilling-more old now next next d d1 d2 r r1 r2 count continues before came (record {
+        rest = rest;
+        binary = found;
+        whole = ap (λ w. w.free + length (held w)) came.appended ∙ (omega (arith, len, zero));
+        others = same-next came.appended;
+      }) capacity
+    where
+      same-next : next ≡ record now { rest = now.rest ++ came.given; free = now.free - count }
+          → next ≡ record now { rest = next.rest; free = next.free; binary = next.binary }
+      same-next is = subst (λ w. w ≡ record now { rest = w.rest; free = w.free; binary = w.binary }) (sym is) refl
+
+  -- what is shown once a byte ended the input
+  pub IsFilling-byte : (old now new : BufferState) (d d' : DecoderState) (r r' : R) → IsFilling old d r now d' r' → is_cut now ≡ true
+      → length (held now) < now.size → new ≡ record now { shown = held now; rest = []; has_ended = true } → IsFilled old new
+  IsFilling-byte old now new d d' r r' f cut room is =
+      subst (IsFilled old) (sym is) (inr (inr (record { cut = cut; all = refl; room = room; ended = refl })))
+
+  -- if the input isn't cut, detection keeps the number of bytes
+  pub Comes-counted : (old now made : BufferState) (d d1 d2 : DecoderState) (r r1 r2 : R) (count : ℕ) (given : List ℕ)
+      → HasNone old d r now d1 r1 → Comes count now given made → length given ≡ count → is_cut made ≡ false
+      → length (detected now.detection now.terminator given) ≡ count
+  Comes-counted old now made d d1 d2 r r1 r2 count given before comes counted going =
+      length-uncut now.detection now.terminator given
+      (λ quits. first-missing now.binary (found_in now.detection now.terminator given) (λ i. now.offset + length (held now) + i)
+      (sym comes.binary ∙ uncut-none now.detection made.binary (ap (λ x. is_quit x && is_some made.binary) (sym (ap detection_of comes.others)) ∙ going) quits))
+      ∙ counted
 
   -- what is shown once a line ended
-  pub IsFilling-line : (old now next new : BufferState) (d d1 d2 : DecoderState) (r r1 r2 : R) (count : ℕ) → HasNone old d r now d1 r1
-      → Appends remaining step count now d1 r1 next d2 r2 → IsFilling old d r next d2 r2 → ShowsLine next new count → IsFilled old new
-  IsFilling-line old now next new d d1 d2 r r1 r2 count before came f shows =
-      let rest : next.rest ≡ now.rest ++ came.given = ap rest_of came.appended in
-      let len : length (held next) ≡ length (held old) + (length now.rest + count) =
-      ap (λ l. length (l ++ next.rest)) f.shown ∙ length-append (held old) next.rest
-      ∙ ap (λ l. length (held old) + length l) rest ∙ ap (λ n. length (held old) + n) (length-append now.rest came.given)
-      ∙ ap (λ n. length (held old) + (length now.rest + n)) came.counted in
+  pub IsFilling-line : (old now made new : BufferState) (d d1 d2 : DecoderState) (r r1 r2 : R) (count : ℕ) (given : List ℕ)
+      → HasNone old d r now d1 r1 → Comes count now given made → length given ≡ count → is_cut made ≡ false
+      → IsFilling old d r made d2 r2 → ShowsLine made new count → IsFilled old new
+  IsFilling-line old now made new d d1 d2 r r1 r2 count given before comes counted going f shows =
+      let kept = Comes-counted old now made d d1 d2 r r1 r2 count given before comes counted going in
+      let len : length (held made) ≡ length (held old) + (length now.rest + count) =
+      ap (λ l. length (l ++ made.rest)) f.shown ∙ length-append (held old) made.rest
+      ∙ ap (λ l. length (held old) + length l) comes.rest
+      ∙ ap (λ n. length (held old) + n) (length-append now.rest (detected now.detection now.terminator given))
+      ∙ ap (λ n. length (held old) + (length now.rest + n)) kept in
       inl (record {
         came = omega (arith, len, shows.reached);
         ends = subst (λ t. EndsWith t new.shown) f.same.terminator shows.ends;
@@ -338,16 +586,19 @@ module _ {R : Type 0} (remaining : R → Option (List ℕ)) (step : R → ReadRe
       })
 
   -- it goes on if no line ended
-  pub HasNone-more : (old now next new : BufferState) (d d1 d2 : DecoderState) (r r1 r2 : R) (count : ℕ) → HasNone old d r now d1 r1
-      → Appends remaining step count now d1 r1 next d2 r2 → IsFilling old d r next d2 r2
-      → Lacks next.terminator (drop (length next.rest - count) next.rest) → next.offset + length (held next) < 2 ^ 64 → new ≡ next
+  pub HasNone-more : (old now made new : BufferState) (d d1 d2 : DecoderState) (r r1 r2 : R) (count : ℕ) (given : List ℕ)
+      → HasNone old d r now d1 r1 → Comes count now given made → length given ≡ count → is_cut made ≡ false
+      → IsFilling old d r made d2 r2
+      → Lacks made.terminator (drop (length made.rest - count) made.rest) → made.offset + length (held made) < 2 ^ 64 → new ≡ made
       → HasNone old d r new d2 r2
-  HasNone-more old now next new d d1 d2 r r1 r2 count before came f lacks offset is =
-      let last = subst (λ t. Lacks t (drop (length next.rest - count) next.rest)) f.same.terminator lacks in
+  HasNone-more old now made new d d1 d2 r r1 r2 count given before comes counted going f lacks offset is =
+      let kept = Comes-counted old now made d d1 d2 r r1 r2 count given before comes counted going in
+      let last = subst (λ t. Lacks t (drop (length made.rest - count) made.rest)) f.same.terminator lacks in
       subst (λ w. HasNone old d r w d2 r2) (sym is) (record {
         filling = f;
-        none = Lacks-more old.terminator count now.rest came.given next.rest (ap rest_of came.appended) came.counted before.none last;
+        none = Lacks-more old.terminator count now.rest (detected now.detection now.terminator given) made.rest comes.rest kept before.none last;
         offset = offset;
+        going = going;
       })
 
   -- an offset would be above 2^64 - 1

@@ -1,11 +1,13 @@
 -- What contracts see of a line buffer.
-use Rattle.std.specs.Prelude.{◌≡◌, ◌≢◌, ◌⊎◌, ℕ, ◌+◌, ◌*◌, ◌-◌, ◌<◌, ◌≤◌, Bool, true, false, List, [], ◌++◌, length, drop, All, Option, None, Some, slice_index}
+use Rattle.std.specs.Prelude.{◌≡◌, ◌≢◌, ◌⊎◌, ℕ, ◌+◌, ◌*◌, ◌-◌, ◌<◌, ◌≤◌, Bool, true, false, List, [], ◌++◌, length, drop, All, Option, None, Some, is_some, ◌&&◌, if◌then◌else◌, slice_index}
+use Rattle.std.specs.Option.{option_map}
 use Rattle.std.specs.Io.KnownBytes.{prepend_known, Keeps}
 use Rattle.grep_line_buffer.specs.declared.detection.Detection.{Detection}
+use Rattle.grep_line_buffer.specs.Detections.{detected, is_quit}
 
 -- A line buffer: the bytes that it shows, the bytes that it holds after them, the offset of its first byte in the whole
 -- input, its size in bytes, the most that this may become, how many bytes are free, the byte that ends a line, what it does
--- with binary bytes, and whether the end of the input was seen.
+-- with binary bytes, the offset of the first binary byte that it read, and whether the end of the input was seen.
 pub record BufferState : Type 0 where
   pub shown : List ℕ
   pub rest : List ℕ
@@ -15,6 +17,7 @@ pub record BufferState : Type 0 where
   pub free : ℕ
   pub terminator : ℕ
   pub detection : Detection
+  pub binary : Option ℕ
   pub has_ended : Bool
 
 -- a buffer that holds nothing, at the start of an input
@@ -28,12 +31,17 @@ empty_buffer size limit terminator detection = record {
   free = size;
   terminator = terminator;
   detection = detection;
+  binary = None;
   has_ended = false;
 }
 
 -- all bytes that a buffer holds
 abbrev pub held : BufferState → List ℕ
 held w = w.shown ++ w.rest
+
+-- the input ended at a binary byte
+abbrev pub is_cut : BufferState → Bool
+is_cut w = is_quit w.detection && is_some w.binary
 
 -- no byte is t
 abbrev pub Lacks : ℕ → List ℕ → Type 0
@@ -49,15 +57,20 @@ abbrev pub IsWithin : Option ℕ → ℕ → Type 0
 IsWithin None n = Unit {0}
 IsWithin (Some most) n = n ≤ most
 
--- the bytes that a buffer holds, and then those that are still to come, if they are known
+-- what a buffer will hold of the bytes that are still to come, if they are known: nothing once the input was cut
+abbrev pub coming_to : BufferState → Option (List ℕ) → Option (List ℕ)
+coming_to w coming =
+    if is_cut w then Some [] else option_map (detected w.detection w.terminator) coming
+
+-- the bytes that a buffer holds, and then those
 abbrev pub stream : BufferState → Option (List ℕ) → Option (List ℕ)
-stream w coming = prepend_known (held w) coming
+stream w coming = prepend_known (held w) (coming_to w coming)
 
 -- no byte of the stream was lost
 abbrev pub KeepsStream : BufferState → BufferState → Option (List ℕ) → Option (List ℕ) → Type 0
 KeepsStream old new before after = Keeps (stream old before) (stream new after)
 
--- a fill changes nothing but what is held and shown, the size, and whether the end was seen
+-- a fill changes nothing but what is held and shown, the size, what was found, and whether the end was seen
 pub record IsSameBuffer (old new : BufferState) : Type 0 where
   pub offset : new.offset ≡ old.offset
   pub limit : new.limit ≡ old.limit
@@ -91,9 +104,16 @@ pub record EndsAtEnd (old new : BufferState) : Type 0 where
   pub room : length new.shown < new.size
   pub ended : new.has_ended ≡ true
 
+-- a binary byte ended the input, and all bytes before it are shown
+pub record EndsAtByte (new : BufferState) : Type 0 where
+  pub cut : is_cut new ≡ true
+  pub all : new.rest ≡ []
+  pub room : length new.shown < new.size
+  pub ended : new.has_ended ≡ true
+
 -- what a buffer shows after a fill that succeeded
 abbrev pub IsFilled : BufferState → BufferState → Type 0
-IsFilled old new = EndsAtLine old new ⊎ EndsAtEnd old new
+IsFilled old new = EndsAtLine old new ⊎ (EndsAtEnd old new ⊎ EndsAtByte new)
 
 -- after a fill that failed: the bytes that were held before are shown, and what came since has no terminator
 pub record HasNoLine (old new : BufferState) : Type 0 where

@@ -1,11 +1,13 @@
 -- What a fill of a line buffer reads, and why it fails.
-use Rattle.std.specs.Prelude.{◌≡◌, ◌≢◌, ℕ, ◌+◌, ◌^◌, ◌<◌, ◌≤◌, List, ◌++◌, length, Option, Some, false, Result, Ok, Err}
+use Rattle.std.specs.Prelude.{◌≡◌, ◌≢◌, ℕ, ◌+◌, ◌^◌, ◌<◌, ◌≤◌, List, [], ◌++◌, length, Option, Some, true, false, Result, Ok, Err}
+use Rattle.std.specs.Option.{option_map}
 use Rattle.std.specs.declared.io.Error.{Error}
 use Rattle.grep_decode.specs.DecoderStates.{DecoderState, Decodes}
 use Rattle.grep_decode.specs.Source.{ReadResult}
 use Rattle.grep_line_buffer.specs.declared.fill_error.FillError.{FillError}
 use Rattle.grep_line_buffer.specs.declared.fill_error.FillError.TheVariants.{Read, HeapLimit, Offset, Memory}
-use Rattle.grep_line_buffer.specs.BufferStates.{BufferState, held, HasNoLine}
+use Rattle.grep_line_buffer.specs.BufferStates.{BufferState, held, is_cut, HasNoLine}
+use Rattle.grep_line_buffer.specs.Detections.{detected, found_in, first_of}
 
 -- the fact holds of the reader's error, if the result is one
 abbrev pub IfRead : {X : Type 0} → Result X FillError → (Error → Type 0) → Type 0
@@ -49,11 +51,15 @@ FillFails old new Offset = PassesOffsets old new
 FillFails old new Memory = HasNoLine old new × MayGrow new
 
 module _ {R : Type 0} (remaining : R → Option (List ℕ)) (step : R → ReadResult → R → Type 0) where
-  -- Reads of the decoder gave some bytes, and these were appended to what the buffer held.
+  -- Reads of the decoder gave some bytes. What detection makes of these was appended to what the buffer held, and the
+  -- offset of the first binary byte is known. If the input was cut before, nothing was read.
   pub record Fills (old : BufferState) (decoder : DecoderState) (reader : R) (new : BufferState)
       (decoder' : DecoderState) (reader' : R) : Type 0 where
     pub given : List ℕ
-    pub appended : held new ≡ held old ++ given
+    pub appended : held new ≡ held old ++ detected old.detection old.terminator given
+    pub found : new.binary ≡ first_of old.binary
+        (option_map (λ i. old.offset + length (held old) + i) (found_in old.detection old.terminator given))
+    pub uncut : is_cut old ≡ true → given ≡ []
     pub decodes : Decodes remaining step decoder reader given decoder' reader'
 
   -- The same, and then one more call of the reader returned this error. The decoder has still to give all that it had then.

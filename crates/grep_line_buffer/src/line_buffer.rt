@@ -3,6 +3,7 @@ ghost use Rattle.std.specs.Prelude.{◌≡◌, ◌≢◌, ◌⊎◌, ◌↔◌, 
 ghost use Rattle.std.specs.Prelude.{false, Err, None, Some, length, take, drop, IsTrue, IsOk, IfOk, IfErr, IfSome};
 ghost use Rattle.std.specs.Prelude.{IfNone, OnOk, OnErr, MatchBool, slice_index, replicate, vec_len};
 ghost use Rattle.std.specs.Io.KnownBytes.{IsAtEnd};
+ghost use Rattle.std.specs.Option.{option_map};
 ghost use Rattle.std.specs.Io.{ReadsAtMost};
 ghost use lib.Seq.{paste};
 ghost use Rattle.grep_decode.specs.Source.{FailsWith};
@@ -11,9 +12,11 @@ ghost use Rattle.grep_decode.specs.DecoderStates.{IsDone, IsSettled, TakesAtMost
 ghost use Rattle.grep_lines.specs.Positions.{slice};
 ghost use Rattle.grep_line_buffer.specs.BufferStates.{BufferState, empty_buffer, held, Lacks, IsWithin, IsSameBuffer};
 ghost use Rattle.grep_line_buffer.specs.BufferStates.{GrowsIfFull, ShowsLine, IsFilled, HasNoLine, KeepsStream};
+ghost use Rattle.grep_line_buffer.specs.BufferStates.{is_cut};
+ghost use Rattle.grep_line_buffer.specs.Detections.{byte_offset, first_of, is_quit};
 ghost use Rattle.grep_line_buffer.specs.Fills.{IfRead, UnlessRead, IsAtLimit, FillFails, Fills, FailsToFill};
 ghost use Rattle.grep_line_buffer.specs.declared.fill_error.FillError.TheVariants.{HeapLimit};
-ghost use Rattle.grep_line_buffer.specs.Appends.{Appends, FailsToRead};
+ghost use Rattle.grep_line_buffer.specs.Appends.{Appends, Detects, FailsToRead};
 ghost use Rattle.grep_line_buffer.specs.Room.{IsFullFault};
 
 use crate::detection::Detection;
@@ -21,7 +24,8 @@ use crate::fill_error::FillError;
 use crate::room::{enlarge, read_after};
 use grep_decode::laws::{reads_continue, reads_fail};
 use grep_decode::{Decoder, Source};
-use memchr::memrchr;
+use grep_lines::replace_bytes;
+use memchr::{memchr, memrchr};
 use std::alloc::{AllocError, Allocator};
 use std::io;
 use std::marker::Model;
@@ -40,6 +44,8 @@ pub struct LineBuffer<A: Allocator> {
     limit: Option<usize>,
     terminator: u8,
     detection: Detection,
+    // the buffer's offset when the first binary byte was read, and the byte's index among those held then
+    binary: Option<(u64, usize)>,
     has_ended: bool,
 }
 
@@ -55,12 +61,15 @@ impl<A: Allocator> Model for LineBuffer<A> {
       free = length b.bytes.items - b.end;
       terminator = b.terminator;
       detection = b.detection;
+      binary = option_map byte_offset b.binary;
       has_ended = b.has_ended;
     } };
 
     ghost invariant = { λ b. (b.start ≤ b.line_end) × (b.line_end ≤ b.end) × (b.end ≤ length b.bytes.items)
         × IsWithin b.limit (length b.bytes.items) × (b.offset + (b.line_end - b.start) < 2 ^ 64)
-        × (b.has_ended ≡ true → (b.line_end ≡ b.end) × (b.end < length b.bytes.items)) };
+        × (b.has_ended ≡ true → (b.line_end ≡ b.end) × (b.end < length b.bytes.items))
+        × IfSome b.binary (λ p. byte_offset p ≤ b.offset + (b.end - b.start))
+        × IfSome b.binary (λ _. is_quit b.detection ≡ true → b.end - b.start < length b.bytes.items) };
 }
 
 impl<A: Allocator> LineBuffer<A> {
@@ -88,11 +97,12 @@ impl<A: Allocator> LineBuffer<A> {
             limit,
             terminator,
             detection,
+            binary: None,
             has_ended: false,
         })
     }
 
-    /// Empties the buffer, for another input. Its size stays, so no memory is taken.
+    /// Empties the buffer, for another input, and forgets the binary byte. Its size stays, so no memory is taken.
     pub fn clear(&mut self)
         ensures { self.new
             ≡ empty_buffer self.old.size self.old.limit self.old.terminator self.old.detection }
@@ -101,11 +111,14 @@ impl<A: Allocator> LineBuffer<A> {
         self.line_end = 0;
         self.end = 0;
         self.offset = 0;
+        self.binary = None;
         self.has_ended = false;
     }
 
-    /// Sets what the buffer does with binary bytes.
+    /// Sets what the buffer does with binary bytes. The caller ensures that nothing was filled since `new` or `clear`:
+    /// bytes that were read stay as they are.
     pub fn set_binary_detection(&mut self, detection: Detection)
+        requires { self.old.binary ≡ None }
         ensures { self.new ≡ record self.old { detection = detection } }
     {
         self.detection = detection;
@@ -129,11 +142,16 @@ impl<A: Allocator> LineBuffer<A> {
         self.offset
     }
 
-    /// The offset of the first binary byte, if one was found. Without detection that is `None`.
+    /// The offset of the first binary byte that was read, from the start of the decoded input. An offset above 2^64 - 1,
+    /// which comes only with `FillError::Offset`, is returned as that number.
     pub fn binary_byte_offset(&self) -> Option<u64>
-        ensures { result ≡ None }
+        ensures exact { self.now.offset + length (held self.now) < 2 ^ 64 → result ≡ self.now.binary }
+        ensures room { length (held self.now) ≤ self.now.size }
     {
-        None
+        match self.binary {
+            Some((offset, index)) => Some(offset.saturating_add(index as u64)),
+            None => None,
+        }
     }
 
     /// Moves past the first `count` bytes of those that are shown. The caller ensures that so many are shown.
@@ -155,6 +173,9 @@ impl<A: Allocator> LineBuffer<A> {
     /// end was seen, nothing is read. Each read asks for as many bytes as are free. A full buffer grows to twice its
     /// size, or up to its limit.
     ///
+    /// `Detection::Quit` ends the input at its byte, as if nothing were left, and `Detection::Convert` makes each of its
+    /// bytes the terminator as it is read.
+    ///
     /// The decoder and the reader are those of the earlier fills since `new` or `clear`: if they are others, the
     /// bytes of both follow one another.
     ///
@@ -173,7 +194,7 @@ impl<A: Allocator> LineBuffer<A> {
         ensures grows { GrowsIfFull self.old self.new }
         ensures capacity { decoder.new.capacity ≡ decoder.old.capacity }
 
-        // what was held is followed by bytes that reads of the decoder gave, and nothing is lost
+        // what was held is followed by what detection makes of bytes that the decoder gave, and nothing is lost
         ensures reads { UnlessRead result
             (Fills R.remaining R.step self.old decoder.old reader.old self.new decoder.new reader.new) }
         ensures read { IfRead result (λ e.
@@ -188,23 +209,29 @@ impl<A: Allocator> LineBuffer<A> {
         ensures limit { HasNoLine self.old self.new → IsAtLimit self.new
             → self.new.offset + length (held self.new) < 2 ^ 64 → result ≡ Err HeapLimit }
         ensures fault { IfRead result (λ e. FailsWith R.step reader.old e reader.new) }
+        ensures uncut { IfRead result (λ _. is_cut self.new ≡ false) }
+        ensures fits { OnOk result (self.new.offset + length (held self.new) < 2 ^ 64) }
 
-        // Nothing is left once the end was seen, and nothing is read then.
-        ensures done { (self.old.has_ended ≡ true → IsDone decoder.old)
-            → self.new.has_ended ≡ true → IsDone decoder.new }
-        ensures end { (self.old.has_ended ≡ true → IsAtEnd (yet decoder.old (R.remaining reader.old)))
-            → self.new.has_ended ≡ true → IsAtEnd (yet decoder.new (R.remaining reader.new)) }
+        // Nothing is left once the end was seen, unless a byte ended the input, and nothing is read then.
+        ensures done { (self.old.has_ended ≡ true → is_cut self.old ≡ false → IsDone decoder.old)
+            → self.new.has_ended ≡ true → is_cut self.new ≡ false → IsDone decoder.new }
+        ensures end { (self.old.has_ended ≡ true → is_cut self.old ≡ false
+            → IsAtEnd (yet decoder.old (R.remaining reader.old)))
+            → self.new.has_ended ≡ true → is_cut self.new ≡ false
+            → IsAtEnd (yet decoder.new (R.remaining reader.new)) }
         ensures ended { self.old.has_ended ≡ true → IsOk result × (self.new ≡ self.old)
             × (decoder.new ≡ decoder.old) × (reader.new ≡ reader.old) }
 
         // how far the reader is ahead of what was appended, and what the decoder holds, if the bytes pass unchanged
-        ensures ahead { OnOk result (decoder.new.mode ≡ Passing
+        ensures ahead { OnOk result (is_cut self.new ≡ false → decoder.new.mode ≡ Passing
             → TakesAtMost (R.remaining reader.old) (R.remaining reader.new)
             (length (held self.new) - length (held self.old) + runs_ahead decoder.old.mode)) }
-        ensures passing { OnOk result (self.old.has_ended ≡ false → decoder.new.mode ≡ Passing
+        ensures passing { OnOk result (self.old.has_ended ≡ false → is_cut self.old ≡ false
+            → decoder.new.mode ≡ Passing
             → (length decoder.new.ready ≤ 3) × (decoder.new.held ≡ [])) }
         ensures passed { IfRead result (λ _. decoder.new.mode ≡ Passing → decoder.new.held ≡ []) }
-        ensures settled { OnOk result (self.old.has_ended ≡ false → IsSettled decoder.new.mode) }
+        ensures settled { OnOk result (self.old.has_ended ≡ false → is_cut self.old ≡ false
+            → IsSettled decoder.new.mode) }
         ensures stays { IsSettled decoder.old.mode → decoder.new.mode ≡ decoder.old.mode }
         ensures empty { IfRead result (λ _. decoder.new.ready ≡ []) }
         ensures few { IfRead result (λ _. IsSettled decoder.new.mode
@@ -219,6 +246,9 @@ impl<A: Allocator> LineBuffer<A> {
             return Err(FillError::Offset);
         }
         self.roll();
+        if self.is_cut() {
+            return Ok(self.end());
+        }
         'reads: loop {
             if let Err(e) = self.make_room() {
                 return Err(e);
@@ -230,8 +260,12 @@ impl<A: Allocator> LineBuffer<A> {
             if count == 0 {
                 return Ok(self.end());
             }
+            self.detect(count);
             if !self.has_offsets() {
                 return Err(FillError::Offset);
+            }
+            if self.is_cut() {
+                return Ok(self.end());
             }
             if self.show_lines(count) {
                 return Ok(true);
@@ -246,6 +280,14 @@ impl<A: Allocator> LineBuffer<A> {
         ensures shown { result ≡ true → (self.now.rest ≡ []) × (length self.now.shown < self.now.size) }
     {
         self.has_ended
+    }
+
+    // Whether a binary byte ended the input.
+    fn is_cut(&self) -> bool
+        ensures value { result ≡ is_cut self.now }
+        ensures room { result ≡ true → length (held self.now) < self.now.size }
+    {
+        matches!(self.detection, Detection::Quit(_)) && self.binary.is_some()
     }
 
     // Whether the offset after the bytes that are held is at most 2^64 - 1.
@@ -295,6 +337,7 @@ impl<A: Allocator> LineBuffer<A> {
         reader: &mut R,
     ) -> io::Result<usize>
         requires ended { self.old.has_ended ≡ false }
+        requires uncut { is_cut self.old ≡ false }
         requires free { 0 < self.old.free }
         ensures capacity { decoder.new.capacity ≡ decoder.old.capacity }
         ensures reads { IfOk result (λ count. Appends R.remaining R.step count self.old decoder.old reader.old
@@ -309,6 +352,46 @@ impl<A: Allocator> LineBuffer<A> {
                 Ok(count)
             }
             Err(e) => Err(e),
+        }
+    }
+
+    // Looks for binary bytes in the last `count` bytes that are held, and replaces them, or drops the first one that ends
+    // the input and what follows it.
+    fn detect(&mut self, count: usize)
+        requires ended { self.old.has_ended ≡ false }
+        requires count { count ≤ length self.old.rest }
+        requires uncut { is_cut self.old ≡ false }
+        ensures detects { Detects count self.old self.new }
+    {
+        let from = self.end - count;
+        match self.detection {
+            Detection::None => {}
+            Detection::Quit(byte) => {
+                if let Some(at) = memchr(byte, &self.bytes[from..self.end]) {
+                    self.end = from + at;
+                    self.binary = Some((self.offset, self.end - self.start));
+                }
+            }
+            Detection::Convert(byte) => {
+                let index = from - self.start;
+                let bytes = &mut self.bytes[from..self.end];
+                if let Some(at) = replace_bytes(bytes, byte, self.terminator) {
+                    self.note(index + at);
+                }
+            }
+        }
+    }
+
+    // Keeps the index of a binary byte, if it is the first.
+    fn note(&mut self, index: usize)
+        requires within { index ≤ length (held self.old) }
+        requires quits { is_quit self.old.detection ≡ false }
+        ensures { self.new ≡ record self.old {
+          binary = first_of self.old.binary (Some (self.old.offset + index));
+        } }
+    {
+        if self.binary.is_none() {
+            self.binary = Some((self.offset, index));
         }
     }
 

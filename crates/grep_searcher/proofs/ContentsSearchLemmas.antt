@@ -15,20 +15,23 @@ use Rattle.grep_lines.specs.LineLaws.{LinesJoin}
 use Rattle.grep_matcher.specs.Lines.{lines}
 use Rattle.grep_matcher.specs.Matching.{Meaning}
 use Rattle.grep_matcher.specs.Terminators.{byte_of}
+use Rattle.grep_report.specs.declared.binary_detection.BinaryDetection.{BinaryDetection}
+use Rattle.grep_report.specs.declared.binary_detection.BinaryDetection.TheVariants.{None as no_detection, Quit, Convert}
+use Rattle.grep_definitions.specs.BinaryBytes.{look_at, view_of}
 use Rattle.grep_definitions.specs.DecodedInputs.{IsInput}
 use Rattle.grep_definitions.specs.InputFronts.{IsFront, IsTooLong}
-use Rattle.grep_definitions.specs.ReaderSearches.{Taken, IsUnreadIn, IsReaderFaultIn}
-use Rattle.grep_definitions.specs.ReaderSearches.{of_contents, of_failed_read, of_search}
+use Rattle.grep_definitions.specs.ReaderSearches.{Taken, IsContentsSearched, IsUnreadIn, IsReaderFaultIn}
+use Rattle.grep_definitions.specs.ReaderSearches.{of_contents, of_failed_read, of_reading, of_search}
 use Rattle.grep_definitions.specs.ReadingFaults.{CutsContents, IsBelowLimit, of_full, of_no_memory}
 use Rattle.grep_definitions.specs.SearchLaws.{UnchangedIsInput}
 use Rattle.grep_definitions.specs.SearchTurns.{SearchCalls, calls_across}
-use Rattle.grep_definitions.specs.Searches.{ErrorMakers, MatcherFacts, IsFaultIn, of_sink}
+use Rattle.grep_definitions.specs.Searches.{ErrorMakers, MatcherFacts, IsFaultIn, IsQuitFault, IsRunUntil, of_sink}
 use Rattle.grep_definitions.specs.Settings.{Settings, SearcherState}
 use Rattle.grep_definitions.specs.SinkCalls.{Turn, begins, finishes}
 use Rattle.grep_definitions.specs.SinkRuns.{Steps, Outcome, AreReported, IsFinished, IsRun}
 use Rattle.grep_definitions.specs.SinkRuns.{finish_result}
 use Rattle.grep_definitions.proofs.LineLengthLemmas.{lines-within}
-use Rattle.grep_searcher.specs.InputSearches.{IsSourceSearchedIn}
+use Rattle.grep_searcher.specs.InputSearches.{IsAcrossSearched, IsSearchedUntil, IsSourceSearchedIn}
 use Rattle.grep_searcher.specs.SearchBuffers.{IsMadeOf}
 use Rattle.grep_searcher.specs.Walks.{Counted}
 use Rattle.grep_searcher.proofs.FinishLemmas.{finish-counted, run-finish}
@@ -75,10 +78,10 @@ module _ {R : Type 0} (remaining : R → Option (List ℕ)) (read_step : R → R
   given-begins = reading.input-is remaining read_step k capacity reader given d reader' reads none
 
   -- there was no room for all of it
-  pub unread-contents : (has_buffers : Bool) (meaning : Meaning) (error : Error)
+  pub unread-contents : (view : List ℕ → List ℕ) (has_buffers : Bool) (meaning : Meaning) (error : Error)
       → ((bytes : List ℕ) → length given ≤ length bytes → CutsContents k bytes error)
-      → IsUnreadIn remaining read_step true (record { settings = k; has_buffers = has_buffers }) meaning reader None error reader'
-  unread-contents has_buffers meaning error cut = of_contents refl taken (λ bytes input.
+      → IsUnreadIn remaining read_step true view (record { settings = k; has_buffers = has_buffers }) meaning reader None error reader'
+  unread-contents view has_buffers meaning error cut = of_contents refl taken (λ bytes input.
       let text = given-begins bytes input in
       cut bytes (omega (arith, ap length text.1, length-append given text.0)))
 
@@ -145,15 +148,33 @@ module _ {R : Type 0} (remaining : R → Option (List ℕ)) (read_step : R → R
     contents-finished count outcome mid (Err e) new counted finish = contents-fault e new
         (of_sink (run-finish step k old (calls.turns given) (calls.byte_count given) count outcome mid (Err e) new counted finish))
 
+    -- a search of it ended at a byte, or might have
+    pub contents-until : (b : ℕ) (result : Result (Unit {0}) E) (new : S)
+        → IsSearchedUntil step errors matcher calls b k given old result new
+        → IsContentsSearched remaining read_step step errors matcher b state reader old result reader' new
+    contents-until b (Ok u) new run = record {
+      taken = taken;
+      whole = done.ended;
+      run = λ bytes input. subst (λ xs. IsRunUntil step errors matcher calls b k xs old (Ok u) new) (given-is bytes input) run;
+      below = below-limit;
+    }
+    contents-until b (Err e) new fault = inl (record {
+      taken = taken;
+      whole = done.ended;
+      run = λ bytes input. subst (λ xs. IsQuitFault step errors matcher calls b k xs old e new) (given-is bytes input) fault;
+      below = below-limit;
+    })
+
 -- the reader's last call failed
 pub unread-failed : {R : Type 0} (remaining : R → Option (List ℕ)) (read_step : R → ReadResult → R → Type 0) (k : Settings)
     (capacity : ℕ) (reader : R) (given : List ℕ) (d : DecoderState) (mid : R)
     (reads : Decodes remaining read_step (started capacity k.encoding k.bom_sniffing) reader given d mid)
-    → UnchangedIsInput → (has_buffers : Bool) (meaning : Meaning) (error : Error) (reader' : R) → IsBelow k.heap_limit (length given)
+    → UnchangedIsInput → (view : List ℕ → List ℕ) (has_buffers : Bool) (meaning : Meaning) (error : Error) (reader' : R)
+    → IsBelow k.heap_limit (length given)
     → d.has_ended ≡ false → read_step mid (Err error) reader' → d.ready ≡ [] → (d.mode ≡ Passing → d.held ≡ [])
     → IsSettled d.mode ⊎ TakesAtMost (remaining reader) (remaining reader') 2
-    → IsUnreadIn remaining read_step true (record { settings = k; has_buffers = has_buffers }) meaning reader None error reader'
-unread-failed remaining read_step k capacity reader given d mid reads unchanged has_buffers meaning error reader' below unended ends
+    → IsUnreadIn remaining read_step true view (record { settings = k; has_buffers = has_buffers }) meaning reader None error reader'
+unread-failed remaining read_step k capacity reader given d mid reads unchanged view has_buffers meaning error reader' below unended ends
     ready held few =
     of_failed_read refl mid (reading.taken remaining read_step k capacity reader given d mid reads) unended ends
     (λ limit is same_bytes more.
@@ -165,10 +186,10 @@ unread-failed remaining read_step k capacity reader given d mid reads unchanged 
 module _ {R : Type 0} (remaining : R → Option (List ℕ)) (read_step : R → ReadResult → R → Type 0) (k : Settings)
     (capacity : ℕ) (d : DecoderState) (start : d ≡ started capacity k.encoding k.bom_sniffing) (reader : R) (given : List ℕ)
     (d' : DecoderState) (reader' : R) (none : (d : DecoderState) (more : List ℕ) → IsDone d → still_to_give d more ≡ [])
-    (unchanged : UnchangedIsInput) (has_buffers : Bool) (meaning : Meaning) where
+    (unchanged : UnchangedIsInput) (view : List ℕ → List ℕ) (has_buffers : Bool) (meaning : Meaning) where
   abbrev Unread : Error → Type 0
   Unread error =
-      IsUnreadIn remaining read_step true (record { settings = k; has_buffers = has_buffers }) meaning reader None error reader'
+      IsUnreadIn remaining read_step true view (record { settings = k; has_buffers = has_buffers }) meaning reader None error reader'
 
   pub unread-read : (e : FillError) (error : Error) → IsMadeOf e error → (size : ℕ) → ContentsFail k.heap_limit size given e
       → UnlessRead {X = Unit {0}} (Err e) (Decodes remaining read_step d reader given d' reader')
@@ -179,16 +200,16 @@ module _ {R : Type 0} (remaining : R → Option (List ℕ)) (read_step : R → R
   unread-read (Read io) error made size below reads fails held ready few =
       let fails' = subst (λ from. FailsAfter remaining read_step io from reader given d' reader') start fails in
       subst Unread (sym made)
-      (unread-failed remaining read_step k capacity reader given d' fails'.mid fails'.decodes unchanged has_buffers meaning io reader'
+      (unread-failed remaining read_step k capacity reader given d' fails'.mid fails'.decodes unchanged view has_buffers meaning io reader'
       below fails'.unended fails'.failed ready held few)
   unread-read HeapLimit error made size full reads fails held ready few =
       unread-contents remaining read_step k capacity reader given d' reader'
-      (subst (λ from. Decodes remaining read_step from reader given d' reader') start reads) none has_buffers meaning error
+      (subst (λ from. Decodes remaining read_step from reader given d' reader') start reads) none view has_buffers meaning error
       (λ bytes enough. of_full (length given) full made enough)
   unread-read Offset error made size never reads fails held ready few = absurd never
   unread-read Memory error made size lacks reads fails held ready few =
       unread-contents remaining read_step k capacity reader given d' reader'
-      (subst (λ from. Decodes remaining read_step from reader given d' reader') start reads) none has_buffers meaning error
+      (subst (λ from. Decodes remaining read_step from reader given d' reader') start reads) none view has_buffers meaning error
       (λ bytes enough. of_no_memory made)
 
 -- all was read by a decoder that was started so
@@ -215,3 +236,24 @@ module _ {R : Type 0} (remaining : R → Option (List ℕ)) (read_step : R → R
       (record { settings = k; has_buffers = has_buffers }) reader old result reader' new
   contents-searched = contents-finished remaining read_step k capacity reader given d' reader' from-start none join done below step
       errors matcher has_buffers old
+
+  pub contents-until-read : (b : ℕ) (result : Result (Unit {0}) E) (new : S)
+      → IsSearchedUntil step errors matcher (calls_across k matcher.meaning) b k given old result new
+      → IsContentsSearched remaining read_step step errors matcher b (record { settings = k; has_buffers = has_buffers }) reader old result
+      reader' new
+  contents-until-read = contents-until remaining read_step k capacity reader given d' reader' from-start none join done below step
+      errors matcher has_buffers old
+
+-- all wasn't read: the sink had no call, wherever the search looks for a byte
+pub across-unread : {R : Type 0} (remaining : R → Option (List ℕ)) (read_step : R → ReadResult → R → Type 0) {S E F : Type 0}
+    (step : Steps S E) (errors : ErrorMakers E) (matcher : MatcherFacts F) (d : BinaryDetection) (state : SearcherState) (reader : R)
+    (old : S) (error : Error) (e : E) (reader' : R)
+    → ((view : List ℕ → List ℕ) → IsUnreadIn remaining read_step true view state matcher.meaning reader None error reader')
+    → errors.is_io error e
+    → IsAcrossSearched remaining read_step step errors matcher (look_at d false) state reader old (Err e) reader' old
+across-unread remaining read_step step errors matcher no_detection state reader old error e reader' unread made =
+    of_reading None error (unread (λ bytes. bytes)) made refl
+across-unread remaining read_step step errors matcher (Quit b) state reader old error e reader' unread made =
+    inr (error, unread (view_of state.settings), made, refl)
+across-unread remaining read_step step errors matcher (Convert b) state reader old error e reader' unread made =
+    of_reading None error (unread (λ bytes. bytes)) made refl

@@ -10,10 +10,13 @@ use Rattle.grep_decode.specs.Decoded.{decoded, found_mark}
 use Rattle.grep_decode.specs.DecoderStates.{DecoderState, Decodes, IsDone, IsSettled, decode_by, mode_after, mode_of}
 use Rattle.grep_decode.specs.DecoderStates.{started, still_to_give, unread}
 use Rattle.grep_decode.specs.Source.{ReadResult}
+use Rattle.grep_matcher.specs.Terminators.{byte_of}
+use Rattle.grep_definitions.specs.BinaryBytes.{view_of}
 use Rattle.grep_definitions.specs.DecodedInputs.{IsInput, searched_bytes, is_searched_unchanged}
 use Rattle.grep_definitions.specs.ReaderSearches.{Taken}
 use Rattle.grep_definitions.specs.SearchLaws.{UnchangedIsInput}
 use Rattle.grep_definitions.specs.Settings.{Settings}
+use Rattle.grep_searcher.proofs.StreamViewLemmas.{view-none}
 
 -- nothing is to come after the end
 unread-nothing : (ended : Bool) → unread ended [] ≡ []
@@ -44,6 +47,27 @@ module _ {R : Type 0} (remaining : R → Option (List ℕ)) (step : R → ReadRe
       → IsInput settings d.has_ended reads.pieces bytes → (later : List ℕ) × (bytes ≡ given ++ later) × (IsDone d → later ≡ [])
   unfolding searched_bytes
   input-is none bytes (more, end, is) = (still_to_give d more, is ∙ reads.gives more end, none d more)
+
+  -- its view begins with what was made of that
+  pub front-is : ((d : DecoderState) (more : List ℕ) → IsDone d → still_to_give d more ≡ []) → (shown : List ℕ)
+      → ((later : List ℕ) → (back : List ℕ) × (view_of settings (given ++ later) ≡ shown ++ back)) → (bytes : List ℕ)
+      → IsInput settings d.has_ended reads.pieces bytes → (back : List ℕ) × (view_of settings bytes ≡ shown ++ back)
+  front-is none shown fronts bytes input =
+      let text = input-is none bytes input in
+      let front = fronts text.0 in
+      (front.0, ap (view_of settings) text.1 ∙ front.1)
+
+  -- and is all of it once it is done, if no byte cut it
+  pub view-is : ((d : DecoderState) (more : List ℕ) → IsDone d → still_to_give d more ≡ []) → (shown : List ℕ)
+      → ((later : List ℕ) → view_of settings (given ++ later) ≡ shown ++ view_of settings later) → (bytes : List ℕ)
+      → IsInput settings d.has_ended reads.pieces bytes
+      → (later : List ℕ) × (view_of settings bytes ≡ shown ++ later) × (IsDone d → later ≡ [])
+  view-is none shown shows bytes input =
+      let text = input-is none bytes input in (
+        view_of settings text.0,
+        ap (view_of settings) text.1 ∙ shows text.0,
+        λ done. ap (view_of settings) (text.2 done) ∙ view-none settings.binary_detection (byte_of settings.line_terminator),
+      )
 
   module _ (same : UnchangedIsInput) (unchanged : is_searched_unchanged settings (concat reads.pieces) ≡ true)
       (settled : IsSettled d.mode) where

@@ -1,21 +1,25 @@
 -- A search of a reader, fill by fill, against the calls that are defined for every input that begins with what was read.
-use Rattle.std.proofs.Common.{◌≡◌, ◌≢◌, ℕ, ◌+◌, ◌-◌, ◌<◌, ◌≤◌, true, false, List, [], ◌++◌, length, take, drop, get_or}
+use Rattle.std.proofs.Common.{◌≡◌, ◌≢◌, ℕ, ◌+◌, ◌-◌, ◌<◌, ◌≤◌, ◌⊎◌, ◌&&◌, ◌==◌, Bool, true, false, List, [], ◌++◌, length, take, drop, get_or}
 use Rattle.std.proofs.Common.{Some, inl, inr, refl, sym, ◌∙◌, ap, subst, arith, append-nil}
 use Rattle.std.proofs.Common.{append_assoc, length-append, length-drop}
 use Rattle.std.proofs.lemmas.List.{drop_at, get_or-append-add, get_or_append_left, length-take-le, take-append-drop}
 use Rattle.std.proofs.lemmas.List.Elements.{All-append, All-get_or}
+use Rattle.std.proofs.lemmas.Bool.{false≢true}
 use Rattle.std.specs.Prelude.{All, slice_index}
 use Rattle.grep_matcher.specs.Lines.{lines}
 use Rattle.grep_matcher.specs.Matching.{Meaning}
 use Rattle.grep_matcher.specs.Terminators.{byte_of}
 use Rattle.grep_lines.specs.LineLaws.{LinesJoin, LinesAppend}
 use Rattle.grep_lines.specs.Positions.{IsLineStart}
-use Rattle.grep_line_buffer.specs.BufferStates.{BufferState, held, Lacks, IsFilled}
+use Rattle.grep_line_buffer.specs.BufferStates.{BufferState, held, is_cut, EndsAtEnd, EndsAtLine, IsFilled, Lacks}
+use Rattle.grep_definitions.specs.BinaryBytes.{is_detecting}
 use Rattle.grep_definitions.specs.InputFronts.{GoesOnAfter, IsClosed, IsTooLong}
 use Rattle.grep_definitions.specs.LineSearch
 use Rattle.grep_definitions.specs.LineWalks.{IsOpen}
+use Rattle.grep_definitions.specs.ReaderSearches.{is_idle}
 use Rattle.grep_definitions.specs.Settings.{Settings}
 use Rattle.grep_definitions.specs.SinkRuns.{Steps, Outcome, all_true}
+use Rattle.grep_definitions.proofs.BoolLemmas.{clash}
 use Rattle.grep_definitions.proofs.LimitLemmas.{turn_above}
 use Rattle.grep_searcher.specs.declared.searcher.walk.Walk.{Walk}
 use Rattle.grep_searcher.specs.Rolls.{IsBetween, IsCountedFor, IsLast, IsNext, IsReady, HasEnded, HasMovedOn, start_in}
@@ -29,8 +33,17 @@ use Rattle.grep_searcher.proofs.WindowSearchLemmas.{passed-all, searched-rolled}
 pub nothing : {X : Type 0} → 0 < length {A = ℕ} [] → X
 nothing none = absurd (omega (arith, none))
 
+-- a fill that no byte cut shows whole lines, or all that is left
+abbrev pub IsUncut : BufferState → BufferState → Type 0
+IsUncut old new = EndsAtLine old new ⊎ EndsAtEnd old new
+
+pub uncut-filled : (old new : BufferState) → is_cut new ≡ false → IsFilled old new → IsUncut old new
+uncut-filled old new uncut (inl line) = inl line
+uncut-filled old new uncut (inr (inl end)) = inr end
+uncut-filled old new uncut (inr (inr byte)) = absurd (false≢true (sym uncut ∙ byte.cut))
+
 -- a fill shows at least what was shown
-pub long-shown : (old new : BufferState) (given : List ℕ) → held new ≡ held old ++ given → IsFilled old new
+pub long-shown : (old new : BufferState) (given : List ℕ) → held new ≡ held old ++ given → IsUncut old new
     → length old.shown ≤ length new.shown
 long-shown old new given whole (inl line) = omega (arith, line.came, length-append old.shown old.rest)
 long-shown old new given whole (inr end) = omega (
@@ -44,21 +57,21 @@ long-shown old new given whole (inr end) = omega (
 
 module _ (t : ℕ) (old new : BufferState) (ends_at : old.terminator ≡ t) where
   -- what a fill shows are whole lines, unless nothing follows
-  pub closed-filled : (later : List ℕ) → IsFilled old new → (new.has_ended ≡ true → later ≡ [])
+  pub closed-filled : (later : List ℕ) → IsUncut old new → (new.has_ended ≡ true → later ≡ [])
       → 0 < length (new.rest ++ later) → IsClosed t new.shown
   closed-filled later (inl line) done some = λ _. line.ends.last ∙ ends_at
   closed-filled later (inr end) done some =
       absurd (omega (arith, some, length-append new.rest later, ap length end.all, ap length (done end.ended)))
 
   -- nothing follows if it shows no more lines, or an unterminated one
-  pub last-filled : (later : List ℕ) → IsFilled old new → (new.has_ended ≡ true → later ≡ [])
+  pub last-filled : (later : List ℕ) → IsUncut old new → (new.has_ended ≡ true → later ≡ [])
       → IsLast t new.shown (length old.shown) → new.rest ++ later ≡ []
   last-filled later (inl line) done (inl same) = absurd (omega (arith, same, line.came, length-append old.shown old.rest))
   last-filled later (inl line) done (inr broken) = absurd (broken (λ _. line.ends.last ∙ ends_at))
   last-filled later (inr end) done last = ap (λ xs. xs ++ later) end.all ∙ done end.ended
 
   -- if it shows whole lines, and more than before, the end wasn't seen
-  pub unended-filled : (given : List ℕ) → held new ≡ held old ++ given → Lacks t old.rest → IsFilled old new
+  pub unended-filled : (given : List ℕ) → held new ≡ held old ++ given → Lacks t old.rest → IsUncut old new
       → length old.shown < length new.shown → IsClosed t new.shown → (new.has_ended ≡ false) × Lacks t new.rest
   unended-filled given whole lacks (inl line) more closed =
       (line.unended, λ i x below. subst (λ b. get_or new.rest i x ≢ b) ends_at (line.none i x below))
@@ -186,48 +199,66 @@ module _ (join : LinesJoin) (append : LinesAppend) {S E : Type 0} (step : Steps 
     seen = gone ++ old.shown
 
     pub walk-at : w.offset ≡ length gone + length old.shown
-    walk-at = (between.next [] [] nothing).inside.at
+    walk-at = between.at
 
-    here : HasPassed step k meaning gone old.shown (gone ++ (old.shown ++ [])) first w now
-    here = passed-end gone old.shown (length old.shown) first w now
-        (subst (λ xs. IsReady step k meaning gone xs (length old.shown) first w now) (append-nil old.shown) (between.next [])) refl
+    here : is_idle k ≡ false → HasPassed step k meaning gone old.shown (gone ++ (old.shown ++ [])) first w now
+    here busy = passed-end gone old.shown (length old.shown) first w now
+        (subst (λ xs. IsReady step k meaning gone xs (length old.shown) first w now) (append-nil old.shown) (between.next busy [])) refl
 
     -- the calls so far are those over the lines that were seen
     pub counted-seen : IsCountedFor step k meaning first seen w.offset all_true now
-    counted-seen = subst (λ xs. IsCountedFor step k meaning first (gone ++ xs) w.offset all_true now) (append-nil old.shown)
-        (counted-end gone old.shown first w now between.opens here)
+    counted-seen = by-cases (is_idle k) refl
+      where
+        by-cases : (idle : Bool) → is_idle k ≡ idle → IsCountedFor step k meaning first seen w.offset all_true now
+        by-cases false busy = subst (λ xs. IsCountedFor step k meaning first (gone ++ xs) w.offset all_true now) (append-nil old.shown)
+            (counted-end gone old.shown first w now between.opens (here busy))
+        by-cases true idle =
+            let unread = between.idle idle in
+            let zero : 0 ≡ w.offset = omega (arith, between.at, ap length unread.none, length-append gone old.shown) in
+            subst (λ n. IsCountedFor step k meaning first seen n all_true now) zero
+            (subst (λ xs. IsCountedFor step k meaning first xs 0 all_true now) (sym unread.none)
+            (walks.counted-idle k meaning [] step first now idle unread.begun))
 
     -- and the search goes on after them, whatever follows
     pub goes-on : (bytes back : List ℕ) → bytes ≡ seen ++ back → GoesOnAfter k meaning bytes seen
     goes-on bytes back is = record {
       front = record { after = back; whole = is; closed = λ _. shut; held = between.fits };
       closed = shut;
-      has_turn = λ less.
-          let line : w.line ≡ length (lines t seen) = here.all ∙ sym (count-after join append t gone old.shown between.opens) in
-          let walk = (between.next back [] nothing).reported.walk in
-          let input : gone ++ ((old.shown ++ back) ++ []) ≡ bytes =
-          ap (λ xs. gone ++ xs) (append-nil (old.shown ++ back)) ∙ (sym (append_assoc gone old.shown back) ∙ sym is) in
-          subst (λ i. i < LineSearch.turn_count k meaning bytes) line
-          (turn_above k meaning bytes w.line w.after_context_left w.match_count
-          (subst (λ xs. IsOpen k meaning xs w.line w.after_context_left w.match_count) input walk.opened)
-          (subst (λ i. i < length (lines t bytes)) (sym line) less));
+      has_turn = by-cases (is_idle k) refl;
     }
       where
         shut : IsClosed t seen
         shut = closed-append t gone old.shown between.opens between.shut
 
+        by-cases : (idle : Bool) → is_idle k ≡ idle → (is_detecting k.binary_detection && length (lines t seen) == 0) ≡ false
+            → length (lines t seen) < LineSearch.line_count k meaning bytes
+            → length (lines t seen) < LineSearch.turn_count k meaning bytes
+        by-cases true idle more less =
+            let unread = between.idle idle in
+            absurd (false≢true (sym more ∙ (ap (λ d. d && length (lines t seen) == 0) unread.detecting
+            ∙ ap (λ xs. length (lines t xs) == 0) unread.none)))
+        by-cases false busy more less =
+            let line : w.line ≡ length (lines t seen) = (here busy).all ∙ sym (count-after join append t gone old.shown between.opens) in
+            let walk = (between.next busy back [] nothing).reported.walk in
+            let input : gone ++ ((old.shown ++ back) ++ []) ≡ bytes =
+            ap (λ xs. gone ++ xs) (append-nil (old.shown ++ back)) ∙ (sym (append_assoc gone old.shown back) ∙ sym is) in
+            subst (λ i. i < LineSearch.turn_count k meaning bytes) line
+            (turn_above k meaning bytes w.line w.after_context_left w.match_count
+            (subst (λ xs. IsOpen k meaning xs w.line w.after_context_left w.match_count) input walk.opened)
+            (subst (λ i. i < length (lines t bytes)) (sym line) less))
+
     module _ (new : BufferState) (given : List ℕ) (whole : held new ≡ held old ++ given) (ends_at : old.terminator ≡ t) where
       -- what a fill shows is searched from the end of what was shown
-      pub filled-ready : IsFilled old new → IsReady step k meaning gone new.shown (length old.shown) first w now
-      filled-ready filled =
+      pub filled-ready : is_idle k ≡ false → IsUncut old new → IsReady step k meaning gone new.shown (length old.shown) first w now
+      filled-ready busy filled =
           let split : new.shown ≡ old.shown ++ drop (length old.shown) new.shown =
           longer-front old.shown (old.rest ++ given) new.shown new.rest (sym (whole ∙ append_assoc old.shown old.rest given))
           (long-shown old new given whole filled) in
           subst (λ xs. IsReady step k meaning gone xs (length old.shown) first w now) (sym split)
-          (between.next (drop (length old.shown) new.shown))
+          (between.next busy (drop (length old.shown) new.shown))
 
       -- none of its lines is too long
-      pub fits-filled : IsFilled old new → length new.shown ≤ new.size → (limit : ℕ) → k.heap_limit ≡ Some limit → new.size ≤ limit
+      pub fits-filled : IsUncut old new → length new.shown ≤ new.size → (limit : ℕ) → k.heap_limit ≡ Some limit → new.size ≤ limit
           → All (λ line. IsTooLong t limit line → ⊥) (lines t (gone ++ new.shown))
       fits-filled filled room limit is within =
           subst (All Fits) (sym (append t gone new.shown between.opens)) (All-append Fits (lines t gone) (lines t new.shown) left right)
@@ -242,7 +273,7 @@ module _ (join : LinesJoin) (append : LinesAppend) {S E : Type 0} (step : Steps 
           left = λ i x below. subst Fits (get_or_append_left (lines t gone) (lines t old.shown) x i below)
               (before i x (omega (arith, below, length-append (lines t gone) (lines t old.shown))))
 
-          full : IsFilled old new → length new.shown ≡ limit → IsClosed t new.shown
+          full : IsUncut old new → length new.shown ≡ limit → IsClosed t new.shown
           full (inl line) same = λ _. line.ends.last ∙ ends_at
           full (inr end) same = absurd (omega (arith, same, end.room, within))
 
@@ -250,14 +281,14 @@ module _ (join : LinesJoin) (append : LinesAppend) {S E : Type 0} (step : Steps 
           right = lines-fit join t limit new.shown (omega (arith, room, within)) (full filled)
 
       -- the next fill, after the walk passed what is shown
-      pub between-next : IsFilled old new → new.offset ≡ old.offset → length new.shown ≤ new.size
+      pub between-next : is_idle k ≡ false → IsUncut old new → new.offset ≡ old.offset → length new.shown ≤ new.size
           → ((limit : ℕ) → k.heap_limit ≡ Some limit → new.size ≤ limit)
           → (moved : BufferState) (w' : Walk) (now' : S) (on : HasMovedOn step k meaning new w now moved w' now')
           → IsBetween step k meaning (gone ++ take on.count new.shown) moved first w' now'
-      between-next filled same room within moved w' now' on =
+      between-next busy filled same room within moved w' now' on =
           let start : start_in new w ≡ length old.shown = omega (arith, walk-at, same, between.offset) in
           let next = on.next gone first between.opens
-          (subst (λ p. IsReady step k meaning gone new.shown p first w now) (sym start) (filled-ready filled)) in
+          (subst (λ p. IsReady step k meaning gone new.shown p first w now) (sym start) (filled-ready busy filled)) in
           let rest = unended-filled t old new ends_at given whole between.unfinished filled (omega (arith, on.some, start)) on.closed in
           subst (λ b. IsBetween step k meaning (gone ++ take on.count new.shown) b first w' now') (sym on.moved)
           (record {
@@ -277,5 +308,15 @@ module _ (join : LinesJoin) (append : LinesAppend) {S E : Type 0} (step : Steps 
                 (ap (λ xs. gone ++ xs) (sym (take-append-drop on.count new.shown))
                 ∙ sym (append_assoc gone (take on.count new.shown) (drop on.count new.shown)))
                 (fits-filled filled room limit is (within limit is));
-            next = next.1;
+            at = omega (
+              arith,
+              on.at,
+              same,
+              between.offset,
+              length-append gone (take on.count new.shown),
+              length-take-le on.count new.shown on.within,
+              length-drop on.count new.shown,
+            );
+            next = λ _. next.1;
+            idle = λ idle. absurd (clash idle busy);
           })

@@ -1,31 +1,39 @@
 -- A search of a reader, fill by fill, against what the reader gives.
-use Rattle.std.proofs.Common.{◌≡◌, ◌≢◌, ◌⊎◌, ℕ, ◌<◌, ◌≤◌, Bool, true, false, List, [], ◌++◌, length, take, drop}
+use Rattle.std.proofs.Common.{◌≡◌, ◌≢◌, ◌⊎◌, ℕ, ◌+◌, ◌<◌, ◌≤◌, Bool, true, false, List, [], ◌++◌, length, take, drop}
 use Rattle.std.proofs.Common.{Option, Some, None, Ok, Err, inl, inr, refl, sym, ◌∙◌, ap, subst, arith, ⊎_elim}
 use Rattle.std.proofs.Common.{append-nil, append_assoc, length-append}
 use Rattle.std.proofs.lemmas.Bool.{cases_lt, false≢true}
 use Rattle.std.proofs.lemmas.List.{append_cancel_left}
 use Rattle.std.proofs.lemmas.List.Elements.{All-append}
-use Rattle.std.specs.Prelude.{All, IfSome}
+use Rattle.std.specs.List.{position}
+use Rattle.std.specs.Prelude.{All, not, ◌||◌, IfSome, if◌then◌else◌, is_some, ◌==◌, ◌&&◌}
 use Rattle.std.specs.declared.io.Error.{Error}
 use Rattle.grep_decode.specs.declared.mode.Mode.TheVariants.{Passing}
 use Rattle.grep_decode.specs.DecoderStates.{DecoderState, Decodes, IsDone, IsSettled, TakesAtMost, started, still_to_give}
 use Rattle.grep_decode.specs.Source.{ReadResult}
 use Rattle.grep_line_buffer.specs.declared.fill_error.FillError.{FillError}
 use Rattle.grep_line_buffer.specs.declared.fill_error.FillError.TheVariants.{Read, HeapLimit, Offset, Memory}
-use Rattle.grep_line_buffer.specs.BufferStates.{BufferState, held, GrowsIfFull, HasNoLine, IsFilled, IsSameBuffer, IsWithin}
+use Rattle.grep_line_buffer.specs.declared.detection.Detection.{Detection}
+use Rattle.grep_line_buffer.specs.declared.detection.Detection.TheVariants.{None as no_detection, Quit, Convert}
+use Rattle.grep_line_buffer.specs.BufferStates.{BufferState, held, is_cut, GrowsIfFull, HasNoLine, IsFilled, IsSameBuffer, IsWithin}
+use Rattle.grep_line_buffer.specs.Detections.{detected, found_in, is_quit}
+use Rattle.grep_line_buffer.proofs.DetectionLemmas.{length-detected, uncut-none}
 use Rattle.grep_line_buffer.specs.Fills.{FailsToFill, FillFails, Fills, IfRead, UnlessRead}
+use Rattle.grep_searcher.specs.HeldViews.{HoldsGiven}
 use Rattle.grep_lines.specs.LineLaws.{LinesJoin, LinesAppend, LinesAreNumbered, LinesAreFew}
 use Rattle.grep_matcher.specs.Lines.{lines}
 use Rattle.grep_matcher.specs.Matching.{Meaning}
 use Rattle.grep_matcher.specs.Terminators.{byte_of}
 use Rattle.grep_definitions.specs.Below.{is_at}
+use Rattle.grep_definitions.specs.BinaryBytes.{binary_of, is_detecting, view_of}
 use Rattle.grep_definitions.specs.DecodedInputs.{IsInput}
 use Rattle.grep_definitions.specs.InputFronts.{IsClosed, IsCrowded, IsFront}
 use Rattle.grep_definitions.specs.LineSearch
-use Rattle.grep_definitions.specs.ReaderSearches.{IsLineReaderFault, IsLineUnread, Taken, is_idle, of_cut, of_reader, of_search}
+use Rattle.grep_definitions.specs.ReaderSearches.{IsLineUnread, IsReaderFaultIn, Taken, is_idle, reads_lines, of_cut, of_reader, of_search}
 use Rattle.grep_definitions.specs.ReadingFaults.{of_limit, of_memory, of_offset}
 use Rattle.grep_definitions.specs.SearchLaws.{UnchangedIsInput}
-use Rattle.grep_definitions.specs.Searches.{ErrorMakers, MatcherFacts, IsLineFault}
+use Rattle.grep_definitions.specs.Searches.{ErrorMakers, MatcherFacts, IsFaultIn, IsLineFault, of_matcher, of_sink}
+use Rattle.grep_definitions.specs.StreamSearches.{stream_calls}
 use Rattle.grep_definitions.specs.Settings.{Settings}
 use Rattle.grep_definitions.specs.SinkCalls.{begins}
 use Rattle.grep_definitions.specs.SinkRuns.{Steps}
@@ -33,17 +41,18 @@ use Rattle.grep_searcher.specs.declared.searcher.walk.Walk.{Walk}
 use Rattle.grep_searcher.specs.Rolls.{HasCounted, HasEnded, HasMovedOn, IsBetween, IsCountedFor, IsLast, IsReady, IsRolling, start_in}
 use Rattle.grep_searcher.specs.Walks.{IsCount}
 use Rattle.grep_searcher.specs.Windows.{HasSearched}
-use Rattle.grep_searcher.specs.SearchBuffers.{AreFitting, IsMadeOf, least_size}
+use Rattle.grep_searcher.specs.SearchBuffers.{AreFitting, IsMadeOf, detection_of, least_size}
 use Rattle.grep_searcher.proofs.FrontLemmas.{crowded, turns-seen}
 use Rattle.grep_searcher.proofs.ReadingLemmas as reading
 use Rattle.grep_searcher.proofs.RollLemmas as rolls
+use Rattle.grep_searcher.proofs.StreamViewLemmas as views
 use Rattle.grep_searcher.proofs.WalkLemmas.{start_walk}
 use Rattle.grep_searcher.proofs.WindowLemmas as windows
 use Rattle.grep_searcher.proofs.WindowLemmas.{closed-append}
 use Rattle.grep_searcher.proofs.WindowSearchLemmas.{searched-start}
 
 -- the bytes that were held and given come after those that were shown
-split-text : (gone shown rest given later bytes : List ℕ) → bytes ≡ (gone ++ ((shown ++ rest) ++ given)) ++ later
+pub split-text : (gone shown rest given later bytes : List ℕ) → bytes ≡ (gone ++ ((shown ++ rest) ++ given)) ++ later
     → bytes ≡ (gone ++ shown) ++ ((rest ++ given) ++ later)
 split-text gone shown rest given later bytes is =
     is ∙ (ap (λ xs. (gone ++ xs) ++ later) (append_assoc shown rest given)
@@ -70,6 +79,19 @@ grown : (least : ℕ) (old new : BufferState) → GrowsIfFull old new → least 
 grown least old new (inl same) low = omega (arith, same, low)
 grown least old new (inr (more, full, few)) low = omega (arith, more, low)
 
+-- a fault of a search by line is one of a search of a view
+stream-fault : {S E F : Type 0} (step : Steps S E) (errors : ErrorMakers E) (matcher : MatcherFacts F) (k : Settings) (bytes : List ℕ)
+    (first : S) (e : E) (now : S) → IsLineFault step errors matcher k bytes first e now
+    → IsFaultIn step errors matcher (stream_calls k matcher.meaning) k bytes first e now
+stream-fault step errors matcher k bytes first e now (of_sink run) = of_sink run
+stream-fault step errors matcher k bytes first e now (of_matcher haystack error made asked fails message reported) =
+    of_matcher haystack error made asked fails message reported
+
+-- a search that reads though no line may have a turn looks for a binary byte
+idle-detects : (idle detecting : Bool) → idle ≡ true → (not idle || detecting) ≡ true → detecting ≡ true
+idle-detects true detecting is reads = reads
+idle-detects false detecting is reads = absurd (false≢true is)
+
 module _ {R : Type 0} (remaining : R → Option (List ℕ)) (read_step : R → ReadResult → R → Type 0)
     (join : LinesJoin) (append : LinesAppend) {S E : Type 0} (step : Steps S E) (k : Settings) (meaning : Meaning) where
   abbrev pub t : ℕ
@@ -77,10 +99,11 @@ module _ {R : Type 0} (remaining : R → Option (List ℕ)) (read_step : R → R
 
   -- a search begins with an empty buffer, once `begin` returned true
   pub rolling-start : LinesAreNumbered → LinesAreFew → (decoder : DecoderState) (reader : R) (first now : S) (buffer : BufferState)
-      → buffer.shown ≡ [] → buffer.rest ≡ [] → buffer.offset ≡ 0 → buffer.has_ended ≡ false
-      → Decodes remaining read_step decoder reader [] decoder reader → is_idle k ≡ false → step first k begins (Ok true) now
+      → buffer.shown ≡ [] → buffer.rest ≡ [] → buffer.offset ≡ 0 → buffer.has_ended ≡ false → buffer.binary ≡ None
+      → buffer.detection ≡ detection_of k.binary_detection → buffer.terminator ≡ t
+      → Decodes remaining read_step decoder reader [] decoder reader → reads_lines k ≡ true → step first k begins (Ok true) now
       → IsRolling step k meaning remaining read_step decoder reader first buffer decoder reader (start_walk k meaning []) now
-  rolling-start numbered few decoder reader first now buffer shown rest offset unended reads busy begun = record {
+  rolling-start numbered few decoder reader first now buffer shown rest offset unended binary detects ends_at reads busy begun = record {
     gone = [];
     between = record {
       opens = λ none. rolls.nothing none;
@@ -90,16 +113,43 @@ module _ {R : Type 0} (remaining : R → Option (List ℕ)) (read_step : R → R
       unended = unended;
       few = omega (arith, ap (λ xs. length (lines t xs)) shown);
       fits = λ limit is i x below. absurd (omega (arith, below, ap (λ xs. length (lines t xs)) shown));
-      next = subst (λ xs. (more after : List ℕ) → (0 < length after → IsClosed t (xs ++ more))
+      at = omega (arith, ap length shown);
+      next = λ some. subst (λ xs. (more after : List ℕ) → (0 < length after → IsClosed t (xs ++ more))
           → HasSearched-at (xs ++ more) (xs ++ more) (length xs) after) (sym shown)
           (λ more after closes. searched-start step k meaning more (more ++ after) first now
-          (windows.shown join append numbered few t [] more after (λ none. rolls.nothing none) closes) busy begun);
+          (windows.shown join append numbered few t [] more after (λ none. rolls.nothing none) closes) some begun);
+      idle = λ idle. record { none = shown; detecting = idle-detects (is_idle k) (is_detecting k.binary_detection) idle busy; begun = begun };
     };
-    reads = subst (λ xs. Decodes remaining read_step decoder reader xs decoder reader)
-        (sym (ap (λ xs. xs ++ buffer.rest) shown ∙ rest)) reads;
+    given = [];
+    holds = record {
+      whole = ap (λ xs. xs ++ buffer.rest) shown ∙ (rest ∙ sym (nothing-held buffer.detection));
+      found = binary ∙ sym (nothing-found buffer.detection);
+      decodes = reads;
+    };
+    detects = detects;
+    uncut = ap (λ b. is_quit buffer.detection && is_some b) binary ∙ never buffer.detection;
     settled = inr refl;
   }
     where
+      nothing-held : (d : Detection) → detected d buffer.terminator [] ≡ []
+      nothing-held no_detection = refl
+      nothing-held (Quit b) = refl
+      nothing-held (Convert b) = refl
+
+      nothing-found : (d : Detection) → found_in d buffer.terminator [] ≡ None
+      nothing-found no_detection = refl
+      nothing-found (Quit b) = refl
+      nothing-found (Convert b) = go (b == buffer.terminator)
+        where
+          go : (same : Bool) → (if same then None else position (λ x. x == b) []) ≡ None
+          go true = refl
+          go false = refl
+
+      never : (d : Detection) → (is_quit d && false) ≡ false
+      never no_detection = refl
+      never (Quit b) = refl
+      never (Convert b) = refl
+
       HasSearched-at : List ℕ → List ℕ → ℕ → List ℕ → Type 0
       HasSearched-at window shown start after =
           HasSearched step k meaning [] window ([] ++ (shown ++ after)) first start (start_walk k meaning []) now
@@ -141,30 +191,35 @@ module _ {R : Type 0} (remaining : R → Option (List ℕ)) (read_step : R → R
       IsCut error io =
           IsLineUnread remaining read_step (record { settings = k; has_buffers = has_buffers }) meaning reader (Some seen) io reader'
 
+      -- the view of every input begins with what is gone and what is held
+      abbrev Fronts : List ℕ → Type 0
+      Fronts raw = (later : List ℕ) → (back : List ℕ) × (view_of k (raw ++ later) ≡ (gone ++ held new) ++ back)
+
       limit-is : new.limit ≡ Some new.size → k.heap_limit ≡ Some new.size
       limit-is at = sym fitting.limit ∙ (sym same.limit ∙ at)
 
       pub unread-cut : (error : FillError) (io : Error) → IsMadeOf error io → FillFails old new error
-          → (reads : Decodes remaining read_step (started capacity k.encoding k.bom_sniffing) reader (gone ++ held new) d' reader')
+          → (raw : List ℕ) → Fronts raw
+          → (reads : Decodes remaining read_step (started capacity k.encoding k.bom_sniffing) reader raw d' reader')
           → (given : List ℕ) → held new ≡ held old ++ given → ((e : Error) → error ≡ Read e → ⊥)
           → IsCut error io
-      unread-cut (Read e) io made fails reads given whole other = absurd (other e refl)
-      unread-cut HeapLimit io made (no_line, at) reads given whole other = of_cut refl
-          (reading.taken remaining read_step k capacity reader (gone ++ held new) d' reader' reads)
+      unread-cut (Read e) io made fails raw fronts reads given whole other = absurd (other e refl)
+      unread-cut HeapLimit io made (no_line, at) raw fronts reads given whole other = of_cut refl
+          (reading.taken remaining read_step k capacity reader raw d' reader' reads)
           (λ bytes input.
-          let text = reading.input-is remaining read_step k capacity reader (gone ++ held new) d' reader' reads none bytes input in
-          let is = split-text gone old.shown old.rest given text.0 bytes (text.1 ∙ ap (λ xs. (gone ++ xs) ++ text.0) whole) in
+          let text = reading.front-is remaining read_step k capacity reader raw d' reader' reads none (gone ++ held new) fronts bytes input in
+          let is = split-text gone old.shown old.rest given text.0 (view_of k bytes) (text.1 ∙ ap (λ xs. (gone ++ xs) ++ text.0) whole) in
           let some = limit-above k.heap_limit new.size allowed (limit-is at.limit) in (
-            rolls.goes-on join append step k meaning gone old first w now between bytes ((old.rest ++ given) ++ text.0) is,
+            rolls.goes-on join append step k meaning gone old first w now between (view_of k bytes) ((old.rest ++ given) ++ text.0) is,
             of_limit new.size (limit-is at.limit) made
-                (crowded-there given text.0 bytes new.size whole no_line text.1 at.full some (omega arith)),
+                (crowded-there given text.0 (view_of k bytes) new.size whole no_line text.1 at.full some (omega arith)),
           ))
-      unread-cut Offset io made fails reads given whole other = of_cut refl
-          (reading.taken remaining read_step k capacity reader (gone ++ held new) d' reader' reads)
+      unread-cut Offset io made fails raw fronts reads given whole other = of_cut refl
+          (reading.taken remaining read_step k capacity reader raw d' reader' reads)
           (λ bytes input.
-          let text = reading.input-is remaining read_step k capacity reader (gone ++ held new) d' reader' reads none bytes input in
-          let is = split-text gone old.shown old.rest given text.0 bytes (text.1 ∙ ap (λ xs. (gone ++ xs) ++ text.0) whole) in (
-            rolls.goes-on join append step k meaning gone old first w now between bytes ((old.rest ++ given) ++ text.0) is,
+          let text = reading.front-is remaining read_step k capacity reader raw d' reader' reads none (gone ++ held new) fronts bytes input in
+          let is = split-text gone old.shown old.rest given text.0 (view_of k bytes) (text.1 ∙ ap (λ xs. (gone ++ xs) ++ text.0) whole) in (
+            rolls.goes-on join append step k meaning gone old first w now between (view_of k bytes) ((old.rest ++ given) ++ text.0) is,
             of_offset made (omega (
               arith,
               fails.past,
@@ -175,41 +230,42 @@ module _ {R : Type 0} (remaining : R → Option (List ℕ)) (read_step : R → R
               length-append gone (held new),
             )),
           ))
-      unread-cut Memory io made (no_line, may) reads given whole other = of_cut refl
-          (reading.taken remaining read_step k capacity reader (gone ++ held new) d' reader' reads)
+      unread-cut Memory io made (no_line, may) raw fronts reads given whole other = of_cut refl
+          (reading.taken remaining read_step k capacity reader raw d' reader' reads)
           (λ bytes input.
-          let text = reading.input-is remaining read_step k capacity reader (gone ++ held new) d' reader' reads none bytes input in
-          let is = split-text gone old.shown old.rest given text.0 bytes (text.1 ∙ ap (λ xs. (gone ++ xs) ++ text.0) whole) in
+          let text = reading.front-is remaining read_step k capacity reader raw d' reader' reads none (gone ++ held new) fronts bytes input in
+          let is = split-text gone old.shown old.rest given text.0 (view_of k bytes) (text.1 ∙ ap (λ xs. (gone ++ xs) ++ text.0) whole) in
           let limit : new.limit ≡ k.heap_limit = same.limit ∙ fitting.limit in
           let large = may-grow k.heap_limit new.size (grown (least_size k.heap_limit) old new grows fitting.size)
           (subst (λ m. IsWithin m new.size) limit within) (λ is. may.limit (limit ∙ is)) in (
-            rolls.goes-on join append step k meaning gone old first w now between bytes ((old.rest ++ given) ++ text.0) is,
-            of_memory made large.0 (crowded-there given text.0 bytes 65536 whole no_line text.1 may.full (omega arith) large.1),
+            rolls.goes-on join append step k meaning gone old first w now between (view_of k bytes) ((old.rest ++ given) ++ text.0) is,
+            of_memory made large.0 (crowded-there given text.0 (view_of k bytes) 65536 whole no_line text.1 may.full (omega arith) large.1),
           ))
 
       -- the reader's own error
       pub unread-read : (error : Error) (mid : R)
-          → (reads : Decodes remaining read_step (started capacity k.encoding k.bom_sniffing) reader (gone ++ held new) d' mid)
+          → (raw : List ℕ) → Fronts raw → view_of k raw ≡ gone ++ held new
+          → (reads : Decodes remaining read_step (started capacity k.encoding k.bom_sniffing) reader raw d' mid)
           → (given : List ℕ) → held new ≡ held old ++ given → HasNoLine old new → length (held new) < new.size → d'.has_ended ≡ false
           → read_step mid (Err error) reader' → d'.ready ≡ [] → (d'.mode ≡ Passing → d'.held ≡ [])
           → IsSettled d'.mode ⊎ TakesAtMost (remaining reader) (remaining reader') 2
           → IsLineUnread remaining read_step (record { settings = k; has_buffers = has_buffers }) meaning reader (Some seen) error reader'
-      unread-read error mid reads given whole no_line room unended failed ready held_none few = of_reader refl mid
-          (reading.taken remaining read_step k capacity reader (gone ++ held new) d' mid reads) unended failed
+      unread-read error mid raw fronts shows reads given whole no_line room unended failed ready held_none few = of_reader refl mid
+          (reading.taken remaining read_step k capacity reader raw d' mid reads) unended failed
           (λ bytes input.
-          let text = reading.input-is remaining read_step k capacity reader (gone ++ held new) d' mid reads none bytes input in
-          rolls.goes-on join append step k meaning gone old first w now between bytes ((old.rest ++ given) ++ text.0)
-          (split-text gone old.shown old.rest given text.0 bytes (text.1 ∙ ap (λ xs. (gone ++ xs) ++ text.0) whole)))
+          let text = reading.front-is remaining read_step k capacity reader raw d' mid reads none (gone ++ held new) fronts bytes input in
+          rolls.goes-on join append step k meaning gone old first w now between (view_of k bytes) ((old.rest ++ given) ++ text.0)
+          (split-text gone old.shown old.rest given text.0 (view_of k bytes) (text.1 ∙ ap (λ xs. (gone ++ xs) ++ text.0) whole)))
           (λ same_bytes more.
           let settled = ⊎_elim (λ is. is) (λ two. absurd (more two)) few in
-          let all = reading.taken-all remaining read_step k capacity reader (gone ++ held new) d' mid reads unchanged same_bytes settled
+          let all = reading.taken-all remaining read_step k capacity reader raw d' mid reads unchanged same_bytes settled
           ready held_none in
           let tail : given ≡ new.rest = append_cancel_left (held old) given new.rest
           (sym whole ∙ ap (λ xs. xs ++ new.rest) no_line.shown) in
           record {
             rest = old.rest ++ given;
-            whole = all ∙ (ap (λ xs. gone ++ xs) whole ∙ (ap (λ xs. gone ++ xs) (append_assoc old.shown old.rest given)
-                ∙ sym (append_assoc gone old.shown (old.rest ++ given))));
+            whole = ap (view_of k) all ∙ (shows ∙ (ap (λ xs. gone ++ xs) whole ∙ (ap (λ xs. gone ++ xs) (append_assoc old.shown old.rest given)
+                ∙ sym (append_assoc gone old.shown (old.rest ++ given)))));
             unended = All-append (λ b. b ≢ t) old.rest given between.unfinished
                 (subst (All (λ b. b ≢ t)) (sym tail) (subst (λ c. All (λ b. b ≢ c) new.rest) fitting.terminator no_line.none));
             room = λ limit is. omega (
@@ -224,9 +280,12 @@ module _ {R : Type 0} (remaining : R → Option (List ℕ)) (read_step : R → R
           })
 
     -- it succeeded
-    module _ (given : List ℕ) (whole : held new ≡ held old ++ given) (filled : IsFilled old new) (room : length (held new) ≤ new.size)
-        (within : IsWithin new.limit new.size)
-        (reads : Decodes remaining read_step (started capacity k.encoding k.bom_sniffing) reader (gone ++ held new) d' reader')
+    module _ (busy : is_idle k ≡ false) (given : List ℕ) (whole : held new ≡ held old ++ given) (filled : rolls.IsUncut old new) (room : length (held new) ≤ new.size)
+        (within : IsWithin new.limit new.size) (raw : List ℕ)
+        (shows : (later : List ℕ) → view_of k (raw ++ later) ≡ (gone ++ held new) ++ view_of k later)
+        (reads : Decodes remaining read_step (started capacity k.encoding k.bom_sniffing) reader raw d' reader')
+        (is_found : new.binary ≡ found_in (detection_of k.binary_detection) t raw)
+        (unquit : is_quit (detection_of k.binary_detection) ≡ true → new.binary ≡ None)
         (none : (d : DecoderState) (more : List ℕ) → IsDone d → still_to_give d more ≡ [])
         (done : new.has_ended ≡ true → IsDone d') where
       abbrev shown : List ℕ
@@ -239,7 +298,7 @@ module _ {R : Type 0} (remaining : R → Option (List ℕ)) (read_step : R → R
       Input = IsInput k d'.has_ended reads.pieces
 
       abbrev pub taken : Taken remaining read_step reader reader'
-      taken = reading.taken remaining read_step k capacity reader (gone ++ held new) d' reader' reads
+      taken = reading.taken remaining read_step k capacity reader raw d' reader' reads
 
       pub limit-within : (limit : ℕ) → k.heap_limit ≡ Some limit → new.size ≤ limit
       limit-within limit is = subst (λ m. IsWithin m new.size) (same.limit ∙ (fitting.limit ∙ is)) within
@@ -247,24 +306,24 @@ module _ {R : Type 0} (remaining : R → Option (List ℕ)) (read_step : R → R
       -- what follows what is shown
       abbrev after : (bytes : List ℕ) → Input bytes → List ℕ
       after bytes input =
-          new.rest ++ (reading.input-is remaining read_step k capacity reader (gone ++ held new) d' reader' reads none bytes input).0
+          new.rest ++ (reading.view-is remaining read_step k capacity reader raw d' reader' reads none (gone ++ held new) shows bytes input).0
 
-      after-is : (bytes : List ℕ) (input : Input bytes) → gone ++ (new.shown ++ after bytes input) ≡ bytes
+      after-is : (bytes : List ℕ) (input : Input bytes) → gone ++ (new.shown ++ after bytes input) ≡ view_of k bytes
       after-is bytes input =
-          let text = reading.input-is remaining read_step k capacity reader (gone ++ held new) d' reader' reads none bytes input in
+          let text = reading.view-is remaining read_step k capacity reader raw d' reader' reads none (gone ++ held new) shows bytes input in
           sym (text.1 ∙ (append_assoc gone (held new) text.0 ∙ ap (λ xs. gone ++ xs) (append_assoc new.shown new.rest text.0)))
 
       last : (bytes : List ℕ) (input : Input bytes) → new.has_ended ≡ true
-          → (reading.input-is remaining read_step k capacity reader (gone ++ held new) d' reader' reads none bytes input).0 ≡ []
+          → (reading.view-is remaining read_step k capacity reader raw d' reader' reads none (gone ++ held new) shows bytes input).0 ≡ []
       last bytes input ended =
-          (reading.input-is remaining read_step k capacity reader (gone ++ held new) d' reader' reads none bytes input).2 (done ended)
+          (reading.view-is remaining read_step k capacity reader raw d' reader' reads none (gone ++ held new) shows bytes input).2 (done ended)
 
       closes : (bytes : List ℕ) (input : Input bytes) → 0 < length (after bytes input) → IsClosed t new.shown
       closes bytes input = rolls.closed-filled t old new fitting.terminator
-          (reading.input-is remaining read_step k capacity reader (gone ++ held new) d' reader' reads none bytes input).0 filled
+          (reading.view-is remaining read_step k capacity reader raw d' reader' reads none (gone ++ held new) shows bytes input).0 filled
           (last bytes input)
 
-      abbrev front : (bytes : List ℕ) (input : Input bytes) → IsFront k bytes shown
+      abbrev front : (bytes : List ℕ) (input : Input bytes) → IsFront k (view_of k bytes) shown
       front bytes input = record {
         after = after bytes input;
         whole = sym (after-is bytes input) ∙ sym (append_assoc gone new.shown (after bytes input));
@@ -273,44 +332,56 @@ module _ {R : Type 0} (remaining : R → Option (List ℕ)) (read_step : R → R
             filled shown-room limit is (limit-within limit is);
       }
 
+      raw-length : length raw ≡ length (gone ++ held new)
+      raw-length = omega (
+        arith,
+        ap length (shows []),
+        views.view-length k.binary_detection t (raw ++ []),
+        views.view-length k.binary_detection t [],
+        length-append raw [],
+        length-append (gone ++ held new) (view_of k []),
+      )
+
       start-is : start_in new w ≡ length old.shown
       start-is = omega (arith, rolls.walk-at join append step k meaning gone old first w now between, same.offset, between.offset)
 
       ready : IsReady step k meaning gone new.shown (start_in new w) first w now
       ready = subst (λ p. IsReady step k meaning gone new.shown p first w now) (sym start-is)
-          (rolls.filled-ready join append step k meaning gone old first w now between new given whole fitting.terminator filled)
+          (rolls.filled-ready join append step k meaning gone old first w now between new given whole fitting.terminator busy filled)
 
       -- a fault within what is shown
       pub faulted : {F : Type 0} (errors : ErrorMakers E) (matcher : MatcherFacts F) (has_buffers : Bool) (e : E) (now' : S)
           → ((gone : List ℕ) (first : S) → IsReady step k meaning gone new.shown (start_in new w) first w now
           → (after : List ℕ) → (0 < length after → IsClosed t new.shown)
           → IsLineFault step errors matcher k (gone ++ (new.shown ++ after)) first e now')
-          → IsLineReaderFault remaining read_step step errors matcher (record { settings = k; has_buffers = has_buffers })
-          reader first e reader' now'
+          → IsReaderFaultIn remaining read_step step errors matcher (stream_calls k matcher.meaning)
+          (record { settings = k; has_buffers = has_buffers }) reader first e reader' now'
       faulted errors matcher has_buffers e now' fault = of_search taken shown (λ across. absurd (false≢true across))
+          (stream-fault step errors matcher k shown first e now'
           (subst (λ xs. IsLineFault step errors matcher k (gone ++ xs) first e now') (append-nil new.shown)
-          (fault gone first ready [] rolls.nothing))
+          (fault gone first ready [] rolls.nothing)))
           (λ bytes input. (
             front bytes input,
-            subst (λ xs. IsLineFault step errors matcher k xs first e now') (after-is bytes input)
-                (fault gone first ready (after bytes input) (closes bytes input)),
+            stream-fault step errors matcher k (view_of k bytes) first e now'
+                (subst (λ xs. IsLineFault step errors matcher k xs first e now') (after-is bytes input)
+                (fault gone first ready (after bytes input) (closes bytes input))),
             (λ across. absurd (false≢true across)),
           ))
 
       -- the search ended within what is shown, or with it
       module _ (w' : Walk) (now' : S) (ended : HasEnded step k meaning new w now w' now') where
-        over : (bytes : List ℕ) (input : Input bytes) → IsCountedFor step k meaning first bytes w'.offset ended.outcome now'
+        over : (bytes : List ℕ) (input : Input bytes) → IsCountedFor step k meaning first (view_of k bytes) w'.offset ended.outcome now'
         over bytes input = subst (λ xs. IsCountedFor step k meaning first xs w'.offset ended.outcome now') (after-is bytes input)
             (ended.counted gone first between.opens ready (after bytes input) (closes bytes input)
             (λ nothing_new. rolls.last-filled t old new fitting.terminator
-            (reading.input-is remaining read_step k capacity reader (gone ++ held new) d' reader' reads none bytes input).0 filled
+            (reading.view-is remaining read_step k capacity reader raw d' reader' reads none (gone ++ held new) shows bytes input).0 filled
             (last bytes input) (subst (λ p. IsLast t new.shown p) start-is nothing_new)))
 
         high : w'.offset ≤ length shown
         high = omega (arith, ended.high, same.offset, between.offset, length-append gone new.shown)
 
         pub has-counted : UnchangedIsInput → IsSettled d'.mode → (d'.mode ≡ Passing → (length d'.ready ≤ 3) × (d'.held ≡ []))
-            → HasCounted step k meaning remaining read_step reader first w'.offset reader' now'
+            → HasCounted step k meaning remaining read_step reader first w'.offset new.binary reader' now'
         has-counted unchanged settled passing = record {
           taken = taken;
           seen = shown;
@@ -320,14 +391,14 @@ module _ {R : Type 0} (remaining : R → Option (List ℕ)) (read_step : R → R
           front = front;
           over_all = over;
           all = λ bytes input all.
-              let count = subst (λ o. IsCount o (LineSearch.byte_count k meaning bytes) w'.offset) all
+              let count = subst (λ o. IsCount o (LineSearch.byte_count k meaning (view_of k bytes)) w'.offset) all
               (over bytes input).is_count in
-              let text : bytes ≡ shown ++ after bytes input = (front bytes input).whole in
+              let text : view_of k bytes ≡ shown ++ after bytes input = (front bytes input).whole in
               subst (λ xs. LineSearch.turn_count k meaning xs ≤ length (lines t shown)) (sym text)
               (turns-seen join append k meaning shown (after bytes input) (front bytes input).closed
               (subst (λ xs. LineSearch.byte_count k meaning xs ≤ length shown) text (omega (arith, count, high))));
           ahead = λ limit is same_bytes.
-              let few = reading.taken-few remaining read_step k capacity reader (gone ++ held new) d' reader' reads unchanged same_bytes
+              let few = reading.taken-few remaining read_step k capacity reader raw d' reader' reads unchanged same_bytes
               settled passing in
               omega (
                 arith,
@@ -335,10 +406,72 @@ module _ {R : Type 0} (remaining : R → Option (List ℕ)) (read_step : R → R
                 limit-within limit is,
                 ended.low,
                 room,
+                raw-length,
                 length-append gone (held new),
                 rolls.walk-at join append step k meaning gone old first w now between,
               );
+          noted_for = λ bytes input.
+              let text = reading.input-is remaining read_step k capacity reader raw d' reader' reads none bytes input in
+              record {
+                first = λ offset is. ap (binary_of k) text.1
+                    ∙ views.first-kept k.binary_detection t raw text.0 offset (sym is_found ∙ is);
+                goes_on = λ b quits. unquit (ap (λ d. is_quit (detection_of d)) quits);
+              };
+          clear = λ bytes input is.
+              let text = reading.input-is remaining read_step k capacity reader raw d' reader' reads none bytes input in
+              ap (λ xs. binary_of k (take w'.offset xs)) text.1
+              ∙ views.clear-front k.binary_detection t raw text.0 w'.offset
+              (omega (
+                arith,
+                high,
+                raw-length,
+                length-append gone (held new),
+                length-append gone new.shown,
+                length-append new.shown new.rest,
+              )) (sym is_found ∙ is);
         }
+
+  -- what the view of an input is, by what a buffer holds of it
+  module _ (gone raw : List ℕ) (old new : BufferState) (decoder d' : DecoderState) (reader r' : R)
+      (holds : HoldsGiven remaining read_step gone old.detection old.terminator new decoder reader raw d' r')
+      (detects : old.detection ≡ detection_of k.binary_detection) (ends_at : old.terminator ≡ t) (same : IsSameBuffer old new) where
+    pub holds-is : gone ++ held new ≡ detected (detection_of k.binary_detection) t raw
+    holds-is = holds.whole ∙ (ap (λ d. detected d old.terminator raw) detects
+        ∙ ap (λ c. detected (detection_of k.binary_detection) c raw) ends_at)
+
+    pub found-there : new.binary ≡ found_in (detection_of k.binary_detection) t raw
+    found-there = holds.found ∙ (ap (λ d. found_in d old.terminator raw) detects
+        ∙ ap (λ c. found_in (detection_of k.binary_detection) c raw) ends_at)
+
+    pub fronts-there : (later : List ℕ) → (back : List ℕ) × (view_of k (raw ++ later) ≡ (gone ++ held new) ++ back)
+    fronts-there later =
+        let front = views.view-front k.binary_detection t raw later in
+        (front.0, front.1 ∙ ap (λ xs. xs ++ front.0) (sym holds-is))
+
+    -- a byte that wasn't found before is after all that was held then
+    pub found-past : (given more : List ℕ) → raw ≡ given ++ more → old.binary ≡ None
+        → old.binary ≡ found_in old.detection old.terminator given → gone ++ held old ≡ detected old.detection old.terminator given
+        → (o : ℕ) → new.binary ≡ Some o → length gone + length (held old) ≤ o
+    found-past given more all none before was o is =
+        let absent : found_in (detection_of k.binary_detection) t given ≡ None =
+        sym (ap (λ d. found_in d old.terminator given) detects ∙ ap (λ c. found_in (detection_of k.binary_detection) c given) ends_at)
+        ∙ (sym before ∙ none) in
+        let there = views.found-after k.binary_detection t given more o absent
+        (ap (found_in (detection_of k.binary_detection) t) (sym all) ∙ (sym found-there ∙ is)) in
+        let same_length = length-detected (detection_of k.binary_detection) t given absent in
+        let as_held = ap length (was ∙ (ap (λ d. detected d old.terminator given) detects
+        ∙ ap (λ c. detected (detection_of k.binary_detection) c given) ends_at)) in
+        omega (arith, there, same_length, as_held, length-append gone (held old))
+
+    module _ (uncut : is_cut new ≡ false) where
+      pub unquit-there : is_quit (detection_of k.binary_detection) ≡ true → new.binary ≡ None
+      unquit-there quits = uncut-none new.detection new.binary uncut (ap is_quit (same.detection ∙ detects) ∙ quits)
+
+      pub view-there : view_of k raw ≡ gone ++ held new
+      view-there = sym (holds-is ∙ views.view-held k.binary_detection t raw (λ quits. sym found-there ∙ unquit-there quits))
+
+      pub shows-there : (later : List ℕ) → view_of k (raw ++ later) ≡ (gone ++ held new) ++ view_of k later
+      shows-there later = views.view-append k.binary_detection t raw later ∙ ap (λ xs. xs ++ view_of k later) view-there
 
   -- why a search that reads on is cut short by a fill that failed
   pub unread-filled : (capacity : ℕ) (reader : R) (decoder : DecoderState)
@@ -346,12 +479,14 @@ module _ {R : Type 0} (remaining : R → Option (List ℕ)) (read_step : R → R
       (w : Walk) (now : S) (so_far : IsRolling step k meaning remaining read_step decoder reader first old d r w now)
       → AreFitting k.heap_limit t old → IsSameBuffer old new
       → ((r2 : R) → Fills remaining read_step old d r new d' r2
-      → Decodes remaining read_step decoder reader (so_far.gone ++ held new) d' r2)
+      → (more : List ℕ) × HoldsGiven remaining read_step so_far.gone old.detection old.terminator new decoder reader
+      (so_far.given ++ more) d' r2)
       → (has_buffers : Bool) → GrowsIfFull old new → IsWithin new.limit new.size → is_at 0 k.heap_limit ≡ false
       → UnchangedIsInput → ((d : DecoderState) (more : List ℕ) → IsDone d → still_to_give d more ≡ [])
       → (error : FillError) (io : Error) → IsMadeOf error io → FillFails old new error
       → UnlessRead {X = Bool} (Err error) (Fills remaining read_step old d r new d' r')
       → IfRead {X = Bool} (Err error) (λ e. FailsToFill remaining read_step e old d r new d' r')
+      → IfRead {X = Bool} (Err error) (λ _. is_cut new ≡ false)
       → IfRead {X = Bool} (Err error) (λ _. d'.mode ≡ Passing → d'.held ≡ [])
       → IfRead {X = Bool} (Err error) (λ _. d'.ready ≡ [])
       → IfRead {X = Bool} (Err error) (λ _. IsSettled d'.mode ⊎ TakesAtMost (remaining r) (remaining r') 2)
@@ -359,21 +494,35 @@ module _ {R : Type 0} (remaining : R → Option (List ℕ)) (read_step : R → R
       → IsLineUnread remaining read_step (record { settings = k; has_buffers = has_buffers }) meaning reader
       (Some (so_far.gone ++ old.shown)) io r'
   unread-filled capacity reader decoder begun first old new d d' r r' w now so_far fitting same reads has_buffers grows within allowed
-      unchanged none error io made fails cut read passed empty few stays = go error made fails cut read passed empty few
+      unchanged none error io made fails cut read uncut passed empty few stays = go error made fails cut read uncut passed empty few
     where
-      from_start : (r2 : R) → Fills remaining read_step old d r new d' r2
-          → Decodes remaining read_step (started capacity k.encoding k.bom_sniffing) reader (so_far.gone ++ held new) d' r2
-      from_start r2 fills = subst (λ x. Decodes remaining read_step x reader (so_far.gone ++ held new) d' r2) begun (reads r2 fills)
+      raw : (r2 : R) → Fills remaining read_step old d r new d' r2 → List ℕ
+      raw r2 fills = so_far.given ++ (reads r2 fills).0
+
+      from_start : (r2 : R) (fills : Fills remaining read_step old d r new d' r2)
+          → Decodes remaining read_step (started capacity k.encoding k.bom_sniffing) reader (raw r2 fills) d' r2
+      from_start r2 fills = subst (λ x. Decodes remaining read_step x reader (raw r2 fills) d' r2) begun (reads r2 fills).1.decodes
+
+      fronts : (r2 : R) (fills : Fills remaining read_step old d r new d' r2) (later : List ℕ)
+          → (back : List ℕ) × (view_of k (raw r2 fills ++ later) ≡ (so_far.gone ++ held new) ++ back)
+      fronts r2 fills =
+          fronts-there so_far.gone (raw r2 fills) old new decoder d' reader r2 (reads r2 fills).1 so_far.detects fitting.terminator same
+
+      view-is : (r2 : R) (fills : Fills remaining read_step old d r new d' r2) → is_cut new ≡ false
+          → view_of k (raw r2 fills) ≡ so_far.gone ++ held new
+      view-is r2 fills =
+          view-there so_far.gone (raw r2 fills) old new decoder d' reader r2 (reads r2 fills).1 so_far.detects fitting.terminator same
 
       go : (error : FillError) → IsMadeOf error io → FillFails old new error
           → UnlessRead {X = Bool} (Err error) (Fills remaining read_step old d r new d' r')
           → IfRead {X = Bool} (Err error) (λ e. FailsToFill remaining read_step e old d r new d' r')
+          → IfRead {X = Bool} (Err error) (λ _. is_cut new ≡ false)
           → IfRead {X = Bool} (Err error) (λ _. d'.mode ≡ Passing → d'.held ≡ [])
           → IfRead {X = Bool} (Err error) (λ _. d'.ready ≡ [])
           → IfRead {X = Bool} (Err error) (λ _. IsSettled d'.mode ⊎ TakesAtMost (remaining r) (remaining r') 2)
           → IsLineUnread remaining read_step (record { settings = k; has_buffers = has_buffers }) meaning reader
           (Some (so_far.gone ++ old.shown)) io r'
-      go (Read e) made fails cut read passed empty few =
+      go (Read e) made fails cut read uncut passed empty few =
           let ahead = ⊎_elim
           (λ settled. inl (subst IsSettled (sym (stays settled)) settled))
           (λ first_read. subst (λ x. IsSettled d'.mode ⊎ TakesAtMost (remaining x) (remaining r') 2) first_read few)
@@ -381,47 +530,70 @@ module _ {R : Type 0} (remaining : R → Option (List ℕ)) (read_step : R → R
           subst (λ x. IsLineUnread remaining read_step (record { settings = k; has_buffers = has_buffers }) meaning reader
           (Some (so_far.gone ++ old.shown)) x r') (sym made)
           (unread-read capacity reader r' d d' so_far.gone old new first w now so_far.between fitting same has_buffers grows within allowed
-          unchanged none e read.mid (from_start read.mid read.fills) read.fills.given read.fills.appended fails.0 fails.1 read.unended read.failed
+          unchanged none e read.mid (raw read.mid read.fills) (fronts read.mid read.fills) (view-is read.mid read.fills uncut)
+          (from_start read.mid read.fills) (detected old.detection old.terminator read.fills.given) read.fills.appended fails.0 fails.1 read.unended read.failed
           empty passed ahead)
-      go HeapLimit made fails cut read passed empty few =
+      go HeapLimit made fails cut read uncut passed empty few =
           unread-cut capacity reader r' d d' so_far.gone old new first w now so_far.between fitting same has_buffers grows within allowed
-          unchanged none HeapLimit io made fails (from_start r' cut) cut.given cut.appended (λ e is. cc)
-      go Offset made fails cut read passed empty few =
+          unchanged none HeapLimit io made fails (raw r' cut) (fronts r' cut) (from_start r' cut) (detected old.detection old.terminator cut.given)
+          cut.appended (λ e is. cc)
+      go Offset made fails cut read uncut passed empty few =
           unread-cut capacity reader r' d d' so_far.gone old new first w now so_far.between fitting same has_buffers grows within allowed
-          unchanged none Offset io made fails (from_start r' cut) cut.given cut.appended (λ e is. cc)
-      go Memory made fails cut read passed empty few =
+          unchanged none Offset io made fails (raw r' cut) (fronts r' cut) (from_start r' cut) (detected old.detection old.terminator cut.given)
+          cut.appended (λ e is. cc)
+      go Memory made fails cut read uncut passed empty few =
           unread-cut capacity reader r' d d' so_far.gone old new first w now so_far.between fitting same has_buffers grows within allowed
-          unchanged none Memory io made fails (from_start r' cut) cut.given cut.appended (λ e is. cc)
+          unchanged none Memory io made fails (raw r' cut) (fronts r' cut) (from_start r' cut) (detected old.detection old.terminator cut.given)
+          cut.appended (λ e is. cc)
 
   -- what comes after a fill that succeeded
-  module _ (capacity : ℕ) (reader : R) (decoder : DecoderState) (begun : decoder ≡ started capacity k.encoding k.bom_sniffing)
+  module _ (busy : is_idle k ≡ false) (capacity : ℕ) (reader : R) (decoder : DecoderState) (begun : decoder ≡ started capacity k.encoding k.bom_sniffing)
       (first : S) (old new : BufferState) (d d' : DecoderState) (r r' : R) (w : Walk) (now : S)
       (so_far : IsRolling step k meaning remaining read_step decoder reader first old d r w now)
       (fitting : AreFitting k.heap_limit t old) (same : IsSameBuffer old new) (fills : Fills remaining read_step old d r new d' r')
-      (reads : Decodes remaining read_step decoder reader (so_far.gone ++ held new) d' r') (filled : IsFilled old new)
+      (held_now : (more : List ℕ) × HoldsGiven remaining read_step so_far.gone old.detection old.terminator new decoder reader
+      (so_far.given ++ more) d' r') (uncut : is_cut new ≡ false) (filled : IsFilled old new)
       (room : length (held new) ≤ new.size) (within : IsWithin new.limit new.size) where
-    abbrev from_start : Decodes remaining read_step (started capacity k.encoding k.bom_sniffing) reader (so_far.gone ++ held new) d' r'
-    from_start = subst (λ x. Decodes remaining read_step x reader (so_far.gone ++ held new) d' r') begun reads
+    abbrev raw : List ℕ
+    raw = so_far.given ++ held_now.0
+
+    abbrev from_start : Decodes remaining read_step (started capacity k.encoding k.bom_sniffing) reader raw d' r'
+    from_start = subst (λ x. Decodes remaining read_step x reader raw d' r') begun held_now.1.decodes
+
+    abbrev shows : (later : List ℕ) → view_of k (raw ++ later) ≡ (so_far.gone ++ held new) ++ view_of k later
+    shows = shows-there so_far.gone raw old new decoder d' reader r' held_now.1 so_far.detects fitting.terminator same uncut
+
+    abbrev is_found : new.binary ≡ found_in (detection_of k.binary_detection) t raw
+    is_found = found-there so_far.gone raw old new decoder d' reader r' held_now.1 so_far.detects fitting.terminator same
+
+    abbrev unquit : is_quit (detection_of k.binary_detection) ≡ true → new.binary ≡ None
+    unquit = unquit-there so_far.gone raw old new decoder d' reader r' held_now.1 so_far.detects fitting.terminator same uncut
+
+    abbrev appended : List ℕ
+    appended = detected old.detection old.terminator fills.given
+
+    abbrev shows_whole : rolls.IsUncut old new
+    shows_whole = rolls.uncut-filled old new uncut filled
 
     module _ (none : (d : DecoderState) (more : List ℕ) → IsDone d → still_to_give d more ≡ [])
-        (done : (old.has_ended ≡ true → IsDone d) → new.has_ended ≡ true → IsDone d') where
+        (done : (old.has_ended ≡ true → is_cut old ≡ false → IsDone d) → new.has_ended ≡ true → is_cut new ≡ false → IsDone d') where
       done_then : new.has_ended ≡ true → IsDone d'
-      done_then = done (λ was. absurd (false≢true (sym so_far.between.unended ∙ was)))
+      done_then ended = done (λ was whole. absurd (false≢true (sym so_far.between.unended ∙ was))) ended uncut
 
       pub faulted-filled : {F : Type 0} (errors : ErrorMakers E) (matcher : MatcherFacts F) (has_buffers : Bool) (e : E) (now' : S)
           → ((gone : List ℕ) (first : S) → IsReady step k meaning gone new.shown (start_in new w) first w now
           → (after : List ℕ) → (0 < length after → IsClosed t new.shown)
           → IsLineFault step errors matcher k (gone ++ (new.shown ++ after)) first e now')
-          → IsLineReaderFault remaining read_step step errors matcher (record { settings = k; has_buffers = has_buffers })
-          reader first e r' now'
-      faulted-filled = faulted capacity reader r' d d' so_far.gone old new first w now so_far.between fitting same fills.given
-          fills.appended filled room within from_start none done_then
+          → IsReaderFaultIn remaining read_step step errors matcher (stream_calls k matcher.meaning)
+          (record { settings = k; has_buffers = has_buffers }) reader first e r' now'
+      faulted-filled = faulted capacity reader r' d d' so_far.gone old new first w now so_far.between fitting same busy appended
+          fills.appended shows_whole room within raw shows from_start is_found unquit none done_then
 
       pub counted-filled : (w' : Walk) (now' : S) → HasEnded step k meaning new w now w' now' → UnchangedIsInput → IsSettled d'.mode
           → (d'.mode ≡ Passing → (length d'.ready ≤ 3) × (d'.held ≡ []))
-          → HasCounted step k meaning remaining read_step reader first w'.offset r' now'
-      counted-filled = has-counted capacity reader r' d d' so_far.gone old new first w now so_far.between fitting same fills.given
-          fills.appended filled room within from_start none done_then
+          → HasCounted step k meaning remaining read_step reader first w'.offset new.binary r' now'
+      counted-filled = has-counted capacity reader r' d d' so_far.gone old new first w now so_far.between fitting same busy appended
+          fills.appended shows_whole room within raw shows from_start is_found unquit none done_then
 
       pub rolling-next : (w' : Walk) (moved : BufferState) (now' : S) → HasMovedOn step k meaning new w now moved w' now'
           → ((count : ℕ) → so_far.gone ++ held new ≡ (so_far.gone ++ take count new.shown) ++ (drop count new.shown ++ new.rest))
@@ -429,13 +601,23 @@ module _ {R : Type 0} (remaining : R → Option (List ℕ)) (read_step : R → R
           → IsRolling step k meaning remaining read_step decoder reader first moved d' r' w' now'
       rolling-next w' moved now' on consumed settled = record {
         gone = so_far.gone ++ take on.count new.shown;
-        between = rolls.between-next join append step k meaning so_far.gone old first w now so_far.between new fills.given fills.appended
-            fitting.terminator filled same.offset (omega (arith, room, length-append new.shown new.rest))
-            (limit-within capacity reader r' d d' so_far.gone old new first w now so_far.between fitting same fills.given
-            fills.appended filled room within from_start none done_then)
+        between = rolls.between-next join append step k meaning so_far.gone old first w now so_far.between new appended fills.appended
+            fitting.terminator busy shows_whole same.offset (omega (arith, room, length-append new.shown new.rest))
+            (limit-within capacity reader r' d d' so_far.gone old new first w now so_far.between fitting same busy appended
+            fills.appended shows_whole room within raw shows from_start is_found unquit none done_then)
             moved w' now' on;
-        reads = subst (λ xs. Decodes remaining read_step decoder reader xs d' r')
-            (consumed on.count ∙ ap (λ b. (so_far.gone ++ take on.count new.shown) ++ held b) (sym on.moved)) reads;
+        given = raw;
+        holds = subst (λ b. HoldsGiven remaining read_step (so_far.gone ++ take on.count new.shown) b.detection b.terminator b
+            decoder reader raw d' r') (sym on.moved) (record {
+              whole = sym (consumed on.count) ∙ (held_now.1.whole
+                  ∙ (ap (λ x. detected x old.terminator raw) (sym same.detection)
+                  ∙ ap (λ c. detected new.detection c raw) (sym same.terminator)));
+              found = held_now.1.found ∙ (ap (λ x. found_in x old.terminator raw) (sym same.detection)
+                  ∙ ap (λ c. found_in new.detection c raw) (sym same.terminator));
+              decodes = held_now.1.decodes;
+            });
+        detects = ap (λ b. b.detection) on.moved ∙ (same.detection ∙ so_far.detects);
+        uncut = ap is_cut on.moved ∙ uncut;
         settled = inl settled;
       }
 
@@ -447,5 +629,4 @@ fitting-filled most t old new fitting same grows within = record {
   terminator = same.terminator ∙ fitting.terminator;
   size = grown (least_size most) old new grows fitting.size;
   within = subst (λ m. IsWithin m new.size) (same.limit ∙ fitting.limit) within;
-  detection = same.detection ∙ fitting.detection;
 }

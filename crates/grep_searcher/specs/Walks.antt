@@ -8,7 +8,8 @@ use Rattle.grep_matcher.specs.Matching.{Meaning}
 use Rattle.grep_lines.specs.Positions.{IsLineStart}
 use Rattle.grep_report.specs.declared.sink_context.SinkContextKind.TheVariants.{After, Other}
 use Rattle.grep_definitions.specs.Settings.{Settings}
-use Rattle.grep_definitions.specs.SinkCalls.{Turn}
+use Rattle.std.specs.Prelude.{Result}
+use Rattle.grep_definitions.specs.SinkCalls.{Call, Turn}
 use Rattle.grep_definitions.specs.Below.{is_at}
 use Rattle.grep_definitions.specs.LineSearch.{turns_before}
 use Rattle.grep_definitions.specs.LineWalks.{IsNear, IsOpen}
@@ -98,3 +99,10 @@ module _ (settings : Settings) (meaning : Meaning) (bytes : List ℕ) where
   pub record HasReported {S E : Type 0} (step : Steps S E) (first : S) (w : Walk) (now : S) : Type 0 where
     pub walk : IsWalk w
     pub reported : AreReported step settings first (turns_before settings meaning bytes w.reported_through) all_true now
+
+-- a number that each call of a sink keeps is kept
+abbrev pub IsKept : {S E : Type 0} → Steps S E → Settings → S → S → Type 0
+IsKept {S} {E} step settings old new =
+    (name : S → ℕ)
+    → ((s : S) (call : Call) (result : Result Bool E) (t : S) → step s settings call result t → name t ≡ name s)
+    → name new ≡ name old

@@ -5,18 +5,20 @@ ghost use Rattle.grep_searcher.specs.ClosureSinks.{ClosuresAreCalled, ClosuresKe
 ghost use Rattle.grep_searcher.specs.ClosureSinks.{IsUtf8Text, IsLossyText, IsWholeText};
 ghost use Rattle.grep_definitions.specs.FileSearches.{IsFileRead};
 ghost use Rattle.grep_definitions.specs.SinkFolds.{RunsFold, RunsFoldAll, RunsFoldMatches};
+ghost use Rattle.grep_definitions.specs.SinkFolds.{SearchesRun, ReaderSearchesRun};
 ghost use Rattle.grep_definitions.specs.SinkFolds.{SearchesFail, ReaderSearchesFail, KnownReadersRun};
 
 use crate::sink::Sink;
 use crate::sinks::{Bytes, Lossy, UTF8};
 use grep_decode::Source;
 pub use grep_definitions::laws::{
-    after_wins, at_most_limit, at_most_limit_across, first_lines_begin, first_match_is_first,
-    inversion_complements, inversion_complements_across, lines_are_numbered, matches_are_all,
-    matches_are_counted, matches_are_few, matches_are_selected, matches_decide,
-    matches_touch_their_lines, reports_are_apart_across, reports_are_as_by_line, reports_ascend,
-    reports_ascend_across, searches_across_lines, searches_by_line, selected_are_reported_across,
-    stop_is_ignored_across, unchanged_is_searched, whole_count, whole_count_across,
+    after_wins, at_most_limit, at_most_limit_across, clear_lines_are_reported, first_lines_begin,
+    first_match_is_first, inversion_complements, inversion_complements_across, lines_are_numbered,
+    matches_are_all, matches_are_counted, matches_are_few, matches_are_selected, matches_decide,
+    matches_touch_their_lines, quit_reports_are_clear, reports_are_apart_across,
+    reports_are_as_by_line, reports_ascend, reports_ascend_across, searches_across_lines,
+    searches_by_line, seen_lines_begin, selected_are_reported_across, stop_is_ignored_across,
+    unchanged_is_searched, whole_count, whole_count_across,
 };
 use grep_matcher::Matcher;
 use grep_report::SinkError;
@@ -82,8 +84,46 @@ pub fn bytes_closures_keep_calls<F: FnMut(u64, &[u8]) -> Result<bool, io::Error>
     matches_are_selected();
 }
 
-/// If the matcher never fails and is lawful, and the search isn't refused, an error that a search of a slice ended in
-/// is that of a step of the sink, or the slice has to be decoded and wasn't to its end.
+/// Without binary detection, a search of a slice with a lawful matcher, if it ended in `Ok`, is a run along the calls for
+/// its decoded bytes. Pass the sink, since a closure's type has no name.
+pub fn searches_run<A: Allocator + Copy, M: Matcher, S: Sink>(_: &S)
+where
+    S::Error: SinkError<A>,
+    ensures { (matcher : M) → SearchesRun S.step
+        (record {
+          is_message = S.Error.is_message;
+          is_io = S.Error.is_io;
+          is_config = S.Error.is_config;
+        })
+        (record {
+          meaning = M.meaning matcher;
+          fails = M.fails matcher;
+          is_lawful = M.is_lawful matcher;
+          text_of = M.Error.output;
+        }) }
+{}
+
+/// The same of a search of a reader: it is a run over what was taken, whatever follows.
+pub fn reader_searches_run<A: Allocator + Copy, M: Matcher, R: Source, S: Sink>(_: &S)
+where
+    S::Error: SinkError<A>,
+    ensures { (matcher : M) → ReaderSearchesRun S.step
+        (record {
+          is_message = S.Error.is_message;
+          is_io = S.Error.is_io;
+          is_config = S.Error.is_config;
+        })
+        (record {
+          meaning = M.meaning matcher;
+          fails = M.fails matcher;
+          is_lawful = M.is_lawful matcher;
+          text_of = M.Error.output;
+        })
+        R.remaining R.step }
+{}
+
+/// Without binary detection, if the matcher never fails and is lawful, and the search isn't refused, an error that a
+/// search of a slice ended in is that of a step of the sink, or the slice has to be decoded and wasn't to its end.
 pub fn searches_fail<A: Allocator + Copy, M: Matcher, S: Sink>()
 where
     S::Error: SinkError<A>,
@@ -120,8 +160,8 @@ where
         R.remaining R.step }
 {}
 
-/// A search of a reader that says which bytes remain, with a lawful matcher, if it ended in `Ok`, is a run along the calls for
-/// the decoded bytes of them all, as a search of a slice is.
+/// Without binary detection, a search of a reader that says which bytes remain, with a lawful matcher, if it ended in
+/// `Ok`, is a run along the calls for the decoded bytes of them all, as a search of a slice is.
 pub fn known_readers_run<A: Allocator + Copy, M: Matcher, R: Source, S: Sink>()
 where
     S::Error: SinkError<A>,

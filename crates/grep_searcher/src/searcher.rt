@@ -6,19 +6,20 @@ ghost use Rattle.std.specs.declared.io.ErrorKind.{ErrorKind};
 ghost use Rattle.grep_matcher.specs.Matching.{IsInfallible};
 ghost use Rattle.grep_matcher.specs.Terminators.{byte_of};
 ghost use Rattle.grep_definitions.specs.Below.{is_at};
+ghost use Rattle.grep_definitions.specs.BinaryBytes.{look_at};
 ghost use Rattle.grep_definitions.specs.DecodedInputs.{is_searched_unchanged};
 ghost use Rattle.grep_definitions.specs.Questions.{IsLawfulFor};
 ghost use Rattle.grep_definitions.specs.ReaderSearches.{IsReaderSearched, IsUnread};
 ghost use Rattle.grep_definitions.specs.ReadingFaults.{IsUndecoded};
 ghost use Rattle.grep_definitions.specs.Refusals.{refusal_of};
-ghost use Rattle.grep_definitions.specs.Searches.{IsFault, IsSearched, IsSearchedAlong};
-ghost use Rattle.grep_definitions.specs.SearchTurns.{search_turns, search_byte_count};
+ghost use Rattle.grep_definitions.specs.Searches.{IsFaultIn, IsInputSearched, IsSearched};
+ghost use Rattle.grep_definitions.specs.SearchTurns.{calls_if};
 ghost use Rattle.grep_definitions.specs.Settings.{default_settings};
 ghost use Rattle.grep_definitions.specs.SinkRuns.{NeverFails, Outcome};
 ghost use Rattle.grep_searcher.specs.Configs.{settings_of};
-ghost use Rattle.grep_searcher.specs.InputSearches.{IsInputSearched};
+ghost use Rattle.grep_searcher.specs.InputSearches.{IsBytesSearched};
 ghost use Rattle.grep_searcher.specs.SearchBuffers.{AreFitting};
-ghost use Rattle.grep_searcher.specs.Walks.{Counted};
+ghost use Rattle.grep_searcher.specs.Walks.{Counted, IsKept};
 
 mod blocks;
 mod buffers;
@@ -27,9 +28,12 @@ mod contents;
 mod files;
 mod look_ahead;
 mod multi_line;
+mod noted;
 mod queries;
+mod quitting;
 mod read_by_line;
 mod sink_lines;
+mod until;
 mod walk;
 
 use crate::config::Config;
@@ -129,6 +133,11 @@ impl<A: Allocator + Copy> Searcher<A> {
     /// are searched as a reader's are, as `search_reader` says, with its errors but the reader's own. Any other
     /// slice is searched as it is: that takes no memory, the heap limit is none for it, and it fails in no other
     /// way. The settings stay as they were, and a searcher that has its buffers has them afterwards.
+    ///
+    /// Under `BinaryDetection::Quit` a slice that is searched as it is ends at a binary byte: after `begin` it is looked
+    /// for in the first 65,536 bytes, and then in what each report would show. Where it is found, `binary_data` is called
+    /// with its offset in place of that report and its break, and then `finish` with that offset. A byte in other lines
+    /// isn't looked for. `BinaryDetection::Convert` changes nothing of such a search.
     pub fn search_slice<M: Matcher, S: Sink>(
         &mut self,
         matcher: M,
@@ -189,9 +198,15 @@ impl<A: Allocator + Copy> Searcher<A> {
     ///   at most 65,536; or if the searcher has no buffers, as a clone that was made in a sink, and there is no
     ///   memory for them: then the sink had no call.
     ///
+    /// Under binary detection a search by line calls `binary_data` with the offset of the first binary byte once the
+    /// buffer has it, before the lines that were read with it are searched. `BinaryDetection::Quit` ends the search
+    /// there, and so does a false; `BinaryDetection::Convert` goes on, and each binary byte is searched as the line
+    /// terminator's byte. `finish` has that offset then. Such a search reads even if no line may have a turn.
+    ///
     /// A search across lines (`multi_line_with_matcher`) first reads the reader to its end, and keeps all decoded bytes
     /// in memory. If an error of reading comes then, the sink has no call: the reader's error; one of kind `Other`, once
-    /// as many decoded bytes have come as the heap limit; or one of kind `OutOfMemory`.
+    /// as many decoded bytes have come as the heap limit; or one of kind `OutOfMemory`. Binary detection is that of a slice
+    /// that is searched as it is.
     ///
     /// The settings stay as they were, and a searcher that has its buffers has them afterwards, whatever comes.
     pub fn search_reader<M: Matcher, R: Source, S: Sink>(
@@ -337,7 +352,7 @@ impl<A: Allocator + Copy> Searcher<A> {
         self.search_source(matcher, &mut source, sink)
     }
 
-    // A search of decoded bytes that isn't refused.
+    // A search of a slice as it is, that isn't refused.
     fn search_bytes<M: Matcher, S: Sink>(
         &self,
         matcher: &M,
@@ -348,7 +363,7 @@ impl<A: Allocator + Copy> Searcher<A> {
         S::Error: SinkError<A>,
         requires { S.may_call sink.old }
         ensures searched { IsLawfulFor self.now.settings (M.meaning matcher.now) (M.is_lawful matcher.now)
-            → IsSearchedAlong S.step
+            → IsBytesSearched S.step
             (record {
               is_message = S.Error.is_message;
               is_io = S.Error.is_io;
@@ -360,35 +375,40 @@ impl<A: Allocator + Copy> Searcher<A> {
               is_lawful = M.is_lawful matcher.now;
               text_of = M.Error.output;
             })
-            self.now.settings bytes.now sink.old result sink.new }
+            (look_at self.now.settings.binary_detection false) self.now.settings bytes.now sink.old result sink.new }
         ensures succeeds { NeverFails S.step S.may_call → IsInfallible (M.fails matcher.now)
             → IsOk result }
         ensures may_call { S.may_call sink.new }
     {
-        let count = self.match_bytes(matcher, bytes, sink)?;
+        let is_across = self.is_across(matcher);
+        if let Some(byte) = self.config.binary_detection.quit_byte() {
+            return self.search_until(matcher, bytes, byte, is_across, sink);
+        }
+        let count = self.match_bytes(matcher, bytes, is_across, sink)?;
         sink.finish(self, &SinkFinish::new(count, None))
     }
 
-    // Makes each call but `finish`, in the mode that the search runs in, and returns the byte count.
-    fn match_bytes<M: Matcher, S: Sink>(
+    // Makes each call but `finish`, across lines or by line, and returns the byte count.
+    pub(crate) fn match_bytes<M: Matcher, S: Sink>(
         &self,
         matcher: &M,
         bytes: &[u8],
+        is_across: bool,
         sink: &mut S,
     ) -> Result<u64, S::Error>
     where
         S::Error: SinkError<A>,
         requires { S.may_call sink.old }
         ensures reported { IfOk result (λ count.
-            IsLawfulFor self.now.settings (M.meaning matcher.now) (M.is_lawful matcher.now)
+            (is_across ≡ false → IsLawfulFor self.now.settings (M.meaning matcher.now) (M.is_lawful matcher.now))
             → (outcome : Outcome S.Error)
             × Counted S.step self.now.settings sink.old
-            (search_turns self.now.settings (M.meaning matcher.now) bytes.now)
-            (search_byte_count self.now.settings (M.meaning matcher.now) bytes.now)
+            ((calls_if self.now.settings (M.meaning matcher.now) is_across).turns bytes.now)
+            ((calls_if self.now.settings (M.meaning matcher.now) is_across).byte_count bytes.now)
             count outcome sink.new) }
         ensures fault { IfErr result (λ e.
-            IsLawfulFor self.now.settings (M.meaning matcher.now) (M.is_lawful matcher.now)
-            → IsFault S.step
+            (is_across ≡ false → IsLawfulFor self.now.settings (M.meaning matcher.now) (M.is_lawful matcher.now))
+            → IsFaultIn S.step
             (record {
               is_message = S.Error.is_message;
               is_io = S.Error.is_io;
@@ -400,12 +420,14 @@ impl<A: Allocator + Copy> Searcher<A> {
               is_lawful = M.is_lawful matcher.now;
               text_of = M.Error.output;
             })
+            (calls_if self.now.settings (M.meaning matcher.now) is_across)
             self.now.settings bytes.now sink.old e sink.new) }
         ensures succeeds { NeverFails S.step S.may_call → IsInfallible (M.fails matcher.now)
             → IsOk result }
+        ensures kept { IsKept S.step self.now.settings sink.old sink.new }
         ensures may_call { S.may_call sink.new }
     {
-        if self.is_across(matcher) {
+        if is_across {
             return self.match_across(matcher, bytes, sink);
         }
         self.match_by_line(matcher, bytes, sink)

@@ -14,7 +14,8 @@ use Rattle.grep_searcher.specs.declared.SearchError.TheVariants.{Io}
 use Rattle.grep_searcher.specs.SearchErrors.{IsOutOfMemory}
 use Rattle.grep_searcher.specs.Settings.{Settings, SearcherState}
 use Rattle.grep_searcher.specs.DecodedInputs.{searched_bytes, IsInput}
-use Rattle.grep_searcher.specs.ReaderSearches.{Taken, IsReaderFault, IsReaderSearched, IsUnread, of_search, of_reading}
+use Rattle.grep_searcher.specs.ReaderSearches.{Taken, IsReaderFault, IsReaderRun, IsReaderSearched, IsUnread}
+use Rattle.grep_searcher.specs.ReaderSearches.{of_search, of_reading}
 use Rattle.grep_searcher.specs.Searches.{ErrorMakers, MatcherFacts, HasReportedIn}
 use Rattle.grep_searcher.specs.SearchTurns.{search_calls}
 use Rattle.lgrep_cli.specs.OptionSettings.{settings_of_options}
@@ -176,13 +177,14 @@ module _ {R W : Type 0} (remaining : R → Option (List ℕ)) (read_step : R →
       of_reading = tt;
     }
 
-    -- under the options' settings, with the matcher of their literal, no search is refused
+    -- under the options' settings, with the matcher of their literal, no search is refused, and none looks for binary bytes
     searched : (result : Result (Unit {0}) (SearchError Global)) → old.found ≡ false → old.has_failed ≡ false
         → IsReaderSearched remaining read_step (Prints contents) errors (facts (string_bytes options.literal))
         (searcher_of options) reader old result reader' new
         → IsSearched result
     searched (Ok u) none ok (is_valid, search) =
-        let whole = search (λ _. tt) in
+        let whole : IsReaderRun remaining read_step (Prints contents) errors (facts (string_bytes options.literal))
+        (settings_of_options options) reader old reader' new = search (λ _. tt) in
         run whole.taken (λ bytes input. run-written contents (settings_of_options options) (calls_of options bytes) _ None old
         (Ok tt) new (whole.run bytes input)) none
     searched (Err e) none ok search = go (search (λ _. tt))

@@ -1,6 +1,6 @@
 //! A case: what is searched for, in what, and how.
 use grep_matcher::LineTerminator;
-use grep_searcher::{ConfigError, Encoding, SearcherBuilder};
+use grep_searcher::{BinaryDetection, ConfigError, Encoding, Searcher, SearcherBuilder};
 use hex::{FromHex, FromHexError};
 use std::alloc::{AllocError, Global};
 use std::str::FromStr;
@@ -9,13 +9,10 @@ use std::{slice, str};
 /// Why a line is no case that can be run.
 #[derive(Clone, Copy)]
 pub(crate) enum CaseError {
-    /// A field isn't known, or its value isn't one of the field's, or the input or the literal is missing. A value of
-    /// `bin` is never this, but `Unsupported`.
+    /// A field isn't known, or its value isn't one of the field's, or the input or the literal is missing.
     Malformed,
     /// The label of `enc` isn't one of an encoding that is known.
     UnknownEncoding,
-    /// `bin`, for which there is no setting yet, has another value than its default.
-    Unsupported,
     /// There was no memory for the input, a literal or a label.
     OutOfMemory,
 }
@@ -137,7 +134,7 @@ pub(crate) struct Options {
     pub(crate) way: Way,
     /// Whether the searcher is written in its debug form in place of the search.
     pub(crate) debug: bool,
-    /// How often the input that was given is repeated.
+    /// How often the input is repeated.
     pub(crate) times: usize,
     /// Which read fails, counted from 1.
     pub(crate) error_at: Option<u64>,
@@ -147,8 +144,6 @@ pub(crate) struct Options {
     pub(crate) fail_at: Option<u64>,
     /// The settings of the search.
     pub(crate) settings: SearcherBuilder,
-    // whether every field for which there is no setting has its default
-    is_supported: bool,
 }
 
 /// A search that is to be made.
@@ -169,12 +164,13 @@ impl Case {
     ///
     /// An error is that of the first field that can't be read: `OutOfMemory` if there is none for the input, a literal
     /// or a label, `UnknownEncoding` if the label isn't known, else `Malformed`, which is also the error of a line that
-    /// isn't UTF-8 or lacks the input or the literal.
-    /// `Unsupported` comes after these, and `OutOfMemory` for a repeated input after that.
+    /// isn't UTF-8 or lacks the input or the literal. `OutOfMemory` for the whole input comes after these.
     pub(crate) fn parse(alloc: Global, line: &[u8]) -> Result<Case, CaseError> {
         let line = str::from_utf8(line).map_err(|_| CaseError::Malformed)?;
         let mut fields = Fields {
             input: None,
+            head: Vec::new(alloc),
+            tail: Vec::new(alloc),
             literal: None,
             other: Vec::new(alloc),
             options: Options::new(),
@@ -182,7 +178,42 @@ impl Case {
         for field in line.split(' ') {
             fields.read(alloc, field)?;
         }
-        fields.into_case(alloc)
+        fields.into_case()
+    }
+
+    /// Where the same search makes the same calls, plain or not: a slice, a reader in one piece and one in single bytes,
+    /// or just the case's own place if a reader fails, if there is a heap limit, or if binary bytes are looked for by
+    /// line. Nowhere if the matcher's terminator is named, or if it can't be asked about one line at a time.
+    pub(crate) fn places(&self, searcher: &Searcher) -> &[Place] {
+        let options = &self.options;
+        if options.names.is_some() || matches!(options.pattern, Pattern::Candidates) {
+            &[]
+        } else if options.error_at.is_some()
+            || searcher.heap_limit().is_some()
+            || self.detects_by_line(searcher)
+        {
+            slice::from_ref(&options.way.place)
+        } else {
+            PLACES
+        }
+    }
+
+    // Whether binary bytes are looked for by line: in a slice that is all there, but in a reader as it is read.
+    fn detects_by_line(&self, searcher: &Searcher) -> bool {
+        *searcher.binary_detection() != BinaryDetection::None && !self.is_across(searcher)
+    }
+
+    // Whether the search is across lines.
+    fn is_across(&self, searcher: &Searcher) -> bool {
+        searcher.multi_line()
+            && match self.options.pattern {
+                Pattern::Literal => {
+                    let terminator = searcher.line_terminator().as_byte();
+                    self.options.way.plain || self.literal.contains(&terminator)
+                }
+                Pattern::Candidates | Pattern::End => false,
+                Pattern::Either | Pattern::Empty | Pattern::AtEnd | Pattern::Failing => true,
+            }
     }
 }
 
@@ -190,6 +221,8 @@ impl Case {
 #[derive(Drop)]
 struct Fields {
     input: Option<Vec<u8>>,
+    head: Vec<u8>,
+    tail: Vec<u8>,
     literal: Option<Vec<u8>>,
     other: Vec<u8>,
     options: Options,
@@ -201,6 +234,8 @@ impl Fields {
         let (key, value) = field.split_once('=').ok_or(CaseError::Malformed)?;
         match key {
             "in" => self.input = Some(hex::decode(alloc, value)?),
+            "head" => self.head = hex::decode(alloc, value)?,
+            "tail" => self.tail = hex::decode(alloc, value)?,
             "lit" => self.literal = Some(hex::decode(alloc, value)?),
             "or" => self.other = hex::decode(alloc, value)?,
             _ => self.options.set(alloc, key, value)?,
@@ -209,9 +244,11 @@ impl Fields {
     }
 
     // The case of all fields.
-    fn into_case(self, alloc: Global) -> Result<Case, CaseError> {
+    fn into_case(self) -> Result<Case, CaseError> {
         let Fields {
             input,
+            head,
+            tail,
             literal,
             other,
             options,
@@ -219,9 +256,8 @@ impl Fields {
         let (Some(input), Some(literal)) = (input, literal) else {
             return Err(CaseError::Malformed);
         };
-        options.check()?;
         Ok(Case {
-            input: repeated(alloc, input, options.times)?,
+            input: between(head, &input, options.times, &tail)?,
             literal,
             other,
             options,
@@ -229,15 +265,13 @@ impl Fields {
     }
 }
 
-// Some bytes, so many times.
-fn repeated(alloc: Global, bytes: Vec<u8>, times: usize) -> Result<Vec<u8>, AllocError> {
-    if times == 1 {
-        return Ok(bytes);
-    }
-    let mut all = Vec::new(alloc);
+// Some bytes, so many times, between two others.
+fn between(head: Vec<u8>, bytes: &[u8], times: usize, tail: &[u8]) -> Result<Vec<u8>, AllocError> {
+    let mut all = head;
     for _ in 0..times {
-        all.extend_from_slice(&bytes)?;
+        all.extend_from_slice(bytes)?;
     }
+    all.extend_from_slice(tail)?;
     Ok(all)
 }
 
@@ -257,7 +291,6 @@ impl Options {
             false_at: None,
             fail_at: None,
             settings: SearcherBuilder::new(),
-            is_supported: true,
         }
     }
 
@@ -267,7 +300,6 @@ impl Options {
             "err_at" => self.error_at = ordinal(value)?,
             "false_at" => self.false_at = ordinal(value)?,
             "fail_at" => self.fail_at = ordinal(value)?,
-            "bin" => self.support(value == "none"),
             "enc" => self.encode(encoding(alloc, value)?),
             _ => self.set_search(key, value)?,
         }
@@ -298,31 +330,6 @@ impl Options {
     fn encode(&mut self, encoding: Option<Encoding>) {
         self.settings.encoding(encoding);
     }
-
-    fn support(&mut self, is_supported: bool) {
-        self.is_supported = self.is_supported && is_supported;
-    }
-
-    /// Where the same search makes the same calls, plain or not: a slice, a reader in one piece and one in single bytes,
-    /// or just the case's own place if a reader fails or there is a heap limit. Nowhere if the matcher's terminator is
-    /// named, or if it can't be asked about one line at a time.
-    pub(crate) fn places(&self, heap_limit: Option<usize>) -> &[Place] {
-        if self.names.is_some() || matches!(self.pattern, Pattern::Candidates) {
-            &[]
-        } else if self.error_at.is_some() || heap_limit.is_some() {
-            slice::from_ref(&self.way.place)
-        } else {
-            PLACES
-        }
-    }
-
-    // Refuses what can't be run yet.
-    fn check(&self) -> Result<(), CaseError> {
-        if !self.is_supported {
-            return Err(CaseError::Unsupported);
-        }
-        Ok(())
-    }
 }
 
 // Sets the searcher's setting of a field.
@@ -338,10 +345,23 @@ fn configure(settings: &mut SearcherBuilder, key: &str, value: &str) -> Result<(
         "bom" => settings.bom_sniffing(flag(value)?),
         "stop" => settings.stop_on_nonmatch(flag(value)?),
         "heap" => settings.heap_limit(limit(value)?),
+        "bin" => settings.binary_detection(detection(value)?),
         "max" => settings.max_matches(limit(value)?),
         _ => return Err(CaseError::Malformed),
     };
     Ok(())
+}
+
+// What a search does about which byte, or none.
+fn detection(text: &str) -> Result<BinaryDetection, CaseError> {
+    if text == "none" {
+        return Ok(BinaryDetection::none());
+    }
+    match text.split_once(':') {
+        Some(("quit", byte)) => Ok(BinaryDetection::quit(number(byte)?)),
+        Some(("convert", byte)) => Ok(BinaryDetection::convert(number(byte)?)),
+        _ => Err(CaseError::Malformed),
+    }
 }
 
 // The encoding of a label in hex, or none.

@@ -36,7 +36,7 @@ fn write_calls<W: io::Write>(
     let end = end_of(search(alloc, searcher, case, case.options.way, &mut recorder));
     let calls = recorder.text();
     write!(output, "{calls}{end}")?;
-    for place in case.options.places(searcher.heap_limit()) {
+    for place in case.places(searcher) {
         if !repeats(alloc, searcher, case, *place, calls, end) {
             write!(output, ";differs")?;
         }
@@ -102,7 +102,6 @@ fn case_fault(error: CaseError) -> &'static str {
     match error {
         CaseError::Malformed => "err case",
         CaseError::UnknownEncoding => "err encoding",
-        CaseError::Unsupported => "err unsupported",
         CaseError::OutOfMemory => "err memory",
     }
 }
@@ -124,7 +123,7 @@ fn search_fault(error: &SearchError) -> &'static str {
         SearchError::Config(ConfigError::SearchUnavailable) => "err unavailable",
         SearchError::Config(ConfigError::MismatchedLineTerminators { .. }) => "err mismatch",
         SearchError::Config(ConfigError::Memory) => "err memory",
-        SearchError::Config(_) => "err unsupported",
+        SearchError::Config(_) => "err encoding",
     }
 }
 

@@ -13,6 +13,8 @@ mod closures;
 #[cfg(test)]
 mod copies;
 #[cfg(test)]
+mod detection;
+#[cfg(test)]
 mod files;
 #[cfg(test)]
 mod matchers;

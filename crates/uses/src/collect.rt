@@ -9,8 +9,10 @@ ghost use Rattle.grep_searcher.specs.SearchErrors.{IsOutOfMemory};
 ghost use Rattle.uses.specs.DecodingErrors.{IsDecodingError};
 ghost use Rattle.uses.specs.SelectedLines.{selected_bytes};
 
-use grep_searcher::laws::{matches_are_selected, runs_fold_matches, searches_fail};
-use grep_searcher::{Matcher, SearchError, Searcher, Sink, SinkContext, SinkFinish, SinkMatch};
+use grep_searcher::laws::{matches_are_selected, runs_fold_matches, searches_fail, searches_run};
+use grep_searcher::{
+    BinaryDetection, Matcher, SearchError, Searcher, Sink, SinkContext, SinkFinish, SinkMatch,
+};
 use std::alloc::{Allocator, Global};
 use std::marker::Model;
 
@@ -21,7 +23,7 @@ use std::marker::Model;
 /// of memory. If the bytes have to be decoded, it may also be of the heap limit, or of more than
 /// 2^64 - 1 decoded bytes.
 ///
-/// All this is promised for a matcher that is lawful for the searcher's terminator.
+/// All this is promised without binary detection, for a matcher that is lawful for the searcher's terminator.
 pub fn matching_lines<M: Matcher + Drop>(
     alloc: Global,
     searcher: &mut Searcher,
@@ -30,6 +32,7 @@ pub fn matching_lines<M: Matcher + Drop>(
 ) -> Result<Vec<u8>, SearchError>
     ensures lines { IsLawfulFor searcher.old.settings (M.meaning matcher) (M.is_lawful matcher)
         → is_across searcher.old.settings (M.meaning matcher) ≡ false
+        → searcher.old.settings.binary_detection ≡ BinaryDetection.None
         → IfOk result (λ text. text.items
         ≡ selected_bytes searcher.old.settings (M.meaning matcher)
         (searched_bytes searcher.old.settings bytes.now)) }
@@ -37,7 +40,8 @@ pub fn matching_lines<M: Matcher + Drop>(
     ensures buffers { searcher.old.has_buffers ≡ true → searcher.new.has_buffers ≡ true }
     ensures error { IsInfallible (M.fails matcher)
         → IsLawfulFor searcher.old.settings (M.meaning matcher) (M.is_lawful matcher)
-        → refusal_of searcher.old.settings (M.meaning matcher) ≡ None → IfErr result (λ e.
+        → refusal_of searcher.old.settings (M.meaning matcher) ≡ None
+        → searcher.old.settings.binary_detection ≡ BinaryDetection.None → IfErr result (λ e.
         IsOutOfMemory e ⊎ IsDecodingError searcher.old (M.meaning matcher) bytes.now e) }
 {
     let mut matches = MatchText {
@@ -45,6 +49,7 @@ pub fn matching_lines<M: Matcher + Drop>(
     };
     searches_fail::<Global, M, MatchText>();
     searcher.search_slice(matcher, bytes, &mut matches)?;
+    searches_run::<Global, M, _>(&matches);
     runs_fold_matches::<MatchText>();
     matches_are_selected();
     Ok(matches.into_text())

@@ -9,9 +9,11 @@ ghost use Rattle.uses.specs.DecodingErrors.{IsDecodingError};
 ghost use Rattle.uses.specs.SelectedLines.{selected_count};
 
 use grep_searcher::laws::{
-    matches_are_counted, matches_are_few, runs_fold_matches, searches_fail, unchanged_is_searched,
+    matches_are_counted, matches_are_few, runs_fold_matches, searches_run, unchanged_is_searched,
 };
-use grep_searcher::{Matcher, SearchError, Searcher, Sink, SinkContext, SinkFinish, SinkMatch};
+use grep_searcher::{
+    BinaryDetection, Matcher, SearchError, Searcher, Sink, SinkContext, SinkFinish, SinkMatch,
+};
 use std::alloc::{Allocator, Global};
 
 /// Returns how many lines of `bytes` are selected. If the bytes have to be decoded, it is how many of
@@ -22,7 +24,8 @@ use std::alloc::{Allocator, Global};
 /// have to be decoded, it may also be of the heap limit, of being out of memory, or of more than
 /// 2^64 - 1 decoded bytes.
 ///
-/// All this is promised for a matcher that is lawful for the searcher's terminator.
+/// All this is promised for a matcher that is lawful for the searcher's terminator, and the count without binary
+/// detection.
 pub fn count_matching_lines<M: Matcher + Drop>(
     searcher: &mut Searcher,
     matcher: M,
@@ -30,10 +33,12 @@ pub fn count_matching_lines<M: Matcher + Drop>(
 ) -> Result<u64, SearchError>
     ensures count { IsLawfulFor searcher.old.settings (M.meaning matcher) (M.is_lawful matcher)
         → is_across searcher.old.settings (M.meaning matcher) ≡ false
+        → searcher.old.settings.binary_detection ≡ BinaryDetection.None
         → is_searched_unchanged searcher.old.settings bytes.now ≡ true → IfOk result (λ count.
         count ≡ selected_count searcher.old.settings (M.meaning matcher) bytes.now) }
     ensures decoded { IsLawfulFor searcher.old.settings (M.meaning matcher) (M.is_lawful matcher)
         → is_across searcher.old.settings (M.meaning matcher) ≡ false
+        → searcher.old.settings.binary_detection ≡ BinaryDetection.None
         → IfOk result (λ count. count
         ≡ min (selected_count searcher.old.settings (M.meaning matcher)
         (searched_bytes searcher.old.settings bytes.now))
@@ -49,8 +54,8 @@ pub fn count_matching_lines<M: Matcher + Drop>(
         → is_searched_unchanged searcher.old.settings bytes.now ≡ true → IsOk result }
 {
     let mut matches = MatchCount { count: 0 };
-    searches_fail::<Global, M, MatchCount>();
     searcher.search_slice(matcher, bytes, &mut matches)?;
+    searches_run::<Global, M, _>(&matches);
     runs_fold_matches::<MatchCount>();
     matches_are_counted();
     matches_are_few();

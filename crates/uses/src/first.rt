@@ -9,9 +9,10 @@ ghost use Rattle.grep_searcher.specs.ReaderSearches.{Taken, IsUnread};
 ghost use Rattle.grep_searcher.specs.Refusals.{refusal_of};
 ghost use Rattle.uses.specs.SelectedLines.{first_selected};
 
-use grep_searcher::laws::{first_match_is_first, runs_fold_matches};
+use grep_searcher::laws::{first_match_is_first, reader_searches_run, runs_fold_matches};
 use grep_searcher::{
-    Matcher, SearchError, Searcher, Sink, SinkContext, SinkFinish, SinkMatch, Source,
+    BinaryDetection, Matcher, SearchError, Searcher, Sink, SinkContext, SinkFinish, SinkMatch,
+    Source,
 };
 use std::alloc::{Allocator, Global};
 
@@ -25,7 +26,8 @@ use std::alloc::{Allocator, Global};
 /// An error is made of the reader's, of the matcher's, of a configuration that the searcher refuses,
 /// of the heap limit, of being out of memory, or of more than 2^64 - 1 decoded bytes.
 ///
-/// All this is promised for a matcher that is lawful for the searcher's terminator.
+/// All this is promised for a matcher that is lawful for the searcher's terminator, and the first line without binary
+/// detection.
 pub fn first_match<M: Matcher + Drop, R: Source>(
     searcher: &mut Searcher,
     matcher: M,
@@ -34,6 +36,7 @@ pub fn first_match<M: Matcher + Drop, R: Source>(
     requires { searcher.old.settings.line_number ≡ true }
     ensures first { IsLawfulFor searcher.old.settings (M.meaning matcher) (M.is_lawful matcher)
         → is_across searcher.old.settings (M.meaning matcher) ≡ false
+        → searcher.old.settings.binary_detection ≡ BinaryDetection.None
         → IfOk result (λ found. (taken : Taken R.remaining R.step reader.old reader.new)
         × ((bytes : List ℕ) → IsInput searcher.old.settings taken.ended taken.pieces bytes
         → found ≡ first_selected searcher.old.settings (M.meaning matcher) bytes)) }
@@ -48,6 +51,7 @@ pub fn first_match<M: Matcher + Drop, R: Source>(
 {
     let mut first = FirstMatch { position: None };
     searcher.search_reader(matcher, reader, &mut first)?;
+    reader_searches_run::<Global, M, R, _>(&first);
     runs_fold_matches::<FirstMatch>();
     first_match_is_first();
     Ok(first.position)

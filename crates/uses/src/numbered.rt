@@ -6,9 +6,9 @@ ghost use Rattle.grep_searcher.specs.Questions.{IsLawfulFor};
 ghost use Rattle.uses.specs.NumberedTexts.{texts_of};
 ghost use Rattle.uses.specs.SelectedLines.{numbered_lines_of};
 
-use grep_searcher::laws::closures_keep_calls;
+use grep_searcher::laws::{closures_keep_calls, searches_run};
 use grep_searcher::sinks::UTF8;
-use grep_searcher::{Matcher, Searcher};
+use grep_searcher::{BinaryDetection, Matcher, Searcher};
 use std::alloc::Global;
 use std::io;
 
@@ -20,7 +20,8 @@ use std::io;
 /// searcher doesn't number lines. If the bytes have to be decoded, it may also be of the heap limit, or, of the kind
 /// `InvalidData`, of more than 2^64 - 1 decoded bytes. What an error is isn't in the contract.
 ///
-/// The lines are promised of a search by line, for a matcher that is lawful for the searcher's terminator.
+/// The lines are promised of a search by line without binary detection, for a matcher that is lawful for the searcher's
+/// terminator.
 pub fn numbered_lines<M: Matcher + Drop>(
     alloc: Global,
     searcher: &mut Searcher,
@@ -29,6 +30,7 @@ pub fn numbered_lines<M: Matcher + Drop>(
 ) -> io::Result<Vec<(u64, String)>>
     ensures lines { IsLawfulFor searcher.old.settings (M.meaning matcher) (M.is_lawful matcher)
         → is_across searcher.old.settings (M.meaning matcher) ≡ false
+        → searcher.old.settings.binary_detection ≡ BinaryDetection.None
         → IfOk result (λ lines. texts_of lines.items
         ≡ numbered_lines_of searcher.old.settings (M.meaning matcher)
         (searched_bytes searcher.old.settings bytes.now)) }
@@ -47,6 +49,7 @@ pub fn numbered_lines<M: Matcher + Drop>(
         },
     );
     closures_keep_calls(&sink);
+    searches_run::<Global, M, _>(&sink);
     searcher.search_slice(matcher, bytes, &mut sink)?;
     Ok(lines)
 }

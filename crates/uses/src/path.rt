@@ -10,7 +10,7 @@ ghost use Rattle.uses.specs.SelectedLines.{selected_count};
 
 use crate::count::MatchCount;
 use grep_searcher::laws::{known_files_run, matches_are_counted, runs_fold_matches};
-use grep_searcher::{Matcher, SearchError, Searcher};
+use grep_searcher::{BinaryDetection, Matcher, SearchError, Searcher};
 use std::alloc::Global;
 use std::path::AsPath;
 use std::rt::Files;
@@ -20,8 +20,8 @@ use std::rt::Files;
 /// An error is that of opening the file, or one of reading it; or it is made of the matcher's, of a configuration that
 /// the searcher refuses, of the heap limit, of being out of memory, or of more than 2^64 - 1 decoded bytes.
 ///
-/// All this is promised for a matcher that is lawful for the searcher's terminator, and the count of a search by line, for
-/// a file that was opened, if it says which bytes remain.
+/// All this is promised for a matcher that is lawful for the searcher's terminator, and the count of a search by line
+/// without binary detection, for a file that was opened, if it says which bytes remain.
 pub fn count_in_path<R: Files, M: Matcher + Drop, P: AsPath>(
     rt: &R,
     searcher: &mut Searcher,
@@ -30,6 +30,7 @@ pub fn count_in_path<R: Files, M: Matcher + Drop, P: AsPath>(
 ) -> Result<u64, SearchError>
     ensures count { IsLawfulFor searcher.old.settings (M.meaning matcher) (M.is_lawful matcher)
         → is_across searcher.old.settings (M.meaning matcher) ≡ false
+        → searcher.old.settings.binary_detection ≡ BinaryDetection.None
         → IfOk result (λ count. (file : R.File) × ((input : List ℕ)
         → R.File.remaining file ≡ Some input → count
         ≡ min (selected_count searcher.old.settings (M.meaning matcher)

@@ -7,7 +7,7 @@ ghost use Rattle.grep_searcher.specs.SearchErrors.{IsOutOfMemory};
 ghost use Rattle.uses.specs.DecodingErrors.{IsDecodingError};
 ghost use Rattle.uses.specs.MatchSinks.{one_before, reporter, report_of};
 
-use grep_searcher::laws::{runs_fold_all, searches_fail};
+use grep_searcher::laws::{runs_fold_all, searches_fail, searches_run};
 use grep_searcher::{
     ConfigError, LiteralMatcher, SearchError, Searcher, SearcherBuilder, Sink, SinkContext,
     SinkFinish, SinkMatch,
@@ -35,6 +35,7 @@ pub fn in_context(alloc: Global, log: &[u8], literal: &[u8]) -> Result<Vec<u8>, 
     };
     searches_fail::<Global, LiteralMatcher, Report>();
     searcher.search_slice(matcher, log, &mut report)?;
+    searches_run::<Global, LiteralMatcher, _>(&report);
     runs_fold_all::<Report>();
     Ok(report.into_text())
 }

@@ -1,12 +1,12 @@
 //! The search of a reader across lines, for which all of it is read first.
-ghost use Rattle.std.specs.Prelude.{◌≡◌, ℕ, Bool, List, Option, true, IfErr};
+ghost use Rattle.std.specs.Prelude.{◌≡◌, ℕ, Bool, List, Option, true, false, IfErr};
 ghost use Rattle.std.specs.declared.io.Error.{Error};
 ghost use Rattle.grep_matcher.specs.Matching.{IsInfallible};
 ghost use Rattle.grep_decode.specs.DecoderStates.{started};
+ghost use Rattle.grep_definitions.specs.BinaryBytes.{look_at, view_of};
 ghost use Rattle.grep_definitions.specs.ReaderSearches.{IsUnreadIn};
-ghost use Rattle.grep_definitions.specs.SearchTurns.{calls_across};
 ghost use Rattle.grep_definitions.specs.SinkRuns.{NeverFails};
-ghost use Rattle.grep_searcher.specs.InputSearches.{IsSourceSearchedIn};
+ghost use Rattle.grep_searcher.specs.InputSearches.{IsAcrossSearched};
 
 use crate::searcher::Searcher;
 use crate::searcher::read_by_line::io_error;
@@ -36,7 +36,7 @@ impl<A: Allocator + Copy> Searcher<A> {
         requires started { decoder.old ≡ started decoder.old.capacity self.now.settings.encoding
             self.now.settings.bom_sniffing }
         requires may_call { S.may_call sink.old }
-        ensures searched { (has_buffers : Bool) → IsSourceSearchedIn S.step
+        ensures searched { (has_buffers : Bool) → IsAcrossSearched R.remaining R.step S.step
             (record {
               is_message = S.Error.is_message;
               is_io = S.Error.is_io;
@@ -48,13 +48,14 @@ impl<A: Allocator + Copy> Searcher<A> {
               is_lawful = M.is_lawful matcher.now;
               text_of = M.Error.output;
             })
-            (calls_across self.now.settings (M.meaning matcher.now))
-            R.remaining R.step (record { settings = self.now.settings; has_buffers = has_buffers })
+            (look_at self.now.settings.binary_detection false)
+            (record { settings = self.now.settings; has_buffers = has_buffers })
             reader.old sink.old result reader.new sink.new }
         ensures succeeds { NeverFails S.step S.may_call → IsInfallible (M.fails matcher.now)
             → IfErr result (λ e. (has_buffers : Bool) → (seen : Option (List ℕ)) × (error : Error)
-            × IsUnreadIn R.remaining R.step true (record { settings = self.now.settings; has_buffers = has_buffers })
-            (M.meaning matcher.now) reader.old seen error reader.new × S.Error.is_io error e) }
+            × IsUnreadIn R.remaining R.step true (view_of self.now.settings)
+            (record { settings = self.now.settings; has_buffers = has_buffers }) (M.meaning matcher.now)
+            reader.old seen error reader.new × S.Error.is_io error e) }
         ensures may_call { S.may_call sink.new }
     {
         unchanged_is_searched();
@@ -63,6 +64,9 @@ impl<A: Allocator + Copy> Searcher<A> {
         lines_join();
         if let Err(error) = read_contents(decoder, reader, self.config.heap_limit, contents) {
             return Err(S::Error::error_io(self.alloc, io_error(error)));
+        }
+        if let Some(byte) = self.config.binary_detection.quit_byte() {
+            return self.search_until(matcher, contents, byte, true, sink);
         }
         let count = self.match_across(matcher, contents, sink)?;
         sink.finish(self, &SinkFinish::new(count, None))

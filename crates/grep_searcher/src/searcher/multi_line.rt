@@ -11,7 +11,7 @@ ghost use Rattle.grep_definitions.specs.SinkCalls.{begins};
 ghost use Rattle.grep_definitions.specs.SinkRuns.{Outcome, NeverFails};
 ghost use Rattle.grep_searcher.specs.AcrossWalks.{is_done, is_joined, next_chosen, walk_after};
 ghost use Rattle.grep_searcher.specs.AcrossWalks.{IsReady};
-ghost use Rattle.grep_searcher.specs.Walks.{Counted, IsOrdered};
+ghost use Rattle.grep_searcher.specs.Walks.{Counted, IsOrdered, IsKept};
 
 use crate::searcher::Searcher;
 use crate::searcher::blocks::Blocks;
@@ -55,6 +55,7 @@ impl<A: Allocator + Copy> Searcher<A> {
             self.now.settings bytes.now sink.old e sink.new) }
         ensures succeeds { NeverFails S.step S.may_call → IsInfallible (M.fails matcher.now)
             → IsOk result }
+        ensures kept { IsKept S.step self.now.settings sink.old sink.new }
         ensures may_call { S.may_call sink.new }
     {
         if !sink.begin(self)? {
@@ -97,6 +98,7 @@ impl<A: Allocator + Copy> Searcher<A> {
             self.now.settings bytes.now first e sink.new) }
         ensures succeeds { NeverFails S.step S.may_call → IsInfallible (M.fails matcher.now)
             → IsOk result }
+        ensures kept { IsKept S.step self.now.settings sink.old sink.new }
         ensures may_call { S.may_call sink.new }
     {
         let mut blocks = self.first_block::<M, S::Error>(matcher, bytes)?;

@@ -1,6 +1,6 @@
 //! The search of a reader, fill by fill of a line buffer. It follows grep-searcher's module `searcher::glue`.
 ghost use Rattle.std.specs.Prelude.{◌^◌, ◌≡◌, ◌≤◌, ◌<◌, ◌+◌, ◌++◌, ◌⊎◌, ℕ, Bool, List, Option, Ok, true, false, length};
-ghost use Rattle.std.specs.Prelude.{IfOk, IfErr, IsOk, OnErr, OnOk, MatchBool};
+ghost use Rattle.std.specs.Prelude.{IfOk, IfErr, IsOk, OnErr, OnOk, MatchBool, Err, None};
 ghost use Rattle.std.specs.declared.io.Error.{Error};
 ghost use Rattle.grep_matcher.specs.Terminators.{byte_of};
 ghost use Rattle.grep_matcher.specs.Matching.{IsInfallible};
@@ -8,28 +8,29 @@ ghost use Rattle.grep_decode.specs.DecoderStates.{started};
 ghost use Rattle.grep_line_buffer.specs.BufferStates.{empty_buffer, held};
 ghost use Rattle.grep_definitions.specs.Below.{is_at};
 ghost use Rattle.grep_definitions.specs.InputFronts.{IsClosed};
-ghost use Rattle.grep_definitions.specs.ReaderSearches.{IsLineReaderFault, IsLineUnread, IsUnread, is_idle};
+ghost use Rattle.grep_definitions.specs.ReaderSearches.{IsLineUnread, IsSourceSearched, IsStreamSearched, IsUnread, reads_lines};
 ghost use Rattle.grep_definitions.specs.Questions.{IsLawfulFor};
 ghost use Rattle.grep_definitions.specs.Searches.{IsLineFault};
 ghost use Rattle.grep_definitions.specs.SinkCalls.{begins};
 ghost use Rattle.grep_definitions.specs.SinkRuns.{NeverFails};
-ghost use Rattle.grep_searcher.specs.InputSearches.{IsSourceSearched, IsLineSourceSearched};
-ghost use Rattle.grep_searcher.specs.Rolls.{IsReady, HasBegun, HasMovedOn, HasEnded, HasCounted, start_in};
-ghost use Rattle.grep_searcher.specs.SearchBuffers.{AreFitting, IsMadeOf};
-ghost use Rattle.grep_searcher.specs.Walks.{IsOrdered};
+ghost use Rattle.grep_searcher.specs.NotedCalls.{FailsAtBinary, HasNoted, PassesBinary};
+ghost use Rattle.grep_searcher.specs.Rolls.{IsReady, HasBegun, HasMovedOn, HasEnded, IsStreamCounted, start_in};
+ghost use Rattle.grep_searcher.specs.SearchBuffers.{AreFitting, IsMadeOf, detection_of};
+ghost use Rattle.grep_searcher.specs.Walks.{IsKept, IsOrdered};
 
 use crate::searcher::Searcher;
 use crate::searcher::buffers::Buffers;
+use crate::searcher::noted::Noted;
 use crate::searcher::walk::{START, Walk};
 use crate::sink::Sink;
 use grep_decode::laws::{done_gives_nothing, reads_continue};
 use grep_decode::{Decoder, Label, Source};
 use grep_definitions::laws::unchanged_is_searched;
 use grep_line_buffer::laws::fills_continue;
-use grep_line_buffer::{FillError, LineBuffer};
+use grep_line_buffer::{Detection, FillError, LineBuffer};
 use grep_lines::laws::{lines_append, lines_are_few, lines_are_numbered, lines_join};
 use grep_matcher::Matcher;
-use grep_report::{SinkError, SinkFinish};
+use grep_report::{BinaryDetection, SinkError, SinkFinish};
 use std::alloc::Allocator;
 use std::io;
 
@@ -50,7 +51,7 @@ impl<A: Allocator + Copy> Searcher<A> {
         ensures buffers { self.old.has_buffers ≡ true → self.new.has_buffers ≡ true }
         ensures gets { OnOk result (self.new.has_buffers ≡ true) }
         ensures searched { IsLawfulFor self.old.settings (M.meaning matcher.now) (M.is_lawful matcher.now)
-            → IsSourceSearched S.step
+            → IsSourceSearched R.remaining R.step S.step
             (record {
               is_message = S.Error.is_message;
               is_io = S.Error.is_io;
@@ -62,7 +63,7 @@ impl<A: Allocator + Copy> Searcher<A> {
               is_lawful = M.is_lawful matcher.now;
               text_of = M.Error.output;
             })
-            R.remaining R.step self.old reader.old sink.old result reader.new sink.new }
+            self.old reader.old sink.old result reader.new sink.new }
         ensures succeeds { NeverFails S.step S.may_call → IsInfallible (M.fails matcher.now)
             → IsLawfulFor self.old.settings (M.meaning matcher.now) (M.is_lawful matcher.now)
             → IfErr result (λ e. (seen : Option (List ℕ)) × (error : Error)
@@ -96,7 +97,7 @@ impl<A: Allocator + Copy> Searcher<A> {
         ensures fitting { AreFitting self.now.settings.heap_limit
             (byte_of self.now.settings.line_terminator) buffers.new.lines }
         ensures searched { IsLawfulFor self.now.settings (M.meaning matcher.now) (M.is_lawful matcher.now)
-            → (has_buffers : Bool) → IsSourceSearched S.step
+            → (has_buffers : Bool) → IsSourceSearched R.remaining R.step S.step
             (record {
               is_message = S.Error.is_message;
               is_io = S.Error.is_io;
@@ -108,7 +109,7 @@ impl<A: Allocator + Copy> Searcher<A> {
               is_lawful = M.is_lawful matcher.now;
               text_of = M.Error.output;
             })
-            R.remaining R.step (record { settings = self.now.settings; has_buffers = has_buffers })
+            (record { settings = self.now.settings; has_buffers = has_buffers })
             reader.old sink.old result reader.new sink.new }
         ensures succeeds { NeverFails S.step S.may_call → IsInfallible (M.fails matcher.now)
             → IsLawfulFor self.now.settings (M.meaning matcher.now) (M.is_lawful matcher.now)
@@ -146,56 +147,7 @@ impl<A: Allocator + Copy> Searcher<A> {
         ensures fitting { AreFitting self.now.settings.heap_limit
             (byte_of self.now.settings.line_terminator) buffers.new.lines }
         ensures searched { IsLawfulFor self.now.settings (M.meaning matcher.now) (M.is_lawful matcher.now)
-            → (has_buffers : Bool) → IsLineSourceSearched S.step
-            (record {
-              is_message = S.Error.is_message;
-              is_io = S.Error.is_io;
-              is_config = S.Error.is_config;
-            })
-            (record {
-              meaning = M.meaning matcher.now;
-              fails = M.fails matcher.now;
-              is_lawful = M.is_lawful matcher.now;
-              text_of = M.Error.output;
-            })
-            R.remaining R.step (record { settings = self.now.settings; has_buffers = has_buffers })
-            reader.old sink.old result reader.new sink.new }
-        ensures succeeds { NeverFails S.step S.may_call → IsInfallible (M.fails matcher.now)
-            → IsLawfulFor self.now.settings (M.meaning matcher.now) (M.is_lawful matcher.now)
-            → IfErr result (λ e. (has_buffers : Bool) → (seen : Option (List ℕ)) × (error : Error)
-            × IsLineUnread R.remaining R.step (record { settings = self.now.settings; has_buffers = has_buffers })
-            (M.meaning matcher.now) reader.old seen error reader.new × S.Error.is_io error e) }
-        ensures may_call { S.may_call sink.new }
-    {
-        let count = self.match_source(matcher, buffers, reader, sink)?;
-        sink.finish(self, &SinkFinish::new(count, None))
-    }
-
-    // Makes each call but `finish`, and returns the byte count.
-    fn match_source<M: Matcher, R: Source, S: Sink>(
-        &self,
-        matcher: &M,
-        buffers: &mut Buffers<A>,
-        reader: &mut R,
-        sink: &mut S,
-    ) -> Result<u64, S::Error>
-    where
-        S::Error: SinkError<A>,
-        requires allowed { is_at 0 self.now.settings.heap_limit ≡ false }
-        requires fitting { AreFitting self.now.settings.heap_limit
-            (byte_of self.now.settings.line_terminator) buffers.old.lines }
-        requires may_call { S.may_call sink.old }
-        ensures fitting { AreFitting self.now.settings.heap_limit
-            (byte_of self.now.settings.line_terminator) buffers.new.lines }
-        ensures begun { IfOk result (λ count. HasBegun S.step self.now.settings (M.meaning matcher.now)
-            R.remaining R.step reader.old sink.old reader.new) }
-        ensures counted { IfOk result (λ count.
-            IsLawfulFor self.now.settings (M.meaning matcher.now) (M.is_lawful matcher.now)
-            → HasCounted S.step self.now.settings (M.meaning matcher.now)
-            R.remaining R.step reader.old sink.old count reader.new sink.new) }
-        ensures fault { IfErr result (λ e.
-            IsLawfulFor self.now.settings (M.meaning matcher.now) (M.is_lawful matcher.now)
-            → (has_buffers : Bool) → IsLineReaderFault R.remaining R.step S.step
+            → (has_buffers : Bool) → IsStreamSearched R.remaining R.step S.step
             (record {
               is_message = S.Error.is_message;
               is_io = S.Error.is_io;
@@ -208,7 +160,57 @@ impl<A: Allocator + Copy> Searcher<A> {
               text_of = M.Error.output;
             })
             (record { settings = self.now.settings; has_buffers = has_buffers })
-            reader.old sink.old e reader.new sink.new) }
+            reader.old sink.old result reader.new sink.new }
+        ensures succeeds { NeverFails S.step S.may_call → IsInfallible (M.fails matcher.now)
+            → IsLawfulFor self.now.settings (M.meaning matcher.now) (M.is_lawful matcher.now)
+            → IfErr result (λ e. (has_buffers : Bool) → (seen : Option (List ℕ)) × (error : Error)
+            × IsLineUnread R.remaining R.step (record { settings = self.now.settings; has_buffers = has_buffers })
+            (M.meaning matcher.now) reader.old seen error reader.new × S.Error.is_io error e) }
+        ensures may_call { S.may_call sink.new }
+    {
+        let finish = self.match_source(matcher, buffers, reader, sink)?;
+        sink.finish(self, &finish)
+    }
+
+    // Makes each call but `finish`, and returns what that has.
+    fn match_source<M: Matcher, R: Source, S: Sink>(
+        &self,
+        matcher: &M,
+        buffers: &mut Buffers<A>,
+        reader: &mut R,
+        sink: &mut S,
+    ) -> Result<SinkFinish, S::Error>
+    where
+        S::Error: SinkError<A>,
+        requires allowed { is_at 0 self.now.settings.heap_limit ≡ false }
+        requires fitting { AreFitting self.now.settings.heap_limit
+            (byte_of self.now.settings.line_terminator) buffers.old.lines }
+        requires may_call { S.may_call sink.old }
+        ensures fitting { AreFitting self.now.settings.heap_limit
+            (byte_of self.now.settings.line_terminator) buffers.new.lines }
+        ensures begun { IfOk result (λ finish. HasBegun S.step self.now.settings (M.meaning matcher.now)
+            R.remaining R.step reader.old sink.old reader.new) }
+        ensures counted { IfOk result (λ finish.
+            IsLawfulFor self.now.settings (M.meaning matcher.now) (M.is_lawful matcher.now)
+            → IsStreamCounted S.step self.now.settings (M.meaning matcher.now)
+            R.remaining R.step reader.old sink.old finish.byte_count finish.binary_byte_offset
+            reader.new sink.new) }
+        ensures fault { IfErr result (λ e.
+            IsLawfulFor self.now.settings (M.meaning matcher.now) (M.is_lawful matcher.now)
+            → (has_buffers : Bool) → IsStreamSearched R.remaining R.step S.step
+            (record {
+              is_message = S.Error.is_message;
+              is_io = S.Error.is_io;
+              is_config = S.Error.is_config;
+            })
+            (record {
+              meaning = M.meaning matcher.now;
+              fails = M.fails matcher.now;
+              is_lawful = M.is_lawful matcher.now;
+              text_of = M.Error.output;
+            })
+            (record { settings = self.now.settings; has_buffers = has_buffers })
+            reader.old sink.old (Err e) reader.new sink.new) }
         ensures succeeds { NeverFails S.step S.may_call → IsInfallible (M.fails matcher.now)
             → IsLawfulFor self.now.settings (M.meaning matcher.now) (M.is_lawful matcher.now)
             → IfErr result (λ e. (has_buffers : Bool) → (seen : Option (List ℕ)) × (error : Error)
@@ -219,22 +221,27 @@ impl<A: Allocator + Copy> Searcher<A> {
         lines_join();
         lines_append();
         if !sink.begin(self)? {
-            return Ok(0);
+            return Ok(SinkFinish::new(0, None));
         }
-        if self.is_idle() {
-            return Ok(0);
+        if !self.reads_lines() {
+            return Ok(SinkFinish::new(0, None));
         }
-        buffers.lines.clear();
-        buffers
-            .decoder
-            .start(self.label(), self.config.bom_sniffing);
-        self.read_by_line(
-            matcher,
-            &mut buffers.lines,
-            &mut buffers.decoder,
-            reader,
-            sink,
-        )
+        let Buffers { lines, decoder, .. } = buffers;
+        lines.clear();
+        lines.set_binary_detection(detection(self.config.binary_detection));
+        decoder.start(self.label(), self.config.bom_sniffing);
+        let mut noted = Noted::new(sink);
+        match self.read_by_line(matcher, lines, decoder, reader, &mut noted) {
+            Ok(count) => Ok(SinkFinish::new(count, noted.binary)),
+            Err(error) => Err(error),
+        }
+    }
+
+    // Whether a search reads after `begin`: some line may have a turn, or a binary byte is looked for.
+    fn reads_lines(&self) -> bool
+        ensures { result ≡ reads_lines self.now.settings }
+    {
+        !self.is_idle() || !matches!(self.config.binary_detection, BinaryDetection::None)
     }
 
     // The label that is set.
@@ -248,40 +255,43 @@ impl<A: Allocator + Copy> Searcher<A> {
     }
 
     // Searches the decoded bytes of a reader as a buffer shows them. Makes each call but `begin` and `finish`, and
-    // returns the byte count. The caller ensures that the buffer is empty, that the decoder was started with the
-    // searcher's label, and that `begin` returned true and some line may have a turn.
-    pub(crate) fn read_by_line<M: Matcher, R: Source, S: Sink>(
+    // returns the byte count. The caller ensures that the buffer is empty and detects what is set, that the decoder was
+    // started with the searcher's label, that no binary byte is noted, and that `begin` returned true and some line may
+    // have a turn or a binary byte is looked for.
+    fn read_by_line<M: Matcher, R: Source, S: Sink>(
         &self,
         matcher: &M,
         lines: &mut LineBuffer<A>,
         decoder: &mut Decoder<A>,
         reader: &mut R,
-        sink: &mut S,
+        sink: &mut Noted<'_, S>,
     ) -> Result<u64, S::Error>
     where
         S::Error: SinkError<A>,
         requires allowed { is_at 0 self.now.settings.heap_limit ≡ false }
-        requires busy { is_idle self.now.settings ≡ false }
+        requires busy { reads_lines self.now.settings ≡ true }
         requires fitting { AreFitting self.now.settings.heap_limit
             (byte_of self.now.settings.line_terminator) lines.old }
         requires empty { lines.old ≡ empty_buffer lines.old.size lines.old.limit lines.old.terminator
-            lines.old.detection }
+            (detection_of self.now.settings.binary_detection) }
         requires started { decoder.old ≡ started decoder.old.capacity self.now.settings.encoding
             self.now.settings.bom_sniffing }
-        requires may_call { S.may_call sink.old }
+        requires may_call { S.may_call sink.old.sink.now }
+        requires binary { sink.old.binary ≡ None }
+        requires has_called { sink.old.has_called ≡ false }
         ensures fitting { AreFitting self.now.settings.heap_limit
             (byte_of self.now.settings.line_terminator) lines.new }
         ensures counted { IfOk result (λ count.
             IsLawfulFor self.now.settings (M.meaning matcher.now) (M.is_lawful matcher.now)
             → (first : S)
-            → S.step first self.now.settings begins (Ok true) sink.old
-            → HasCounted S.step self.now.settings (M.meaning matcher.now) R.remaining R.step
-            reader.old first count reader.new sink.new) }
+            → S.step first self.now.settings begins (Ok true) sink.old.sink.now
+            → IsStreamCounted S.step self.now.settings (M.meaning matcher.now) R.remaining R.step
+            reader.old first count sink.new.binary reader.new sink.new.sink.now) }
         ensures fault { IfErr result (λ e.
             IsLawfulFor self.now.settings (M.meaning matcher.now) (M.is_lawful matcher.now)
             → (first : S)
-            → S.step first self.now.settings begins (Ok true) sink.old
-            → (has_buffers : Bool) → IsLineReaderFault R.remaining R.step S.step
+            → S.step first self.now.settings begins (Ok true) sink.old.sink.now
+            → (has_buffers : Bool) → IsStreamSearched R.remaining R.step S.step
             (record {
               is_message = S.Error.is_message;
               is_io = S.Error.is_io;
@@ -294,14 +304,15 @@ impl<A: Allocator + Copy> Searcher<A> {
               text_of = M.Error.output;
             })
             (record { settings = self.now.settings; has_buffers = has_buffers })
-            reader.old first e reader.new sink.new) }
+            reader.old first (Err e) reader.new sink.new.sink.now) }
         ensures succeeds { NeverFails S.step S.may_call → IsInfallible (M.fails matcher.now)
             → IsLawfulFor self.now.settings (M.meaning matcher.now) (M.is_lawful matcher.now)
-            → IfErr result (λ e. (first : S) → S.step first self.now.settings begins (Ok true) sink.old
+            → IfErr result (λ e. (first : S) → S.step first self.now.settings begins (Ok true) sink.old.sink.now
             → (has_buffers : Bool) → (seen : Option (List ℕ)) × (error : Error)
             × IsLineUnread R.remaining R.step (record { settings = self.now.settings; has_buffers = has_buffers })
             (M.meaning matcher.now) reader.old seen error reader.new × S.Error.is_io error e) }
-        ensures may_call { S.may_call sink.new }
+        ensures may_call { S.may_call sink.new.sink.now }
+        ensures same_sink { sink.new.sink.ghost_name ≡ sink.old.sink.ghost_name }
     {
         unchanged_is_searched();
         reads_continue::<R>();
@@ -316,9 +327,38 @@ impl<A: Allocator + Copy> Searcher<A> {
             if let Err(error) = lines.fill(decoder, reader) {
                 return Err(S::Error::error_io(self.alloc, io_error(error)));
             }
+            if !self.passes_binary(lines.binary_byte_offset(), sink)? {
+                return Ok(walk.offset);
+            }
+            if self.is_idle() {
+                return Ok(walk.offset);
+            }
             if !self.search_shown(matcher, lines, &mut walk, sink)? {
                 return Ok(walk.offset);
             }
+        }
+    }
+
+    // Calls `binary_data` if a binary byte was found that isn't noted. Returns whether the search goes on.
+    fn passes_binary<S: Sink>(
+        &self,
+        binary: Option<u64>,
+        sink: &mut Noted<'_, S>,
+    ) -> Result<bool, S::Error>
+        requires may_call { S.may_call sink.old.sink.now }
+        requires noted { HasNoted sink.old }
+        ensures passes { IfOk result (λ goes_on.
+            PassesBinary S.step self.now.settings binary sink.old goes_on sink.new) }
+        ensures fails { IfErr result (λ e. FailsAtBinary S.step self.now.settings binary sink.old e sink.new) }
+        ensures same_sink { sink.new.sink.ghost_name ≡ sink.old.sink.ghost_name }
+        ensures may_call { S.may_call sink.new.sink.now }
+    {
+        match (binary, sink.binary) {
+            (Some(offset), None) => {
+                let goes_on = sink.found(self, offset)?;
+                Ok(goes_on && self.config.binary_detection.quit_byte().is_none())
+            }
+            _ => Ok(true),
         }
     }
 
@@ -377,6 +417,7 @@ impl<A: Allocator + Copy> Searcher<A> {
         ensures room { length (held lines.old) ≤ lines.old.size }
         ensures succeeds { NeverFails S.step S.may_call → IsInfallible (M.fails matcher.now)
             → IsOk result }
+        ensures same_sink { IsKept S.step self.now.settings sink.old sink.new }
         ensures may_call { S.may_call sink.new }
     {
         lines_join();
@@ -416,5 +457,16 @@ pub(crate) fn io_error(error: FillError) -> io::Error
         FillError::HeapLimit => io::Error::from(io::ErrorKind::Other),
         FillError::Offset => io::Error::from(io::ErrorKind::InvalidData),
         FillError::Memory => io::Error::from(io::ErrorKind::OutOfMemory),
+    }
+}
+
+// What a line buffer does with binary bytes, by the setting.
+fn detection(setting: BinaryDetection) -> Detection
+    ensures { result ≡ detection_of setting }
+{
+    match setting {
+        BinaryDetection::None => Detection::None,
+        BinaryDetection::Quit(byte) => Detection::Quit(byte),
+        BinaryDetection::Convert(byte) => Detection::Convert(byte),
     }
 }

@@ -8,7 +8,7 @@ ghost use Rattle.grep_definitions.specs.SinkCalls.{context};
 ghost use Rattle.grep_definitions.specs.LineTurns.{number_of, is_gap, break_turns};
 ghost use Rattle.grep_definitions.specs.LineTurns.{before_turns, pending_turns, match_turns};
 ghost use Rattle.grep_definitions.specs.SinkRuns.{AreReported, outcome_of, NeverFails};
-ghost use Rattle.grep_searcher.specs.Walks.{line_turns, line_end};
+ghost use Rattle.grep_searcher.specs.Walks.{line_turns, line_end, IsKept};
 ghost use Rattle.grep_definitions.specs.InputFronts.{IsClosed};
 ghost use Rattle.grep_searcher.specs.Windows.{IsInWindow, IsLineIn};
 
@@ -45,6 +45,7 @@ impl<A: Allocator + Copy> Searcher<A> {
             (line_turns self.now.settings input walk.now (slice window.now start end) chosen)
             (outcome_of (line_end walk.now (slice window.now start end)) result) sink.new }
         ensures succeeds { NeverFails S.step S.may_call → IsOk result }
+        ensures kept { IsKept S.step self.now.settings sink.old sink.new }
         ensures may_call { S.may_call sink.new }
     {
         if chosen {
@@ -87,6 +88,7 @@ impl<A: Allocator + Copy> Searcher<A> {
             walk.now.reported_through (walk.now.line - walk.now.reported_through))
             (outcome_of end result) sink.new }
         ensures succeeds { NeverFails S.step S.may_call → IsOk result }
+        ensures kept { IsKept S.step self.now.settings sink.old sink.new }
         ensures may_call { S.may_call sink.new }
     {
         let near = self.lines_before(walk);
@@ -178,6 +180,7 @@ impl<A: Allocator + Copy> Searcher<A> {
             index (walk.now.line - index))
             (outcome_of end result) sink.new }
         ensures succeeds { NeverFails S.step S.may_call → IsOk result }
+        ensures kept { IsKept S.step self.now.settings sink.old sink.new }
         ensures may_call { S.may_call sink.new }
     {
         let mut position = first;
@@ -217,6 +220,7 @@ impl<A: Allocator + Copy> Searcher<A> {
             (number_of self.now.settings index) offset end line.now)
             (outcome_of end result) sink.new }
         ensures succeeds { NeverFails S.step S.may_call → IsOk result }
+        ensures kept { IsKept S.step self.now.settings sink.old sink.new }
         ensures may_call { S.may_call sink.new }
     {
         let is_gap = self.is_gap(index, walk);
@@ -246,6 +250,7 @@ impl<A: Allocator + Copy> Searcher<A> {
             (slice window.now start end))
             (outcome_of stop result) sink.new }
         ensures succeeds { NeverFails S.step S.may_call → IsOk result }
+        ensures kept { IsKept S.step self.now.settings sink.old sink.new }
         ensures may_call { S.may_call sink.new }
     {
         let is_gap = self.is_gap_before_match(walk);
@@ -283,6 +288,7 @@ impl<A: Allocator + Copy> Searcher<A> {
         ensures reported { (end : ℕ) → AreReported S.step self.now.settings sink.old (break_turns is_gap end)
             (outcome_of end result) sink.new }
         ensures succeeds { NeverFails S.step S.may_call → IsOk result }
+        ensures kept { IsKept S.step self.now.settings sink.old sink.new }
         ensures may_call { S.may_call sink.new }
     {
         if !is_gap {
@@ -306,6 +312,7 @@ impl<A: Allocator + Copy> Searcher<A> {
         ensures step { S.step sink.old self.now.settings
             (context kind (number_of self.now.settings index) offset line.now) result sink.new }
         ensures succeeds { NeverFails S.step S.may_call → IsOk result }
+        ensures kept { IsKept S.step self.now.settings sink.old sink.new }
         ensures may_call { S.may_call sink.new }
     {
         let context = SinkContext::new(kind, self.number(index), offset, line);

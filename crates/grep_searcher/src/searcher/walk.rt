@@ -12,7 +12,7 @@ ghost use Rattle.grep_definitions.specs.LineTurns.{number_of, matches_line};
 ghost use Rattle.grep_definitions.specs.Questions.{IsLawfulFor};
 ghost use Rattle.grep_definitions.specs.Searches.{IsLineFault};
 ghost use Rattle.grep_definitions.specs.SinkRuns.{Outcome, NeverFails};
-ghost use Rattle.grep_searcher.specs.Walks.{next_walk, walk_past, is_over, Counted, IsOrdered};
+ghost use Rattle.grep_searcher.specs.Walks.{next_walk, walk_past, is_over, Counted, IsOrdered, IsKept};
 ghost use Rattle.grep_searcher.specs.Windows.{HasSearched, HasPassed};
 
 use crate::searcher::Searcher;
@@ -83,6 +83,7 @@ impl<A: Allocator + Copy> Searcher<A> {
             self.now.settings bytes.now sink.old e sink.new) }
         ensures succeeds { NeverFails S.step S.may_call → IsInfallible (M.fails matcher.now)
             → IsOk result }
+        ensures kept { IsKept S.step self.now.settings sink.old sink.new }
         ensures may_call { S.may_call sink.new }
     {
         if !sink.begin(self)? {
@@ -157,6 +158,7 @@ impl<A: Allocator + Copy> Searcher<A> {
             self.now.settings input first e sink.new) }
         ensures succeeds { NeverFails S.step S.may_call → IsInfallible (M.fails matcher.now)
             → IsOk result }
+        ensures kept { IsKept S.step self.now.settings sink.old sink.new }
         ensures may_call { S.may_call sink.new }
     {
         lines_join();

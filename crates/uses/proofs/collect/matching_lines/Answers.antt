@@ -6,12 +6,12 @@ use Rattle.uses.proofs.FoldLemmas.{fold_while-joined}
 use Rattle.uses.proofs.collect.matching_lines.Goals as goal
 
 pub returns-clause-lines : goal.returns-clause-lines
-returns-clause-lines g c = λ lawful by_line.
+returns-clause-lines g c = λ lawful by_line none.
     let settings = c.args.searcher.now.settings in
     let meaning = g.M.Matcher.meaning c.args.matcher in
     let bytes = searched_bytes settings c.args.bytes.now in
     let folded = c.runs_fold_matches.ensures (λ _ _. true) joined (λ _ _ _ _ _ h. h) _ _ _ _ _ _
-    (c.in_ok-search_slice.ensures.searched.1 lawful) in
+    (c.searches_run.ensures c.args.matcher c.args.searcher.now c.args.bytes.now _ _ none lawful c.in_ok-search_slice.ensures.searched) in
     cc (
       folded,
       c.matches_are_selected.ensures settings meaning bytes by_line,

@@ -8,24 +8,24 @@ use Rattle.uses.proofs.FoldLemmas.{fold_while-counted_all}
 use Rattle.uses.proofs.count.count_matching_lines.Goals as goal
 
 pub returns-clause-decoded : goal.returns-clause-decoded
-returns-clause-decoded g c = λ lawful by_line.
+returns-clause-decoded g c = λ lawful by_line none.
     let settings = c.args.searcher.now.settings in
     let meaning = g.M.Matcher.meaning c.args.matcher in
     let bytes = searched_bytes settings c.args.bytes.now in
     let folded = c.runs_fold_matches.ensures (λ _ _. true) counted (λ _ _ _ _ _ h. h) _ _ _ _ _ _
-    (c.in_ok-search_slice.ensures.searched.1 lawful) in
+    (c.searches_run.ensures c.args.matcher c.args.searcher.now c.args.bytes.now _ _ none lawful c.in_ok-search_slice.ensures.searched) in
     ap (λ sink. sink.count) folded
     ∙ fold_while-counted_all (match_calls (search_turns settings meaning bytes))
     ∙ ap (λ n. min n (2 ^ 64 - 1)) (c.matches_are_counted.ensures settings meaning bytes by_line)
 
 pub returns-clause-count : goal.returns-clause-count
-returns-clause-count g c = λ lawful by_line unchanged.
+returns-clause-count g c = λ lawful by_line none unchanged.
     let settings = c.args.searcher.now.settings in
     let meaning = g.M.Matcher.meaning c.args.matcher in
     let input = c.args.bytes.now in
     let count : c.search_slice.new.sink.count ≡ min (selected_count settings meaning input) (2 ^ 64 - 1) =
     subst (λ bytes. c.search_slice.new.sink.count ≡ min (selected_count settings meaning bytes) (2 ^ 64 - 1))
-    (c.unchanged_is_searched.ensures.input settings input unchanged) (returns-clause-decoded g c lawful by_line) in
+    (c.unchanged_is_searched.ensures.input settings input unchanged) (returns-clause-decoded g c lawful by_line none) in
     omega (
       arith,
       count,

@@ -5,10 +5,11 @@ use Rattle.uses.proofs.FoldLemmas.{fold_while-kept, position_of-match}
 use Rattle.uses.proofs.first.first_match.Goals as goal
 
 pub returns-clause-first : goal.returns-clause-first
-returns-clause-first g c = λ lawful by_line.
+returns-clause-first g c = λ lawful by_line none.
     let settings = c.args.searcher.now.settings in
     let meaning = g.M.Matcher.meaning c.args.matcher in
-    let run = c.in_ok-search_reader.ensures.searched.1 lawful in (
+    let run = c.reader_searches_run.ensures c.args.matcher c.args.searcher.now c.args.reader.now _ _ _ none lawful
+    c.in_ok-search_reader.ensures.searched in (
       run.taken,
       λ bytes input. ap (λ sink. sink.position)
           (c.runs_fold_matches.ensures (λ _ _. false) kept (λ _ _ _ _ _ h. h) _ _ _ _ _ _ (run.run bytes input))

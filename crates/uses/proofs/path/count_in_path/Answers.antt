@@ -7,7 +7,7 @@ use Rattle.uses.proofs.FoldLemmas.{fold_while-counted_all}
 use Rattle.uses.proofs.path.count_in_path.Goals as goal
 
 pub returns-clause-count : goal.returns-clause-count
-returns-clause-count g c = λ lawful by_line.
+returns-clause-count g c = λ lawful by_line none.
     let settings = c.args.searcher.now.settings in
     let meaning = g.M.Matcher.meaning c.args.matcher in
     elim c.in_ok-search_path.ensures.searched [
@@ -16,7 +16,7 @@ returns-clause-count g c = λ lawful by_line.
         opened.0,
         λ input all.
             let bytes = searched_bytes settings input in
-            let run = c.known_files_run.ensures c.args.matcher c.args.searcher.now opened.0 input _ opened.1 _ all lawful opened.2 in
+            let run = c.known_files_run.ensures c.args.matcher c.args.searcher.now opened.0 input _ opened.1 _ none all lawful opened.2 in
             ap (λ sink. sink.count) (c.runs_fold_matches.ensures (λ _ _. true) counted (λ _ _ _ _ _ h. h) _ _ _ _ _ _ run)
             ∙ fold_while-counted_all (match_calls (search_turns settings meaning bytes))
             ∙ ap (λ n. min n (2 ^ 64 - 1)) (c.matches_are_counted.ensures settings meaning bytes by_line),

@@ -4,7 +4,7 @@ use Rattle.grep_searcher.specs.ReadingFaults.{IsUndecoded}
 use Rattle.grep_searcher.specs.Refusals.{refusal_of}
 use Rattle.grep_searcher.specs.SearchTurns.{search_turns}
 use Rattle.grep_searcher.specs.Literals.{literal_meaning}
-use Rattle.grep_searcher.specs.Settings.{Settings, built}
+use Rattle.grep_searcher.specs.Settings.{Settings, SearcherState, built}
 use Rattle.grep_searcher.specs.DecodedInputs.{searched_bytes}
 use Rattle.uses.specs.MatchSinks.{one_before, reporter, reported, report_of}
 use Rattle.uses.proofs.FoldLemmas.{reported-run}
@@ -15,8 +15,10 @@ returns-clause-report c =
     let set : Settings → Settings = λ settings. record settings { before_context = 1 } in
     let settings : c.in_ok-searcher.searcher.settings ≡ one_before =
     ap (λ s. s.settings) c.in_ok-searcher.ensures.settings ∙ ap built (c.before_context.ensures.set ∙ ap set c.new.ensures) in
+    let none = ap (λ (s : Settings). s.binary_detection) settings in
     let folded = c.runs_fold_all.ensures reported (λ _ _ _ _ _ h. h) _ _ _ _ _ _
-    (c.in_ok-search_slice.ensures.searched.1 (λ _. tt)) in
+    (c.searches_run.ensures c.in_ok-matcher.matcher c.in_ok-searcher.searcher c.args.log.now _ _ none (λ _. tt)
+    c.in_ok-search_slice.ensures.searched) in
     c.into_text.ensures ∙ folded
     ∙ reported-run _ (search_turns c.in_ok-searcher.searcher.settings (literal_meaning c.in_ok-matcher.matcher)
     (searched_bytes c.in_ok-searcher.searcher.settings c.args.log.now)) c.new-3.ensures.items
@@ -32,7 +34,8 @@ returns-in_err-search_slice-clause-error c =
     let allowed : refusal_of c.in_ok-searcher.searcher.settings (literal_meaning c.in_ok-matcher.matcher) ≡ None =
     ap (λ s. refusal_of s.settings (literal_meaning c.in_ok-matcher.matcher)) state in
     let failed = c.searches_fail.ensures c.in_ok-matcher.matcher c.in_ok-searcher.searcher c.args.log.now c.new-3.result.items
-    c.in_err-search_slice.field-0.0 c.search_slice.new.sink (λ _ _ h. h) (λ _. tt) allowed c.in_err-search_slice.ensures.searched in
+    c.in_err-search_slice.field-0.0 c.search_slice.new.sink
+    (ap (λ (s : SearcherState). s.settings.binary_detection) state) (λ _ _ h. h) (λ _. tt) allowed c.in_err-search_slice.ensures.searched in
     let error = err_from_is_err_and c.from_residual-in_err-search_slice.result c.from_residual-in_err-search_slice.ensures.1 in
     rw (error.1, error.2) (elim failed [
       | inl failing ↦ inl failing.2

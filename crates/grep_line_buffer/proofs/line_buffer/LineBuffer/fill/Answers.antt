@@ -1,10 +1,11 @@
 use Rattle.std.proofs.Common.{◌≡◌, ◌<◌, Bool, length, true, false, refl, sym, ap, ◌∙◌, rules, arith}
 use Rattle.std.proofs.lemmas.Bool.{false≢true}
 use Rattle.std.proofs.lemmas.List.{nil_from_length}
-use Rattle.grep_line_buffer.specs.BufferStates.{held, HasNoLine}
+use Rattle.grep_line_buffer.specs.BufferStates.{held, is_cut, HasNoLine}
 use Rattle.grep_line_buffer.specs.Fills.{PassesOffsets}
-use Rattle.grep_line_buffer.proofs.FillLemmas.{only-limit, Outcome-none, IsFilling-stopped, IsFilling-shown}
-use Rattle.grep_line_buffer.proofs.FillLemmas.{IsFilling-ended, IsFilling-more, IsFilling-line, IsFilling-past}
+use Rattle.grep_line_buffer.proofs.FillLemmas.{Fills-none, only-limit, Outcome-none, IsFilling-stopped, IsFilling-shown}
+use Rattle.grep_line_buffer.proofs.FillLemmas.{Comes-detected, IsFilling-byte, IsFilling-ended, IsFilling-line}
+use Rattle.grep_line_buffer.proofs.FillLemmas.{IsFilling-more, IsFilling-none, IsFilling-past}
 use Rattle.grep_line_buffer.proofs.FillLemmas.{HasNone-first, HasNone-room, HasNone-fault, HasNone-end, HasNone-more}
 use Rattle.grep_line_buffer.proofs.FillLemmas.{HasNone-full, filled-before, unless-read, if-read-full, ended_of}
 use Rattle.grep_line_buffer.proofs.FillLemmas.{size_of}
@@ -29,13 +30,15 @@ returns-then-has_ended g c =
       error = tt;
       limit = only-limit _ _ _ tt filled;
       fault = tt;
-      done = λ before ended. before was;
-      end = λ before ended. before was;
+      uncut = tt;
+      fits = search rules;
+      done = λ before ended going. before was going;
+      end = λ before ended going. before was going;
       ended = λ ended. (refl, refl, refl, refl);
       ahead = out.ahead;
-      passing = λ unended. absurd (false≢true (sym unended ∙ was));
+      passing = λ unended going. absurd (false≢true (sym unended ∙ was));
       passed = tt;
-      settled = λ unended. absurd (false≢true (sym unended ∙ was));
+      settled = λ unended going. absurd (false≢true (sym unended ∙ was));
       stays = out.stays;
       empty = tt;
       few = tt;
@@ -60,8 +63,10 @@ returns-then-not-has_offsets g c =
       error = error;
       limit = only-limit _ _ _ error tt;
       fault = tt;
-      done = λ unended ended. absurd (false≢true (sym was ∙ ended));
-      end = λ unended ended. absurd (false≢true (sym was ∙ ended));
+      uncut = tt;
+      fits = tt;
+      done = λ unended ended going. absurd (false≢true (sym was ∙ ended));
+      end = λ unended ended going. absurd (false≢true (sym was ∙ ended));
       ended = λ ended. absurd (false≢true (sym was ∙ ended));
       ahead = tt;
       passing = tt;
@@ -93,8 +98,10 @@ returns-in-Err g c =
       error = error;
       limit = only-limit _ _ _ error tt;
       fault = if-read-full Bool c.reads.self.limit c.reads.self.size c.in-Err.e _ full.2;
-      done = λ _ ended. absurd (false≢true (sym unended ∙ ended));
-      end = λ _ ended. absurd (false≢true (sym unended ∙ ended));
+      uncut = if-read-full Bool c.reads.self.limit c.reads.self.size c.in-Err.e _ full.2;
+      fits = tt;
+      done = λ _ ended going. absurd (false≢true (sym unended ∙ ended));
+      end = λ _ ended going. absurd (false≢true (sym unended ∙ ended));
       ended = λ ended. absurd (false≢true (sym was ∙ ended));
       ahead = tt;
       passing = tt;
@@ -129,8 +136,10 @@ returns-in-Err-read g c =
       error = error;
       limit = only-limit _ _ _ error tt;
       fault = c.reads_fail.ensures _ _ _ _ _ _ _ _ room.filling.read.decodes failed.failed;
-      done = λ _ ended. absurd (false≢true (sym out.unended ∙ ended));
-      end = λ _ ended. absurd (false≢true (sym out.unended ∙ ended));
+      uncut = out.uncut;
+      fits = tt;
+      done = λ _ ended going. absurd (false≢true (sym out.unended ∙ ended));
+      end = λ _ ended going. absurd (false≢true (sym out.unended ∙ ended));
       ended = λ ended. absurd (false≢true (sym was ∙ ended));
       ahead = tt;
       passing = tt;
@@ -149,10 +158,10 @@ returns-then-count-eq0 g c =
     let made = c.make_room.ensures in
     let room = HasNone-room rem step _ _ _ _ _ _ _ _ _ c.reads.invariant made.same made.free made.within made.grows in
     let came = c.in-Ok.ensures.reads in
-    let next = IsFilling-more rem step _ _ _ _ _ _ _ _ _ _ c.reads_continue.ensures.more room came c.read.ensures.capacity in
+    let next = IsFilling-none rem step _ _ _ _ _ _ _ _ _ _ c.reads_continue.ensures.more room came c.if-count-eq0.true c.read.ensures.capacity in
     let none = nil_from_length came.given (came.counted ∙ c.if-count-eq0.true) in
-    let out = IsFilling-ended rem step _ _ _ _ _ _ _ next c.end.ensures.same in
-    let filled = HasNone-end rem step _ _ _ _ _ _ _ _ _ _ _ room came next c.if-count-eq0.true c.in_default.ensures.ok c.end.ensures.same in
+    let out = IsFilling-ended rem step _ _ _ _ _ _ _ next c.end-then-count-eq0.ensures.same in
+    let filled = HasNone-end rem step _ _ _ _ _ _ _ _ _ _ _ room came c.if-count-eq0.true c.in_default.ensures.ok c.end-then-count-eq0.ensures.same in
     record {
       same = out.same;
       within = out.within;
@@ -161,18 +170,20 @@ returns-then-count-eq0 g c =
       reads = out.reads;
       read = tt;
       stream = out.stream;
-      some = rw c.end.ensures.same c.end.ensures.some;
+      some = rw c.end-then-count-eq0.ensures.same c.end-then-count-eq0.ensures.some;
       filled = filled;
       error = tt;
       limit = only-limit _ _ _ tt filled;
       fault = tt;
-      done = λ _ _. came.reads.done none;
-      end = λ _ _. came.reads.end none;
+      uncut = tt;
+      fits = search rules;
+      done = λ _ _ going. came.reads.done none;
+      end = λ _ _ going. came.reads.end none;
       ended = λ ended. absurd (false≢true (sym was ∙ ended));
       ahead = out.ahead;
-      passing = λ _. came.reads.passing;
+      passing = λ _ going. came.reads.passing;
       passed = tt;
-      settled = λ _. came.reads.settled;
+      settled = λ _ going. came.reads.settled;
       stays = out.stays;
       empty = tt;
       few = tt;
@@ -185,7 +196,9 @@ returns-then-not-has_offsets-2 g c =
     let step = g.R.Source.step in
     let made = c.make_room.ensures in
     let room = HasNone-room rem step _ _ _ _ _ _ _ _ _ c.reads.invariant made.same made.free made.within made.grows in
-    let next = IsFilling-more rem step _ _ _ _ _ _ _ _ _ _ c.reads_continue.ensures.more room c.in-Ok.ensures.reads c.read.ensures.capacity in
+    let came = c.in-Ok.ensures.reads in
+    let comes = Comes-detected rem step _ _ _ _ _ _ _ _ came c.detect.ensures.detects in
+    let next = IsFilling-more rem step _ _ _ _ _ _ _ _ _ _ _ c.reads_continue.ensures.more room came comes c.read.ensures.capacity in
     let out = IsFilling-stopped rem step _ _ _ _ _ _ _ next refl in
     let error = IsFilling-past rem step _ _ _ _ _ _ _ _ _ room next c.if-not-has_offsets-2.ensures in
     record {
@@ -201,8 +214,10 @@ returns-then-not-has_offsets-2 g c =
       error = error;
       limit = only-limit _ _ _ error tt;
       fault = tt;
-      done = λ _ ended. absurd (false≢true (sym next.unended ∙ ended));
-      end = λ _ ended. absurd (false≢true (sym next.unended ∙ ended));
+      uncut = tt;
+      fits = tt;
+      done = λ _ ended going. absurd (false≢true (sym next.unended ∙ ended));
+      end = λ _ ended going. absurd (false≢true (sym next.unended ∙ ended));
       ended = λ ended. absurd (false≢true (sym was ∙ ended));
       ahead = tt;
       passing = tt;
@@ -221,11 +236,13 @@ returns-then-show_lines g c =
     let made = c.make_room.ensures in
     let room = HasNone-room rem step _ _ _ _ _ _ _ _ _ c.reads.invariant made.same made.free made.within made.grows in
     let came = c.in-Ok.ensures.reads in
-    let next = IsFilling-more rem step _ _ _ _ _ _ _ _ _ _ c.reads_continue.ensures.more room came c.read.ensures.capacity in
+    let comes = Comes-detected rem step _ _ _ _ _ _ _ _ came c.detect.ensures.detects in
+    let next = IsFilling-more rem step _ _ _ _ _ _ _ _ _ _ _ c.reads_continue.ensures.more room came comes c.read.ensures.capacity in
+    let going = sym c.is_cut-in-reads.ensures.value ∙ c.if-is_cut-2.false in
     let shows = c.if-show_lines.ensures in
     let out = IsFilling-shown rem step _ _ _ _ _ _ _ _ next shows in
     let unended = ap ended_of shows.others ∙ next.unended in
-    let filled = IsFilling-line rem step _ _ _ _ _ _ _ _ _ _ _ room came next shows in
+    let filled = IsFilling-line rem step _ _ _ _ _ _ _ _ _ _ _ _ room comes came.counted going next shows in
     record {
       same = out.same;
       within = out.within;
@@ -239,13 +256,15 @@ returns-then-show_lines g c =
       error = tt;
       limit = only-limit _ _ _ tt filled;
       fault = tt;
-      done = λ _ ended. absurd (false≢true (sym unended ∙ ended));
-      end = λ _ ended. absurd (false≢true (sym unended ∙ ended));
+      uncut = tt;
+      fits = search rules;
+      done = λ _ ended going. absurd (false≢true (sym unended ∙ ended));
+      end = λ _ ended going. absurd (false≢true (sym unended ∙ ended));
       ended = λ ended. absurd (false≢true (sym was ∙ ended));
       ahead = out.ahead;
-      passing = λ _. came.reads.passing;
+      passing = λ _ going. came.reads.passing;
       passed = tt;
-      settled = λ _. came.reads.settled;
+      settled = λ _ going. came.reads.settled;
       stays = out.stays;
       empty = tt;
       few = tt;
@@ -255,6 +274,7 @@ pub reads-init : goal.reads-init
 reads-init g c = HasNone-first g.R.Source.remaining g.R.Source.step _ _ _ _ _ (c.reads_continue.ensures.none _ _) c.roll.ensures.same
     (c.roll.ensures.free ∙ ap size_of c.roll.ensures.same) (sym c.has_ended.ensures.value ∙ c.if-has_ended.false)
     c.has_ended.ensures.within c.if-not-has_offsets.ensures
+    (ap is_cut (sym c.roll.ensures.same) ∙ (sym c.is_cut.ensures.value ∙ c.if-is_cut.false))
 
 pub reads-preserved : goal.reads-preserved
 reads-preserved g c =
@@ -263,6 +283,53 @@ reads-preserved g c =
     let made = c.make_room.ensures in
     let room = HasNone-room rem step _ _ _ _ _ _ _ _ _ c.reads.invariant made.same made.free made.within made.grows in
     let came = c.in-Ok.ensures.reads in
-    let next = IsFilling-more rem step _ _ _ _ _ _ _ _ _ _ c.reads_continue.ensures.more room came c.read.ensures.capacity in
+    let comes = Comes-detected rem step _ _ _ _ _ _ _ _ came c.detect.ensures.detects in
+    let next = IsFilling-more rem step _ _ _ _ _ _ _ _ _ _ _ c.reads_continue.ensures.more room came comes c.read.ensures.capacity in
+    let going = sym c.is_cut-in-reads.ensures.value ∙ c.if-is_cut-2.false in
     let shows = c.if-show_lines.ensures in
-    HasNone-more rem step _ _ _ _ _ _ _ _ _ _ _ room came next shows.1 c.if-not-has_offsets-2.ensures shows.0
+    HasNone-more rem step _ _ _ _ _ _ _ _ _ _ _ _ room comes came.counted going next shows.1 c.if-not-has_offsets-2.ensures shows.0
+
+pub returns-then-is_cut-2 : goal.returns-then-is_cut-2
+returns-then-is_cut-2 g c =
+    let was : c.args.self.now.has_ended ≡ false = sym c.has_ended.ensures.value ∙ c.if-has_ended.false in
+    let rem = g.R.Source.remaining in
+    let step = g.R.Source.step in
+    let made = c.make_room.ensures in
+    let room = HasNone-room rem step _ _ _ _ _ _ _ _ _ c.reads.invariant made.same made.free made.within made.grows in
+    let came = c.in-Ok.ensures.reads in
+    let comes = Comes-detected rem step _ _ _ _ _ _ _ _ came c.detect.ensures.detects in
+    let next = IsFilling-more rem step _ _ _ _ _ _ _ _ _ _ _ c.reads_continue.ensures.more room came comes c.read.ensures.capacity in
+    let cut = sym c.is_cut-in-reads.ensures.value ∙ c.if-is_cut-2.true in
+    let still = ap is_cut c.end-then-is_cut-2.ensures.same ∙ cut in
+    let out = IsFilling-ended rem step _ _ _ _ _ _ _ next c.end-then-is_cut-2.ensures.same in
+    let filled = IsFilling-byte rem step _ _ _ _ _ _ _ next cut (c.is_cut-in-reads.ensures.room c.if-is_cut-2.true) c.end-then-is_cut-2.ensures.same in
+    record {
+      same = out.same;
+      within = out.within;
+      grows = out.grows;
+      capacity = out.capacity;
+      reads = out.reads;
+      read = tt;
+      stream = out.stream;
+      some = rw c.end-then-is_cut-2.ensures.same c.end-then-is_cut-2.ensures.some;
+      filled = filled;
+      error = tt;
+      limit = only-limit _ _ _ tt filled;
+      fault = tt;
+      uncut = tt;
+      fits = search rules;
+      done = λ _ _ going. absurd (false≢true (sym going ∙ still));
+      end = λ _ _ going. absurd (false≢true (sym going ∙ still));
+      ended = λ ended. absurd (false≢true (sym was ∙ ended));
+      ahead = out.ahead;
+      passing = λ _ going. came.reads.passing;
+      passed = tt;
+      settled = λ _ going. came.reads.settled;
+      stays = out.stays;
+      empty = tt;
+      few = tt;
+    }
+
+pub returns-then-is_cut-clause-reads : goal.returns-then-is_cut-clause-reads
+returns-then-is_cut-clause-reads g c =
+    Fills-none g.R.Source.remaining g.R.Source.step c.args.self.now _ _ _ _ _ (c.reads_continue.ensures.none _ _) c.roll.ensures.same c.end.ensures.same

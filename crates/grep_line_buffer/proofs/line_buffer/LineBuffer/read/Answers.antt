@@ -21,7 +21,7 @@ returns-in-Ok-clause-reads g c =
       given = given;
       counted = length-take-le n (drop b.end now) left;
       fits = omega arith;
-      appended = rw (with_items_is b.bytes now whole) (window-same _ _ _ _ _ _ _ _ _ _ _ _ _
+      appended = rw (with_items_is b.bytes now whole) (window-same _ _ _ _ _ _ _ _ _ _ _ _ _ _
           (slice-kept items now b.start b.line_end b.end front (omega arith))
           (slice-grown items now b.line_end b.end n front (omega arith)) len free);
       reads = c.in-Ok.ensures.reads;
@@ -35,6 +35,6 @@ returns-in-Err-clause-same g c =
     let len : length now ≡ length items = omega arith in
     let whole : length now ≡ b.bytes.len = omega arith in
     let front : take b.end now ≡ take b.end items = c.in-Err.ensures.front ∙ ap (take b.end) c.deref_mut.ensures.value in
-    rw (← c.self.view_is) (rw (with_items_is b.bytes now whole) (window-same _ _ _ _ _ _ _ _ _ _ _ _ _
+    rw (← c.self.view_is) (rw (with_items_is b.bytes now whole) (window-same _ _ _ _ _ _ _ _ _ _ _ _ _ _
     (slice-kept items now b.start b.line_end b.end front (omega arith))
     (slice-kept items now b.line_end b.end b.end front (omega arith)) len (ap (λ k. k - b.end) len)))

@@ -60,3 +60,9 @@ returns-clause-reported g c = λ lawful.
     (λ off.
     let ends = c.in_ok-search_window.ensures.ends lawful off in
     (ends.0, ends.1 [] c.args.bytes.now c.args.sink.now start)) (omega arith)
+
+pub returns-clause-kept : goal.returns-clause-kept
+returns-clause-kept g c = λ name each. c.search_window.ensures.kept name each ∙ each _ _ _ _ c.begin.ensures.step
+
+pub returns-in_err-search_window-clause-kept : goal.returns-in_err-search_window-clause-kept
+returns-in_err-search_window-clause-kept g c = λ name each. c.search_window.ensures.kept name each ∙ each _ _ _ _ c.begin.ensures.step

@@ -62,6 +62,7 @@ lines-preserved-then-walk-eq0 g c =
       walk = steps.across-past k meaning c.args.bytes.now c.lines.walk c.lines.start c.next_chosen-next.result c.lines.invariant.same
           c.lines.invariant.walk next plain c.if-walk-eq0.true;
       reported = c.lines.invariant.reported;
+      kept = c.lines.invariant.kept;
       may_call = c.lines.invariant.may_call;
     })
 
@@ -123,6 +124,7 @@ lines-preserved g c =
           turned.front (c.lines.invariant.reported first begun) all_true _
           (reported [] c.args.bytes.now
           (turns.in-window k meaning c.args.bytes.now c.lines.walk c.lines.start c.lines.invariant.same c.lines.invariant.walk));
+      kept = λ name each. c.in_ok-sink_line.ensures.kept name each ∙ c.lines.invariant.kept name each;
       may_call = c.in_ok-sink_line.ensures.may_call;
     })
 
@@ -135,3 +137,9 @@ returns-clause-reported g c = λ first begun.
           (omega (arith, c.lines.invariant.within, c.lines.invariant.same, c.lines-test.false))
           (c.lines.invariant.reported first begun),
     )
+
+pub returns-in_err-sink_line-clause-kept : goal.returns-in_err-sink_line-clause-kept
+returns-in_err-sink_line-clause-kept g c = λ name each. c.sink_line.ensures.kept name each ∙ c.lines.invariant.kept name each
+
+pub returns-then-not-branch-clause-kept : goal.returns-then-not-branch-clause-kept
+returns-then-not-branch-clause-kept g c = λ name each. c.sink_line.ensures.kept name each ∙ c.lines.invariant.kept name each

@@ -3,7 +3,7 @@ use Rattle.std.specs.Prelude.{Ok}
 use Rattle.grep_definitions.specs.SinkCalls.{begins}
 use Rattle.grep_definitions.specs.SinkRuns.{AreReported, all_true}
 use Rattle.grep_searcher.specs.AcrossWalks.{IsAcross, IsReady, turns_before}
-use Rattle.grep_searcher.specs.Walks.{IsOrdered}
+use Rattle.grep_searcher.specs.Walks.{IsKept, IsOrdered}
 use Rattle.grep_searcher.proofs.searcher.Searcher.search_across.Given as goal
 
 abbrev pub invariant-lines : goal.invariant-lines
@@ -16,6 +16,7 @@ invariant-lines g l = record {
   reported : (first : g.row.S.Denot) → g.S.Sink.step first l.self.settings begins (Ok true) l.fn.sink
       → AreReported g.S.Sink.step l.self.settings first
       (turns_before l.self.settings (g.M.Matcher.meaning l.matcher) l.bytes l.walk.reported_through) all_true l.sink;
+  kept : IsKept g.S.Sink.step l.self.settings l.fn.sink l.sink;
   may_call : g.S.Sink.may_call l.sink;
 }
 

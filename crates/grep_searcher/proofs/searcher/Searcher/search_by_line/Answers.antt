@@ -1,5 +1,5 @@
 use Rattle.grep_definitions.specs.Searches.{ErrorMakers, MatcherFacts}
-use Rattle.grep_searcher.proofs.DecodedLemmas.{source-finished}
+use Rattle.grep_searcher.proofs.StreamFinishLemmas.{stream-finished}
 use Rattle.grep_searcher.proofs.searcher.Searcher.search_by_line.Goals as goal
 
 pub returns-clause-searched : goal.returns-clause-searched
@@ -16,8 +16,8 @@ returns-clause-searched g c =
       text_of = g.M.Error.Display.output;
     }
     in
-    let finish = rw c.new.ensures at c.finish.ensures.step in
     λ lawful has_buffers.
-    source-finished g.S.Sink.step errors facts g.R.Source.remaining g.R.Source.step c.args.self.now.settings has_buffers
-    c.args.reader.now c.args.sink.now c.in_ok-count.count c.match_source.new.reader c.match_source.new.sink c.finish.result
-    c.finish.new.self c.in_ok-count.ensures.begun (c.in_ok-count.ensures.counted lawful) finish
+    stream-finished g.S.Sink.step errors facts g.R.Source.remaining g.R.Source.step c.args.self.now.settings has_buffers
+    c.args.reader.now c.args.sink.now c.in_ok-finish.finish.byte_count c.match_source.new.reader
+    c.in_ok-finish.finish.binary_byte_offset c.match_source.new.sink c.finish.result c.finish.new.self c.in_ok-finish.ensures.begun
+    (c.in_ok-finish.ensures.counted lawful) c.finish.ensures.step

@@ -1,12 +1,17 @@
-use Rattle.std.proofs.Common.{Bool, true, None, length, refl, ap, subst, sym}
+use Rattle.std.proofs.Common.{ℕ, Bool, List, true, None, length, ◌∙◌, ap, subst, sym}
+use Rattle.std.proofs.lemmas.Bool.{true≢false}
 use Rattle.std.proofs.lemmas.Result.{err_from_is_err_and}
 use Rattle.std.specs.Prelude.{vec_capacity}
 use Rattle.grep_line_buffer.specs.Contents.{IsBelow, ContentsFail}
-use Rattle.grep_definitions.specs.ReaderSearches.{IsUnreadIn, of_reading}
+use Rattle.grep_report.specs.BinaryDetections.{quit_byte_of}
+use Rattle.grep_definitions.specs.BinaryBytes.{view_of}
+use Rattle.grep_definitions.specs.ReaderSearches.{IsUnreadIn}
 use Rattle.grep_definitions.specs.Searches.{ErrorMakers, MatcherFacts, IsFaultIn}
 use Rattle.grep_definitions.specs.SearchTurns.{calls_across}
 use Rattle.grep_definitions.specs.Settings.{SearcherState}
+use Rattle.grep_searcher.specs.InputSearches.{IsAcrossSearched}
 use Rattle.grep_searcher.proofs.ContentsSearchLemmas as whole
+use Rattle.grep_searcher.proofs.LookLemmas.{look-plain, look-quit}
 use Rattle.grep_searcher.proofs.searcher.Searcher.search_contents.Given.{Over}
 use Rattle.grep_searcher.proofs.searcher.Searcher.search_contents.Goals as goal
 
@@ -26,14 +31,14 @@ facts-of g matcher =
     }
 
 -- why not all was read
-unread : (g : Over) (c : goal.After-error_io g) (has_buffers : Bool)
-    → IsUnreadIn g.R.Source.remaining g.R.Source.step true
+unread : (g : Over) (c : goal.After-error_io g) (has_buffers : Bool) (view : List ℕ → List ℕ)
+    → IsUnreadIn g.R.Source.remaining g.R.Source.step true view
     (record { settings = c.args.self.now.settings; has_buffers = has_buffers })
     (g.M.Matcher.meaning c.args.matcher.now) c.args.reader.now None c.io_error.result c.read_contents.new.reader
-unread g c has_buffers =
+unread g c has_buffers view =
     whole.unread-read g.R.Source.remaining g.R.Source.step c.args.self.now.settings c.args.decoder.now.capacity c.args.decoder.now
     c.requires.started c.args.reader.now c.read_contents.new.contents.items c.read_contents.new.decoder c.read_contents.new.reader
-    c.done_gives_nothing.ensures c.unchanged_is_searched.ensures.input has_buffers (g.M.Matcher.meaning c.args.matcher.now)
+    c.done_gives_nothing.ensures c.unchanged_is_searched.ensures.input view has_buffers (g.M.Matcher.meaning c.args.matcher.now)
     c.in-Err.error c.io_error.result c.io_error.ensures (vec_capacity c.args.contents.now)
     (subst (λ limit. ContentsFail limit (vec_capacity c.args.contents.now) c.read_contents.new.contents.items c.in-Err.error)
     (ap (λ (s : SearcherState). s.settings.heap_limit) c.self.view_is) c.in-Err.ensures.error)
@@ -42,11 +47,31 @@ unread g c has_buffers =
 
 pub returns-in-Err-clause-searched : goal.returns-in-Err-clause-searched
 returns-in-Err-clause-searched g c = λ has_buffers.
-    of_reading None c.io_error.result (unread g c has_buffers) c.error_io.ensures refl
+    whole.across-unread g.R.Source.remaining g.R.Source.step g.S.Sink.step (errors-of g) (facts-of g c.args.matcher.now)
+    c.args.self.now.settings.binary_detection (record { settings = c.args.self.now.settings; has_buffers = has_buffers }) c.args.reader.now
+    c.args.sink.now c.io_error.result c.error_io.result c.read_contents.new.reader (unread g c has_buffers) c.error_io.ensures
 
 pub returns-in-Err-clause-succeeds : goal.returns-in-Err-clause-succeeds
 returns-in-Err-clause-succeeds g c = λ never infallible has_buffers.
-    (None, c.io_error.result, unread g c has_buffers, c.error_io.ensures)
+    (None, c.io_error.result, unread g c has_buffers (view_of c.args.self.now.settings), c.error_io.ensures)
+
+pub returns-in-Some-clause-searched : goal.returns-in-Some-clause-searched
+returns-in-Some-clause-searched g c = λ has_buffers.
+    let reads = c.in_default.ensures.reads in
+    let below = subst (λ limit. IsBelow limit (length c.read_contents.new.contents.items))
+    (ap (λ (s : SearcherState). s.settings.heap_limit) c.self.view_is) c.in_default.ensures.below in
+    let quit = sym (ap (λ (s : SearcherState). quit_byte_of s.settings.binary_detection) c.self.view_is)
+    ∙ sym c.quit_byte.ensures ∙ c.in-Some.is in
+    let searched = rw c.deref.ensures.value at (c.search_until.ensures.searched (λ never. absurd (true≢false never))) in
+    subst (λ look. IsAcrossSearched g.R.Source.remaining g.R.Source.step g.S.Sink.step (errors-of g) (facts-of g c.args.matcher.now) look
+    (record { settings = c.args.self.now.settings; has_buffers = has_buffers }) c.args.reader.now c.args.sink.now c.search_until.result
+    c.read_contents.new.reader c.search_until.new.sink)
+    (sym (look-quit c.args.self.now.settings.binary_detection c.in-Some.byte quit))
+    (whole.contents-until-read g.R.Source.remaining g.R.Source.step c.args.self.now.settings c.args.decoder.now.capacity
+    c.args.decoder.now c.requires.started c.args.reader.now c.read_contents.new.contents.items c.read_contents.new.decoder
+    c.read_contents.new.reader reads c.done_gives_nothing.ensures c.lines_join.ensures c.in_default.ensures.done
+    below g.S.Sink.step (errors-of g) (facts-of g c.args.matcher.now) has_buffers c.args.sink.now c.in-Some.byte c.search_until.result
+    c.search_until.new.sink searched)
 
 pub returns-in_err-count-clause-searched : goal.returns-in_err-count-clause-searched
 returns-in_err-count-clause-searched g c = λ has_buffers.
@@ -54,15 +79,20 @@ returns-in_err-count-clause-searched g c = λ has_buffers.
     let below = subst (λ limit. IsBelow limit (length c.read_contents.new.contents.items))
     (ap (λ (s : SearcherState). s.settings.heap_limit) c.self.view_is) c.in_default.ensures.below in
     let error = err_from_is_err_and c.from_residual.result c.from_residual.ensures.1 in
-    let fault = rw c.deref.ensures.value at c.in_err-count.ensures.fault in
-    rw error.1
+    let fault = rw c.deref-2.ensures.value at c.in_err-count.ensures.fault in
+    let quit = c.quit_byte.ensures ∙ ap (λ (s : SearcherState). quit_byte_of s.settings.binary_detection) c.self.view_is in
+    subst (λ look. IsAcrossSearched g.R.Source.remaining g.R.Source.step g.S.Sink.step (errors-of g) (facts-of g c.args.matcher.now) look
+    (record { settings = c.args.self.now.settings; has_buffers = has_buffers }) c.args.reader.now c.args.sink.now c.from_residual.result
+    c.read_contents.new.reader c.match_across.new.sink)
+    (sym (look-plain c.args.self.now.settings.binary_detection (λ b is. c.in_default-quit_byte.not-Some b (quit ∙ is))))
+    (rw error.1
     (whole.contents-fault-read g.R.Source.remaining g.R.Source.step c.args.self.now.settings c.args.decoder.now.capacity
     c.args.decoder.now c.requires.started c.args.reader.now c.read_contents.new.contents.items c.read_contents.new.decoder
     c.read_contents.new.reader reads c.done_gives_nothing.ensures c.lines_join.ensures c.in_default.ensures.done
     below g.S.Sink.step (errors-of g) (facts-of g c.args.matcher.now) has_buffers c.args.sink.now
     error.0 c.match_across.new.sink (subst (λ e. IsFaultIn g.S.Sink.step (errors-of g) (facts-of g c.args.matcher.now)
     (calls_across c.args.self.now.settings (g.M.Matcher.meaning c.args.matcher.now)) c.args.self.now.settings
-    c.read_contents.new.contents.items c.args.sink.now e c.match_across.new.sink) (sym error.2) fault))
+    c.read_contents.new.contents.items c.args.sink.now e c.match_across.new.sink) (sym error.2) fault)))
 
 pub returns-clause-searched : goal.returns-clause-searched
 returns-clause-searched g c = λ has_buffers.
@@ -70,10 +100,15 @@ returns-clause-searched g c = λ has_buffers.
     let below = subst (λ limit. IsBelow limit (length c.read_contents.new.contents.items))
     (ap (λ (s : SearcherState). s.settings.heap_limit) c.self.view_is) c.in_default.ensures.below in
     let finish = rw c.new.ensures at c.finish.ensures.step in
-    let reported = rw c.deref.ensures.value at c.in_ok-count.ensures.reported in
-    whole.contents-searched g.R.Source.remaining g.R.Source.step c.args.self.now.settings c.args.decoder.now.capacity
+    let reported = rw c.deref-2.ensures.value at c.in_ok-count.ensures.reported in
+    let quit = c.quit_byte.ensures ∙ ap (λ (s : SearcherState). quit_byte_of s.settings.binary_detection) c.self.view_is in
+    subst (λ look. IsAcrossSearched g.R.Source.remaining g.R.Source.step g.S.Sink.step (errors-of g) (facts-of g c.args.matcher.now) look
+    (record { settings = c.args.self.now.settings; has_buffers = has_buffers }) c.args.reader.now c.args.sink.now c.finish.result
+    c.read_contents.new.reader c.finish.new.self)
+    (sym (look-plain c.args.self.now.settings.binary_detection (λ b is. c.in_default-quit_byte.not-Some b (quit ∙ is))))
+    (whole.contents-searched g.R.Source.remaining g.R.Source.step c.args.self.now.settings c.args.decoder.now.capacity
     c.args.decoder.now c.requires.started c.args.reader.now c.read_contents.new.contents.items c.read_contents.new.decoder
     c.read_contents.new.reader reads c.done_gives_nothing.ensures c.lines_join.ensures c.in_default.ensures.done
     below g.S.Sink.step (errors-of g) (facts-of g c.args.matcher.now) has_buffers c.args.sink.now
     c.in_ok-count.count reported.0 c.match_across.new.sink c.finish.result c.finish.new.self
-    reported.1 finish
+    reported.1 finish)

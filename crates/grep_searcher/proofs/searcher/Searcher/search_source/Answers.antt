@@ -2,8 +2,7 @@ use Rattle.std.proofs.Common.{None, subst, sym}
 use Rattle.grep_definitions.specs.Questions.{IsLawfulFor}
 use Rattle.grep_definitions.specs.ReaderSearches.{of_buffers}
 use Rattle.grep_definitions.specs.Searches.{ErrorMakers, MatcherFacts}
-use Rattle.grep_definitions.specs.SearchTurns.{search_calls}
-use Rattle.grep_searcher.proofs.DecodedLemmas.{fault-buffers, searched-same, unread-same}
+use Rattle.grep_searcher.proofs.SourceSearchLemmas.{fault-buffers, searched-same, unread-same}
 use Rattle.grep_searcher.proofs.searcher.Searcher.search_source.Goals as goal
 
 pub returns-in-Err-clause-searched : goal.returns-in-Err-clause-searched
@@ -20,8 +19,7 @@ returns-in-Err-clause-searched g c = λ lawful.
       text_of = g.M.Error.Display.output;
     }
     in
-    fault-buffers g.S.Sink.step errors facts g.R.Source.remaining g.R.Source.step (search_calls c.args.self.now.settings facts.meaning)
-    c.args.self.now c.args.reader.now c.args.sink.now
+    fault-buffers g.S.Sink.step errors facts g.R.Source.remaining g.R.Source.step c.args.self.now c.args.reader.now c.args.sink.now
     c.in-Err.error c.error_io.result c.in-Err.ensures.none c.in-Err.ensures.memory c.error_io.ensures
 
 pub returns-in-Err-clause-succeeds : goal.returns-in-Err-clause-succeeds

@@ -46,6 +46,7 @@ lines-init g c = record {
   known = λ lawful gone input first so_far. skips.known-nothing c.args.self.now.settings (g.M.Matcher.meaning c.args.matcher.now)
       c.args.window.now c.args.start;
   searched = λ lawful gone input first so_far. so_far;
+  kept = λ name each. refl;
   may_call = c.requires.may_call;
 }
 
@@ -248,5 +249,15 @@ lines-preserved g c =
           input first bare c.skip-start.result c.in-Some.end c.skip-start.new.walk c.lines.sink here
           c.in-Some.ensures.within.0 c.in-Some.ensures.within.1 line c.in_ok-chosen.chosen value _
           (reported gone input here.inside) on;
+      kept = λ name each. c.in_ok-sink_line.ensures.kept name each ∙ c.lines.invariant.kept name each;
       may_call = c.in_ok-sink_line.ensures.may_call;
     })
+
+pub returns-in_err-sink_line-clause-kept : goal.returns-in_err-sink_line-clause-kept
+returns-in_err-sink_line-clause-kept g c = λ name each. c.sink_line.ensures.kept name each ∙ c.lines.invariant.kept name each
+
+pub returns-then-not-branch-clause-kept : goal.returns-then-not-branch-clause-kept
+returns-then-not-branch-clause-kept g c = λ name each. c.sink_line.ensures.kept name each ∙ c.lines.invariant.kept name each
+
+pub returns-then-is_over-clause-kept : goal.returns-then-is_over-clause-kept
+returns-then-is_over-clause-kept g c = λ name each. c.sink_line.ensures.kept name each ∙ c.lines.invariant.kept name each

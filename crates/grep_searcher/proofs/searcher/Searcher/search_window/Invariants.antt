@@ -1,7 +1,7 @@
 use Rattle.std.proofs.Common.{◌≡◌, ◌≤◌, ◌+◌, ◌-◌, ℕ, List, length}
 use Rattle.grep_definitions.specs.Questions.{IsLawfulFor}
 use Rattle.grep_searcher.specs.LookAheads.{IsBounded, IsKnown}
-use Rattle.grep_searcher.specs.Walks.{IsOrdered}
+use Rattle.grep_searcher.specs.Walks.{IsKept, IsOrdered}
 use Rattle.grep_searcher.specs.Windows.{HasSearched}
 use Rattle.grep_searcher.proofs.searcher.Searcher.search_window.Given as goal
 
@@ -20,6 +20,7 @@ invariant-lines g l = record {
       → (gone input : List ℕ) (first : g.row.S.Denot)
       → HasSearched g.S.Sink.step l.self.settings (g.M.Matcher.meaning l.matcher) gone l.window input first l.fn.start l.fn.walk l.fn.sink
       → HasSearched g.S.Sink.step l.self.settings (g.M.Matcher.meaning l.matcher) gone l.window input first l.start l.walk l.sink;
+  kept : IsKept g.S.Sink.step l.self.settings l.fn.sink l.sink;
   may_call : g.S.Sink.may_call l.sink;
 }
 

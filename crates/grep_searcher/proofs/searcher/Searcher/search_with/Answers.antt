@@ -1,8 +1,8 @@
 use Rattle.std.proofs.Common.{Bool, true, false, sym, ◌∙◌}
 use Rattle.grep_definitions.specs.Searches.{ErrorMakers, MatcherFacts}
 use Rattle.grep_definitions.specs.Settings.{SearcherState}
-use Rattle.grep_searcher.proofs.DecodedLemmas.{if_err-each}
-use Rattle.grep_searcher.proofs.ModeLemmas.{source-in, unread-in}
+use Rattle.grep_searcher.proofs.ResultLemmas.{if_err-each}
+use Rattle.grep_searcher.proofs.ModeLemmas.{source-across, source-by_line, unread-in}
 use Rattle.grep_searcher.proofs.searcher.Searcher.search_with.Given.{Over}
 use Rattle.grep_searcher.proofs.searcher.Searcher.search_with.Goals as goal
 
@@ -26,9 +26,9 @@ state-of searcher has_buffers = record { settings = searcher.settings; has_buffe
 
 pub returns-then-is_across-clause-searched : goal.returns-then-is_across-clause-searched
 returns-then-is_across-clause-searched g c = λ lawful has_buffers.
-    source-in g.R.Source.remaining g.R.Source.step (state-of c.args.self.now has_buffers) g.S.Sink.step (errors-of g)
-    (facts-of g c.args.matcher.now) true (sym c.is_across.ensures ∙ c.if-is_across.true) c.args.reader.now c.args.sink.now
-    c.search_contents.result c.search_contents.new.reader c.search_contents.new.sink (c.search_contents.ensures.searched has_buffers)
+    source-across g.R.Source.remaining g.R.Source.step (state-of c.args.self.now has_buffers) g.S.Sink.step (errors-of g)
+    (facts-of g c.args.matcher.now) c.args.reader.now c.args.sink.now c.search_contents.result c.search_contents.new.reader
+    c.search_contents.new.sink (sym c.is_across.ensures ∙ c.if-is_across.true) (c.search_contents.ensures.searched has_buffers)
 
 pub returns-then-is_across-clause-succeeds : goal.returns-then-is_across-clause-succeeds
 returns-then-is_across-clause-succeeds g c = λ never infallible lawful.
@@ -44,9 +44,9 @@ returns-then-is_across-clause-succeeds g c = λ never infallible lawful.
 
 pub returns-clause-searched : goal.returns-clause-searched
 returns-clause-searched g c = λ lawful has_buffers.
-    source-in g.R.Source.remaining g.R.Source.step (state-of c.args.self.now has_buffers) g.S.Sink.step (errors-of g)
-    (facts-of g c.args.matcher.now) false (sym c.is_across.ensures ∙ c.if-is_across.false) c.args.reader.now c.args.sink.now
-    c.search_by_line.result c.search_by_line.new.reader c.search_by_line.new.sink (c.search_by_line.ensures.searched lawful has_buffers)
+    source-by_line g.R.Source.remaining g.R.Source.step (state-of c.args.self.now has_buffers) g.S.Sink.step (errors-of g)
+    (facts-of g c.args.matcher.now) c.args.reader.now c.args.sink.now c.search_by_line.result c.search_by_line.new.reader
+    c.search_by_line.new.sink (sym c.is_across.ensures ∙ c.if-is_across.false) (c.search_by_line.ensures.searched lawful has_buffers)
 
 pub returns-clause-succeeds : goal.returns-clause-succeeds
 returns-clause-succeeds g c = λ never infallible lawful.

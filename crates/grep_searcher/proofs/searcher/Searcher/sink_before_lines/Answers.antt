@@ -1,4 +1,4 @@
-use Rattle.std.proofs.Common.{rules, arith, ◌≡◌, ◌-◌, subst, drop, length-take, length-drop, true, false}
+use Rattle.std.proofs.Common.{rules, arith, ◌≡◌, ◌-◌, subst, drop, length-take, length-drop, true, false, ◌∙◌}
 use Rattle.std.proofs.lemmas.Result.{err_from_is_err_and}
 use Rattle.grep_definitions.specs.LineTurns.{pending_turns}
 use Rattle.grep_definitions.specs.SinkRuns.{AreReported, all_true, stopped, failed}
@@ -76,5 +76,6 @@ loop-at-preserved g c =
           (c.loop-at.invariant.at gone from) c.in-Some.ensures.line
           c.loop-at.invariant.same c.loop-at.invariant.low (c.loop-at.invariant.reported gone input inside from end)
           all_true (here end);
+      kept = λ name each. c.in_ok-sink_before_line.ensures.kept name each ∙ c.loop-at.invariant.kept name each;
       may_call = c.in_ok-sink_before_line.ensures.may_call;
     }

@@ -2,6 +2,7 @@ use Rattle.std.proofs.Common.{◌≡◌, ℕ, List, length, ◌+◌, ◌-◌, �
 use Rattle.grep_definitions.specs.SinkRuns.{AreReported, all_true}
 use Rattle.grep_definitions.specs.LineTurns.{pending_turns}
 use Rattle.grep_searcher.specs.Windows.{IsInWindow, IsLineIn}
+use Rattle.grep_searcher.specs.Walks.{IsKept}
 use Rattle.grep_searcher.proofs.searcher.Searcher.sink_before_lines.Given as goal
 
 abbrev pub invariant-loop-at : goal.invariant-loop-at
@@ -15,6 +16,7 @@ invariant-loop-at g l = record {
       → IsLineIn l.self.settings gone l.window l.first l.index
       → (end : ℕ) → AreReported g.S.Sink.step l.self.settings l.fn.sink
       (pending_turns l.self.settings input l.walk.reported_through l.walk.line end l.index (l.at - l.index)) all_true l.sink;
+  kept : IsKept g.S.Sink.step l.self.settings l.fn.sink l.sink;
   may_call : g.S.Sink.may_call l.sink;
 }
 

@@ -1,0 +1,104 @@
+-- Where searches end at a binary byte, and what is searched of converted bytes, at some inputs, as the checker computes
+-- them.
+use Rattle.std.proofs.Common.{◌≡◌, ℕ, true, false, List, [], ◌∷◌, ◌++◌, Some, None, refl, codes}
+use Rattle.grep_report.specs.declared.binary_detection.BinaryDetection.TheVariants.{Quit, Convert}
+use Rattle.grep_report.specs.declared.sink_context.SinkContextKind.TheVariants.{Before, After}
+use Rattle.grep_definitions.specs.BinaryBytes.{binary_position, stream_view, look_of, nowhere, in_contents, on_stream}
+use Rattle.grep_definitions.specs.LineSearch.{turns}
+use Rattle.grep_definitions.specs.QuitPoints.{quit_in_reports, quit_point}
+use Rattle.grep_definitions.specs.Settings.{default_settings}
+use Rattle.grep_definitions.proofs.WorkedExamples.{has_a, begun, match_turn, context_turn, break_turn}
+
+-- a text whose last byte is the byte 0
+abbrev nul_at_end : List ℕ
+nul_at_end = codes "a" ++ 0 ∷ []
+
+-- the byte is among the first, so no line is searched: no report is made, and no byte counts
+quit_at_first_look : quit_point 0 nul_at_end (turns default_settings has_a nul_at_end)
+    ≡ Some (record { before = begun ∷ []; offset = 1; count = 0 })
+quit_at_first_look = refl
+
+-- nor does it matter that no match may be reported
+quit_at_limit_zero : quit_point 0 nul_at_end (turns (record default_settings { max_matches = Some 0 }) has_a nul_at_end)
+    ≡ Some (record { before = begun ∷ []; offset = 1; count = 0 })
+quit_at_limit_zero = refl
+
+-- a text without the byte has no such point
+quit_nowhere : quit_point 0 (codes "a\nb\n") (turns default_settings has_a (codes "a\nb\n")) ≡ None
+quit_nowhere = refl
+
+-- after the first bytes only reports are looked at: a line that isn't reported may hold the byte, and the search ends at
+-- the next report that does
+abbrev nul_in_lines : List ℕ
+nul_in_lines = codes "a\nb" ++ 0 ∷ codes "\na" ++ 0 ∷ codes "\na\n"
+
+quit_at_report : quit_in_reports 0 (turns default_settings has_a nul_in_lines)
+    ≡ Some (record { before = begun ∷ match_turn 1 0 (codes "a\n") 2 ∷ []; offset = 6; count = 6 })
+quit_at_report = refl
+
+-- a context line is a report
+quit_at_context : quit_in_reports 0 (turns (record default_settings { after_context = 1 }) has_a nul_in_lines)
+    ≡ Some (record { before = begun ∷ match_turn 1 0 (codes "a\n") 2 ∷ []; offset = 3; count = 3 })
+quit_at_context = refl
+
+-- the break before such a report isn't made
+abbrev nul_after_break : List ℕ
+nul_after_break = codes "a\nx\nx\na" ++ 0 ∷ codes "\n"
+
+break_not_made : quit_in_reports 0 (turns (record default_settings { after_context = 1 }) has_a nul_after_break)
+    ≡ Some (record {
+      before = begun ∷ match_turn 1 0 (codes "a\n") 2 ∷ context_turn After 2 2 (codes "x\n") 4 ∷ [];
+      offset = 7;
+      count = 7;
+    })
+break_not_made = refl
+
+-- one before a line that comes before it is
+break_before_context_made : quit_in_reports 0 (turns (record default_settings { before_context = 1 }) has_a nul_after_break)
+    ≡ Some (record {
+      before = begun ∷ match_turn 1 0 (codes "a\n") 2 ∷ break_turn 9 ∷ context_turn Before 3 4 (codes "x\n") 9 ∷ [];
+      offset = 7;
+      count = 7;
+    })
+break_before_context_made = refl
+
+-- a byte that is converted ends its line
+converted : stream_view (Convert 0) 10 nul_in_lines ≡ codes "a\nb\n\na\n\na\n"
+converted = refl
+
+-- so there are more lines, and the offset is that of the first such byte
+converted_turns : turns default_settings has_a (stream_view (Convert 0) 10 nul_in_lines)
+    ≡ begun ∷ match_turn 1 0 (codes "a\n") 2 ∷ match_turn 4 5 (codes "a\n") 7 ∷ match_turn 6 8 (codes "a\n") 10 ∷ []
+converted_turns = refl
+
+converted_offset : binary_position (Convert 0) 10 nul_in_lines ≡ Some 3
+converted_offset = refl
+
+-- a byte that ends lines isn't converted, so none of them is binary
+terminator_kept : binary_position (Convert 10) 10 nul_in_lines ≡ None
+terminator_kept = refl
+
+terminator_view : stream_view (Convert 10) 10 nul_in_lines ≡ nul_in_lines
+terminator_view = refl
+
+-- of bytes at which a search ends nothing is replaced
+quit_view : stream_view (Quit 0) 10 nul_in_lines ≡ nul_in_lines
+quit_view = refl
+
+-- a slice that is searched as it is is looked at as contents, and only to end there
+slice_quits : look_of (record default_settings { binary_detection = Quit 0 }) has_a true ≡ in_contents 0
+slice_quits = refl
+
+slice_converts_nothing : look_of (record default_settings { binary_detection = Convert 0 }) has_a true ≡ nowhere
+slice_converts_nothing = refl
+
+-- any other input is looked at as it is read, line by line
+reader_quits : look_of (record default_settings { binary_detection = Quit 0 }) has_a false ≡ on_stream
+reader_quits = refl
+
+reader_converts : look_of (record default_settings { binary_detection = Convert 0 }) has_a false ≡ on_stream
+reader_converts = refl
+
+-- without detection nowhere
+looks_nowhere : look_of default_settings has_a false ≡ nowhere
+looks_nowhere = refl

@@ -1,0 +1,114 @@
+-- What detection makes of an input that is searched as it is read, against what a line buffer makes of its parts.
+use Rattle.std.proofs.Common.{◌≡◌, ℕ, ◌+◌, ◌<◌, ◌≤◌, ◌==◌, Bool, true, false, List, [], ◌++◌, length, take, drop, map, Option, Some, None}
+use Rattle.std.proofs.Common.{refl, sym, ◌∙◌, ap, arith, append_assoc, ⊎_elim}
+use Rattle.std.proofs.lemmas.List.{take_all, length-map, length-take-le, map-append, take-append-le, take-append-drop}
+use Rattle.std.specs.List.{position, position_or_len}
+use Rattle.std.specs.Option.{option_map}
+use Rattle.std.specs.Prelude.{if◌then◌else◌}
+use Rattle.grep_line_buffer.specs.Detections.{detected, found_in, first_of, is_quit}
+use Rattle.grep_line_buffer.proofs.DetectionLemmas.{all-before, found-append, passes-or-not, position-at, position-missing}
+use Rattle.grep_report.specs.declared.binary_detection.BinaryDetection.{BinaryDetection}
+use Rattle.grep_report.specs.declared.binary_detection.BinaryDetection.TheVariants.{None as no_detection, Quit, Convert}
+use Rattle.grep_definitions.specs.BinaryBytes.{binary_position, stream_view}
+use Rattle.grep_searcher.specs.SearchBuffers.{detection_of}
+
+-- where the first binary byte of an input is
+pub found-is : (d : BinaryDetection) (t : ℕ) (bytes : List ℕ) → found_in (detection_of d) t bytes ≡ binary_position d t bytes
+found-is no_detection t bytes = refl
+found-is (Quit b) t bytes = refl
+found-is (Convert b) t bytes = refl
+
+-- the view of two parts is that of one and then of the other
+pub view-append : (d : BinaryDetection) (t : ℕ) (xs ys : List ℕ) → stream_view d t (xs ++ ys) ≡ stream_view d t xs ++ stream_view d t ys
+view-append no_detection t xs ys = refl
+view-append (Quit b) t xs ys = refl
+view-append (Convert b) t xs ys = map-append (λ x. if x == b then t else x) xs ys
+
+pub view-length : (d : BinaryDetection) (t : ℕ) (xs : List ℕ) → length (stream_view d t xs) ≡ length xs
+view-length no_detection t xs = refl
+view-length (Quit b) t xs = refl
+view-length (Convert b) t xs = length-map xs (λ x. if x == b then t else x)
+
+pub view-none : (d : BinaryDetection) (t : ℕ) → stream_view d t [] ≡ []
+view-none no_detection t = refl
+view-none (Quit b) t = refl
+view-none (Convert b) t = refl
+
+-- what a buffer holds of some bytes is their view, if the byte of `Quit` isn't among them
+pub view-held : (d : BinaryDetection) (t : ℕ) (xs : List ℕ)
+    → (is_quit (detection_of d) ≡ true → found_in (detection_of d) t xs ≡ None) → detected (detection_of d) t xs ≡ stream_view d t xs
+view-held no_detection t xs none = refl
+view-held (Quit b) t xs none = take_all (position_or_len (λ x. x == b) xs) xs (omega (arith, all-before (λ x. x == b) xs (none refl)))
+view-held (Convert b) t xs none = refl
+
+-- it is the front of the view in any case
+pub view-front : (d : BinaryDetection) (t : ℕ) (xs ys : List ℕ)
+    → (back : List ℕ) × (stream_view d t (xs ++ ys) ≡ detected (detection_of d) t xs ++ back)
+view-front no_detection t xs ys = (ys, refl)
+view-front (Quit b) t xs ys =
+    let n = position_or_len (λ x. x == b) xs in
+    (drop n xs ++ ys, ap (λ zs. zs ++ ys) (sym (take-append-drop n xs)) ∙ append_assoc (take n xs) (drop n xs) ys)
+view-front (Convert b) t xs ys = (map (λ x. if x == b then t else x) ys, map-append (λ x. if x == b then t else x) xs ys)
+
+-- the first binary byte of a front is that of all
+pub first-kept : (d : BinaryDetection) (t : ℕ) (xs ys : List ℕ) (offset : ℕ) → found_in (detection_of d) t xs ≡ Some offset
+    → binary_position d t (xs ++ ys) ≡ Some offset
+first-kept d t xs ys offset is =
+    sym (found-is d t (xs ++ ys)) ∙ (found-append (detection_of d) t xs ys
+    ∙ ap (λ o. first_of o (option_map (λ i. length xs + i) (found_in (detection_of d) t ys))) is)
+
+pub first-none : (first other : Option ℕ) → first_of first other ≡ None → first ≡ None
+first-none None other none = refl
+first-none (Some n) other none = absurd (cc)
+
+-- none is among the first bytes of an input, if none is in the front of it that has them
+pub clear-front : (d : BinaryDetection) (t : ℕ) (xs ys : List ℕ) (count : ℕ) → count ≤ length xs
+    → found_in (detection_of d) t xs ≡ None → binary_position d t (take count (xs ++ ys)) ≡ None
+clear-front d t xs ys count within none =
+    ap (binary_position d t) (take-append-le count xs ys within)
+    ∙ (sym (found-is d t (take count xs))
+    ∙ first-none (found_in (detection_of d) t (take count xs))
+    (option_map (λ i. length (take count xs) + i) (found_in (detection_of d) t (drop count xs)))
+    (sym (found-append (detection_of d) t (take count xs) (drop count xs))
+    ∙ (ap (found_in (detection_of d) t) (take-append-drop count xs) ∙ none)))
+
+some-below : (n : ℕ) (other : Option ℕ) (offset : ℕ) → option_map (λ i. n + i) other ≡ Some offset → n ≤ offset
+some-below n None offset is = absurd (cc)
+some-below n (Some i) offset is = let same : n + i ≡ offset = cc in omega (arith, same)
+
+-- what wasn't among the first bytes is after them
+pub found-after : (d : BinaryDetection) (t : ℕ) (xs ys : List ℕ) (offset : ℕ) → found_in (detection_of d) t xs ≡ None
+    → found_in (detection_of d) t (xs ++ ys) ≡ Some offset → length xs ≤ offset
+found-after d t xs ys offset none is =
+    some-below (length xs) (found_in (detection_of d) t ys) offset
+    (ap (λ o. first_of o (option_map (λ i. length xs + i) (found_in (detection_of d) t ys))) (sym none)
+    ∙ (sym (found-append (detection_of d) t xs ys) ∙ is))
+
+-- a position is the number of bytes before the first one
+position-is : (p : ℕ → Bool) (xs : List ℕ) (offset : ℕ) → position p xs ≡ Some offset
+    → (position_or_len p xs ≡ offset) × (offset < length xs)
+position-is p xs offset is = ⊎_elim
+    (λ some. let same : position_or_len p xs ≡ offset = some-same (sym (position-at p xs some) ∙ is) in
+    (same, omega (arith, same, some)))
+    (λ none. absurd (none-some (sym (position-missing p xs none) ∙ is)))
+    (passes-or-not p xs)
+  where
+    some-same : {m n : ℕ} → Some m ≡ Some n → m ≡ n
+    some-same same = cc
+
+    none-some : {n : ℕ} → None ≡ Some n → ⊥
+    none-some same = absurd (cc)
+
+-- a buffer holds no more bytes before the first binary byte than all that it holds
+pub found-within : (d : BinaryDetection) (t : ℕ) (xs : List ℕ) (offset : ℕ) → found_in (detection_of d) t xs ≡ Some offset
+    → offset ≤ length (detected (detection_of d) t xs)
+found-within no_detection t xs offset is = absurd (cc)
+found-within (Quit b) t xs offset is =
+    let at = position-is (λ x. x == b) xs offset is in
+    omega (arith, at.0, at.1, length-take-le (position_or_len (λ x. x == b) xs) xs (omega (arith, at.0, at.1)))
+found-within (Convert b) t xs offset is = go (b == t) is
+  where
+    go : (same : Bool) → (if same then None else position (λ x. x == b) xs) ≡ Some offset
+        → offset ≤ length (map (λ x. if x == b then t else x) xs)
+    go true is = absurd (cc)
+    go false is = omega (arith, (position-is (λ x. x == b) xs offset is).1, length-map xs (λ x. if x == b then t else x))
