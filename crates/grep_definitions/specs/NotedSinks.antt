@@ -19,7 +19,7 @@ abbrev pub reported_to : Call → ℕ
 reported_to call = reported_from call + length (reported_bytes call)
 
 -- A sink, and the offset with which `binary_data` was called, if it was. That is once at most: after a call but `finish` that
--- returned true and reported no byte after the offset, and it returned true itself. From then on `finish` has the offset.
+-- returned true and reported no byte from the offset on, and it returned true itself. From then on `finish` has the offset.
 abbrev pub noted : {S E : Type 0} → Steps S E → Steps (S × Option ℕ) E
 noted step old settings call result new = noted_by old.1 new.1
   where

@@ -90,7 +90,7 @@ module _ {R : Type 0} (remaining : R → Option (List ℕ)) (read_step : R → R
 
   module _ {S E F : Type 0} (step : Steps S E) (errors : ErrorMakers E) (matcher : MatcherFacts F) where
     -- A search with these calls that ended in `Ok`: they were made over the lines that were seen, up to the first false
-    -- or the last, and `finish` followed; and no call of `binary_data`. Whatever follows what was taken, they are those for the whole input, and
+    -- or the last, and `finish` followed. Whatever follows what was taken, they are those for the whole input, and
     -- unless one returned false, each line with a turn was seen.
     pub record IsReaderRunIn (calls : SearchCalls) (settings : Settings) (reader : R) (old : S) (reader' : R) (new : S)
         : Type 0 where

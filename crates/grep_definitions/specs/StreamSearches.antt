@@ -22,7 +22,7 @@ pub record IsNotedFor (settings : Settings) (bytes : List ℕ) (found : Option �
   pub first : (offset : ℕ) → found ≡ Some offset → binary_of settings bytes ≡ Some offset
   pub goes_on : (b : ℕ) → settings.binary_detection ≡ Quit b → found ≡ None
 
--- without that call no binary byte is among the bytes that are counted
+-- without a call of `binary_data` no binary byte is among the bytes that are counted
 abbrev pub IsClear : Settings → List ℕ → Option ℕ → ℕ → Type 0
 IsClear settings bytes found count = found ≡ None → binary_of settings (take count bytes) ≡ None
 
