@@ -87,22 +87,28 @@ fn rows(rt: HostRuntime) -> Result<(), Fail> {
     Ok(())
 }
 
-// Reads 200,000 bytes below a limit, and returns how many came and for how many there is room.
-fn read_many(rt: &(impl Abort + AllocGlobal), limit: usize) -> Result<(usize, usize), Fail> {
+// Reads 200,000 bytes below a limit, and returns how many came, for how many there is room, and how
+// many calls of the reader were made.
+fn read_many(rt: &(impl Abort + AllocGlobal), limit: usize) -> Result<(usize, usize, usize), Fail> {
     let bytes = vec![in rt.alloc(); 7u8; 200_000]?;
-    let mut reader = bytes.as_slice();
+    let mut reader = Pieces {
+        bytes: &bytes,
+        piece: 200_000,
+        fails: false,
+        calls: 0,
+    };
     let mut decoder = Decoder::new(rt.alloc(), 8)?;
     let mut contents = Vec::new(rt.alloc());
     if read_contents(&mut decoder, &mut reader, Some(limit), &mut contents).is_err() {
-        return Ok((0, contents.capacity()));
+        return Ok((0, contents.capacity(), reader.calls));
     }
-    Ok((contents.len(), contents.capacity()))
+    Ok((contents.len(), contents.capacity(), reader.calls))
 }
 
 #[test]
 fn room(rt: HostRuntime) -> Result<(), Fail> {
-    assert!(rt; read_many(&rt, 1_000_000)? == (200_000, 262_144));
-    assert!(rt; read_many(&rt, 200_001)? == (200_000, 200_001));
-    assert!(rt; read_many(&rt, 200_000)? == (0, 200_000));
+    assert!(rt; read_many(&rt, 1_000_000)? == (200_000, 262_144, 5));
+    assert!(rt; read_many(&rt, 200_001)? == (200_000, 200_001, 5));
+    assert!(rt; read_many(&rt, 200_000)? == (0, 200_000, 4));
     Ok(())
 }

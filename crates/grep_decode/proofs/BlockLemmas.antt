@@ -1,5 +1,6 @@
 -- Blocks of ASCII in UTF-16.
-use Rattle.std.proofs.Common.{◌≡◌, ℕ, suc, zero, ◌+◌, ◌*◌, ◌<◌, Bool, true, false, cond, List, [], ◌∷◌, ◌++◌, length, drop, map, ltb, nat_eq, IsTrue, slice_index_or, encode_utf8, refl, sym, ap, subst, ◌∙◌, arith, inl}
+use Rattle.std.proofs.Common.{◌≡◌, ℕ, suc, zero, ◌+◌, ◌*◌, ◌<◌, Bool, true, false, cond, List, [], ◌∷◌, ◌++◌, length, drop, map, ltb}
+use Rattle.std.proofs.Common.{nat_eq, IsTrue, slice_index_or, encode_utf8, refl, sym, ap, subst, ◌∙◌, arith, inl}
 use Rattle.std.proofs.lemmas.Bool.Decides.{nat_tests}
 use Rattle.std.proofs.lemmas.List.{drop-drop, get_or-drop, length-map, take_all}
 use Rattle.std.proofs.Math.Seq.{take-add}
@@ -31,7 +32,8 @@ pub all-below : (bound : ℕ) (bytes : List ℕ) → mask_l (map (λ b. ltb b bo
 all-below bound [] full = tt
 all-below bound (byte ∷ bytes) full =
     let tests = map (λ b. ltb b bound) bytes in
-    let less : mask_l tests < doubled (length bytes) = subst (λ n. mask_l tests < doubled n) (length-map bytes (λ b. ltb b bound)) (mask-below tests) in
+    let less : mask_l tests < doubled (length bytes) =
+    subst (λ n. mask_l tests < doubled n) (length-map bytes (λ b. ltb b bound)) (mask-below tests) in
     let step = below-step bound byte (mask_l tests) (doubled (length bytes)) (ltb byte bound) refl less full in
     (step.0, all-below bound bytes step.1)
 

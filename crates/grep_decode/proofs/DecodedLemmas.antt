@@ -14,5 +14,6 @@ is-false false e = refl
 
 pub unchanged-decoded : (label : Option Label) (sniff : Bool) (input : List ℕ) → is_unchanged label sniff input ≡ true
     → decoded label sniff input ≡ input
-unchanged-decoded None sniff input same = unmarked (found_mark None sniff input) input (is-false (is_some (found_mark None sniff input)) same)
+unchanged-decoded None sniff input same =
+    unmarked (found_mark None sniff input) input (is-false (is_some (found_mark None sniff input)) same)
 unchanged-decoded (Some label) sniff input same = absurd (false≢true same)

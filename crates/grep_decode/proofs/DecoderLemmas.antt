@@ -241,7 +241,8 @@ module _ {R : Type 0} (remaining : R → Option (List ℕ)) (step : R → ReadRe
   pub reads-fail : (d d1 d2 : DecoderState) (r r1 r2 : R) (given : List ℕ) (e : Error) → Decodes remaining step d r given d1 r1
       → FailsToDecode remaining step d1 r1 e d2 r2 → FailsWith step r e r2
   reads-fail d d1 d2 r r1 r2 given e first fails =
-      let unended : d1.has_ended ≡ false = Calls-unended d1.has_ended d2.has_ended r1 fails.mid fails.decodes.pieces fails.decodes.calls fails.unended in
+      let unended : d1.has_ended ≡ false =
+      Calls-unended d1.has_ended d2.has_ended r1 fails.mid fails.decodes.pieces fails.decodes.calls fails.unended in
       FailsWith-after step first.pieces r r1 r2 e (Calls-pulls d.has_ended d1.has_ended r r1 first.pieces first.calls unended)
       (FailsToDecode-reader d1 d2 r1 r2 e fails)
 
@@ -268,7 +269,8 @@ module _ {R : Type 0} (remaining : R → Option (List ℕ)) (step : R → ReadRe
 
   pub Decodes-yet : (d d1 : DecoderState) (r r1 : R) (given : List ℕ) → Decodes remaining step d r given d1 r1
       → Consumes (yet d (remaining r)) (yet d1 (remaining r1)) given
-  Decodes-yet d d1 r r1 given run = yet-from d d1 d.has_ended d1.has_ended r r1 (remaining r) (remaining r1) run.pieces given refl refl run.calls refl refl
+  Decodes-yet d d1 r r1 given run =
+      yet-from d d1 d.has_ended d1.has_ended r r1 (remaining r) (remaining r1) run.pieces given refl refl run.calls refl refl
       run.takes run.gives
 
   Keeps-from : (a b : Option (List ℕ)) → Consumes a b [] → Keeps a b
@@ -306,7 +308,8 @@ module _ {R : Type 0} (remaining : R → Option (List ℕ)) (step : R → ReadRe
   whole (Some all) (Some rest) bytes takes ended = takes ∙ (ap (λ xs. bytes ++ xs) ended ∙ append-nil bytes)
 
   all-given : (label : Option Label) (sniff : Bool) (capacity : ℕ) (d : DecoderState) (is : Bool) (r r1 : R) (given : List ℕ)
-      (pieces : List (List ℕ)) → is ≡ true → Calls remaining step false is r pieces r1 → Consumes (remaining r) (remaining r1) (concat pieces)
+      (pieces : List (List ℕ)) → is ≡ true → Calls remaining step false is r pieces r1
+      → Consumes (remaining r) (remaining r1) (concat pieces)
       → still_to_give (started capacity label sniff) (concat pieces ++ []) ≡ given ++ still_to_give d [] → IsDone d
       → IsDecoded remaining step label sniff r given r1
   all-given label sniff capacity d false r r1 given pieces ended calls takes gives done = absurd (false≢true ended)
@@ -330,15 +333,17 @@ pub fits-passing : (mode : Mode) (ready held : List ℕ) → FitsMode mode ready
 fits-passing mode ready held fits passing = subst (λ m. FitsMode m ready held) passing fits
 
 -- what is held while a mark is looked for
-pub fits-fresh : (mode : Mode) (ready held : List ℕ) (label : Option Label) (sniff : Bool) → FitsMode mode ready held → mode ≡ Fresh label sniff
+pub fits-fresh : (mode : Mode) (ready held : List ℕ) (label : Option Label) (sniff : Bool) → FitsMode mode ready held
+    → mode ≡ Fresh label sniff
     → (ready ≡ []) × (length held ≤ 3)
 fits-fresh mode ready held label sniff fits fresh = subst (λ m. FitsMode m ready held) fresh fits
 
 module _ {R : Type 0} (remaining : R → Option (List ℕ)) (step : R → ReadResult → R → Type 0) where
   -- ---- a read that returned a result, whichever
 
-  pub result-decodes : (d d1 d2 : DecoderState) (r r1 r2 : R) (result : Result ℕ Error) (buffer : List ℕ) → Decodes remaining step d r [] d1 r1
-      → IfOk result (λ n. Decodes remaining step d1 r1 (take n buffer) d2 r2) → IfOk result (λ n. Decodes remaining step d r (take n buffer) d2 r2)
+  pub result-decodes : (d d1 d2 : DecoderState) (r r1 r2 : R) (result : Result ℕ Error) (buffer : List ℕ)
+      → Decodes remaining step d r [] d1 r1 → IfOk result (λ n. Decodes remaining step d1 r1 (take n buffer) d2 r2)
+      → IfOk result (λ n. Decodes remaining step d r (take n buffer) d2 r2)
   result-decodes d d1 d2 r r1 r2 (Ok n) buffer first later = Decodes-append remaining step d d1 d2 r r1 r2 [] (take n buffer) first later
   result-decodes d d1 d2 r r1 r2 (Err e) buffer first later = tt
 
@@ -354,11 +359,13 @@ module _ {R : Type 0} (remaining : R → Option (List ℕ)) (step : R → ReadRe
   result-gives d d1 r r1 (Err e) buffer run = tt
 
   pub result-ends : (d : DecoderState) (r : R) (result : Result ℕ Error) (buffer : List ℕ)
-      → IfOk result (λ n. n ≡ 0 → 0 < length buffer → IsDone d) → IfOk result (λ n. n ≡ 0 → 0 < length buffer → IsAtEnd (yet d (remaining r)))
+      → IfOk result (λ n. n ≡ 0 → 0 < length buffer → IsDone d)
+      → IfOk result (λ n. n ≡ 0 → 0 < length buffer → IsAtEnd (yet d (remaining r)))
   result-ends d r (Ok n) buffer done = λ none room. IsDone-yet remaining step d (remaining r) (done none room)
   result-ends d r (Err e) buffer done = tt
 
-  pub result-fault : (d d1 : DecoderState) (r r1 : R) (result : Result ℕ Error) → IfErr result (λ e. FailsToDecode remaining step d r e d1 r1)
+  pub result-fault : (d d1 : DecoderState) (r r1 : R) (result : Result ℕ Error)
+      → IfErr result (λ e. FailsToDecode remaining step d r e d1 r1)
       → IfErr result (λ e. FailsWith step r e r1)
   result-fault d d1 r r1 (Ok n) fails = tt
   result-fault d d1 r r1 (Err e) fails = FailsToDecode-reader remaining step d d1 r r1 e fails
@@ -373,12 +380,14 @@ module _ {R : Type 0} (remaining : R → Option (List ℕ)) (step : R → ReadRe
       → Consumes (yet d known) (yet d1 after) given → length given ≡ 0
   none-given d d1 known None given ready held none takes = absurd (subst (λ k. Consumes (yet d k) (yet d1 None) given) none takes)
   none-given d d1 known (Some rest) given ready held none takes =
-      let all : still_to_give d [] ≡ given ++ still_to_give d1 rest = subst (λ k. Consumes (yet d k) (yet d1 (Some rest)) given) none takes in
+      let all : still_to_give d [] ≡ given ++ still_to_give d1 rest =
+      subst (λ k. Consumes (yet d k) (yet d1 (Some rest)) given) none takes in
       let nothing : still_to_give d [] ≡ [] = nothing-left d ready held in
       let long : length (given ++ still_to_give d1 rest) ≡ 0 = ap length (sym all ∙ nothing) in
       omega (arith, long, length-append given (still_to_give d1 rest))
 
-  first-count : (d d1 : DecoderState) (r r1 : R) (n : ℕ) (buffer ready : List ℕ) (known : Option (List ℕ)) (M : List ℕ → Type 0) (P S : Type 0)
+  first-count : (d d1 : DecoderState) (r r1 : R) (n : ℕ) (buffer ready : List ℕ) (known : Option (List ℕ))
+      (M : List ℕ → Type 0) (P S : Type 0)
       → known ≡ remaining r → d.ready ≡ [] → d.held ≡ [] → (n ≤ length buffer) × (n ≡ length (take n buffer))
       → Consumes (yet d known) (yet d1 (remaining r1)) (take n buffer)
       → (0 < length ready → (n ≡ min (length ready) (length buffer)) × S) → IfSome known (λ input. M input → P → ready ≡ take 3 input)
@@ -406,8 +415,11 @@ module _ {R : Type 0} (remaining : R → Option (List ℕ)) (step : R → ReadRe
 pub result-ahead : (P : Type 0) (before mid after : Option (List ℕ)) (most : ℕ) (result : Result ℕ Error) → TakesAtMost before mid most
     → IfOk result (λ n. P → TakesAtMost mid after n) → IfOk result (λ n. P → TakesAtMost before after (n + most))
 result-ahead P before mid after most (Ok n) first later = λ p.
-    let more = later p in
-    (first.0 ++ more.0, omega (arith, first.1, more.1, length-append first.0 more.0), Consumes-trans before mid after first.0 more.0 first.2 more.2)
+    let more = later p in (
+      first.0 ++ more.0,
+      omega (arith, first.1, more.1, length-append first.0 more.0),
+      Consumes-trans before mid after first.0 more.0 first.2 more.2,
+    )
 result-ahead P before mid after most (Err e) first later = tt
 
 pub takes-none : (known : Option (List ℕ)) (most : ℕ) → TakesAtMost known known most

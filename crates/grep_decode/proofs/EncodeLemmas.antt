@@ -1,5 +1,6 @@
 -- The bytes of a scalar value, written one by one.
-use Rattle.std.proofs.Common.{◌≡◌, ℕ, ◌+◌, ◌/◌, ◌%◌, ◌<◌, ◌≤◌, List, [], ◌∷◌, ◌++◌, length, take, set, refl, ap, ◌∙◌, arith, append_assoc, length-set}
+use Rattle.std.proofs.Common.{◌≡◌, ℕ, ◌+◌, ◌/◌, ◌%◌, ◌<◌, ◌≤◌, List, [], ◌∷◌, ◌++◌, length, take, set, refl, ap, ◌∙◌, arith, append_assoc}
+use Rattle.std.proofs.Common.{length-set}
 use Rattle.std.proofs.lemmas.List.{take_more_set}
 use Rattle.std.proofs.lemmas.Bool.Decides.{nat_tests}
 use lib.Utf8.{encode}
@@ -21,7 +22,8 @@ unfolding encode
 encode-four c low = grind (arith, nat_tests)
 
 -- one element more after a front
-pub take-set_next : {X : Type 0} (xs : List X) (i j : ℕ) (y : X) (front : List X) → j ≡ i + 1 → i < length xs → take i xs ≡ front → take j (set xs i y) ≡ front ++ y ∷ []
+pub take-set_next : {X : Type 0} (xs : List X) (i j : ℕ) (y : X) (front : List X) → j ≡ i + 1 → i < length xs → take i xs ≡ front
+    → take j (set xs i y) ≡ front ++ y ∷ []
 take-set_next xs i j y front is within same = ap (λ k. take k (set xs i y)) is ∙ take_more_set xs i y within ∙ ap (λ l. l ++ y ∷ []) same
 
 -- two, three and four elements, written one after the other
@@ -31,14 +33,19 @@ put-two xs i x y room =
     let one = take-set_next xs i (i + 1) x (take i xs) refl (omega arith) refl in
     take-set_next (set xs i x) (i + 1) (i + 2) y _ (omega arith) (omega arith) one ∙ append_assoc (take i xs) (x ∷ []) (y ∷ [])
 
-pub put-three : (xs : List ℕ) (i x y z : ℕ) → i + 3 ≤ length xs → take (i + 3) (set (set (set xs i x) (i + 1) y) (i + 2) z) ≡ take i xs ++ (x ∷ y ∷ z ∷ [])
+pub put-three : (xs : List ℕ) (i x y z : ℕ) → i + 3 ≤ length xs
+    → take (i + 3) (set (set (set xs i x) (i + 1) y) (i + 2) z) ≡ take i xs ++ (x ∷ y ∷ z ∷ [])
 put-three xs i x y z room =
     let len : length (set (set xs i x) (i + 1) y) ≡ length xs = length-set (set xs i x) (i + 1) y ∙ length-set xs i x in
     let two = put-two xs i x y (omega arith) in
-    take-set_next (set (set xs i x) (i + 1) y) (i + 2) (i + 3) z _ (omega arith) (omega arith) two ∙ append_assoc (take i xs) (x ∷ y ∷ []) (z ∷ [])
+    take-set_next (set (set xs i x) (i + 1) y) (i + 2) (i + 3) z _ (omega arith) (omega arith) two
+    ∙ append_assoc (take i xs) (x ∷ y ∷ []) (z ∷ [])
 
-pub put-four : (xs : List ℕ) (i x y z w : ℕ) → i + 4 ≤ length xs → take (i + 4) (set (set (set (set xs i x) (i + 1) y) (i + 2) z) (i + 3) w) ≡ take i xs ++ (x ∷ y ∷ z ∷ w ∷ [])
+pub put-four : (xs : List ℕ) (i x y z w : ℕ) → i + 4 ≤ length xs
+    → take (i + 4) (set (set (set (set xs i x) (i + 1) y) (i + 2) z) (i + 3) w) ≡ take i xs ++ (x ∷ y ∷ z ∷ w ∷ [])
 put-four xs i x y z w room =
-    let len : length (set (set (set xs i x) (i + 1) y) (i + 2) z) ≡ length xs = length-set (set (set xs i x) (i + 1) y) (i + 2) z ∙ length-set (set xs i x) (i + 1) y ∙ length-set xs i x in
+    let len : length (set (set (set xs i x) (i + 1) y) (i + 2) z) ≡ length xs =
+    length-set (set (set xs i x) (i + 1) y) (i + 2) z ∙ length-set (set xs i x) (i + 1) y ∙ length-set xs i x in
     let three = put-three xs i x y z (omega arith) in
-    take-set_next (set (set (set xs i x) (i + 1) y) (i + 2) z) (i + 3) (i + 4) w _ (omega arith) (omega arith) three ∙ append_assoc (take i xs) (x ∷ y ∷ z ∷ []) (w ∷ [])
+    take-set_next (set (set (set xs i x) (i + 1) y) (i + 2) z) (i + 3) (i + 4) w _ (omega arith) (omega arith) three
+    ∙ append_assoc (take i xs) (x ∷ y ∷ z ∷ []) (w ∷ [])

@@ -1,5 +1,6 @@
 -- Reading a label.
-use Rattle.std.proofs.Common.{◌≡◌, ℕ, ◌+◌, ◌<◌, Bool, true, false, List, [], map, length, take, get_or, ◌∙◌, sym, refl, Bor, IsTrue, Option, Some, None, cond}
+use Rattle.std.proofs.Common.{◌≡◌, ℕ, ◌+◌, ◌<◌, Bool, true, false, List, [], map, length, take, get_or, ◌∙◌, sym, refl, Bor, IsTrue, Option}
+use Rattle.std.proofs.Common.{Some, None, cond}
 use Rattle.std.specs.Char.{to_ascii_lowercase}
 use Rattle.std.specs.List.{list_any}
 use Rattle.std.specs.Str.{str_eq_ignore_ascii_case, IsTrimAscii}

@@ -1,7 +1,9 @@
 -- `utf8_lossy` from the front of some bytes on.
-use Rattle.std.proofs.Common.{◌≡◌, ℕ, ◌+◌, ◌-◌, ◌<◌, ◌≤◌, List, [], ◌∷◌, ◌++◌, length, take, drop, slice_index, None, Some, unwrap_or, IsUtf8, encode_utf8_all, sym, ap, subst, ◌∙◌, arith, length-append, length-drop, append_assoc, append-nil}
+use Rattle.std.proofs.Common.{◌≡◌, ℕ, ◌+◌, ◌-◌, ◌<◌, ◌≤◌, List, [], ◌∷◌, ◌++◌, length, take, drop, slice_index, None, Some, unwrap_or}
+use Rattle.std.proofs.Common.{IsUtf8, encode_utf8_all, sym, ap, subst, ◌∙◌, arith, length-append, length-drop, append_assoc, append-nil}
 use Rattle.std.proofs.lemmas.Bool.Decides.{nat_tests}
-use Rattle.std.proofs.lemmas.List.{get_or_append_left, drop-append-le, drop-drop, length-take-le, take-append-le, take_rest, take-append-drop}
+use Rattle.std.proofs.lemmas.List.{get_or_append_left, drop-append-le, drop-drop, length-take-le, take-append-le, take_rest}
+use Rattle.std.proofs.lemmas.List.{take-append-drop}
 use Rattle.std.proofs.lemmas.Str.{encodes-append}
 use Rattle.std.specs.Str.{IsValidUpTo}
 use Rattle.std.specs.Str.Lossy.{utf8_error_len, utf8_lossy, replacement_bytes}

@@ -1,5 +1,6 @@
 -- The mark of an input is found in its first bytes.
-use Rattle.std.proofs.Common.{◌≡◌, ◌⊎◌, ◌||◌, ℕ, ◌≤◌, Bool, true, false, cond, List, [], ◌++◌, length, take, drop, Option, None, Some, IfSome, is_some, refl, sym, ap, subst, ◌∙◌, inl, inr, append-nil, nat_eq, arith}
+use Rattle.std.proofs.Common.{◌≡◌, ◌⊎◌, ◌||◌, ℕ, ◌≤◌, Bool, true, false, cond, List, [], ◌++◌, length, take, drop, Option, None, Some}
+use Rattle.std.proofs.Common.{IfSome, is_some, refl, sym, ap, subst, ◌∙◌, inl, inr, append-nil, nat_eq, arith}
 use Rattle.std.proofs.lemmas.List.{take-append-le, drop-append-le, take_all, take_at}
 use Rattle.std.specs.Cmp.Lexicographic.{pointwise}
 use Rattle.grep_decode.specs.declared.label.Label.{Label}
@@ -8,7 +9,8 @@ use Rattle.grep_decode.specs.declared.mode.Mode.{Mode}
 use Rattle.grep_decode.specs.declared.mode.Mode.TheVariants.{Fresh, Passing, Decoding}
 use Rattle.grep_decode.specs.Marks.{mark_of, mark_length, begins_with_mark, marked}
 use Rattle.grep_decode.specs.Decoded.{by_mark, decoded, found_mark}
-use Rattle.grep_decode.specs.DecoderStates.{DecoderState, HasNoMark, IsSettled, LooksForMark, decode_by, mode_after, mode_of, next_mode, still_to_give, unread, yet}
+use Rattle.grep_decode.specs.DecoderStates.{DecoderState, HasNoMark, IsSettled, LooksForMark, decode_by, mode_after, mode_of, next_mode}
+use Rattle.grep_decode.specs.DecoderStates.{still_to_give, unread, yet}
 use Rattle.grep_decode.specs.UndecodedBytes.{UndecodedBytes, holding}
 use Rattle.std.specs.Io.KnownBytes.{Consumes}
 
@@ -25,7 +27,10 @@ found-long : (label : Option Label) (sniff : Bool) (looks : Bool) (head ys : Lis
     → cond looks (marked (head ++ ys)) None ≡ cond looks (marked head) None
 found-long label sniff false head ys enough = refl
 found-long label sniff true head ys enough =
-    elim (enough refl) [ inl long ↦ marked-append head ys long | inr none ↦ ap (λ l. marked (head ++ l)) none ∙ ap marked (append-nil head) ]
+    elim (enough refl) [
+      | inl long ↦ marked-append head ys long
+      | inr none ↦ ap (λ l. marked (head ++ l)) none ∙ ap marked (append-nil head)
+    ]
 
 -- the first three bytes, or all of a shorter input, decide
 pub found-append : (label : Option Label) (sniff : Bool) (head ys : List ℕ)
@@ -67,7 +72,8 @@ abbrev pub Chosen : DecoderState → DecoderState → Type 0
 Chosen d d1 = ((rest : List ℕ) → still_to_give d rest ≡ still_to_give d1 rest) × ((rest : List ℕ) → next_mode d rest ≡ next_mode d1 rest)
     × IsSettled d1.mode
 
-unread-enough : (label : Option Label) (sniff : Bool) (mode : Mode) (head : List ℕ) (ended : Bool) (rest : List ℕ) → mode ≡ Fresh label sniff
+unread-enough : (label : Option Label) (sniff : Bool) (mode : Mode) (head : List ℕ) (ended : Bool) (rest : List ℕ)
+    → mode ≡ Fresh label sniff
     → (LooksForMark mode → (3 ≤ length head) ⊎ (ended ≡ true)) → (sniff || is_some label) ≡ true
     → (3 ≤ length head) ⊎ (unread ended rest ≡ [])
 unread-enough label sniff mode head ended rest fresh enough looks =
@@ -87,7 +93,8 @@ chosen d d1 label sniff mark fresh none found long mode ended enough text =
           ∙ (ap (λ m. decode_by m (drop (mark_length mark) d.held ++ ys)) (sym mode) ∙ (sym (text ys)
           ∙ ap (λ b. d1.ready ++ decode_by d1.mode (d1.held ++ unread b rest)) (sym ended))))),
       λ rest. let ys = unread d.has_ended rest in
-          ap (λ m. mode_after m (d.held ++ ys)) fresh ∙ (ap (λ m. mode_of m label) (found-append label sniff d.held ys (near rest) ∙ sym found)
+          ap (λ m. mode_after m (d.held ++ ys)) fresh
+          ∙ (ap (λ m. mode_of m label) (found-append label sniff d.held ys (near rest) ∙ sym found)
           ∙ (sym (mode-stays mark label (d1.held ++ unread d1.has_ended rest))
           ∙ ap (λ m. mode_after m (d1.held ++ unread d1.has_ended rest)) (sym mode))),
       subst IsSettled (sym mode) (mode-settled mark label),
@@ -117,7 +124,8 @@ first-ready label sniff old new (Some input) (Some rest) ready takes none unende
     let near : (3 ≤ length new.bytes) ⊎ (unread new.has_ended rest ≡ []) =
     elim enough [ inl long ↦ inl long | inr is ↦ inr (ap (λ b. unread b rest) is) ] in
     let head : found_mark label sniff new.bytes ≡ None =
-    sym (found-append label sniff new.bytes (unread new.has_ended rest) (λ looks. near)) ∙ (ap (found_mark label sniff) (sym whole) ∙ unmarked) in
+    sym (found-append label sniff new.bytes (unread new.has_ended rest) (λ looks. near))
+    ∙ (ap (found_mark label sniff) (sym whole) ∙ unmarked) in
     ahead-ready input rest new.bytes ready new.has_ended whole few enough (same head)
 
 -- the same by the mode

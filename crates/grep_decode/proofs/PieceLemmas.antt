@@ -12,7 +12,8 @@ pub take-put_mid_into : {X : Type 0} (from size more : ℕ) (xs ys : List X) →
 take-put_mid_into from size more xs ys within part =
     let rest = put_mid from size xs ys in
     let here : length (take from xs) ≡ from = length-take-le from xs within in
-    ap (λ n. take (n + more) rest) (sym here) ∙ take-append-add (take from xs) _ more ∙ ap (λ l. take from xs ++ l) (take-append-le more ys _ part)
+    ap (λ n. take (n + more) rest) (sym here) ∙ take-append-add (take from xs) _ more
+    ∙ ap (λ l. take from xs ++ l) (take-append-le more ys _ part)
 
 -- the first elements of a window, copied out, and the rest of the window
 pub window-given : {X : Type 0} (start end count size : ℕ) (xs front zs : List X) → count ≤ end - start → end ≤ length xs → size ≡ count
@@ -42,7 +43,8 @@ zero-add n = omega arith
 -- a window that was moved to the front, and then elements that were written after it
 pub window-appended : {X : Type 0} (start end size count : ℕ) (xs moved values ys : List X) → start ≤ end → end ≤ length xs
     → moved ≡ copy_within xs start end 0 → values ≡ moved → count ≤ length ys
-    → take (((end - start) + count) - 0) (drop 0 (put_mid (end - start) size values ys)) ≡ take (end - start) (drop start xs) ++ take count ys
+    → take (((end - start) + count) - 0) (drop 0 (put_mid (end - start) size values ys))
+    ≡ take (end - start) (drop start xs) ++ take count ys
 window-appended start end size count xs moved values ys ordered within is same part =
     let held = end - start in
     let rest : held ≤ length (drop start xs) = rw length-drop (omega arith) in

@@ -24,7 +24,8 @@ spells-waiting : (odd : Bool) (u : ℕ) → is_high_surrogate u ≡ true → Spe
 unfolding scalars_of
 spells-waiting odd u lead = rw lead (waiting u lead)
 
-spells-alone : (odd : Bool) (u : ℕ) (units : List ℕ) → is_high_surrogate u ≡ false → Spells odd units (scalars_of odd units) → Spells odd (u ∷ units) (scalars_of odd (u ∷ units))
+spells-alone : (odd : Bool) (u : ℕ) (units : List ℕ) → is_high_surrogate u ≡ false → Spells odd units (scalars_of odd units)
+    → Spells odd (u ∷ units) (scalars_of odd (u ∷ units))
 spells-alone odd u units not rest =
     let P : List ℕ → Type 0 = Spells odd (u ∷ units) in
     let Q : ℕ → Type 0 = λ c. Spells odd (u ∷ units) (c ∷ scalars_of odd units) in
@@ -40,13 +41,17 @@ spells-lead odd u v units lead rest next =
     let Q : ℕ → Type 0 = λ c. Spells odd (u ∷ v ∷ units) (c ∷ scalars_of odd (v ∷ units)) in
     elim (cases_Bool (is_low_surrogate v)) [
       | inl is ↦ subst P (sym (scalars_of-pair odd u v units lead is)) (pair u v units _ lead is rest)
-      | inr is ↦ subst P (sym (scalars_of-high odd u v units lead is)) (subst Q (sym (alone-is u true (surrogate-high u lead))) (high u v units _ lead is next))
+      | inr is ↦ subst P (sym (scalars_of-high odd u v units lead is))
+          (subst Q (sym (alone-is u true (surrogate-high u lead))) (high u v units _ lead is next))
     ]
 
 -- the scalar values are allowed
 pub Spells-scalars_of : (odd : Bool) (units : List ℕ) → Spells odd units (scalars_of odd units)
 Spells-scalars_of odd [] = spells-end odd
-Spells-scalars_of odd (u ∷ []) = elim (cases_Bool (is_high_surrogate u)) [ inl lead ↦ spells-waiting odd u lead | inr not ↦ spells-alone odd u [] not (spells-end odd) ]
+Spells-scalars_of odd (u ∷ []) = elim (cases_Bool (is_high_surrogate u)) [
+  | inl lead ↦ spells-waiting odd u lead
+  | inr not ↦ spells-alone odd u [] not (spells-end odd)
+]
 Spells-scalars_of odd (u ∷ v ∷ units) =
     elim (cases_Bool (is_high_surrogate u)) [
       | inl lead ↦ spells-lead odd u v units lead (Spells-scalars_of odd units) (Spells-scalars_of odd (v ∷ units))
@@ -57,7 +62,10 @@ low-not_high : (u : ℕ) → is_low_surrogate u ≡ true → is_high_surrogate u
 low-not_high u is = grind (arith, nat_tests)
 
 plain-not_high : (u : ℕ) → is_surrogate u ≡ false → is_high_surrogate u ≡ false
-plain-not_high u none = elim (cases_Bool (is_high_surrogate u)) [ inl lead ↦ absurd (false≢true (sym none ∙ surrogate-high u lead)) | inr not ↦ not ]
+plain-not_high u none = elim (cases_Bool (is_high_surrogate u)) [
+  | inl lead ↦ absurd (false≢true (sym none ∙ surrogate-high u lead))
+  | inr not ↦ not
+]
 
 -- and no others
 pub scalars_of-Spells : (odd : Bool) (units chars : List ℕ) → Spells odd units chars → chars ≡ scalars_of odd units
@@ -65,14 +73,17 @@ unfolding scalars_of
 scalars_of-Spells odd _ _ (at_end none) = rw none refl
 scalars_of-Spells odd _ _ (at_odd is) = rw is refl
 scalars_of-Spells odd _ _ (plain u units chars none rest) =
-    ap (λ l. u ∷ l) (scalars_of-Spells odd units chars rest) ∙ ap (λ k. k ∷ scalars_of odd units) (sym (alone-is u false none)) ∙ sym (scalars_of-alone odd u units (plain-not_high u none))
+    ap (λ l. u ∷ l) (scalars_of-Spells odd units chars rest) ∙ ap (λ k. k ∷ scalars_of odd units) (sym (alone-is u false none))
+    ∙ sym (scalars_of-alone odd u units (plain-not_high u none))
 scalars_of-Spells odd _ _ (pair u v units chars lead also rest) =
     ap (λ l. surrogate_pair_char u v ∷ l) (scalars_of-Spells odd units chars rest) ∙ sym (scalars_of-pair odd u v units lead also)
 scalars_of-Spells odd _ _ (low u units chars is rest) =
     let not = low-not_high u is in
-    ap (λ l. replacement ∷ l) (scalars_of-Spells odd units chars rest) ∙ ap (λ k. k ∷ scalars_of odd units) (sym (alone-is u true (surrogate-low u true not is)))
+    ap (λ l. replacement ∷ l) (scalars_of-Spells odd units chars rest)
+    ∙ ap (λ k. k ∷ scalars_of odd units) (sym (alone-is u true (surrogate-low u true not is)))
     ∙ sym (scalars_of-alone odd u units not)
 scalars_of-Spells odd _ _ (high u v units chars lead is rest) =
-    ap (λ l. replacement ∷ l) (scalars_of-Spells odd (v ∷ units) chars rest) ∙ ap (λ k. k ∷ scalars_of odd (v ∷ units)) (sym (alone-is u true (surrogate-high u lead)))
+    ap (λ l. replacement ∷ l) (scalars_of-Spells odd (v ∷ units) chars rest)
+    ∙ ap (λ k. k ∷ scalars_of odd (v ∷ units)) (sym (alone-is u true (surrogate-high u lead)))
     ∙ sym (scalars_of-high odd u v units lead is)
 scalars_of-Spells odd _ _ (waiting u lead) = rw lead refl

@@ -1,30 +1,35 @@
 -- What bytes of UTF-16 spell, one scalar value at a time.
-use Rattle.std.proofs.Common.{◌≡◌, ◌⊎◌, ℕ, ◌<◌, ◌≤◌, Bool, true, false, cond, ◌&&◌, List, [], ◌∷◌, ◌++◌, length, drop, slice_index, encode_utf8, encode_utf8_all, refl, sym, ap, ◌∙◌, arith}
+use Rattle.std.proofs.Common.{◌≡◌, ◌⊎◌, ℕ, ◌<◌, ◌≤◌, Bool, true, false, cond, ◌&&◌, List, [], ◌∷◌, ◌++◌, length, drop, slice_index}
+use Rattle.std.proofs.Common.{encode_utf8, encode_utf8_all, refl, sym, ap, ◌∙◌, arith}
 use Rattle.std.proofs.lemmas.Bool.Decides.{nat_tests}
 use Rattle.std.specs.Char.Utf16.{is_low_surrogate, is_high_surrogate, surrogate_pair_char}
 use Rattle.grep_decode.specs.declared.byte_order.ByteOrder.{ByteOrder}
 use Rattle.grep_decode.specs.Decoded.{odd_scalars, replacement, unit_of, units_of, has_odd_byte, alone, scalars_of, utf16_text}
 
 -- a unit that begins no pair
-pub scalars_of-alone : (odd : Bool) (unit : ℕ) (units : List ℕ) → is_high_surrogate unit ≡ false → scalars_of odd (unit ∷ units) ≡ alone unit ∷ scalars_of odd units
+pub scalars_of-alone : (odd : Bool) (unit : ℕ) (units : List ℕ) → is_high_surrogate unit ≡ false
+    → scalars_of odd (unit ∷ units) ≡ alone unit ∷ scalars_of odd units
 unfolding scalars_of
 scalars_of-alone odd unit [] not = ap (λ b. cond b (replacement ∷ []) (alone unit ∷ odd_scalars odd)) not
 scalars_of-alone odd unit (next ∷ units) not =
-    ap (λ b. cond (b && is_low_surrogate next) (surrogate_pair_char unit next ∷ scalars_of odd units) (alone unit ∷ scalars_of odd (next ∷ units))) not
+    ap (λ b. cond (b && is_low_surrogate next) (surrogate_pair_char unit next ∷ scalars_of odd units)
+    (alone unit ∷ scalars_of odd (next ∷ units))) not
 
 -- a leading surrogate with no trailing one after it
 pub scalars_of-high : (odd : Bool) (unit next : ℕ) (units : List ℕ) → is_high_surrogate unit ≡ true → is_low_surrogate next ≡ false
     → scalars_of odd (unit ∷ next ∷ units) ≡ alone unit ∷ scalars_of odd (next ∷ units)
 unfolding scalars_of
 scalars_of-high odd unit next units lead not =
-    ap (λ b. cond (b && is_low_surrogate next) (surrogate_pair_char unit next ∷ scalars_of odd units) (alone unit ∷ scalars_of odd (next ∷ units))) lead
+    ap (λ b. cond (b && is_low_surrogate next) (surrogate_pair_char unit next ∷ scalars_of odd units)
+    (alone unit ∷ scalars_of odd (next ∷ units))) lead
     ∙ ap (λ b. cond b (surrogate_pair_char unit next ∷ scalars_of odd units) (alone unit ∷ scalars_of odd (next ∷ units))) not
 
 pub scalars_of-pair : (odd : Bool) (unit next : ℕ) (units : List ℕ) → is_high_surrogate unit ≡ true → is_low_surrogate next ≡ true
     → scalars_of odd (unit ∷ next ∷ units) ≡ surrogate_pair_char unit next ∷ scalars_of odd units
 unfolding scalars_of
 scalars_of-pair odd unit next units lead also =
-    ap (λ b. cond (b && is_low_surrogate next) (surrogate_pair_char unit next ∷ scalars_of odd units) (alone unit ∷ scalars_of odd (next ∷ units))) lead
+    ap (λ b. cond (b && is_low_surrogate next) (surrogate_pair_char unit next ∷ scalars_of odd units)
+    (alone unit ∷ scalars_of odd (next ∷ units))) lead
     ∙ ap (λ b. cond b (surrogate_pair_char unit next ∷ scalars_of odd units) (alone unit ∷ scalars_of odd (next ∷ units))) also
 
 -- what a unit is
@@ -47,7 +52,8 @@ pub alone-surrogate : (u : ℕ) → 0xD800 ≤ u → u < 0xE000 → alone u ≡ 
 alone-surrogate u low high = grind (arith, nat_tests)
 
 -- a unit at the front that begins no pair
-pub text-alone : (order : ByteOrder) (xs more : List ℕ) (u : ℕ) → 2 ≤ length xs → u ≡ unit_of order (slice_index xs 0) (slice_index xs 1) → is_high_surrogate u ≡ false
+pub text-alone : (order : ByteOrder) (xs more : List ℕ) (u : ℕ) → 2 ≤ length xs → u ≡ unit_of order (slice_index xs 0) (slice_index xs 1)
+    → is_high_surrogate u ≡ false
     → utf16_text order (xs ++ more) ≡ encode_utf8 (alone u) ++ utf16_text order (drop 2 xs ++ more)
 unfolding utf16_text units_of has_odd_byte
 text-alone order [] more u long is not = absurd (omega arith)
@@ -89,8 +95,10 @@ text-pair order (a ∷ b ∷ c ∷ d ∷ xs) more u v long is then lead also =
     ∙ ap encode_utf8_all (scalars_of-pair odd u v units lead also)
 
 -- at the end of the input: a leading surrogate, and an odd byte after it or none
-pub text-waiting : (order : ByteOrder) (xs more : List ℕ) (u : ℕ) → 2 ≤ length xs → length xs < 4 → u ≡ unit_of order (slice_index xs 0) (slice_index xs 1)
-    → is_high_surrogate u ≡ true → more ≡ [] → utf16_text order (xs ++ more) ≡ encode_utf8 replacement ++ utf16_text order (drop (length xs) xs ++ more)
+pub text-waiting : (order : ByteOrder) (xs more : List ℕ) (u : ℕ) → 2 ≤ length xs → length xs < 4
+    → u ≡ unit_of order (slice_index xs 0) (slice_index xs 1)
+    → is_high_surrogate u ≡ true → more ≡ []
+    → utf16_text order (xs ++ more) ≡ encode_utf8 replacement ++ utf16_text order (drop (length xs) xs ++ more)
 unfolding utf16_text units_of has_odd_byte scalars_of
 text-waiting order [] more u long short is lead none = absurd (omega arith)
 text-waiting order (a ∷ []) more u long short is lead none = absurd (omega arith)
@@ -99,7 +107,8 @@ text-waiting order (a ∷ b ∷ c ∷ []) more u long short is lead none = rw (n
 text-waiting order (a ∷ b ∷ c ∷ d ∷ xs) more u long short is lead none = absurd (omega arith)
 
 -- at the end of the input: an odd byte
-pub text-odd : (order : ByteOrder) (xs more : List ℕ) → length xs ≡ 1 → more ≡ [] → utf16_text order (xs ++ more) ≡ encode_utf8 replacement ++ utf16_text order (drop 1 xs ++ more)
+pub text-odd : (order : ByteOrder) (xs more : List ℕ) → length xs ≡ 1 → more ≡ []
+    → utf16_text order (xs ++ more) ≡ encode_utf8 replacement ++ utf16_text order (drop 1 xs ++ more)
 unfolding utf16_text units_of has_odd_byte scalars_of
 text-odd order [] more one none = absurd (omega arith)
 text-odd order (a ∷ []) more one none = rw none refl

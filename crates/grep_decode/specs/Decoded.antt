@@ -1,5 +1,7 @@
 -- The decoded bytes of an input.
-use Rattle.std.specs.Prelude.{◌≡◌, ℕ, ◌+◌, ◌*◌, Bool, true, false, ◌&&◌, ◌||◌, not, List, [], ◌∷◌, drop, length, Option, None, Some, is_some, encode_utf8_all, if◌then◌else◌}
+use Rattle.std.specs.Prelude.{◌≡◌, ℕ, ◌+◌, ◌*◌, Bool, true, false, ◌&&◌, ◌||◌, not, List, [], ◌∷◌}
+use Rattle.std.specs.Prelude.{drop, length, Option, None, Some, is_some, encode_utf8_all}
+use Rattle.std.specs.Prelude.{if◌then◌else◌}
 use Rattle.std.specs.Str.Lossy.{utf8_lossy}
 use Rattle.std.specs.Char.Utf16.{is_low_surrogate, is_high_surrogate, surrogate_pair_char}
 use Rattle.grep_decode.specs.declared.byte_order.ByteOrder.{ByteOrder}
@@ -45,14 +47,16 @@ pub data Spells (odd : Bool) : List ℕ → List ℕ → Type 0 where
   plain : (unit : ℕ) (units chars : List ℕ) → is_surrogate unit ≡ false → Spells odd units chars
       → Spells odd (unit ∷ units) (unit ∷ chars)
   -- a leading surrogate with a trailing one after it
-  pair : (high low : ℕ) (units chars : List ℕ) → is_high_surrogate high ≡ true → is_low_surrogate low ≡ true
-      → Spells odd units chars → Spells odd (high ∷ low ∷ units) (surrogate_pair_char high low ∷ chars)
+  pair : (high low : ℕ) (units chars : List ℕ) → is_high_surrogate high ≡ true
+      → is_low_surrogate low ≡ true → Spells odd units chars
+      → Spells odd (high ∷ low ∷ units) (surrogate_pair_char high low ∷ chars)
   -- a trailing surrogate with no leading one before it
   low : (unit : ℕ) (units chars : List ℕ) → is_low_surrogate unit ≡ true → Spells odd units chars
       → Spells odd (unit ∷ units) (replacement ∷ chars)
   -- a leading surrogate with another unit after it, which is read on its own
-  high : (unit next : ℕ) (units chars : List ℕ) → is_high_surrogate unit ≡ true → is_low_surrogate next ≡ false
-      → Spells odd (next ∷ units) chars → Spells odd (unit ∷ next ∷ units) (replacement ∷ chars)
+  high : (unit next : ℕ) (units chars : List ℕ) → is_high_surrogate unit ≡ true
+      → is_low_surrogate next ≡ false → Spells odd (next ∷ units) chars
+      → Spells odd (unit ∷ next ∷ units) (replacement ∷ chars)
   -- a leading surrogate as the last unit, together with the odd byte if there is one
   waiting : (unit : ℕ) → is_high_surrogate unit ≡ true → Spells odd (unit ∷ []) (replacement ∷ [])
 
@@ -67,9 +71,11 @@ odd_scalars odd = if odd then replacement ∷ [] else []
 -- the scalar values that these units spell, with an odd byte after them or none
 unfoldable pub scalars_of : Bool → List ℕ → List ℕ
 scalars_of odd [] = odd_scalars odd
-scalars_of odd (unit ∷ []) = if is_high_surrogate unit then replacement ∷ [] else alone unit ∷ odd_scalars odd
+scalars_of odd (unit ∷ []) =
+    if is_high_surrogate unit then replacement ∷ [] else alone unit ∷ odd_scalars odd
 scalars_of odd (unit ∷ next ∷ units) =
-    if is_high_surrogate unit && is_low_surrogate next then surrogate_pair_char unit next ∷ scalars_of odd units
+    if is_high_surrogate unit && is_low_surrogate next
+    then surrogate_pair_char unit next ∷ scalars_of odd units
     else alone unit ∷ scalars_of odd (next ∷ units)
 
 -- bytes of UTF-16, spelled in UTF-8

@@ -1,5 +1,6 @@
 -- What a decoder holds, what it has still to give, and what its reads do.
-use Rattle.std.specs.Prelude.{◌≡◌, ℕ, ◌≤◌, Bool, true, false, ◌||◌, List, [], ◌++◌, length, Option, None, Some, is_some, Ok, Err, IfSome, if◌then◌else◌}
+use Rattle.std.specs.Prelude.{◌≡◌, ℕ, ◌≤◌, Bool, true, false, ◌||◌, List, [], ◌++◌, length, Option}
+use Rattle.std.specs.Prelude.{None, Some, is_some, Ok, Err, IfSome, if◌then◌else◌}
 use Rattle.std.specs.List.{concat}
 use Rattle.std.specs.Option.{option_map}
 use Rattle.std.specs.Io.KnownBytes.{Consumes, IsAtEnd}
@@ -11,8 +12,9 @@ use Rattle.grep_decode.specs.Decoded.{decoded, found_mark, text_of}
 use Rattle.grep_decode.specs.Source.{ReadResult, Pulls}
 use Rattle.std.specs.declared.io.Error.{Error}
 
--- A decoder: decoded bytes that weren't given yet, bytes of the reader that weren't decoded yet, how the reader's bytes
--- are read, whether the reader has returned no bytes, and for how many bytes of the reader there is room.
+-- A decoder: decoded bytes that weren't given yet, bytes of the reader that weren't decoded yet,
+-- how the reader's bytes are read, whether the reader has returned no bytes, and for how many bytes
+-- of the reader there is room.
 pub record DecoderState : Type 0 where
   pub ready : List ℕ
   pub held : List ℕ
@@ -23,7 +25,13 @@ pub record DecoderState : Type 0 where
 -- a decoder that was started and has read nothing
 abbrev pub started : ℕ → Option Label → Bool → DecoderState
 started capacity label sniff =
-    record { ready = []; held = []; mode = Fresh label sniff; has_ended = false; capacity = capacity }
+    record {
+      ready = [];
+      held = [];
+      mode = Fresh label sniff;
+      has_ended = false;
+      capacity = capacity;
+    }
 
 -- what an input becomes in this mode
 abbrev pub decode_by : Mode → List ℕ → List ℕ
@@ -75,7 +83,8 @@ LooksForMark (Fresh label sniff) = (sniff || is_some label) ≡ true
 LooksForMark Passing = ⊥
 LooksForMark (Decoding label) = ⊥
 
--- how many bytes more than it gives a read takes from the reader at most, if the bytes pass unchanged
+-- how many bytes more than it gives a read takes from the reader at most, if the bytes pass
+-- unchanged
 abbrev pub runs_ahead : Mode → ℕ
 runs_ahead (Fresh label sniff) = if sniff || is_some label then 3 else 0
 runs_ahead Passing = 0
@@ -93,8 +102,8 @@ HasNoMark (Decoding label) input = Unit {0}
 abbrev pub TakesAtMost : Option (List ℕ) → Option (List ℕ) → ℕ → Type 0
 TakesAtMost before after most = (came : List ℕ) × (length came ≤ most) × Consumes before after came
 
--- what is held in each mode: while a mark is looked for, some of its bytes; if the bytes pass unchanged, what was read
--- ahead is ready
+-- what is held in each mode: while a mark is looked for, some of its bytes; if the bytes pass
+-- unchanged, what was read ahead is ready
 abbrev pub FitsMode : Mode → List ℕ → List ℕ → Type 0
 FitsMode (Fresh label sniff) ready held = (ready ≡ []) × (length held ≤ 3)
 FitsMode Passing ready held = (length ready ≤ 3) × (held ≡ [])
@@ -107,16 +116,20 @@ pub record IsDone (d : DecoderState) : Type 0 where
   pub held : d.held ≡ []
 
 module _ {R : Type 0} (remaining : R → Option (List ℕ)) (step : R → ReadResult → R → Type 0) where
-  -- The calls of the reader that returned these pieces, by whether it had ended before and has ended now: when it ends, one
-  -- more call returned no bytes; after its end it isn't called.
+  -- The calls of the reader that returned these pieces, by whether it had ended before and has
+  -- ended now: when it ends, one more call returned no bytes; after its end it isn't called.
   abbrev pub Calls : Bool → Bool → R → List (List ℕ) → R → Type 0
   Calls false false old pieces new = Pulls step old pieces new
-  Calls false true old pieces new = (mid : R) × Pulls step old pieces mid × step mid (Ok []) new × IsAtEnd (remaining new)
+  Calls false true old pieces new =
+      (mid : R) × Pulls step old pieces mid × step mid (Ok []) new × IsAtEnd (remaining new)
   Calls true had old pieces new = (had ≡ true) × (pieces ≡ []) × (new ≡ old)
 
-  -- Reads of a decoder gave these bytes: calls of the reader returned some pieces, and what the decoder had still to give
-  -- is what it gave and what it has still to give now, whichever bytes are still to come.
-  pub record Decodes (old : DecoderState) (reader : R) (given : List ℕ) (new : DecoderState) (reader' : R) : Type 0 where
+  -- Reads of a decoder gave these bytes: calls of the reader returned some pieces, and what the
+  -- decoder had still to give is what it gave and what it has still to give now, whichever bytes
+  -- are still to come.
+  pub record Decodes
+      (old : DecoderState) (reader : R) (given : List ℕ) (new : DecoderState) (reader' : R)
+      : Type 0 where
     pub pieces : List (List ℕ)
     pub calls : Calls old.has_ended new.has_ended reader pieces reader'
     pub takes : Consumes (remaining reader) (remaining reader') (concat pieces)
@@ -125,16 +138,20 @@ module _ {R : Type 0} (remaining : R → Option (List ℕ)) (step : R → ReadRe
     pub settles : (more : List ℕ) → (new.has_ended ≡ true → more ≡ [])
         → next_mode old (concat pieces ++ more) ≡ next_mode new more
 
-  -- A read of a decoder failed: calls of the reader returned some pieces, of which nothing is lost, and then one returned
-  -- this error.
-  pub record FailsToDecode (old : DecoderState) (reader : R) (error : Error) (new : DecoderState) (reader' : R) : Type 0 where
+  -- A read of a decoder failed: calls of the reader returned some pieces, of which nothing is lost,
+  -- and then one returned this error.
+  pub record FailsToDecode
+      (old : DecoderState) (reader : R) (error : Error) (new : DecoderState) (reader' : R)
+      : Type 0 where
     pub mid : R
     pub decodes : Decodes old reader [] new mid
     pub unended : new.has_ended ≡ false
     pub failed : step mid (Err error) reader'
 
   -- All that a reader returned until it returned no bytes, decoded, is this.
-  pub record IsDecoded (label : Option Label) (sniff : Bool) (reader : R) (given : List ℕ) (reader' : R) : Type 0 where
+  pub record IsDecoded
+      (label : Option Label) (sniff : Bool) (reader : R) (given : List ℕ) (reader' : R)
+      : Type 0 where
     pub pieces : List (List ℕ)
     pub mid : R
     pub pulled : Pulls step reader pieces mid

@@ -15,11 +15,13 @@ module _ {S : Type 0} (step : S → ReadResult → S → Type 0) where
   -- from the old state to the new one by calls that returned these pieces, none of them empty
   abbrev pub Pulls : S → List (List ℕ) → S → Type 0
   Pulls old [] new = old ≡ new
-  Pulls old (piece ∷ pieces) new = (0 < length piece) × ((mid : S) × step old (Ok piece) mid × Pulls mid pieces new)
+  Pulls old (piece ∷ pieces) new = (0 < length piece)
+      × ((mid : S) × step old (Ok piece) mid × Pulls mid pieces new)
 
   -- the same by calls that returned bytes, and then one that returned this error
   abbrev pub FailsWith : S → Error → S → Type 0
-  FailsWith old e new = (pieces : List (List ℕ)) × (mid : S) × Pulls old pieces mid × step mid (Err e) new
+  FailsWith old e new = (pieces : List (List ℕ)) × (mid : S) × Pulls old pieces mid
+      × step mid (Err e) new
 
   -- the same by calls that returned bytes, however many
   abbrev pub PullsSome : S → S → Type 0

@@ -13,11 +13,18 @@ pub record UndecodedBytes : Type 0 where
 
 -- a decoder that holds these bytes, in this mode, and has nothing ready
 abbrev pub holding : Mode → UndecodedBytes → DecoderState
-holding mode u = record { ready = []; held = u.bytes; mode = mode; has_ended = u.has_ended; capacity = u.capacity }
+holding mode u = record {
+  ready = [];
+  held = u.bytes;
+  mode = mode;
+  has_ended = u.has_ended;
+  capacity = u.capacity;
+}
 
 -- one call of the reader returned a piece of this length, which came after the bytes
 pub record Grows {R : Type 0} (remaining : R → Option (List ℕ)) (step : R → ReadResult → R → Type 0)
-    (old : UndecodedBytes) (reader : R) (count : ℕ) (new : UndecodedBytes) (reader' : R) : Type 0 where
+    (old : UndecodedBytes) (reader : R) (count : ℕ) (new : UndecodedBytes) (reader' : R)
+    : Type 0 where
   pub piece : List ℕ
   pub counted : length piece ≡ count
   pub appended : new.bytes ≡ old.bytes ++ piece

@@ -1,9 +1,14 @@
 //! A decoder over a source of bytes.
-ghost use Rattle.std.specs.Prelude.{◌≡◌, ◌⊎◌, ◌<◌, ◌≤◌, ◌+◌, ◌++◌, ℕ, Bool, true, false, List, [], None, length, take, drop, min, IsTrue, IfOk, IfErr, IfSome, OnOk, OnErr, Err};
+ghost use Rattle.std.specs.Prelude.{◌≡◌, ◌⊎◌, ◌<◌, ◌≤◌, ◌+◌, ◌++◌, ℕ, Bool, true, false, List, []};
+ghost use Rattle.std.specs.Prelude.{None, length, take, drop, min, IsTrue, IfOk, IfErr, IfSome};
+ghost use Rattle.std.specs.Prelude.{OnOk, OnErr, Err};
 ghost use Rattle.std.specs.Io.{ReadsAtMost};
 ghost use Rattle.std.specs.Io.KnownBytes.{Consumes, Keeps, IsAtEnd};
 ghost use Rattle.grep_decode.specs.Source.{FailsWith, read_result};
-ghost use Rattle.grep_decode.specs.DecoderStates.{DecoderState, Decodes, FailsToDecode, FitsMode, HasNoMark, IsDone, IsSettled, LooksForMark, TakesAtMost, mode_of, next_mode, runs_ahead, started, still_to_give, yet};
+ghost use Rattle.grep_decode.specs.DecoderStates.{DecoderState, Decodes, FailsToDecode, FitsMode};
+ghost use Rattle.grep_decode.specs.DecoderStates.{HasNoMark, IsDone, IsSettled, LooksForMark};
+ghost use Rattle.grep_decode.specs.DecoderStates.{TakesAtMost, mode_of, next_mode, runs_ahead};
+ghost use Rattle.grep_decode.specs.DecoderStates.{started, still_to_give, yet};
 ghost use Rattle.grep_decode.specs.Decoded.{found_mark};
 ghost use Rattle.grep_decode.specs.Marks.{marked, mark_length};
 
@@ -39,8 +44,8 @@ impl<A: Allocator> Model for Decoder<A> {
 }
 
 impl<A: Allocator> Decoder<A> {
-    /// A decoder that keeps at most `capacity` bytes of its reader, which the caller ensures to be at least 8. It is as
-    /// one that was started with no label and without sniffing.
+    /// A decoder that keeps at most `capacity` bytes of its reader, which the caller ensures to be
+    /// at least 8. It is as one that was started with no label and without sniffing.
     pub fn new(alloc: A, capacity: usize) -> Result<Decoder<A>, AllocError>
         requires { 8 ≤ capacity }
         ensures { IfOk result (λ d. d ≡ started capacity None false) }
@@ -53,8 +58,8 @@ impl<A: Allocator> Decoder<A> {
         })
     }
 
-    /// Begins on a new reader, of which it reads nothing: the bytes have this label, or none, and `sniff` says whether
-    /// a mark is looked for without a label too.
+    /// Begins on a new reader, of which it reads nothing: the bytes have this label, or none, and
+    /// `sniff` says whether a mark is looked for without a label too.
     pub fn start(&mut self, label: Option<Label>, sniff: bool)
         ensures { self.new ≡ started self.old.capacity label sniff }
     {
@@ -63,18 +68,20 @@ impl<A: Allocator> Decoder<A> {
         self.mode = Mode::Fresh(label, sniff);
     }
 
-    /// Reads decoded bytes into the front of `buffer`, and returns how many. It returns 0 to a buffer with room only if
-    /// nothing is left. After the reader has returned no bytes it isn't called.
+    /// Reads decoded bytes into the front of `buffer`, and returns how many. It returns 0 to a
+    /// buffer with room only if nothing is left. After the reader has returned no bytes it isn't
+    /// called.
     ///
-    /// An error is the reader's own, also one of kind `Interrupted`. Nothing is lost then: the decoder is as if the call
-    /// that failed had not been made.
+    /// An error is the reader's own, also one of kind `Interrupted`. Nothing is lost then: the
+    /// decoder is as if the call that failed had not been made.
     pub fn read<R: Source>(&mut self, reader: &mut R, buffer: &mut [u8]) -> io::Result<usize>
         ensures bound { ReadsAtMost result buffer.new }
         ensures capacity { self.new.capacity ≡ self.old.capacity }
 
         // what is returned is the front of what was still to give
         ensures decodes { IfOk result (λ count.
-            Decodes R.remaining R.step self.old reader.old (take count buffer.new) self.new reader.new) }
+            Decodes R.remaining R.step self.old reader.old
+            (take count buffer.new) self.new reader.new) }
         ensures gives { IfOk result (λ count. Consumes (yet self.old (R.remaining reader.old))
             (yet self.new (R.remaining reader.new)) (take count buffer.new)) }
         ensures done { IfOk result (λ count. count ≡ 0 → 0 < length buffer.new → IsDone self.new) }
@@ -83,25 +90,31 @@ impl<A: Allocator> Decoder<A> {
 
         // an error is the reader's, and nothing is lost
         ensures fault { IfErr result (λ e. FailsWith R.step reader.old e reader.new) }
-        ensures failed { IfErr result (λ e. FailsToDecode R.remaining R.step self.old reader.old e self.new reader.new) }
+        ensures failed { IfErr result (λ e.
+            FailsToDecode R.remaining R.step self.old reader.old e self.new reader.new) }
         ensures kept { OnErr result (Keeps (yet self.old (R.remaining reader.old))
             (yet self.new (R.remaining reader.new))) }
 
         // once nothing is ready, bytes that pass unchanged are those of one call of the reader
-        ensures beneath { self.old.mode ≡ Mode.Passing → self.old.ready ≡ [] → self.old.has_ended ≡ false
-            → 0 < length buffer.new → R.step reader.old (read_result result buffer.new) reader.new }
+        ensures beneath { self.old.mode ≡ Mode.Passing → self.old.ready ≡ []
+            → self.old.has_ended ≡ false → 0 < length buffer.new
+            → R.step reader.old (read_result result buffer.new) reader.new }
         ensures ready { 0 < length self.old.ready → IfOk result (λ count.
             (count ≡ min (length self.old.ready) (length buffer.new)) × (reader.new ≡ reader.old)) }
         ensures first { self.old.held ≡ [] → self.old.has_ended ≡ false → LooksForMark self.old.mode
-            → IfOk result (λ count. IfSome (R.remaining reader.old) (λ input. HasNoMark self.old.mode input
-            → self.new.mode ≡ Mode.Passing → count ≡ min (length buffer.new) (min 3 (length input)))) }
+            → IfOk result (λ count.
+            IfSome (R.remaining reader.old) (λ input. HasNoMark self.old.mode input
+            → self.new.mode ≡ Mode.Passing
+            → count ≡ min (length buffer.new) (min 3 (length input)))) }
 
         // how far the decoder is ahead of what it gave, if the bytes pass unchanged
         ensures settled { OnOk result (0 < length buffer.new → IsSettled self.new.mode) }
         ensures stays { IsSettled self.old.mode → self.new.mode ≡ self.old.mode }
         ensures ahead { IfOk result (λ count. self.new.mode ≡ Mode.Passing
-            → TakesAtMost (R.remaining reader.old) (R.remaining reader.new) (count + runs_ahead self.old.mode)) }
-        ensures passing { self.new.mode ≡ Mode.Passing → (length self.new.ready ≤ 3) × (self.new.held ≡ []) }
+            → TakesAtMost (R.remaining reader.old) (R.remaining reader.new)
+            (count + runs_ahead self.old.mode)) }
+        ensures passing { self.new.mode ≡ Mode.Passing → (length self.new.ready ≤ 3)
+            × (self.new.held ≡ []) }
         ensures few { OnErr result (IsSettled self.new.mode ⊎ TakesAtMost (R.remaining reader.old)
             (R.remaining reader.new) 2) }
         ensures empty { OnErr result (self.new.ready ≡ []) }
@@ -113,7 +126,8 @@ impl<A: Allocator> Decoder<A> {
 
     // What is held if the bytes pass unchanged.
     fn holds_few(&self)
-        ensures { self.now.mode ≡ Mode.Passing → (length self.now.ready ≤ 3) × (self.now.held ≡ []) }
+        ensures { self.now.mode ≡ Mode.Passing → (length self.now.ready ≤ 3)
+            × (self.now.held ≡ []) }
     {
         let _mode = self.mode;
     }
@@ -123,20 +137,26 @@ impl<A: Allocator> Decoder<A> {
         ensures bound { ReadsAtMost result buffer.new }
         ensures capacity { self.new.capacity ≡ self.old.capacity }
         ensures decodes { IfOk result (λ count.
-            Decodes R.remaining R.step self.old reader.old (take count buffer.new) self.new reader.new) }
+            Decodes R.remaining R.step self.old reader.old
+            (take count buffer.new) self.new reader.new) }
         ensures done { IfOk result (λ count. count ≡ 0 → 0 < length buffer.new → IsDone self.new) }
-        ensures failed { IfErr result (λ e. FailsToDecode R.remaining R.step self.old reader.old e self.new reader.new) }
-        ensures beneath { self.old.mode ≡ Mode.Passing → self.old.ready ≡ [] → self.old.has_ended ≡ false
-            → 0 < length buffer.new → R.step reader.old (read_result result buffer.new) reader.new }
+        ensures failed { IfErr result (λ e.
+            FailsToDecode R.remaining R.step self.old reader.old e self.new reader.new) }
+        ensures beneath { self.old.mode ≡ Mode.Passing → self.old.ready ≡ []
+            → self.old.has_ended ≡ false → 0 < length buffer.new
+            → R.step reader.old (read_result result buffer.new) reader.new }
         ensures ready { 0 < length self.old.ready → IfOk result (λ count.
             (count ≡ min (length self.old.ready) (length buffer.new)) × (reader.new ≡ reader.old)) }
         ensures first { self.old.held ≡ [] → self.old.has_ended ≡ false → LooksForMark self.old.mode
-            → IfOk result (λ count. IfSome (R.remaining reader.old) (λ input. HasNoMark self.old.mode input
-            → self.new.mode ≡ Mode.Passing → count ≡ min (length buffer.new) (min 3 (length input)))) }
+            → IfOk result (λ count.
+            IfSome (R.remaining reader.old) (λ input. HasNoMark self.old.mode input
+            → self.new.mode ≡ Mode.Passing
+            → count ≡ min (length buffer.new) (min 3 (length input)))) }
         ensures settled { OnOk result (0 < length buffer.new → IsSettled self.new.mode) }
         ensures stays { IsSettled self.old.mode → self.new.mode ≡ self.old.mode }
         ensures ahead { IfOk result (λ count. self.new.mode ≡ Mode.Passing
-            → TakesAtMost (R.remaining reader.old) (R.remaining reader.new) (count + runs_ahead self.old.mode)) }
+            → TakesAtMost (R.remaining reader.old) (R.remaining reader.new)
+            (count + runs_ahead self.old.mode)) }
         ensures few { OnErr result (IsSettled self.new.mode ⊎ TakesAtMost (R.remaining reader.old)
             (R.remaining reader.new) 2) }
         ensures empty { OnErr result (self.new.ready ≡ []) }
@@ -161,10 +181,13 @@ impl<A: Allocator> Decoder<A> {
         ensures capacity { self.new.capacity ≡ self.old.capacity }
         ensures mode { self.new.mode ≡ self.old.mode }
         ensures decodes { IfOk result (λ count.
-            Decodes R.remaining R.step self.old reader.old (take count buffer.new) self.new reader.new) }
+            Decodes R.remaining R.step self.old reader.old
+            (take count buffer.new) self.new reader.new) }
         ensures done { IfOk result (λ count. count ≡ 0 → IsDone self.new) }
-        ensures failed { IfErr result (λ e. FailsToDecode R.remaining R.step self.old reader.old e self.new reader.new) }
-        ensures beneath { self.old.mode ≡ Mode.Passing → self.old.ready ≡ [] → self.old.has_ended ≡ false
+        ensures failed { IfErr result (λ e.
+            FailsToDecode R.remaining R.step self.old reader.old e self.new reader.new) }
+        ensures beneath { self.old.mode ≡ Mode.Passing → self.old.ready ≡ []
+            → self.old.has_ended ≡ false
             → R.step reader.old (read_result result buffer.new) reader.new }
         ensures ready { 0 < length self.old.ready → IfOk result (λ count.
             (count ≡ min (length self.old.ready) (length buffer.new)) × (reader.new ≡ reader.old)) }
@@ -191,11 +214,15 @@ impl<A: Allocator> Decoder<A> {
         ensures mode { self.new.mode ≡ Mode.Passing }
         ensures empty { self.new.ready ≡ [] }
         ensures decodes { IfOk result (λ count.
-            Decodes R.remaining R.step self.old reader.old (take count buffer.new) self.new reader.new) }
+            Decodes R.remaining R.step self.old reader.old
+            (take count buffer.new) self.new reader.new) }
         ensures done { IfOk result (λ count. count ≡ 0 → IsDone self.new) }
-        ensures failed { IfErr result (λ e. FailsToDecode R.remaining R.step self.old reader.old e self.new reader.new) }
-        ensures beneath { self.old.has_ended ≡ false → R.step reader.old (read_result result buffer.new) reader.new }
-        ensures ahead { IfOk result (λ count. TakesAtMost (R.remaining reader.old) (R.remaining reader.new) count) }
+        ensures failed { IfErr result (λ e.
+            FailsToDecode R.remaining R.step self.old reader.old e self.new reader.new) }
+        ensures beneath { self.old.has_ended ≡ false
+            → R.step reader.old (read_result result buffer.new) reader.new }
+        ensures ahead { IfOk result (λ count.
+            TakesAtMost (R.remaining reader.old) (R.remaining reader.new) count) }
     {
         self.held.pass(reader, buffer)
     }
@@ -209,15 +236,18 @@ impl<A: Allocator> Decoder<A> {
     ) -> io::Result<()>
         requires { self.old.mode ≡ Mode.Fresh label sniff }
         ensures capacity { self.new.capacity ≡ self.old.capacity }
-        ensures decodes { OnOk result (Decodes R.remaining R.step self.old reader.old [] self.new reader.new) }
+        ensures decodes { OnOk result
+            (Decodes R.remaining R.step self.old reader.old [] self.new reader.new) }
         ensures settled { OnOk result (IsSettled self.new.mode) }
         ensures ahead { OnOk result (TakesAtMost (R.remaining reader.old) (R.remaining reader.new)
             (runs_ahead self.old.mode)) }
         ensures first { self.old.held ≡ [] → self.old.has_ended ≡ false → LooksForMark self.old.mode
             → OnOk result (IfSome (R.remaining reader.old) (λ input. HasNoMark self.old.mode input
             → self.new.mode ≡ Mode.Passing → self.new.ready ≡ take 3 input)) }
-        ensures failed { IfErr result (λ e. FailsToDecode R.remaining R.step self.old reader.old e self.new reader.new) }
-        ensures few { OnErr result (TakesAtMost (R.remaining reader.old) (R.remaining reader.new) 2) }
+        ensures failed { IfErr result (λ e.
+            FailsToDecode R.remaining R.step self.old reader.old e self.new reader.new) }
+        ensures few { OnErr result
+            (TakesAtMost (R.remaining reader.old) (R.remaining reader.new) 2) }
         ensures empty { OnErr result (self.new.ready ≡ []) }
     {
         if sniff || label.is_some() {
@@ -233,7 +263,8 @@ impl<A: Allocator> Decoder<A> {
     // Settles on a mode by the bytes that were read ahead, and drops a mark.
     fn choose(&mut self, label: Option<Label>, sniff: bool)
         requires mode { self.old.mode ≡ Mode.Fresh label sniff }
-        requires enough { LooksForMark self.old.mode → (3 ≤ length self.old.held) ⊎ (self.old.has_ended ≡ true) }
+        requires enough { LooksForMark self.old.mode → (3 ≤ length self.old.held)
+            ⊎ (self.old.has_ended ≡ true) }
         ensures capacity { self.new.capacity ≡ self.old.capacity }
         ensures ended { self.new.has_ended ≡ self.old.has_ended }
         ensures same { (rest : List ℕ) → still_to_give self.old rest ≡ still_to_give self.new rest }
@@ -265,9 +296,11 @@ impl<A: Allocator> Decoder<A> {
         ensures capacity { self.new.capacity ≡ self.old.capacity }
         ensures mode { self.new.mode ≡ Mode.Decoding label }
         ensures decodes { IfOk result (λ count.
-            Decodes R.remaining R.step self.old reader.old (take count buffer.new) self.new reader.new) }
+            Decodes R.remaining R.step self.old reader.old
+            (take count buffer.new) self.new reader.new) }
         ensures done { IfOk result (λ count. count ≡ 0 → IsDone self.new) }
-        ensures failed { IfErr result (λ e. FailsToDecode R.remaining R.step self.old reader.old e self.new reader.new) }
+        ensures failed { IfErr result (λ e.
+            FailsToDecode R.remaining R.step self.old reader.old e self.new reader.new) }
         ensures empty { OnErr result (self.new.ready ≡ []) }
     {
         if buffer.len() >= 4 {

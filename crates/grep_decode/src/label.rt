@@ -16,11 +16,11 @@ pub enum Label {
     Utf16Be,
 }
 
-/// The encoding that a label names, by the table of the Encoding Standard; `None` if the label isn't one of UTF-8 or
-/// of UTF-16 there.
+/// The encoding that a label names, by the table of the Encoding Standard; `None` if the label
+/// isn't one of UTF-8 or of UTF-16 there.
 ///
-/// Tabs, line feeds, form feeds, carriage returns and spaces before and after the label are ignored, and so is the
-/// case of ASCII letters.
+/// Tabs, line feeds, form feeds, carriage returns and spaces before and after the label are
+/// ignored, and so is the case of ASCII letters.
 pub fn label_of(label: &str) -> Option<Label>
     ensures { result ≡ label_named label.now }
 {
@@ -58,8 +58,8 @@ pub fn label_of(label: &str) -> Option<Label>
     None
 }
 
-/// The encoding whose byte order mark some bytes begin with; `None` if they begin with none. The marks are EF BB BF for
-/// UTF-8, FF FE for UTF-16LE and FE FF for UTF-16BE.
+/// The encoding whose byte order mark some bytes begin with; `None` if they begin with none. The
+/// marks are EF BB BF for UTF-8, FF FE for UTF-16LE and FE FF for UTF-16BE.
 pub fn label_of_mark(bytes: &[u8]) -> Option<Label>
     ensures { result ≡ marked bytes.now }
 {

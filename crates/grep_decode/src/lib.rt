@@ -1,5 +1,5 @@
-//! Sources of bytes for a search, each given by what one call does and, if it says so, by the bytes that remain; and a
-//! decoder over them.
+//! Sources of bytes for a search, each given by what one call does and, if it says so, by the bytes
+//! that remain; and a decoder over them.
 #![tactic(auto)]
 
 mod ascii;

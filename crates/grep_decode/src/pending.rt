@@ -1,5 +1,6 @@
 //! Decoded bytes that weren't given yet.
-ghost use Rattle.std.specs.Prelude.{◌≡◌, ◌≤◌, ◌-◌, ◌++◌, ℕ, List, [], length, take, drop, min, true, ◌↔◌};
+ghost use Rattle.std.specs.Prelude.{◌≡◌, ◌≤◌, ◌-◌, ◌++◌, ℕ, List, [], length, take, drop, min};
+ghost use Rattle.std.specs.Prelude.{true, ◌↔◌};
 
 use std::marker::Model;
 

@@ -1,5 +1,6 @@
 //! Sources of bytes for a search.
-ghost use Rattle.std.specs.Prelude.{◌≡◌, ◌++◌, ℕ, List, Option, None, Some, Result, Ok, Err, true, false, MatchResult};
+ghost use Rattle.std.specs.Prelude.{◌≡◌, ◌++◌, ℕ, List, Option, None, Some, Result, Ok, Err, true};
+ghost use Rattle.std.specs.Prelude.{false, MatchResult};
 ghost use Rattle.std.specs.Io.{ReadsAtMost};
 ghost use Rattle.std.specs.Io.KnownBytes.{ReadConsumes, Consumes, Keeps};
 ghost use Rattle.std.specs.declared.io.Error.{Error};
@@ -11,9 +12,10 @@ use std::marker::Model;
 
 /// A source of bytes.
 ///
-/// It is given by its steps: the state before a call, the bytes or the error that the call returned, and the state
-/// after. It may also say which bytes remain. A call then returns bytes from the front of those, and returns none to
-/// a buffer with room only if none remain, so the source stays at its end.
+/// It is given by its steps: the state before a call, the bytes or the error that the call
+/// returned, and the state after. It may also say which bytes remain. A call then returns bytes
+/// from the front of those, and returns none to a buffer with room only if none remain, so the
+/// source stays at its end.
 pub trait Source {
     /// The bytes that calls will return from here on, if the source says which.
     ghost remaining: { Self → Option (List ℕ) } = { λ _. None };
@@ -21,10 +23,11 @@ pub trait Source {
     /// What one call may do: the state before, the result, the state after.
     ghost step: { Self → ReadResult → Self → Type 0 };
 
-    /// Reads bytes into the front of `buffer` and returns how many, which may be fewer than the buffer has room for.
+    /// Reads bytes into the front of `buffer` and returns how many, which may be fewer than the
+    /// buffer has room for.
     ///
-    /// If the source says which bytes remain, it returns 0 to a buffer with room only if none remain, and a call that
-    /// fails takes none. An error is the source's own.
+    /// If the source says which bytes remain, it returns 0 to a buffer with room only if none
+    /// remain, and a call that fails takes none. An error is the source's own.
     fn pull(&mut self, buffer: &mut [u8]) -> io::Result<usize>
         ensures bound { ReadsAtMost result buffer.new }
         ensures bytes { ReadConsumes (remaining self.old) (remaining self.new) result buffer.new }
@@ -54,8 +57,8 @@ impl Source for &[u8] {
     }
 }
 
-/// A standard reader as a source. It says as much of the remaining bytes as the reader does, and keeps whether the last
-/// call failed.
+/// A standard reader as a source. It says as much of the remaining bytes as the reader does, and
+/// keeps whether the last call failed.
 #[derive(Drop)]
 pub struct Reading<R> {
     inner: R,

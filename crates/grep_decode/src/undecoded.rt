@@ -1,8 +1,10 @@
 //! Bytes of a reader that weren't decoded yet.
-ghost use Rattle.std.specs.Prelude.{true, false, IfOk, OnOk, ◌≡◌, ◌⊎◌, ◌<◌, ◌≤◌, ◌-◌, ◌++◌, ℕ, List, [], length, take, drop, Err, IsTrue, IfErr, OnErr};
+ghost use Rattle.std.specs.Prelude.{true, false, IfOk, OnOk, ◌≡◌, ◌⊎◌, ◌<◌, ◌≤◌, ◌-◌, ◌++◌, ℕ};
+ghost use Rattle.std.specs.Prelude.{List, [], length, take, drop, Err, IsTrue, IfErr, OnErr};
 ghost use Rattle.std.specs.Io.{ReadsAtMost};
 ghost use Rattle.std.specs.Io.KnownBytes.{Keeps};
-ghost use Rattle.grep_decode.specs.DecoderStates.{Decodes, FailsToDecode, IsDone, TakesAtMost, still_to_give};
+ghost use Rattle.grep_decode.specs.DecoderStates.{Decodes, FailsToDecode, IsDone, TakesAtMost};
+ghost use Rattle.grep_decode.specs.DecoderStates.{still_to_give};
 ghost use Rattle.grep_decode.specs.Source.{read_result};
 ghost use Rattle.grep_decode.specs.UndecodedBytes.{UndecodedBytes, Grows, holding};
 
@@ -43,7 +45,11 @@ impl<A: Allocator> Model for Undecoded<A> {
 impl<A: Allocator> Undecoded<A> {
     // No bytes, and room for so many.
     pub(crate) fn new(alloc: A, capacity: usize) -> Result<Undecoded<A>, AllocError>
-        ensures { IfOk result (λ u. u ≡ record { bytes = []; has_ended = false; capacity = capacity }) }
+        ensures { IfOk result (λ u. u ≡ record {
+          bytes = [];
+          has_ended = false;
+          capacity = capacity;
+        }) }
     {
         let buffer = vec![in alloc; 0u8; capacity]?;
         Ok(Undecoded {
@@ -56,7 +62,11 @@ impl<A: Allocator> Undecoded<A> {
 
     // Drops all bytes, for a new reader.
     pub(crate) fn restart(&mut self)
-        ensures { self.new ≡ record { bytes = []; has_ended = false; capacity = self.old.capacity } }
+        ensures { self.new ≡ record {
+          bytes = [];
+          has_ended = false;
+          capacity = self.old.capacity;
+        } }
     {
         self.start = 0;
         self.end = 0;
@@ -89,14 +99,15 @@ impl<A: Allocator> Undecoded<A> {
         self.start += count;
     }
 
-    // Decodes bytes from the front into the output, and returns how many bytes it wrote: none only if there is nothing
-    // whole to decode.
+    // Decodes bytes from the front into the output, and returns how many bytes it wrote: none only
+    // if there is nothing whole to decode.
     fn decode(&mut self, label: Label, output: &mut [u8]) -> usize
         requires room { 4 ≤ length output.old }
         ensures bound { result ≤ length output.new }
         ensures same_room { length output.new ≡ length output.old }
         ensures text { (rest : List ℕ) → still_to_give (holding (Mode.Decoding label) self.old) rest
-            ≡ take result output.new ++ still_to_give (holding (Mode.Decoding label) self.new) rest }
+            ≡ take result output.new
+            ++ still_to_give (holding (Mode.Decoding label) self.new) rest }
         ensures stays { result ≡ 0 → self.new ≡ self.old }
         ensures stops { result ≡ 0 → length self.new.bytes < 4 }
         ensures all { result ≡ 0 → self.new.has_ended ≡ true → self.new.bytes ≡ [] }
@@ -115,12 +126,14 @@ impl<A: Allocator> Undecoded<A> {
         written
     }
 
-    // One call of the reader, for at most so many bytes, which come after the others. It returns how many came.
+    // One call of the reader, for at most so many bytes, which come after the others. It returns
+    // how many came.
     fn pull<R: Source>(&mut self, reader: &mut R, most: usize) -> io::Result<usize>
         requires room { length self.old.bytes < self.old.capacity }
         requires some { 0 < most }
         ensures bound { IfOk result (λ count. count ≤ most) }
-        ensures grows { IfOk result (λ count. Grows R.remaining R.step self.old reader.old count self.new reader.new) }
+        ensures grows { IfOk result (λ count.
+            Grows R.remaining R.step self.old reader.old count self.new reader.new) }
         ensures fault { IfErr result (λ e. R.step reader.old (Err e) reader.new) }
         ensures kept { OnErr result (Keeps (R.remaining reader.old) (R.remaining reader.new)) }
         ensures same { OnErr result (self.new ≡ self.old) }
@@ -149,11 +162,15 @@ impl<A: Allocator> Undecoded<A> {
         ensures few { length self.new.bytes ≤ 3 }
         ensures enough { OnOk result ((3 ≤ length self.new.bytes) ⊎ (self.new.has_ended ≡ true)) }
         ensures decodes { (mode : Mode) → OnOk result
-            (Decodes R.remaining R.step (holding mode self.old) reader.old [] (holding mode self.new) reader.new) }
-        ensures ahead { OnOk result (TakesAtMost (R.remaining reader.old) (R.remaining reader.new) 3) }
+            (Decodes R.remaining R.step (holding mode self.old) reader.old []
+            (holding mode self.new) reader.new) }
+        ensures ahead { OnOk result
+            (TakesAtMost (R.remaining reader.old) (R.remaining reader.new) 3) }
         ensures failed { (mode : Mode) → IfErr result (λ e.
-            FailsToDecode R.remaining R.step (holding mode self.old) reader.old e (holding mode self.new) reader.new) }
-        ensures few_came { OnErr result (TakesAtMost (R.remaining reader.old) (R.remaining reader.new) 2) }
+            FailsToDecode R.remaining R.step (holding mode self.old) reader.old e
+            (holding mode self.new) reader.new) }
+        ensures few_came { OnErr result
+            (TakesAtMost (R.remaining reader.old) (R.remaining reader.new) 2) }
     {
         while self.bytes().len() < LONGEST_MARK && !self.has_ended() {
             let missing = LONGEST_MARK - self.bytes().len();
@@ -165,8 +182,8 @@ impl<A: Allocator> Undecoded<A> {
         Ok(())
     }
 
-    // Decodes bytes into the output, with calls of the reader as long as there is nothing whole to decode, and returns how
-    // many bytes it wrote: none only at the end.
+    // Decodes bytes into the output, with calls of the reader as long as there is nothing whole to
+    // decode, and returns how many bytes it wrote: none only at the end.
     pub(crate) fn read<R: Source>(
         &mut self,
         reader: &mut R,
@@ -180,7 +197,8 @@ impl<A: Allocator> Undecoded<A> {
         ensures decodes { IfOk result (λ count. Decodes R.remaining R.step
             (holding (Mode.Decoding label) self.old) reader.old
             (take count output.new) (holding (Mode.Decoding label) self.new) reader.new) }
-        ensures done { IfOk result (λ count. count ≡ 0 → IsDone (holding (Mode.Decoding label) self.new)) }
+        ensures done { IfOk result (λ count.
+            count ≡ 0 → IsDone (holding (Mode.Decoding label) self.new)) }
         ensures failed { IfErr result (λ e. FailsToDecode R.remaining R.step
             (holding (Mode.Decoding label) self.old) reader.old
             e (holding (Mode.Decoding label) self.new) reader.new) }
@@ -204,13 +222,17 @@ impl<A: Allocator> Undecoded<A> {
         ensures bound { ReadsAtMost result output.new }
         ensures capacity { self.new.capacity ≡ self.old.capacity }
         ensures empty { self.new.bytes ≡ [] }
-        ensures decodes { IfOk result (λ count. Decodes R.remaining R.step (holding Mode.Passing self.old) reader.old
+        ensures decodes { IfOk result (λ count.
+            Decodes R.remaining R.step (holding Mode.Passing self.old) reader.old
             (take count output.new) (holding Mode.Passing self.new) reader.new) }
         ensures done { IfOk result (λ count. count ≡ 0 → IsDone (holding Mode.Passing self.new)) }
-        ensures failed { IfErr result (λ e. FailsToDecode R.remaining R.step (holding Mode.Passing self.old) reader.old
-            e (holding Mode.Passing self.new) reader.new) }
-        ensures beneath { self.old.has_ended ≡ false → R.step reader.old (read_result result output.new) reader.new }
-        ensures ahead { IfOk result (λ count. TakesAtMost (R.remaining reader.old) (R.remaining reader.new) count) }
+        ensures failed { IfErr result (λ e.
+            FailsToDecode R.remaining R.step (holding Mode.Passing self.old) reader.old e
+            (holding Mode.Passing self.new) reader.new) }
+        ensures beneath { self.old.has_ended ≡ false
+            → R.step reader.old (read_result result output.new) reader.new }
+        ensures ahead { IfOk result (λ count.
+            TakesAtMost (R.remaining reader.old) (R.remaining reader.new) count) }
     {
         if self.has_ended {
             return Ok(0);

@@ -1,5 +1,6 @@
 //! UTF-16 as UTF-8.
-ghost use Rattle.std.specs.Prelude.{◌≡◌, ◌⊎◌, ◌<◌, ◌≤◌, ◌+◌, ◌++◌, ◌^◌, ℕ, List, [], length, take, drop, IsTrue, IfSome, IfNone, encode_utf8};
+ghost use Rattle.std.specs.Prelude.{◌≡◌, ◌⊎◌, ◌<◌, ◌≤◌, ◌+◌, ◌++◌, ◌^◌, ℕ, List, [], length, take};
+ghost use Rattle.std.specs.Prelude.{drop, IsTrue, IfSome, IfNone, encode_utf8};
 ghost use Rattle.grep_decode.specs.Decoded.{utf16_text, unit_of};
 
 use crate::ascii::put_ascii;
@@ -19,12 +20,14 @@ fn unit_at(order: ByteOrder, first: u8, second: u8) -> u32
     }
 }
 
-// The first scalar value of bytes of UTF-16, and how many bytes it takes; none if it depends on bytes that are missing.
+// The first scalar value of bytes of UTF-16, and how many bytes it takes; none if it depends on
+// bytes that are missing.
 fn next_scalar(order: ByteOrder, is_last: bool, input: &[u8]) -> Option<(u32, usize)>
     ensures scalar { IfSome result (λ r. r.0 < 0x11_0000) }
     ensures size { IfSome result (λ r. (0 < r.1) × (r.1 ≤ length input.now)) }
-    ensures first { IfSome result (λ r. (more : List ℕ) → (IsTrue is_last → more ≡ []) →
-        utf16_text order (input.now ++ more) ≡ encode_utf8 r.0 ++ utf16_text order (drop r.1 input.now ++ more)) }
+    ensures first { IfSome result (λ r. (more : List ℕ) → (IsTrue is_last → more ≡ [])
+        → utf16_text order (input.now ++ more) ≡ encode_utf8 r.0
+        ++ utf16_text order (drop r.1 input.now ++ more)) }
     ensures short { IfNone result ((length input.now < 4) × (IsTrue is_last → input.now ≡ [])) }
 {
     match input {
@@ -84,8 +87,8 @@ fn put_scalar(code: u32, output: &mut [u8], at: usize) -> usize
     4
 }
 
-// Writes some of the first scalar values of bytes of UTF-16 as UTF-8, as far as they are whole and there is room for one of
-// four bytes. It returns how many bytes it took and how many it wrote.
+// Writes some of the first scalar values of bytes of UTF-16 as UTF-8, as far as they are whole and
+// there is room for one of four bytes. It returns how many bytes it took and how many it wrote.
 fn transcode_few(order: ByteOrder, is_last: bool, input: &[u8], output: &mut [u8]) -> (usize, usize)
     ensures taken { result.0 ≤ length input.now }
     ensures written { result.1 ≤ length output.new }
@@ -135,8 +138,8 @@ fn transcode_some(
     transcode_few(order, is_last, input, output)
 }
 
-// Writes bytes of UTF-16 as UTF-8, as far as they are whole and there is room for a scalar value of four bytes. It
-// returns how many bytes it took and how many it wrote.
+// Writes bytes of UTF-16 as UTF-8, as far as they are whole and there is room for a scalar value of
+// four bytes. It returns how many bytes it took and how many it wrote.
 pub(crate) fn transcode(
     order: ByteOrder,
     is_last: bool,
@@ -149,7 +152,8 @@ pub(crate) fn transcode(
         utf16_text order (input.now ++ more) ≡ take result.1 output.new ++ utf16_text order
         (drop result.0 input.now ++ more) }
     ensures stops { (length output.new < result.1 + 4)
-        ⊎ ((length (drop result.0 input.now) < 4) × (IsTrue is_last → drop result.0 input.now ≡ [])) }
+        ⊎ ((length (drop result.0 input.now) < 4)
+        × (IsTrue is_last → drop result.0 input.now ≡ [])) }
     ensures progress { result.1 ≡ 0 → result.0 ≡ 0 }
 {
     let mut taken = 0;

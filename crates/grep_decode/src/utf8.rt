@@ -1,5 +1,6 @@
 //! UTF-8 with its ill-formed parts replaced.
-ghost use Rattle.std.specs.Prelude.{◌≡◌, ◌⊎◌, ◌<◌, ◌≤◌, ◌+◌, ◌++◌, ℕ, List, [], length, take, drop, IsTrue, IsUtf8};
+ghost use Rattle.std.specs.Prelude.{◌≡◌, ◌⊎◌, ◌<◌, ◌≤◌, ◌+◌, ◌++◌, ℕ, List, [], length, take, drop};
+ghost use Rattle.std.specs.Prelude.{IsTrue, IsUtf8};
 ghost use Rattle.std.specs.Str.Lossy.{utf8_lossy};
 ghost use Rattle.grep_decode.specs.Utf8.{IsReplaced};
 
@@ -8,15 +9,17 @@ use std::str;
 // The bytes of U+FFFD.
 const REPLACEMENT: [u8; 3] = [0xEF, 0xBF, 0xBD];
 
-/// How far a decoder came: how many bytes it took from its input, and how many it wrote to its output.
+/// How far a decoder came: how many bytes it took from its input, and how many it wrote to its
+/// output.
 #[derive(Clone, Copy)]
 pub(crate) struct Progress {
     pub(crate) taken: usize,
     pub(crate) written: usize,
 }
 
-// The front of some bytes: how many are well-formed, and how many after them are the ill-formed part that one U+FFFD
-// replaces. That part has no bytes at the end, and where more bytes are needed to decide.
+// The front of some bytes: how many are well-formed, and how many after them are the ill-formed
+// part that one U+FFFD replaces. That part has no bytes at the end, and where more bytes are needed
+// to decide.
 #[derive(Clone, Copy)]
 struct Front {
     well_formed: usize,
@@ -62,7 +65,8 @@ fn scan(is_last: bool, bytes: &[u8]) -> Front
     }
 }
 
-// Returns the front of `input` with at most `room` well-formed bytes. It reads no more than `room` bytes.
+// Returns the front of `input` with at most `room` well-formed bytes. It reads no more than `room`
+// bytes.
 fn scan_within(is_last: bool, input: &[u8], room: usize) -> Front
     ensures within { result.well_formed + result.ill_formed ≤ length input.now }
     ensures fits { result.well_formed ≤ room }
@@ -79,7 +83,8 @@ fn scan_within(is_last: bool, input: &[u8], room: usize) -> Front
     scan(false, &input[..room])
 }
 
-// Returns the length of `bytes`, or a few bytes less, if so many at the front are well-formed, and otherwise 0.
+// Returns the length of `bytes`, or a few bytes less, if so many at the front are well-formed, and
+// otherwise 0.
 fn well_formed_front(bytes: &[u8]) -> usize
     ensures within { result ≤ length bytes.now }
     ensures well_formed { IsUtf8 (take result bytes.now) }
@@ -91,8 +96,8 @@ fn well_formed_front(bytes: &[u8]) -> usize
     0
 }
 
-// Returns the offset of the last byte that begins a sequence of two bytes or more, if it is one of the last three, and
-// otherwise the length. A sequence that is cut at the end begins there.
+// Returns the offset of the last byte that begins a sequence of two bytes or more, if it is one of
+// the last three, and otherwise the length. A sequence that is cut at the end begins there.
 fn last_start(bytes: &[u8]) -> usize
     ensures within { result ≤ length bytes.now }
 {
@@ -114,32 +119,36 @@ fn put(bytes: &[u8], output: &mut [u8], at: usize)
     output[at..at + bytes.len()].copy_from_slice(bytes);
 }
 
-// Copies well-formed bytes from the front of `input` to the front of `output`, and returns how many. It copies none if
-// there is an ill-formed part in what `output` has room for.
+// Copies well-formed bytes from the front of `input` to the front of `output`, and returns how
+// many. It copies none if there is an ill-formed part in what `output` has room for.
 fn copy_front(input: &[u8], output: &mut [u8]) -> usize
     ensures len { length output.new ≡ length output.old }
     ensures within { (result ≤ length input.now) × (result ≤ length output.new) }
     ensures text { (more : List ℕ)
-        → utf8_lossy (input.now ++ more) ≡ take result output.new ++ utf8_lossy (drop result input.now ++ more) }
+        → utf8_lossy (input.now ++ more) ≡ take result output.new
+        ++ utf8_lossy (drop result input.now ++ more) }
 {
     let count = well_formed_front(&input[..input.len().min(output.len())]);
     put(&input[..count], output, 0);
     count
 }
 
-/// Decodes UTF-8 from the front of `input` into `output`, and returns how many bytes it took and how many it wrote.
+/// Decodes UTF-8 from the front of `input` into `output`, and returns how many bytes it took and
+/// how many it wrote.
 ///
-/// Well-formed parts are copied, and each maximal ill-formed part becomes one U+FFFD, as in Table 3-7 of the Unicode
-/// Standard. If `is_last`, no more input follows. Otherwise a sequence of at most three bytes at the end of `input`
-/// that more bytes could complete isn't taken. It stops if fewer than four bytes of `output` are left, or if all input
-/// that can be decided is taken. It allocates nothing.
+/// Well-formed parts are copied, and each maximal ill-formed part becomes one U+FFFD, as in Table
+/// 3-7 of the Unicode Standard. If `is_last`, no more input follows. Otherwise a sequence of at
+/// most three bytes at the end of `input` that more bytes could complete isn't taken. It stops if
+/// fewer than four bytes of `output` are left, or if all input that can be decided is taken. It
+/// allocates nothing.
 pub(crate) fn decode_utf8(is_last: bool, input: &[u8], output: &mut [u8]) -> Progress
     ensures taken { result.taken ≤ length input.now }
     ensures written { result.written ≤ length output.new }
     ensures text { (more : List ℕ) → (IsTrue is_last → more ≡ []) → utf8_lossy (input.now ++ more)
         ≡ take result.written output.new ++ utf8_lossy (drop result.taken input.now ++ more) }
     ensures stops { (length output.new < result.written + 4)
-        ⊎ ((length (drop result.taken input.now) < 4) × (IsTrue is_last → drop result.taken input.now ≡ [])) }
+        ⊎ ((length (drop result.taken input.now) < 4)
+        × (IsTrue is_last → drop result.taken input.now ≡ [])) }
     ensures progress { result.written ≡ 0 → result.taken ≡ 0 }
 {
     let mut taken = copy_front(input, output);

@@ -1,9 +1,11 @@
 -- Where searches end at a binary byte, and what is searched of converted bytes, at some inputs, as the checker computes
 -- them.
-use Rattle.std.proofs.Common.{◌≡◌, ℕ, true, false, List, [], ◌∷◌, ◌++◌, Some, None, refl, codes}
+use Rattle.std.proofs.Common.{◌≡◌, ℕ, true, false, List, [], ◌∷◌, ◌++◌, Some, None, inl, inr, refl, codes, arith, get_or}
+use Rattle.grep_matcher.specs.Lines.{lines}
 use Rattle.grep_report.specs.declared.binary_detection.BinaryDetection.TheVariants.{Quit, Convert}
 use Rattle.grep_report.specs.declared.sink_context.SinkContextKind.TheVariants.{Before, After}
-use Rattle.grep_definitions.specs.BinaryBytes.{binary_position, stream_view, look_of, nowhere, in_contents, on_stream}
+use Rattle.grep_definitions.specs.BinaryBytes.{before_quit, binary_position, stream_view, look_of, nowhere, in_contents, on_stream}
+use Rattle.grep_definitions.specs.InputFronts.{IsTooLong}
 use Rattle.grep_definitions.specs.LineSearch.{turns}
 use Rattle.grep_definitions.specs.QuitPoints.{quit_in_reports, quit_point}
 use Rattle.grep_definitions.specs.Settings.{default_settings}
@@ -61,6 +63,18 @@ break_before_context_made : quit_in_reports 0 (turns (record default_settings { 
       count = 7;
     })
 break_before_context_made = refl
+
+-- what is read before the first byte at which a search ends. A line that is too long for a buffer of two bytes, as it
+-- holds the byte, isn't before it
+quit_before : lines 10 (before_quit (Quit 0) nul_in_lines) ≡ codes "a\n" ∷ codes "b" ∷ []
+quit_before = refl
+
+long_with_byte : IsTooLong 10 2 (get_or (lines 10 nul_in_lines) 1 [])
+long_with_byte = inl (omega arith)
+
+short_before_byte : IsTooLong 10 2 (get_or (lines 10 (before_quit (Quit 0) nul_in_lines)) 1 []) → ⊥
+short_before_byte (inl long) = omega (arith, long)
+short_before_byte (inr (full, unended)) = omega (arith, full)
 
 -- a byte that is converted ends its line
 converted : stream_view (Convert 0) 10 nul_in_lines ≡ codes "a\nb\n\na\n\na\n"

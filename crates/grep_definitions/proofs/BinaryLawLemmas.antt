@@ -1,7 +1,7 @@
 -- Which reports hold a byte at which a search ends.
-use Rattle.std.proofs.Common.{◌≡◌, ℕ, ◌+◌, ◌-◌, ◌<◌, ◌≤◌, Bool, true, false, List, [], ◌∷◌, take, drop}
+use Rattle.std.proofs.Common.{◌≡◌, ℕ, ◌+◌, ◌-◌, ◌<◌, ◌≤◌, Bool, true, false, List, [], ◌∷◌, ◌++◌, length, take, drop}
 use Rattle.std.proofs.Common.{Option, None, Some, refl, sym, ap, subst, ◌∙◌, arith, if◌then◌else◌, ◌==◌, ⊎_elim}
-use Rattle.std.proofs.lemmas.List.{drop-take, take-take}
+use Rattle.std.proofs.lemmas.List.{drop-take, take_all, take_at, take-take}
 use Rattle.std.proofs.lemmas.List.Elements.{All-nil, All-cons, All-take, All-drop}
 use Rattle.std.proofs.lemmas.Option.{none-some}
 use Rattle.std.specs.Prelude.{All, is_some}
@@ -11,10 +11,10 @@ use Rattle.grep_matcher.specs.Matching.{Meaning}
 use Rattle.grep_matcher.specs.Terminators.{byte_of}
 use Rattle.grep_lines.specs.LineLaws.{LinesJoin, LinesAppend}
 use Rattle.grep_lines.specs.Positions.{slice}
-use Rattle.grep_definitions.specs.BinaryBytes.{position_of}
+use Rattle.grep_definitions.specs.BinaryBytes.{binary_position, position_of, stream_view}
 use Rattle.grep_definitions.specs.AcrossLines
 use Rattle.grep_definitions.specs.Below.{joined_from}
-use Rattle.grep_definitions.specs.BinaryLaws.{QuitReportsAreClear, SeenLinesBegin}
+use Rattle.grep_definitions.specs.BinaryLaws.{QuitReportsAreClear, SeenLinesAreClear, SeenLinesBegin}
 use Rattle.grep_definitions.specs.LineSearch
 use Rattle.grep_definitions.specs.LineSearch.{Kind, matched, in_context}
 use Rattle.grep_definitions.specs.Modes.{is_across}
@@ -25,6 +25,7 @@ use Rattle.grep_definitions.specs.Settings.{Settings}
 use Rattle.grep_definitions.specs.SinkCalls.{Turn, begins, is_break}
 use Rattle.grep_definitions.proofs.FirstTurnLemmas.{turns-begin}
 use Rattle.grep_definitions.proofs.LineReportLemmas.{reports-line}
+use Rattle.grep_definitions.proofs.LineStartLemmas.{line_start-within}
 use Rattle.grep_definitions.proofs.ListLemmas.{All-joined_from}
 use Rattle.grep_definitions.proofs.SearchLawLemmas.{turn_count-le}
 use Rattle.grep_definitions.proofs.TurnEndLemmas.{ends-late, line_start-le}
@@ -137,6 +138,33 @@ module _ (k : Settings) (meaning : Meaning) (bytes : List ℕ) where
             let late = ends-late k meaning bytes i i (omega arith) j d below in
             ap (λ xs. is_some (position_of b xs)) line ∙ ap is_some (line-clear i inside (omega (arith, late, low))))
             (reports-line k meaning bytes i j d below)
+
+-- lines that were seen are clear if what they are of the input is
+pub seen_lines-clear : LinesJoin → SeenLinesAreClear
+seen_lines-clear join b k meaning bytes seen quits front clear =
+    All-cons P (record { call = begins; end = 0 })
+    (joined_from (LineSearch.turns_at k meaning seen) 0 (LineSearch.turn_count k meaning seen)) refl
+    (All-joined_from P (LineSearch.turns_at k meaning seen) 0 (LineSearch.turn_count k meaning seen)
+    (λ i low high. each i (omega (arith, high, turn_count-le k meaning seen))))
+  where
+    P : Turn → Type 0
+    P turn = holds_byte b turn ≡ false
+
+    whole : bytes ≡ seen ++ front.after
+    whole = sym (ap (λ d. stream_view d (byte_of k.line_terminator) bytes) quits) ∙ front.whole
+
+    is_clear : position_of b (take (length seen) seen) ≡ None
+    is_clear = ap (position_of b) (take_all (length seen) seen (omega arith) ∙ (sym (take_at seen front.after (length seen) refl)
+        ∙ ap (take (length seen)) (sym whole)))
+        ∙ (sym (ap (λ d. binary_position d (byte_of k.line_terminator) (take (length seen) bytes)) quits) ∙ clear)
+
+    each : (i : ℕ) → i < LineSearch.line_count k meaning seen → All P (LineSearch.turns_at k meaning seen i)
+    each i inside j d below = ⊎_elim
+        (λ none. ap (λ xs. is_some (position_of b xs)) none)
+        (λ line. ap (λ xs. is_some (position_of b xs)) line
+        ∙ ap is_some (line-clear k meaning seen b (length seen) is_clear i inside
+        (line_start-within join (byte_of k.line_terminator) seen (i + 1))))
+        (reports-line k meaning seen i j d below)
 
 -- the calls for the lines before a binary byte
 pub seen_lines-begin : LinesJoin → LinesAppend → SeenLinesBegin

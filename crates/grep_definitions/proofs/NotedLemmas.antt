@@ -1,10 +1,13 @@
 -- Runs of a sink that is called with the first binary byte in between.
-use Rattle.std.proofs.Common.{◌≡◌, ℕ, ◌≤◌, ◌<◌, inl, inr, List, [], ◌∷◌, All, length, true, false, Option, None, Some}
+use Rattle.std.proofs.Common.{◌≡◌, ◌⊎◌, ℕ, ◌≤◌, ◌<◌, inl, inr, List, [], ◌∷◌, All, length, true, false, Option, None, Some}
 use Rattle.std.proofs.Common.{Result, Ok, Err, refl, sym, ap, subst, arith}
 use Rattle.std.proofs.lemmas.List.Elements.{All-head, All-tail}
+use Rattle.std.specs.declared.io.Error.{Error}
+use Rattle.grep_definitions.proofs.BreakLemmas.{AreBreaksPaired, paired-last}
 use Rattle.grep_definitions.specs.NotedSinks.{noted, reported_to}
-use Rattle.grep_definitions.specs.Searches.{ErrorMakers, MatcherFacts, IsFaultIn, HasReportedIn, of_sink, of_matcher}
-use Rattle.grep_definitions.specs.SearchTurns.{SearchCalls}
+use Rattle.grep_definitions.specs.Searches.{ErrorMakers, MatcherFacts, IsClearFault, IsFaultIn, IsLineFault, HasReportedIn}
+use Rattle.grep_definitions.specs.Searches.{of_sink, of_matcher}
+use Rattle.grep_definitions.specs.SearchTurns.{SearchCalls, calls_by_line}
 use Rattle.grep_definitions.specs.Settings.{Settings}
 use Rattle.grep_definitions.specs.SinkCalls.{Turn, binary_data, is_finish}
 use Rattle.grep_definitions.specs.SinkRuns.{Steps, Outcome, all_true, stopped, failed, AreReported, IsFinished, IsRun, NeverFails}
@@ -16,7 +19,7 @@ none≢some x same = absurd (cc)
 pub noted-never-fails : {S E : Type 0} (step : Steps S E) (may_call : S → Type 0)
     → NeverFails step may_call → NeverFails (noted step) (λ s. may_call s.0)
 noted-never-fails step may_call never (old, None) k call e (new, None) may fails = never old k call e new may fails
-noted-never-fails step may_call never (old, None) k call e (new, Some o) may (is, last, low, others) = absurd (cc)
+noted-never-fails step may_call never (old, None) k call e (new, Some o) may (is, last, whole, low, others) = absurd (cc)
 noted-never-fails step may_call never (old, Some o) k call e (new, None) may fails = absurd fails
 noted-never-fails step may_call never (old, Some o) k call e (new, Some p) may (same, fails) = never old k _ e new may fails
 
@@ -67,34 +70,35 @@ module _ {S E : Type 0} (step : Steps S E) (k : Settings) where
 
   -- after calls that all returned true, the call with the offset belongs to the last of them
   pub noted-jump : (turns : List Turn) (first mid : S) (o : ℕ) (last : S) → 0 < length turns
-      → All (λ turn. reported_to turn.call ≤ o) turns → All (λ turn. is_finish turn.call ≡ false) turns
+      → All (λ turn. reported_to turn.call ≤ o) turns → All (λ turn. is_finish turn.call ≡ false) turns → AreBreaksPaired turns
       → AreReported (noted step) k (first, None) turns all_true (mid, None) → step mid k (binary_data o) (Ok true) last
       → AreReported (noted step) k (first, None) turns all_true (last, Some o)
-  noted-jump [] first mid o last some low before reported called = absurd (omega (arith, some))
-  noted-jump (turn ∷ []) first mid o last some low before (inl ((next, None), goes, (is, same))) called =
+  noted-jump [] first mid o last some low before paired reported called = absurd (omega (arith, some))
+  noted-jump (turn ∷ []) first mid o last some low before paired (inl ((next, None), goes, (is, same))) called =
       inl (
         (last, Some o),
         (
           refl,
           All-head (λ turn. is_finish turn.call ≡ false) turn [] before,
+          paired-last (turn ∷ []) paired,
           All-head (λ turn. reported_to turn.call ≤ o) turn [] low,
           (next, goes, subst (λ s. step s k (binary_data o) (Ok true) last) (ap (λ (s : S × Option ℕ). s.0) same) called),
         ),
         (refl, refl),
       )
-  noted-jump (turn ∷ []) first mid o last some low before (inl ((next, Some p), goes, (is, same))) called =
+  noted-jump (turn ∷ []) first mid o last some low before paired (inl ((next, Some p), goes, (is, same))) called =
       absurd (none≢some p (ap (λ (s : S × Option ℕ). s.1) same))
-  noted-jump (turn ∷ more ∷ later) first mid o last some low before (inl ((next, None), goes, reported)) called =
+  noted-jump (turn ∷ more ∷ later) first mid o last some low before paired (inl ((next, None), goes, reported)) called =
       inl (
         (next, None),
         goes,
         noted-jump (more ∷ later) next mid o last (omega arith) (All-tail (λ turn. reported_to turn.call ≤ o) turn (more ∷ later) low)
-            (All-tail (λ turn. is_finish turn.call ≡ false) turn (more ∷ later) before) reported called,
+            (All-tail (λ turn. is_finish turn.call ≡ false) turn (more ∷ later) before) paired.1 reported called,
       )
-  noted-jump (turn ∷ more ∷ later) first mid o last some low before (inl ((next, Some p), goes, reported)) called =
+  noted-jump (turn ∷ more ∷ later) first mid o last some low before paired (inl ((next, Some p), goes, reported)) called =
       absurd (noted-stays (more ∷ later) next p all_true mid reported)
-  noted-jump (turn ∷ later) first mid o last some low before (inr (inl (is, stops))) called = absurd (cc)
-  noted-jump (turn ∷ later) first mid o last some low before (inr (inr (e, is, fails))) called = absurd (cc)
+  noted-jump (turn ∷ later) first mid o last some low before paired (inr (inl (is, stops))) called = absurd (cc)
+  noted-jump (turn ∷ later) first mid o last some low before paired (inr (inr (e, is, fails))) called = absurd (cc)
 
 -- a fault of a run without that call
 pub unnoted-fault : {S E F : Type 0} (step : Steps S E) (errors : ErrorMakers E) (matcher : MatcherFacts F) (calls : SearchCalls)
@@ -113,3 +117,32 @@ pub unnoted-reported : {S E F : Type 0} (step : Steps S E) (errors : ErrorMakers
     → HasReportedIn step errors matcher calls k seen old new
 unnoted-reported step errors matcher calls k None old new same = ap (λ s. s.0) same
 unnoted-reported step errors matcher calls k (Some seen) old new reported = unnoted step k (calls.turns seen) old all_true new reported
+
+-- a search that ended in an error without that call is one of the sink itself
+pub unnoted-clear : {S E F : Type 0} (step : Steps S E) (errors : ErrorMakers E) (matcher : MatcherFacts F)
+    (IsOne : List ℕ → Type 0) (k : Settings) (old : S) (e : E) (new : S)
+    → IsClearFault (noted step) errors matcher IsOne k (old, None) e (new, None)
+    → IsClearFault step errors matcher IsOne k old e new
+unnoted-clear {S} step errors matcher IsOne k old e new fault = record {
+  seen = fault.seen;
+  front = fault.front;
+  clear = fault.clear;
+  made = go fault.made;
+}
+  where
+    calls : List Turn
+    calls = (calls_by_line k matcher.meaning).turns fault.seen
+
+    first : S × Option ℕ
+    first = (old, None)
+
+    last : S × Option ℕ
+    last = (new, None)
+
+    go : IsLineFault (noted step) errors matcher k fault.seen first e last
+        ⊎ ((error : Error) × errors.is_io error e × (AreReported (noted step) k first calls all_true last ⊎ (last ≡ first)))
+        → IsLineFault step errors matcher k fault.seen old e new
+        ⊎ ((error : Error) × errors.is_io error e × (AreReported step k old calls all_true new ⊎ (new ≡ old)))
+    go (inl ended) = inl (unnoted-fault step errors matcher (calls_by_line k matcher.meaning) k fault.seen old e new ended)
+    go (inr (error, io, inl reported)) = inr (error, io, inl (unnoted step k calls old all_true new reported))
+    go (inr (error, io, inr same)) = inr (error, io, inr (ap (λ s. s.0) same))

@@ -37,7 +37,7 @@ found-none k none bytes (Some offset) first =
 unnoted-begin : {S E : Type 0} (step : Steps S E) (k : Settings) (old : S) (begun : Bool) (first : S × Option ℕ)
     → noted step (old, None) k begins (Ok begun) first → (mid : S) × step old k begins (Ok begun) mid
 unnoted-begin step k old begun (first, None) goes = (first, goes)
-unnoted-begin step k old begun (first, Some o) (is, last, low, (mid, goes, called)) =
+unnoted-begin step k old begun (first, Some o) (is, last, whole, low, (mid, goes, called)) =
     (mid, subst (λ r. step old k begins r mid) (sym is) goes)
 
 module _ {R : Type 0} (remaining : R → Option (List ℕ)) (read_step : R → ReadResult → R → Type 0)
@@ -119,9 +119,9 @@ module _ {R : Type 0} (remaining : R → Option (List ℕ)) (read_step : R → R
       state.settings reader (old, None) reader' (new, b)) found run.run))
   stream-plain state none reader old (Ok u) reader' new (inr cut) = cut-never state none reader reader' old (Ok u) new cut.taken cut.run
   stream-plain state none reader old (Err e) reader' new (inl fault) =
-      let bytes = searched_bytes state.settings (concat fault.taken.pieces ++ []) in
+      let bytes = searched_bytes state.settings (concat fault.came.taken.pieces ++ []) in
       let found = found-none state.settings none bytes fault.found
-      (fault.noted_for bytes (some-input state.settings reader fault.mid fault.taken)).first in
+      (fault.noted_for bytes (some-input state.settings reader fault.came.mid fault.came.taken)).first in
       unnoted-reader-fault (calls_by_line state.settings matcher.meaning) state reader old e reader' new
       (subst (λ v. IsReaderFaultIn remaining read_step (noted step) errors matcher
       (record (calls_by_line state.settings matcher.meaning) { view = v }) state reader (old, None) e reader' (new, None))

@@ -1,6 +1,6 @@
 -- A reader that is seen through another that refers to it: if each call of the one is a call of the other, and the
 -- reference stays the same, a search of the one is a search of the other.
-use Rattle.std.proofs.Common.{◌≡◌, ◌∙◌, ℕ, Bool, true, false, List, [], ◌∷◌, Option, Some, None, ap, inl, inr, refl, sym, subst}
+use Rattle.std.proofs.Common.{◌≡◌, ◌⊎◌, ◌∙◌, ℕ, Bool, true, false, List, [], ◌∷◌, Option, Some, None, ap, inl, inr, refl, sym, subst}
 use Rattle.std.specs.Prelude.{Result, Ok, Err}
 use Rattle.std.specs.declared.io.Error.{Error}
 use Rattle.grep_decode.specs.DecoderStates.{Calls}
@@ -8,7 +8,7 @@ use Rattle.grep_decode.specs.Source.{ReadResult, Pulls}
 use Rattle.grep_matcher.specs.Matching.{Meaning}
 use Rattle.grep_report.specs.declared.config_error.ConfigError.{ConfigError}
 use Rattle.grep_definitions.specs.BinaryBytes.{Look, nowhere, in_contents, on_stream, look_of, view_of}
-use Rattle.grep_definitions.specs.ReaderSearches.{Taken, IsUnread, IsUnreadIn, IsReaderFaultIn, IsReaderFaultUnless}
+use Rattle.grep_definitions.specs.ReaderSearches.{Taken, Came, IsUnread, IsUnreadIn, IsReaderFaultIn, IsReaderFaultUnless}
 use Rattle.grep_definitions.specs.ReaderSearches.{IsContentsRun, IsNotedReaderRun, IsPlainlySearched, IsReaderCut}
 use Rattle.grep_definitions.specs.ReaderSearches.{IsReaderRunIn, IsReaderSearched, IsSearchedAt}
 use Rattle.grep_definitions.specs.NotedSinks.{noted}
@@ -53,8 +53,28 @@ module _ {R T N : Type 0} (view : R → T) (name : R → N) (remaining : T → O
     takes = taken.takes;
   }
 
+  -- one more call, if it failed, is one of the other too
+  Then-seen : (ended : Bool) (mid new : R) → (mid ≡ new) ⊎ ((error : Error) × (ended ≡ false) × read mid (Err error) new)
+      → (name mid ≡ name new)
+      × ((view mid ≡ view new) ⊎ ((error : Error) × (ended ≡ false) × seen_read (view mid) (Err error) (view new)))
+  Then-seen ended mid new (inl same) = (ap name same, inl (ap view same))
+  Then-seen ended mid new (inr (error, unended, failed)) =
+      let one = seen mid (Err error) new failed in
+      (sym one.0, inr (error, unended, one.1))
+
   module _ (state : SearcherState) (reader reader' : R) (last : T)
       (ends : name reader ≡ name reader' → last ≡ view reader') where
+    abbrev Came-seen : Came (λ s. remaining (view s)) read reader reader' → Came remaining seen_read (view reader) last
+    Came-seen came =
+        let then_seen = Then-seen came.taken.ended came.mid reader' came.then_failed in
+        record {
+          mid = view came.mid;
+          taken = Taken-seen reader came.mid came.taken;
+          then_failed = subst (λ after. (view came.mid ≡ after)
+              ⊎ ((error : Error) × (came.taken.ended ≡ false) × seen_read (view came.mid) (Err error) after))
+              (sym (ends (Taken-named reader came.mid came.taken ∙ then_seen.0))) then_seen.1;
+        }
+
     IsUnreadIn-seen : (across : Bool) (shown : List ℕ → List ℕ) (meaning : Meaning) (lines : Option (List ℕ)) (error : Error)
         → IsUnreadIn (λ s. remaining (view s)) read across shown state meaning reader lines error reader'
         → IsUnreadIn remaining seen_read across shown state meaning (view reader) lines error last
@@ -64,8 +84,8 @@ module _ {R T N : Type 0} (view : R → T) (name : R → N) (remaining : T → O
       where
         named : (lines : Option (List ℕ)) (error : Error) (after : R)
             → IsUnreadIn (λ s. remaining (view s)) read across shown state meaning reader lines error after → name reader ≡ name after
-        named (Some lines) error after (of_cut by_line taken cut) = Taken-named reader after taken
-        named (Some lines) error after (of_reader by_line mid taken unended failed goes_on came) =
+        named (Some lines) error after (of_cut by_line unquit taken cut) = Taken-named reader after taken
+        named (Some lines) error after (of_reader by_line unquit mid taken unended failed goes_on came) =
             Taken-named reader mid taken ∙ sym (seen mid (Err error) after failed).0
         named None error after (of_contents is_across taken cut) = Taken-named reader after taken
         named None error after (of_failed_read is_across mid taken unended failed few) =
@@ -75,9 +95,9 @@ module _ {R T N : Type 0} (view : R → T) (name : R → N) (remaining : T → O
         whole : (lines : Option (List ℕ)) (error : Error) (after : R)
             → IsUnreadIn (λ s. remaining (view s)) read across shown state meaning reader lines error after
             → IsUnreadIn remaining seen_read across shown state meaning (view reader) lines error (view after)
-        whole (Some lines) error after (of_cut by_line taken cut) = of_cut by_line (Taken-seen reader after taken) cut
-        whole (Some lines) error after (of_reader by_line mid taken unended failed goes_on came) =
-            of_reader by_line (view mid) (Taken-seen reader mid taken) unended (seen mid (Err error) after failed).1 goes_on came
+        whole (Some lines) error after (of_cut by_line unquit taken cut) = of_cut by_line unquit (Taken-seen reader after taken) cut
+        whole (Some lines) error after (of_reader by_line unquit mid taken unended failed goes_on came) =
+            of_reader by_line unquit (view mid) (Taken-seen reader mid taken) unended (seen mid (Err error) after failed).1 goes_on came
         whole None error after (of_contents is_across taken cut) = of_contents is_across (Taken-seen reader after taken) cut
         whole None error after (of_failed_read is_across mid taken unended failed few) =
             of_failed_read is_across (view mid) (Taken-seen reader mid taken) unended (seen mid (Err error) after failed).1 few
@@ -136,7 +156,7 @@ module _ {R T N : Type 0} (view : R → T) (name : R → N) (remaining : T → O
       cut-seen old result new cut =
           subst (λ after. IsReaderCut remaining seen_read step errors matcher state.settings (view reader) old result after new)
           (sym (ends (Taken-named reader reader' cut.taken)))
-          (record { taken = Taken-seen reader reader' cut.taken; run = cut.run })
+          (record { taken = Taken-seen reader reader' cut.taken; run = cut.run; ahead = cut.ahead })
 
       at-seen : (look : Look) (old : S) (result : Result (Unit {0}) E) (new : S)
           → IsSearchedAt (λ s. remaining (view s)) read step errors matcher look state reader old result reader' new
@@ -166,9 +186,9 @@ module _ {R T N : Type 0} (view : R → T) (name : R → N) (remaining : T → O
         found = fault.found;
         fault = IsReaderFaultIn-seen (noted step) errors matcher (stream_calls state.settings matcher.meaning)
             (old, None) e (new, fault.found) fault.fault;
-        mid = view fault.mid;
-        taken = Taken-seen reader fault.mid fault.taken;
+        came = Came-seen fault.came;
         noted_for = fault.noted_for;
+        clear = fault.clear;
       })
       at-seen on_stream old (Err e) new (inr cut) = inr (cut-seen old (Err e) new cut)
 

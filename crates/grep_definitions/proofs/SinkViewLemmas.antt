@@ -1,9 +1,11 @@
 -- Runs of a sink seen through a function of its state.
-use Rattle.std.proofs.Common.{ℕ, inl, inr, List, [], ◌∷◌, Bool, true, Option, None, Some, Result, Ok, Err, ap}
+use Rattle.std.proofs.Common.{◌≡◌, ◌⊎◌, ℕ, inl, inr, List, [], ◌∷◌, Bool, true, Option, None, Some, Result, Ok, Err, ap}
+use Rattle.std.specs.declared.io.Error.{Error}
 use Rattle.grep_decode.specs.Source.{ReadResult}
 use Rattle.grep_definitions.specs.ReaderSearches.{IsReaderRunIn, IsReaderFaultIn, of_search, of_reading}
-use Rattle.grep_definitions.specs.Searches.{ErrorMakers, MatcherFacts, IsFaultIn, HasReportedIn, of_sink, of_matcher}
-use Rattle.grep_definitions.specs.SearchTurns.{SearchCalls}
+use Rattle.grep_definitions.specs.Searches.{ErrorMakers, MatcherFacts, IsClearFault, IsFaultIn, IsLineFault, HasReportedIn}
+use Rattle.grep_definitions.specs.Searches.{of_sink, of_matcher}
+use Rattle.grep_definitions.specs.SearchTurns.{SearchCalls, calls_by_line}
 use Rattle.grep_definitions.specs.Settings.{Settings, SearcherState}
 use Rattle.grep_definitions.specs.SinkCalls.{Call, Turn}
 use Rattle.grep_definitions.specs.SinkRuns.{Steps, Outcome, all_true, stopped, failed, AreReported, IsFinished, IsRun}
@@ -88,3 +90,31 @@ module _ {T U E F : Type 0} (f : T → U) (step : Steps T E) (seen : Steps U E) 
       (both.0, IsFaultIn-seen f step seen along state.settings errors matcher calls (calls.view bytes) old e new both.1, both.2))
   IsReaderFaultIn-seen state reader old e reader' new (of_reading lines error unread made reported) =
       of_reading lines error unread made (HasReportedIn-seen f step seen along state.settings errors matcher calls lines old new reported)
+
+-- a search that ended in an error without `binary_data`
+module _ {T U E F : Type 0} (f : T → U) (step : Steps T E) (seen : Steps U E) (along : IsSeen f step seen)
+    (errors : ErrorMakers E) (matcher : MatcherFacts F) where
+  abbrev pub IsClearFault-seen : (IsOne : List ℕ → Type 0) (k : Settings) (old : T) (e : E) (new : T)
+      → IsClearFault step errors matcher IsOne k old e new → IsClearFault seen errors matcher IsOne k (f old) e (f new)
+  IsClearFault-seen IsOne k old e new fault = record {
+    seen = fault.seen;
+    front = fault.front;
+    clear = fault.clear;
+    made = go fault.made;
+  }
+    where
+      go : IsLineFault step errors matcher k fault.seen old e new
+          ⊎ ((error : Error) × errors.is_io error e
+          × (AreReported step k old ((calls_by_line k matcher.meaning).turns fault.seen) all_true new ⊎ (new ≡ old)))
+          → IsLineFault seen errors matcher k fault.seen (f old) e (f new)
+          ⊎ ((error : Error) × errors.is_io error e
+          × (AreReported seen k (f old) ((calls_by_line k matcher.meaning).turns fault.seen) all_true (f new)
+          ⊎ (f new ≡ f old)))
+      go (inl ended) =
+          inl (IsFaultIn-seen f step seen along k errors matcher (calls_by_line k matcher.meaning) fault.seen old e new ended)
+      go (inr (error, io, inl reported)) = inr (
+        error,
+        io,
+        inl (AreReported-seen f step seen along k ((calls_by_line k matcher.meaning).turns fault.seen) old all_true new reported),
+      )
+      go (inr (error, io, inr same)) = inr (error, io, inr (ap f same))

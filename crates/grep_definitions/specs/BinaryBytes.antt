@@ -1,6 +1,7 @@
 -- Where binary bytes are, and what detection makes of an input that is searched line by line as it is read.
-use Rattle.std.specs.Prelude.{ℕ, Bool, true, false, not, ◌&&◌, ◌==◌, if◌then◌else◌, List, map, Option, None}
-use Rattle.std.specs.List.{position}
+use Rattle.std.specs.Prelude.{ℕ, Bool, true, false, not, ◌&&◌, ◌==◌, if◌then◌else◌}
+use Rattle.std.specs.Prelude.{List, map, take, Option, None}
+use Rattle.std.specs.List.{position, position_or_len}
 use Rattle.grep_matcher.specs.Matching.{Meaning}
 use Rattle.grep_matcher.specs.Terminators.{byte_of}
 use Rattle.grep_report.specs.declared.binary_detection.BinaryDetection.{BinaryDetection}
@@ -17,6 +18,12 @@ abbrev pub binary_position : BinaryDetection → ℕ → List ℕ → Option ℕ
 binary_position no_detection t bytes = None
 binary_position (Quit b) t bytes = position_of b bytes
 binary_position (Convert b) t bytes = if b == t then None else position_of b bytes
+
+-- what comes before the first byte that ends a search
+abbrev pub before_quit : BinaryDetection → List ℕ → List ℕ
+before_quit no_detection bytes = bytes
+before_quit (Quit b) bytes = take (position_or_len (λ x. x == b) bytes) bytes
+before_quit (Convert b) bytes = bytes
 
 -- whether some byte is looked for
 abbrev pub is_detecting : BinaryDetection → Bool

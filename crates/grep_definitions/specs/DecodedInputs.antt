@@ -15,4 +15,5 @@ is_searched_unchanged settings input = is_unchanged settings.encoding settings.b
 -- the bytes that are searched if these pieces of an input came, and no more if it ended with them
 abbrev pub IsInput : Settings → Bool → List (List ℕ) → List ℕ → Type 0
 IsInput settings ended pieces bytes =
-    (more : List ℕ) × (ended ≡ true → more ≡ []) × (bytes ≡ searched_bytes settings (concat pieces ++ more))
+    (more : List ℕ) × (ended ≡ true → more ≡ [])
+    × (bytes ≡ searched_bytes settings (concat pieces ++ more))

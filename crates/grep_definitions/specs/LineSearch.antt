@@ -83,7 +83,8 @@ module _ (settings : Settings) (meaning : Meaning) (bytes : List ℕ) where
 
   abbrev pub precedes_selected : ℕ → Bool
   precedes_selected i =
-      some_below (λ j. nat_lt i j && nat_le (j - i) settings.before_context && is_selected j) line_count
+      some_below (λ j. nat_lt i j && nat_le (j - i) settings.before_context && is_selected j)
+      line_count
 
   abbrev pub kind : ℕ → Option Kind
   kind i =
@@ -136,7 +137,10 @@ module _ (settings : Settings) (meaning : Meaning) (bytes : List ℕ) where
   report i (Some matched) =
       record { call = matches (number i) (start i) (line i); end = turn_end i (Some matched) } ∷ []
   report i (Some (in_context c)) =
-      record { call = context c (number i) (start i) (line i); end = turn_end i (Some (in_context c)) } ∷ []
+      record {
+        call = context c (number i) (start i) (line i);
+        end = turn_end i (Some (in_context c));
+      } ∷ []
 
   -- the calls that belong to line i
   abbrev pub turns_at : ℕ → List Turn

@@ -29,7 +29,8 @@ break_turns gap end = if gap then one_turn breaks end else []
 
 -- a call, and a break before it if there is a gap
 abbrev pub broken_turns : Bool → Call → ℕ → List Turn
-broken_turns gap call end = if gap then record { call = breaks; end = end } ∷ one_turn call end else one_turn call end
+broken_turns gap call end =
+    if gap then record { call = breaks; end = end } ∷ one_turn call end else one_turn call end
 
 -- whether lines were left out before line j, if the lines up to v were the last ones reported and line i is selected
 abbrev pub is_gap : Settings → ℕ → ℕ → ℕ → Bool

@@ -12,7 +12,8 @@ module _ (settings : Settings) (meaning : Meaning) (bytes : List ℕ) where
   -- what a walk knows of the lines before it, by the lines that are selected and by how many there are
   abbrev pub IsNear : ℕ → ℕ → ℕ → Type 0
   IsNear v i left =
-      Selections.IsNear settings (is_selected settings meaning bytes) (line_count settings meaning bytes)
+      Selections.IsNear settings (is_selected settings meaning bytes)
+      (line_count settings meaning bytes)
       (turn_count settings meaning bytes) v i left
 
   -- what a walk that goes on at line i knows of limit and stop, if c lines were chosen and `left` lines are still to be
@@ -20,10 +21,13 @@ module _ (settings : Settings) (meaning : Meaning) (bytes : List ℕ) where
   pub record IsOpen (i left c : ℕ) : Type 0 where
     pub below : is_below (count_below (hits settings meaning bytes) i) settings.max_matches
         ≡ not (is_at c settings.max_matches)
-    pub counted : is_at c settings.max_matches ≡ false → count_below (hits settings meaning bytes) i ≡ c
+    pub counted : is_at c settings.max_matches ≡ false
+        → count_below (hits settings meaning bytes) i ≡ c
     pub any : some_below (is_chosen settings meaning bytes) i ≡ nat_lt 0 c
-    pub unended : settings.stop_on_nonmatch ≡ true → some_below (ends_chosen settings meaning bytes) i ≡ false
-    pub unfilled : is_at c settings.max_matches ≡ false → some_below (fills_limit settings meaning bytes) i ≡ false
+    pub unended : settings.stop_on_nonmatch ≡ true
+        → some_below (ends_chosen settings meaning bytes) i ≡ false
+    pub unfilled : is_at c settings.max_matches ≡ false
+        → some_below (fills_limit settings meaning bytes) i ≡ false
     pub filled : settings.passthru ≡ false → is_at c settings.max_matches ≡ true
         → (m : ℕ) × (first_below (fills_limit settings meaning bytes) i ≡ Some m)
         × (m + settings.after_context + 1 ≡ i + left) × (0 < left)

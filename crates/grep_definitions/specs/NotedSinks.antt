@@ -2,7 +2,7 @@
 -- calls.
 use Rattle.std.specs.Prelude.{◌≡◌, ℕ, ◌+◌, ◌≤◌, true, false, length, Option, None, Some, Ok}
 use Rattle.grep_definitions.specs.SinkCalls.{Call, begins, matches, context, breaks, binary_data, finishes}
-use Rattle.grep_definitions.specs.SinkCalls.{is_finish, reported_bytes, reported_from}
+use Rattle.grep_definitions.specs.SinkCalls.{is_break, is_finish, reported_bytes, reported_from}
 use Rattle.grep_definitions.specs.SinkRuns.{Steps}
 
 -- a call, with the offset in `finish`
@@ -18,15 +18,17 @@ with_binary offset (finishes count binary) = finishes count (Some offset)
 abbrev pub reported_to : Call → ℕ
 reported_to call = reported_from call + length (reported_bytes call)
 
--- A sink, and the offset with which `binary_data` was called, if it was. That is once at most: after a call but `finish` that
--- returned true and reported no byte from the offset on, and it returned true itself. From then on `finish` has the offset.
+-- A sink, and the offset with which `binary_data` was called, if it was. That is once at most: after
+-- a call, neither `finish` nor a break, that returned true and reported only bytes before the offset.
+-- `binary_data` returned true as well. From then on `finish` has the offset.
 abbrev pub noted : {S E : Type 0} → Steps S E → Steps (S × Option ℕ) E
 noted step old settings call result new = noted_by old.1 new.1
   where
     noted_by : Option ℕ → Option ℕ → Type 0
     noted_by None None = step old.0 settings call result new.0
     noted_by None (Some offset) =
-        (result ≡ Ok true) × (is_finish call ≡ false) × (reported_to call ≤ offset)
+        (result ≡ Ok true) × (is_finish call ≡ false) × (is_break call ≡ false)
+        × (reported_to call ≤ offset)
         × ((mid : _) × step old.0 settings call (Ok true) mid
         × step mid settings (binary_data offset) (Ok true) new.0)
     noted_by (Some offset) None = ⊥

@@ -22,23 +22,27 @@ pub record AsksAhead (settings : Settings) (meaning : Meaning) : Type 0 where
 
 -- what a matcher has to be lawful for: the search's terminator, if the search may ask about many lines at once
 abbrev pub IsLawfulFor : Settings → Meaning → (LineTerminator → Type 0) → Type 0
-IsLawfulFor settings meaning is_lawful = AsksAhead settings meaning → is_lawful settings.line_terminator
+IsLawfulFor settings meaning is_lawful =
+    AsksAhead settings meaning → is_lawful settings.line_terminator
 
 module _ (settings : Settings) (meaning : Meaning) (bytes : List ℕ) where
   -- a question about the lines from line i up to another. Once a line was chosen, a search that stops at the next line
   -- that isn't asks about each line alone
   pub record IsAskedAhead (i : ℕ) (haystack : List ℕ) : Type 0 where
     pub allowed : AsksAhead settings meaning
-    pub unstopped : (settings.stop_on_nonmatch && some_below (is_chosen settings meaning bytes) i) ≡ false
+    pub unstopped : (settings.stop_on_nonmatch && some_below (is_chosen settings meaning bytes) i)
+        ≡ false
     pub end : ℕ
     pub after : i < end
     pub within : end ≤ line_count settings meaning bytes
-    pub lines : haystack ≡ slice bytes (start settings meaning bytes i) (start settings meaning bytes end)
+    pub lines : haystack
+        ≡ slice bytes (start settings meaning bytes i) (start settings meaning bytes end)
 
   -- a question at line i: about that line without its terminator, or about whole lines from that line on
   abbrev pub IsAsked : ℕ → List ℕ → Type 0
   IsAsked i haystack =
-      (haystack ≡ strip settings.line_terminator (line settings meaning bytes i)) ⊎ IsAskedAhead i haystack
+      (haystack ≡ strip settings.line_terminator (line settings meaning bytes i))
+      ⊎ IsAskedAhead i haystack
 
   -- what a matcher is asked by line, and the calls that were made before: at a line that has a turn, while fewer lines
   -- before it hit than the limit has. Just those calls were made whose turn ends at or before the start of that line

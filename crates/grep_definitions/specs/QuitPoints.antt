@@ -40,7 +40,11 @@ module _ (b : ℕ) where
   -- at the first report that holds the byte: neither it nor its break is made
   abbrev pub quit_at : List Turn → ℕ → QuitPoint
   quit_at turns n =
-      record { before = calls_before turns n; offset = offset_at turns n; count = offset_at turns n }
+      record {
+        before = calls_before turns n;
+        offset = offset_at turns n;
+        count = offset_at turns n;
+      }
 
   abbrev pub quit_in_reports : List Turn → Option QuitPoint
   quit_in_reports turns = option_map (quit_at turns) (position holds_byte turns)
@@ -67,7 +71,8 @@ module _ {S E : Type 0} (step : Steps S E) (settings : Settings) where
       IsFinished step settings (failed e) mid count None result new
 
   -- a run along the calls before a binary byte, and `binary_data`
-  pub record IsQuitRun (old : S) (point : QuitPoint) (result : Result (Unit {0}) E) (new : S) : Type 0 where
+  pub record IsQuitRun (old : S) (point : QuitPoint) (result : Result (Unit {0}) E)
+      (new : S) : Type 0 where
     pub outcome : Outcome E
     pub mid : S
     pub reported : AreReported step settings old point.before outcome mid

@@ -14,14 +14,15 @@ use Rattle.grep_matcher.specs.Matching.{Meaning}
 use Rattle.grep_matcher.specs.Terminators.{byte_of}
 use Rattle.grep_report.specs.declared.config_error.ConfigError.{ConfigError}
 use Rattle.grep_definitions.specs.Below.{is_at}
-use Rattle.grep_definitions.specs.BinaryBytes.{Look, nowhere, in_contents, on_stream, is_detecting, look_of, view_of}
+use Rattle.grep_definitions.specs.BinaryBytes.{Look, nowhere, in_contents, on_stream, look_of}
+use Rattle.grep_definitions.specs.BinaryBytes.{before_quit, is_detecting, view_of}
 use Rattle.grep_definitions.specs.DecodedInputs.{IsInput, is_searched_unchanged}
 use Rattle.grep_definitions.specs.InputFronts.{GoesOnAfter, HasOpenLine, IsFront}
 use Rattle.grep_definitions.specs.NotedSinks.{noted}
 use Rattle.grep_definitions.specs.ReadingFaults.{CutsShort, CutsContents, IsBelowLimit}
 use Rattle.grep_definitions.specs.Refusals.{refusal_of}
 use Rattle.grep_definitions.specs.Searches.{ErrorMakers, MatcherFacts, IsFaultIn, HasReportedIn, IsLawful}
-use Rattle.grep_definitions.specs.Searches.{IsQuitFault, IsRunUntil}
+use Rattle.grep_definitions.specs.Searches.{IsClearFault, IsQuitFault, IsRunUntil}
 use Rattle.grep_definitions.specs.SearchTurns.{SearchCalls, search_calls, calls_by_line, calls_across}
 use Rattle.grep_definitions.specs.Settings.{Settings, SearcherState}
 use Rattle.grep_definitions.specs.SinkCalls.{begins}
@@ -36,7 +37,8 @@ is_idle settings = not settings.passthru && is_at 0 settings.max_matches
 abbrev pub reads_lines : Settings → Bool
 reads_lines settings = not (is_idle settings) || is_detecting settings.binary_detection
 
-module _ {R : Type 0} (remaining : R → Option (List ℕ)) (read_step : R → ReadResult → R → Type 0) where
+module _ {R : Type 0} (remaining : R → Option (List ℕ))
+    (read_step : R → ReadResult → R → Type 0) where
   -- What was taken of a reader: its calls returned some pieces, and `ended` says whether one more returned none. If
   -- the reader says which bytes remain, the pieces are the front of them.
   pub record Taken (old new : R) : Type 0 where
@@ -45,18 +47,32 @@ module _ {R : Type 0} (remaining : R → Option (List ℕ)) (read_step : R → R
     pub calls : Calls remaining read_step false ended old pieces new
     pub takes : Consumes (remaining old) (remaining new) (concat pieces)
 
+  -- What came of a reader: what was taken of it, and no call followed but one that failed.
+  pub record Came (old new : R) : Type 0 where
+    pub mid : R
+    pub taken : Taken old mid
+    pub then_failed : (mid ≡ new)
+        ⊎ ((error : Error) × (taken.ended ≡ false) × read_step mid (Err error) new)
+
   -- why a reader's input wasn't searched to its end, by line or across lines: after the lines that were seen, or
-  -- before `begin`. By line it is searched as detection makes it, in a view of it
-  pub data IsUnreadIn (across : Bool) (view : List ℕ → List ℕ) (state : SearcherState) (meaning : Meaning) (reader : R)
+  -- before `begin`. By line it is searched as detection makes it, in a view of it, and no byte of the
+  -- lines that were seen ends the search
+  pub data IsUnreadIn (across : Bool) (view : List ℕ → List ℕ) (state : SearcherState)
+      (meaning : Meaning) (reader : R)
       : Option (List ℕ) → Error → R → Type 0 where
-    of_cut : {seen : List ℕ} {error : Error} {reader' : R} → across ≡ false → (taken : Taken reader reader')
+    -- what cuts it short does so before a byte that ends the search
+    of_cut : {seen : List ℕ} {error : Error} {reader' : R} → across ≡ false
+        → before_quit state.settings.binary_detection seen ≡ seen → (taken : Taken reader reader')
         → ((bytes : List ℕ) → IsInput state.settings taken.ended taken.pieces bytes
         → GoesOnAfter state.settings meaning (view bytes) seen
-        × CutsShort state.settings meaning (view bytes) seen error)
+        × CutsShort state.settings meaning
+        (before_quit state.settings.binary_detection (view bytes)) seen error)
         → IsUnreadIn across view state meaning reader (Some seen) error reader'
     -- the reader's last call failed. If what came before is searched unchanged, and more than two bytes were taken,
-    -- all lines that came whole were seen
-    of_reader : {seen : List ℕ} {error : Error} {reader' : R} → across ≡ false → (mid : R) (taken : Taken reader mid)
+    -- all lines that came whole were seen, and no byte that came ends the search
+    of_reader : {seen : List ℕ} {error : Error} {reader' : R} → across ≡ false
+        → before_quit state.settings.binary_detection seen ≡ seen
+        → (mid : R) (taken : Taken reader mid)
         → taken.ended ≡ false → read_step mid (Err error) reader'
         → ((bytes : List ℕ) → IsInput state.settings taken.ended taken.pieces bytes
         → GoesOnAfter state.settings meaning (view bytes) seen)
@@ -70,11 +86,13 @@ module _ {R : Type 0} (remaining : R → Option (List ℕ)) (read_step : R → R
         → ((bytes : List ℕ) → IsInput state.settings taken.ended taken.pieces bytes
         → CutsContents state.settings bytes error)
         → IsUnreadIn across view state meaning reader None error reader'
-    of_failed_read : {error : Error} {reader' : R} → across ≡ true → (mid : R) (taken : Taken reader mid)
+    of_failed_read : {error : Error} {reader' : R} → across ≡ true
+        → (mid : R) (taken : Taken reader mid)
         → taken.ended ≡ false → read_step mid (Err error) reader'
         → ((limit : ℕ) → state.settings.heap_limit ≡ Some limit
         → is_searched_unchanged state.settings (concat taken.pieces) ≡ true
-        → (TakesAtMost (remaining reader) (remaining reader') 2 → ⊥) → length (concat taken.pieces) < limit)
+        → (TakesAtMost (remaining reader) (remaining reader') 2 → ⊥)
+        → length (concat taken.pieces) < limit)
         → IsUnreadIn across view state meaning reader None error reader'
     -- there were no buffers, and no memory for them
     of_buffers : {error : Error} → state.has_buffers ≡ false → error_kind error ≡ OutOfMemory
@@ -88,11 +106,13 @@ module _ {R : Type 0} (remaining : R → Option (List ℕ)) (read_step : R → R
   abbrev pub IsLineUnread : SearcherState → Meaning → R → Option (List ℕ) → Error → R → Type 0
   IsLineUnread state = IsUnreadIn false (view_of state.settings) state
 
-  module _ {S E F : Type 0} (step : Steps S E) (errors : ErrorMakers E) (matcher : MatcherFacts F) where
+  module _ {S E F : Type 0} (step : Steps S E) (errors : ErrorMakers E)
+      (matcher : MatcherFacts F) where
     -- A search with these calls that ended in `Ok`: they were made over the lines that were seen, up to the first false
     -- or the last, and `finish` followed. Whatever follows what was taken, they are those for the whole input, and
     -- unless one returned false, each line with a turn was seen.
-    pub record IsReaderRunIn (calls : SearchCalls) (settings : Settings) (reader : R) (old : S) (reader' : R) (new : S)
+    pub record IsReaderRunIn (calls : SearchCalls) (settings : Settings) (reader : R) (old : S)
+        (reader' : R) (new : S)
         : Type 0 where
       pub taken : Taken reader reader'
       pub seen : List ℕ
@@ -100,12 +120,16 @@ module _ {R : Type 0} (remaining : R → Option (List ℕ)) (read_step : R → R
       pub mid : S
       pub reported : AreReported step settings old (calls.turns seen) outcome mid
       pub finished : IsFinished step settings outcome mid (calls.byte_count seen) None (Ok tt) new
-      pub front : (bytes : List ℕ) → IsInput settings taken.ended taken.pieces bytes → IsFront settings (calls.view bytes) seen
+      pub front : (bytes : List ℕ) → IsInput settings taken.ended taken.pieces bytes
+          → IsFront settings (calls.view bytes) seen
       pub run : (bytes : List ℕ) → IsInput settings taken.ended taken.pieces bytes
-          → IsRun step settings old (calls.turns (calls.view bytes)) (calls.byte_count (calls.view bytes)) None
+          → IsRun step settings old (calls.turns (calls.view bytes))
+          (calls.byte_count (calls.view bytes)) None
           (Ok tt) new
-      pub all : (bytes : List ℕ) → IsInput settings taken.ended taken.pieces bytes → outcome ≡ all_true
-          → calls.turn_count (calls.view bytes) ≤ length (lines (byte_of settings.line_terminator) seen)
+      pub all : (bytes : List ℕ) → IsInput settings taken.ended taken.pieces bytes
+          → outcome ≡ all_true
+          → calls.turn_count (calls.view bytes)
+          ≤ length (lines (byte_of settings.line_terminator) seen)
       -- by line nothing was read unless `begin` returned true and the search reads lines
       pub begun : Bool
       pub first : S
@@ -113,7 +137,8 @@ module _ {R : Type 0} (remaining : R → Option (List ℕ)) (read_step : R → R
       pub unread : calls.across ≡ false → (begun && reads_lines settings) ≡ false → reader' ≡ reader
       -- across lines all was read, and it is shorter than the heap limit
       pub whole : calls.across ≡ true → taken.ended ≡ true
-      pub below : calls.across ≡ true → (bytes : List ℕ) → IsInput settings taken.ended taken.pieces bytes
+      pub below : calls.across ≡ true → (bytes : List ℕ)
+          → IsInput settings taken.ended taken.pieces bytes
           → IsBelowLimit settings bytes
       -- how far the reader is ahead of the byte count, under a heap limit, if what came is searched unchanged
       pub ahead : calls.across ≡ false → (limit : ℕ) → settings.heap_limit ≡ Some limit
@@ -135,7 +160,8 @@ module _ {R : Type 0} (remaining : R → Option (List ℕ)) (read_step : R → R
           → IsReaderFaultIn calls state reader old e reader' new
       -- the input wasn't searched to its end
       of_reading : {e : E} {reader' : R} {new : S} (seen : Option (List ℕ)) (error : Error)
-          → IsUnreadIn calls.across calls.view state matcher.meaning reader seen error reader' → errors.is_io error e
+          → IsUnreadIn calls.across calls.view state matcher.meaning reader seen error reader'
+          → errors.is_io error e
           → HasReportedIn step errors matcher calls state.settings seen old new
           → IsReaderFaultIn calls state reader old e reader' new
 
@@ -155,31 +181,38 @@ module _ {R : Type 0} (remaining : R → Option (List ℕ)) (read_step : R → R
 -- how a search of a reader under binary detection ends
 module _ {R : Type 0} (remaining : R → Option (List ℕ)) (read_step : R → ReadResult → R → Type 0)
     {S E F : Type 0} (step : Steps S E) (errors : ErrorMakers E) (matcher : MatcherFacts F) where
-  -- across lines, if the search ends at a byte: all was read, it is shorter than the heap limit, and that is what the
-  -- search of it comes to
-  pub record IsContentsRun (settings : Settings) (reader reader' : R) (Ends : List ℕ → Type 0) : Type 0 where
+  -- across lines under `Quit`: all was read, it is shorter than the heap limit, and that is what the search of it
+  -- comes to
+  pub record IsContentsRun (settings : Settings) (reader reader' : R)
+      (Ends : List ℕ → Type 0) : Type 0 where
     pub taken : Taken remaining read_step reader reader'
     pub whole : taken.ended ≡ true
     pub run : (bytes : List ℕ) → IsInput settings taken.ended taken.pieces bytes → Ends bytes
-    pub below : (bytes : List ℕ) → IsInput settings taken.ended taken.pieces bytes → IsBelowLimit settings bytes
+    pub below : (bytes : List ℕ) → IsInput settings taken.ended taken.pieces bytes
+        → IsBelowLimit settings bytes
 
-  -- or all wasn't read
+  -- or not all of it was read
   abbrev pub IsContentsSearched : ℕ → SearcherState → R → S → Result (Unit {0}) E → R → S → Type 0
   IsContentsSearched b state reader old (Ok u) reader' new =
       IsContentsRun state.settings reader reader'
-      (λ bytes. IsRunUntil step errors matcher (calls_across state.settings matcher.meaning) b state.settings bytes old (Ok u) new)
+      (λ bytes. IsRunUntil step errors matcher
+      (calls_across state.settings matcher.meaning) b state.settings bytes old (Ok u) new)
   IsContentsSearched b state reader old (Err e) reader' new =
       IsContentsRun state.settings reader reader'
-      (λ bytes. IsQuitFault step errors matcher (calls_across state.settings matcher.meaning) b state.settings bytes
+      (λ bytes. IsQuitFault step errors matcher
+      (calls_across state.settings matcher.meaning) b state.settings bytes
       old e new)
-      ⊎ ((error : Error) × IsUnreadIn remaining read_step true (view_of state.settings) state matcher.meaning reader None
+      ⊎ ((error : Error) × IsUnreadIn remaining read_step true
+      (view_of state.settings) state matcher.meaning reader None
       error reader'
       × errors.is_io error e × (new ≡ old))
 
   -- by line: the search of the view by a sink that is called with `binary_data` in between
-  pub record IsNotedReaderRun (settings : Settings) (reader : R) (old : S) (reader' : R) (new : S) : Type 0 where
+  pub record IsNotedReaderRun (settings : Settings) (reader : R) (old : S) (reader' : R)
+      (new : S) : Type 0 where
     pub found : Option ℕ
-    pub run : IsReaderRunIn remaining read_step (noted step) errors matcher (stream_calls settings matcher.meaning)
+    pub run : IsReaderRunIn remaining read_step (noted step) errors matcher
+        (stream_calls settings matcher.meaning)
         settings reader (old, None) reader' (new, found)
     pub noted_for : (bytes : List ℕ) → IsInput settings run.taken.ended run.taken.pieces bytes
         → IsNotedFor settings bytes found
@@ -190,22 +223,31 @@ module _ {R : Type 0} (remaining : R → Option (List ℕ)) (read_step : R → R
     pub each : (bytes : List ℕ) → IsInput settings run.taken.ended run.taken.pieces bytes
         → IsNotedRun step settings matcher.meaning bytes old new
 
-  -- the same that ends in an error, after a first part of what was read in which the byte was
-  pub record IsNotedReaderFault (state : SearcherState) (reader : R) (old : S) (e : E) (reader' : R) (new : S)
+  -- such a search that ended in an error; this holds whatever would have followed the bytes that came
+  pub record IsNotedReaderFault (state : SearcherState) (reader : R) (old : S) (e : E)
+      (reader' : R) (new : S)
       : Type 0 where
     pub found : Option ℕ
     pub fault : IsReaderFaultIn remaining read_step (noted step) errors matcher
-        (stream_calls state.settings matcher.meaning) state reader (old, None) e reader' (new, found)
-    pub mid : R
-    pub taken : Taken remaining read_step reader mid
-    pub noted_for : (bytes : List ℕ) → IsInput state.settings taken.ended taken.pieces bytes
+        (stream_calls state.settings matcher.meaning) state reader (old, None) e reader'
+        (new, found)
+    pub came : Came remaining read_step reader reader'
+    pub noted_for : (bytes : List ℕ)
+        → IsInput state.settings came.taken.ended came.taken.pieces bytes
         → IsNotedFor state.settings bytes found
+    pub clear : found ≡ None → IsClearFault step errors matcher
+        (IsInput state.settings came.taken.ended came.taken.pieces) state.settings old e new
 
   -- or it ended at the first binary byte, in `finish` or in the sink's error
   pub record IsReaderCut (settings : Settings) (reader : R) (old : S) (result : Result (Unit {0}) E)
       (reader' : R) (new : S) : Type 0 where
     pub taken : Taken remaining read_step reader reader'
-    pub run : IsCutRun step settings matcher.meaning (IsInput settings taken.ended taken.pieces) old result new
+    pub run : IsCutRun step settings matcher.meaning
+        (IsInput settings taken.ended taken.pieces) old result new
+    -- how far the reader is ahead of the byte count, as after any search that ends in `Ok`
+    pub ahead : (limit : ℕ) → settings.heap_limit ≡ Some limit
+        → is_searched_unchanged settings (concat taken.pieces) ≡ true
+        → length (concat taken.pieces) ≤ length run.seen + limit + 3
 
   abbrev pub IsStreamSearched : SearcherState → R → S → Result (Unit {0}) E → R → S → Type 0
   IsStreamSearched state reader old (Ok u) reader' new =

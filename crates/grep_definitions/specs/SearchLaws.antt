@@ -26,7 +26,8 @@ UnchangedIsInput =
 -- without a label, an input is searched as it is if no mark is looked for, or if it begins with none
 abbrev pub UnsniffedIsUnchanged : Type 0
 UnsniffedIsUnchanged =
-    (settings : Settings) (input : List ℕ) → settings.encoding ≡ None → settings.bom_sniffing ≡ false
+    (settings : Settings) (input : List ℕ) → settings.encoding ≡ None
+    → settings.bom_sniffing ≡ false
     → is_searched_unchanged settings input ≡ true
 
 abbrev pub UnmarkedIsUnchanged : Type 0
@@ -69,7 +70,8 @@ ReportsAscend =
 -- after it, even if it is also before a later one
 abbrev pub AfterWins : Type 0
 AfterWins =
-    (settings : Settings) (meaning : Meaning) (bytes : List ℕ) (i j : ℕ) → i < turn_count settings meaning bytes
+    (settings : Settings) (meaning : Meaning) (bytes : List ℕ) (i j : ℕ)
+    → i < turn_count settings meaning bytes
     → is_selected settings meaning bytes i ≡ false → is_selected settings meaning bytes j ≡ true
     → j < i → i - j ≤ settings.after_context
     → turns_at settings meaning bytes i
@@ -83,7 +85,8 @@ AfterWins =
 abbrev pub InversionComplements : Type 0
 InversionComplements =
     (settings : Settings) (meaning : Meaning) (bytes : List ℕ) (i : ℕ)
-    → settings.max_matches ≡ None → settings.stop_on_nonmatch ≡ false → i < line_count settings meaning bytes
+    → settings.max_matches ≡ None → settings.stop_on_nonmatch ≡ false
+    → i < line_count settings meaning bytes
     → is_selected (record settings { invert_match = not settings.invert_match }) meaning bytes i
     ≡ not (is_selected settings meaning bytes i)
 
@@ -93,12 +96,14 @@ FirstLinesBegin =
     (settings : Settings) (meaning : Meaning) (front back : List ℕ)
     → (0 < length front → slice_index front (length front - 1) ≡ byte_of settings.line_terminator)
     → (settings.passthru ≡ true → settings.before_context ≡ 0)
-    → (later : List Turn) × (turns settings meaning (front ++ back) ≡ turns settings meaning front ++ later)
+    → (later : List Turn)
+    × (turns settings meaning (front ++ back) ≡ turns settings meaning front ++ later)
 
 -- no more matches are reported than the limit has
 abbrev pub AtMostLimit : Type 0
 AtMostLimit =
-    (settings : Settings) (meaning : Meaning) (bytes : List ℕ) (limit : ℕ) → settings.max_matches ≡ Some limit
+    (settings : Settings) (meaning : Meaning) (bytes : List ℕ) (limit : ℕ)
+    → settings.max_matches ≡ Some limit
     → count_by (λ turn. is_match turn.call) (turns settings meaning bytes) ≤ limit
 
 -- if each line has a turn, the byte count is the length
@@ -120,7 +125,8 @@ MatchesDecide =
 -- line i has the number i + 1, if lines are numbered
 abbrev pub LinesAreNumbered : Type 0
 LinesAreNumbered =
-    (settings : Settings) (meaning : Meaning) (bytes : List ℕ) (i : ℕ) → i < line_count settings meaning bytes
+    (settings : Settings) (meaning : Meaning) (bytes : List ℕ) (i : ℕ)
+    → i < line_count settings meaning bytes
     → number settings meaning bytes i ≡ number_of settings i
 
 -- the call that reports line i as a match: with the number i + 1, if lines are numbered

@@ -1,12 +1,14 @@
 -- What a search does to its sink, and what it returns.
-use Rattle.std.specs.Prelude.{◌≡◌, ◌⊎◌, ℕ, List, Option, Some, None, Result, Ok, Err}
+use Rattle.std.specs.Prelude.{◌≡◌, ◌⊎◌, ℕ, List, length, take, Option, Some, None, Result, Ok, Err}
 use Rattle.std.specs.declared.io.Error.{Error}
 use Rattle.grep_matcher.specs.declared.line_terminator.LineTerminator.{LineTerminator}
 use Rattle.grep_matcher.specs.Matching.{Meaning}
 use Rattle.grep_report.specs.declared.config_error.ConfigError.{ConfigError}
 use Rattle.grep_definitions.specs.Settings.{Settings, SearcherState}
-use Rattle.grep_definitions.specs.BinaryBytes.{Look, nowhere, in_contents, on_stream, look_of, view_of}
+use Rattle.grep_definitions.specs.BinaryBytes.{Look, nowhere, in_contents, on_stream, look_of}
+use Rattle.grep_definitions.specs.BinaryBytes.{binary_of, view_of}
 use Rattle.grep_definitions.specs.DecodedInputs.{searched_bytes, is_searched_unchanged}
+use Rattle.grep_definitions.specs.InputFronts.{IsFront}
 use Rattle.grep_definitions.specs.NotedSinks.{noted}
 use Rattle.grep_definitions.specs.QuitPoints.{quit_point, IsRunTo}
 use Rattle.grep_definitions.specs.Questions.{IsLawfulFor}
@@ -37,9 +39,11 @@ pub record MatcherFacts (F : Type 0) : Type 1 where
 abbrev pub IsLawful : {F : Type 0} → MatcherFacts F → Settings → Type 0
 IsLawful matcher settings = IsLawfulFor settings matcher.meaning matcher.is_lawful
 
-module _ {S E F : Type 0} (step : Steps S E) (errors : ErrorMakers E) (matcher : MatcherFacts F) where
+module _ {S E F : Type 0} (step : Steps S E) (errors : ErrorMakers E)
+    (matcher : MatcherFacts F) where
   -- how a search with these calls ends in an error e, by its cause, and which calls the sink had
-  pub data IsFaultIn (calls : SearchCalls) (settings : Settings) (bytes : List ℕ) (old : S) : E → S → Type 0 where
+  pub data IsFaultIn (calls : SearchCalls) (settings : Settings) (bytes : List ℕ) (old : S) : E → S
+      → Type 0 where
     -- the sink's own error: that of the run's last step
     of_sink : {e : E} {new : S}
         → IsRun step settings old (calls.turns bytes) (calls.byte_count bytes) None (Err e) new
@@ -69,15 +73,18 @@ module _ {S E F : Type 0} (step : Steps S E) (errors : ErrorMakers E) (matcher :
   -- seen, or none
   abbrev pub HasReportedIn : SearchCalls → Settings → Option (List ℕ) → S → S → Type 0
   HasReportedIn calls settings None old new = new ≡ old
-  HasReportedIn calls settings (Some seen) old new = AreReported step settings old (calls.turns seen) all_true new
+  HasReportedIn calls settings (Some seen) old new =
+      AreReported step settings old (calls.turns seen) all_true new
 
   -- an input that is decoded wasn't searched to its end: the error is of that cause, and so are the calls
-  pub record IsUnsearched (state : SearcherState) (input : List ℕ) (old : S) (e : E) (new : S) : Type 0 where
+  pub record IsUnsearched (state : SearcherState) (input : List ℕ) (old : S) (e : E)
+      (new : S) : Type 0 where
     pub seen : Option (List ℕ)
     pub error : Error
     pub cause : IsUndecoded state matcher.meaning input seen error
     pub made : errors.is_io error e
-    pub reported : HasReportedIn (search_calls state.settings matcher.meaning) state.settings seen old new
+    pub reported : HasReportedIn
+        (search_calls state.settings matcher.meaning) state.settings seen old new
 
   -- along the calls for its decoded bytes, or it ends in a fault, or the input wasn't decoded to its end
   abbrev pub IsPlainlySearched : SearcherState → List ℕ → S → Result (Unit {0}) E → S → Type 0
@@ -95,7 +102,8 @@ module _ {S E F : Type 0} (step : Steps S E) (errors : ErrorMakers E) (matcher :
       (calls.byte_count bytes) result new
 
   -- how it ends in an error: the sink's own, or the matcher's, before the byte
-  pub data IsQuitFault (calls : SearchCalls) (b : ℕ) (settings : Settings) (bytes : List ℕ) (old : S)
+  pub data IsQuitFault (calls : SearchCalls) (b : ℕ) (settings : Settings) (bytes : List ℕ)
+      (old : S)
       : E → S → Type 0 where
     of_quit_sink : {e : E} {new : S} → IsRunUntil calls b settings bytes old (Err e) new
         → IsQuitFault calls b settings bytes old e new
@@ -115,14 +123,50 @@ module _ {S E F : Type 0} (step : Steps S E) (errors : ErrorMakers E) (matcher :
       (searched_bytes state.settings input) old e new
       ⊎ IsUnsearched state input old e new
 
+-- the makers of an error type's errors, by these three
+abbrev pub errors_by : {E : Type 0} → (Option (List ℕ) → E → Type 0) → (Error → E → Type 0)
+    → (ConfigError → E → Type 0) → ErrorMakers E
+errors_by is_message is_io is_config =
+    record { is_message = is_message; is_io = is_io; is_config = is_config }
+
+-- what is known of a matcher, by these four, of which the first three are said of its state
+abbrev pub facts_by : {M F : Type 0} → (M → Meaning) → (M → List ℕ → F → Type 0)
+    → (M → LineTerminator → Type 0) → (F → Option (List ℕ)) → M → MatcherFacts F
+facts_by meaning fails is_lawful text_of matcher =
+    record {
+      meaning = meaning matcher;
+      fails = fails matcher;
+      is_lawful = is_lawful matcher;
+      text_of = text_of;
+    }
+
 -- how a search of an input ends, also under binary detection
-module _ {S E F : Type 0} (step : Steps S E) (errors : ErrorMakers E) (matcher : MatcherFacts F) where
+module _ {S E F : Type 0} (step : Steps S E) (errors : ErrorMakers E)
+    (matcher : MatcherFacts F) where
+  -- A search by line ended in an error and didn't call `binary_data`. If it made calls, they are
+  -- those over lines at the front of each input that it may have had, and no binary byte is among
+  -- these lines. The error is that of a search of these lines, or one of reading.
+  pub record IsClearFault (IsOne : List ℕ → Type 0) (settings : Settings) (old : S) (e : E)
+      (new : S) : Type 0 where
+    pub seen : List ℕ
+    pub front : (bytes : List ℕ) → IsOne bytes → IsFront settings (view_of settings bytes) seen
+    pub clear : (bytes : List ℕ) → IsOne bytes
+        → binary_of settings (take (length seen) bytes) ≡ None
+    pub made : IsLineFault step errors matcher settings seen old e new
+        ⊎ ((error : Error) × errors.is_io error e
+        × (AreReported step settings old
+        ((calls_by_line settings matcher.meaning).turns seen) all_true new ⊎ (new ≡ old)))
+
   -- by line of an input that is decoded: of the view, by a sink that is called with `binary_data` in between
-  pub record IsNotedFault (state : SearcherState) (input : List ℕ) (old : S) (e : E) (new : S) : Type 0 where
+  pub record IsNotedFault (state : SearcherState) (input : List ℕ) (old : S) (e : E)
+      (new : S) : Type 0 where
     pub found : Option ℕ
     pub noted_for : IsNotedFor state.settings (searched_bytes state.settings input) found
+    pub clear : found ≡ None → IsClearFault (λ bytes. bytes ≡ searched_bytes state.settings input)
+        state.settings old e new
     pub fault :
-        IsFaultIn (noted step) errors matcher (stream_calls state.settings matcher.meaning) state.settings
+        IsFaultIn (noted step) errors matcher
+        (stream_calls state.settings matcher.meaning) state.settings
         (view_of state.settings (searched_bytes state.settings input)) (old, None) e (new, found)
         ⊎ IsUnsearched (noted step) errors matcher state input (old, None) e (new, found)
 
@@ -130,11 +174,13 @@ module _ {S E F : Type 0} (step : Steps S E) (errors : ErrorMakers E) (matcher :
   abbrev pub IsStreamSearched : SearcherState → List ℕ → S → Result (Unit {0}) E → S → Type 0
   IsStreamSearched state input old (Ok u) new =
       IsNotedRun step state.settings matcher.meaning (searched_bytes state.settings input) old new
-      ⊎ IsCutRun step state.settings matcher.meaning (λ bytes. bytes ≡ searched_bytes state.settings input)
+      ⊎ IsCutRun step state.settings matcher.meaning
+      (λ bytes. bytes ≡ searched_bytes state.settings input)
       old (Ok u) new
   IsStreamSearched state input old (Err e) new =
       IsNotedFault state input old e new
-      ⊎ IsCutRun step state.settings matcher.meaning (λ bytes. bytes ≡ searched_bytes state.settings input)
+      ⊎ IsCutRun step state.settings matcher.meaning
+      (λ bytes. bytes ≡ searched_bytes state.settings input)
       old (Err e) new
 
   -- what a search of an input that isn't refused comes to, by where it looks for binary bytes
@@ -145,7 +191,8 @@ module _ {S E F : Type 0} (step : Steps S E) (errors : ErrorMakers E) (matcher :
 
   abbrev pub IsInputSearched : SearcherState → List ℕ → S → Result (Unit {0}) E → S → Type 0
   IsInputSearched state input =
-      IsSearchedAt (look_of state.settings matcher.meaning (is_searched_unchanged state.settings input))
+      IsSearchedAt (look_of state.settings matcher.meaning
+      (is_searched_unchanged state.settings input))
       state input
 
   -- an error: that of the refusal, which leaves the sink as it was, or that of the search, which is said if the matcher

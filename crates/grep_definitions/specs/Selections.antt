@@ -15,7 +15,8 @@ module _ (settings : Settings) (selected : ℕ → Bool) (count turned : ℕ) wh
   follows i = some_below (λ j. nat_le (i - j) settings.after_context && selected j) i
 
   abbrev pub precedes : ℕ → Bool
-  precedes i = some_below (λ j. nat_lt i j && nat_le (j - i) settings.before_context && selected j) count
+  precedes i =
+      some_below (λ j. nat_lt i j && nat_le (j - i) settings.before_context && selected j) count
 
   abbrev pub kind : ℕ → Option Kind
   kind i =
@@ -34,7 +35,8 @@ module _ (settings : Settings) (selected : ℕ → Bool) (count turned : ℕ) wh
     pub few : left ≤ settings.after_context
     pub close : 0 < left → v ≡ i
     pub window : (x : ℕ) → i ≤ x
-        → some_below (λ j. nat_le (x - j) settings.after_context && selected j) i ≡ nat_lt (x - i) left
+        → some_below (λ j. nat_le (x - j) settings.after_context && selected j) i
+        ≡ nat_lt (x - i) left
     pub passed : (j : ℕ) → v ≤ j → j < i → (selected j ≡ false) × (follows j ≡ false)
     pub shown : 0 < v → is_reported (v - 1) ≡ true
     pub bare : settings.passthru ≡ true → v ≡ i

@@ -37,7 +37,8 @@ module _ {S : Type 0} (goes : S → Call → Bool) (next : S → Call → S) whe
   -- the state after some calls, up to the first after which the sink doesn't go on
   abbrev pub fold_while : S → List Call → S
   fold_while old [] = old
-  fold_while old (call ∷ later) = if goes old call then fold_while (next old call) later else next old call
+  fold_while old (call ∷ later) =
+      if goes old call then fold_while (next old call) later else next old call
 
   -- the state after a run: `finish` gets the count, or the end of the turn after which the sink doesn't go on
   abbrev pub run_fold : S → List Turn → ℕ → Option ℕ → S
@@ -83,7 +84,8 @@ module _ {S E : Type 0} (step : Steps S E) where
   abbrev pub RunsFold : Type 0
   RunsFold =
       (goes : S → Call → Bool) (next : S → Call → S) → StepsBy goes next
-      → (settings : Settings) (old : S) (turns : List Turn) (count : ℕ) (binary : Option ℕ) (new : S)
+      → (settings : Settings) (old : S) (turns : List Turn) (count : ℕ) (binary : Option ℕ)
+      (new : S)
       → IsRun step settings old turns count binary (Ok tt) new
       → new ≡ run_fold goes next old turns count binary
 
@@ -91,7 +93,8 @@ module _ {S E : Type 0} (step : Steps S E) where
   abbrev pub RunsFoldAll : Type 0
   RunsFoldAll =
       (next : S → Call → S) → StepsBy (λ old call. true) next
-      → (settings : Settings) (old : S) (turns : List Turn) (count : ℕ) (binary : Option ℕ) (new : S)
+      → (settings : Settings) (old : S) (turns : List Turn) (count : ℕ) (binary : Option ℕ)
+      (new : S)
       → IsRun step settings old turns count binary (Ok tt) new
       → new ≡ next (fold next old (map (λ turn. turn.call) turns)) (finishes count binary)
 
@@ -99,11 +102,13 @@ module _ {S E : Type 0} (step : Steps S E) where
   abbrev pub RunsFoldMatches : Type 0
   RunsFoldMatches =
       (goes : S → Call → Bool) (next : S → Call → S) → TakesMatches goes next
-      → (settings : Settings) (old : S) (turns : List Turn) (count : ℕ) (binary : Option ℕ) (new : S)
+      → (settings : Settings) (old : S) (turns : List Turn) (count : ℕ) (binary : Option ℕ)
+      (new : S)
       → IsRun step settings old turns count binary (Ok tt) new
       → new ≡ fold_while goes next old (match_calls turns)
 
-module _ {S E F : Type 0} (step : Steps S E) (errors : ErrorMakers E) (matcher : MatcherFacts F) where
+module _ {S E F : Type 0} (step : Steps S E) (errors : ErrorMakers E)
+    (matcher : MatcherFacts F) where
   -- without binary detection, a search with a lawful matcher that ended in `Ok` is a run along the calls for the decoded
   -- bytes of its input
   abbrev pub SearchesRun : Type 0
@@ -114,7 +119,8 @@ module _ {S E F : Type 0} (step : Steps S E) (errors : ErrorMakers E) (matcher :
       → IsSearched step errors matcher state input old (Ok tt) new
       → IsRun step state.settings old
       (search_turns state.settings matcher.meaning (searched_bytes state.settings input))
-      (search_byte_count state.settings matcher.meaning (searched_bytes state.settings input)) None (Ok tt) new
+      (search_byte_count state.settings matcher.meaning (searched_bytes state.settings input)) None
+      (Ok tt) new
 
   -- without binary detection, if the matcher never fails and is lawful, and the search isn't refused, an error is that
   -- of a step of the sink, or the input wasn't decoded to its end
@@ -126,7 +132,8 @@ module _ {S E F : Type 0} (step : Steps S E) (errors : ErrorMakers E) (matcher :
       → refusal_of state.settings matcher.meaning ≡ None
       → IsSearched step errors matcher state input old (Err e) new
       → ((mid : S) × (call : Call) × step mid state.settings call (Err e) new)
-      ⊎ ((seen : Option (List ℕ)) × (error : Error) × IsUndecoded state matcher.meaning input seen error
+      ⊎ ((seen : Option (List ℕ)) × (error : Error)
+      × IsUndecoded state matcher.meaning input seen error
       × errors.is_io error e)
 
 module _ {S E F : Type 0} (step : Steps S E) (errors : ErrorMakers E) (matcher : MatcherFacts F)
@@ -137,7 +144,8 @@ module _ {S E F : Type 0} (step : Steps S E) (errors : ErrorMakers E) (matcher :
       (state : SearcherState) (reader : R) (old : S) (reader' : R) (new : S)
       → state.settings.binary_detection ≡ no_detection
       → IsLawful matcher state.settings
-      → IsReaderSearched remaining read_step step errors matcher state reader old (Ok tt) reader' new
+      → IsReaderSearched remaining read_step step errors matcher state reader old
+      (Ok tt) reader' new
       → IsReaderRun remaining read_step step errors matcher state.settings reader old reader' new
 
   -- so is an error that a search of a reader ended in, or it is one of reading
@@ -147,10 +155,12 @@ module _ {S E F : Type 0} (step : Steps S E) (errors : ErrorMakers E) (matcher :
       → state.settings.binary_detection ≡ no_detection
       → IsInfallible matcher.fails → IsLawful matcher state.settings
       → refusal_of state.settings matcher.meaning ≡ None
-      → IsReaderSearched remaining read_step step errors matcher state reader old (Err e) reader' new
+      → IsReaderSearched remaining read_step step errors matcher state reader old
+      (Err e) reader' new
       → ((mid : S) × (call : Call) × step mid state.settings call (Err e) new)
       ⊎ ((seen : Option (List ℕ)) × (error : Error)
-      × IsUnread remaining read_step state matcher.meaning reader seen error reader' × errors.is_io error e)
+      × IsUnread remaining read_step state matcher.meaning reader seen error reader'
+      × errors.is_io error e)
 
   -- without binary detection, a search of a reader that says which bytes remain, with a lawful matcher, if it ended in
   -- `Ok`, is a run along the calls for its decoded bytes
@@ -160,7 +170,9 @@ module _ {S E F : Type 0} (step : Steps S E) (errors : ErrorMakers E) (matcher :
       → state.settings.binary_detection ≡ no_detection
       → remaining reader ≡ Some input
       → IsLawful matcher state.settings
-      → IsReaderSearched remaining read_step step errors matcher state reader old (Ok tt) reader' new
+      → IsReaderSearched remaining read_step step errors matcher state reader old
+      (Ok tt) reader' new
       → IsRun step state.settings old
       (search_turns state.settings matcher.meaning (searched_bytes state.settings input))
-      (search_byte_count state.settings matcher.meaning (searched_bytes state.settings input)) None (Ok tt) new
+      (search_byte_count state.settings matcher.meaning (searched_bytes state.settings input)) None
+      (Ok tt) new

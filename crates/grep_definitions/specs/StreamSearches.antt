@@ -1,6 +1,6 @@
 -- A search of an input that is read line by line under binary detection. The decoded bytes are the input, and its view
 -- is what is searched of them.
-use Rattle.std.specs.Prelude.{◌≡◌, ℕ, ◌+◌, ◌≤◌, List, length, take, Option, Some, None, Result, Ok}
+use Rattle.std.specs.Prelude.{◌≡◌, ℕ, ◌+◌, ◌<◌, ◌≤◌, List, length, take, Option, Some, None, Result, Ok}
 use Rattle.grep_matcher.specs.Matching.{Meaning}
 use Rattle.grep_report.specs.declared.binary_detection.BinaryDetection.TheVariants.{Quit}
 use Rattle.grep_definitions.specs.BinaryBytes.{binary_of, view_of}
@@ -26,29 +26,32 @@ pub record IsNotedFor (settings : Settings) (bytes : List ℕ) (found : Option �
 abbrev pub IsClear : Settings → List ℕ → Option ℕ → ℕ → Type 0
 IsClear settings bytes found count = found ≡ None → binary_of settings (take count bytes) ≡ None
 
--- the lines that were seen are whole lines before the first binary byte. Of the bytes between there are no more than the
--- heap limit has
-pub record IsCutAt (settings : Settings) (meaning : Meaning) (bytes seen : List ℕ) (offset : ℕ) : Type 0 where
+-- the lines that were seen are whole lines before the first binary byte. There are fewer bytes between than the heap
+-- limit has
+pub record IsCutAt (settings : Settings) (meaning : Meaning) (bytes seen : List ℕ)
+    (offset : ℕ) : Type 0 where
   pub front : GoesOnAfter settings meaning (view_of settings bytes) seen
   pub first : binary_of settings bytes ≡ Some offset
   pub after : length seen ≤ offset
-  pub near : (limit : ℕ) → settings.heap_limit ≡ Some limit → offset ≤ length seen + limit
+  pub near : (limit : ℕ) → settings.heap_limit ≡ Some limit → offset < length seen + limit
 
 module _ {S E : Type 0} (step : Steps S E) (settings : Settings) (meaning : Meaning) where
   -- the search ended at the first binary byte of its input, whichever of these that is: after the calls for the lines
-  -- that were seen came `binary_data`, and `finish`. If that call returned true, the search is one that ends there
-  pub record IsCutRun (IsOne : List ℕ → Type 0) (old : S) (result : Result (Unit {0}) E) (new : S) : Type 0 where
+  -- that were seen came `binary_data`, and `finish` with the length of these lines as the count. If `binary_data`
+  -- returned true, the search is one that ends there
+  pub record IsCutRun (IsOne : List ℕ → Type 0) (old : S) (result : Result (Unit {0}) E)
+      (new : S) : Type 0 where
     pub seen : List ℕ
     pub offset : ℕ
-    pub count : ℕ
     pub outcome : Outcome E
     pub mid : S
     pub last : S
     pub cut : (bytes : List ℕ) → IsOne bytes → IsCutAt settings meaning bytes seen offset
-    pub low : count ≤ offset
-    pub reported : AreReported step settings old ((calls_by_line settings meaning).turns seen) all_true mid
-    pub called : AreReported step settings mid (one_turn (binary_data offset) count) outcome last
-    pub finished : IsFinished step settings outcome last count (Some offset) result new
+    pub reported : AreReported step settings old
+        ((calls_by_line settings meaning).turns seen) all_true mid
+    pub called : AreReported step settings mid
+        (one_turn (binary_data offset) (length seen)) outcome last
+    pub finished : IsFinished step settings outcome last (length seen) (Some offset) result new
     pub quits : outcome ≡ all_true → (b : ℕ) × (settings.binary_detection ≡ Quit b)
 
   -- the calls were made over the view, and `binary_data` in between, up to the first false or the last, and `finish`
@@ -59,7 +62,8 @@ module _ {S E : Type 0} (step : Steps S E) (settings : Settings) (meaning : Mean
     pub reported : AreReported (noted step) settings (old, None)
         ((calls_by_line settings meaning).turns (view_of settings bytes)) outcome mid
     pub finished : IsFinished (noted step) settings outcome mid
-        ((calls_by_line settings meaning).byte_count (view_of settings bytes)) None (Ok tt) (new, found)
+        ((calls_by_line settings meaning).byte_count (view_of settings bytes)) None (Ok tt)
+        (new, found)
     pub noted_for : IsNotedFor settings bytes found
     pub clear : IsClear settings bytes found
         (count_of outcome ((calls_by_line settings meaning).byte_count (view_of settings bytes)))

@@ -9,7 +9,8 @@ ghost use Rattle.grep_definitions.specs.AcrossLaws.{SearchesByLine, SearchesAcro
 ghost use Rattle.grep_definitions.specs.AcrossLaws.{MatchTouchesItsLines, EmptyMatchTouchesItsLine};
 ghost use Rattle.grep_definitions.specs.AcrossLaws.{MatchesAreAll, SelectedAreReported};
 ghost use Rattle.grep_definitions.specs.AcrossLaws.{ReportsAreApart, ReportsAreAsByLine};
-ghost use Rattle.grep_definitions.specs.BinaryLaws.{QuitReportsAreClear, ClearLinesAreReported, SeenLinesBegin};
+ghost use Rattle.grep_definitions.specs.BinaryLaws.{QuitReportsAreClear, CountedReportsAreClear};
+ghost use Rattle.grep_definitions.specs.BinaryLaws.{SeenLinesAreClear, SeenLinesBegin};
 
 use grep_decode::laws::unchanged_is_decoded;
 use grep_lines::laws::{lines_append, lines_are_few, lines_join};
@@ -180,9 +181,14 @@ pub fn quit_reports_are_clear()
 {}
 
 /// By line, if a byte isn't among the first bytes, no report whose turn ends among them holds it.
-pub fn clear_lines_are_reported()
-    ensures { ClearLinesAreReported }
-{}
+/// Nor does a report over lines at the front of an input, if the byte that ends the search isn't
+/// among these.
+pub fn counted_reports_are_clear()
+    ensures first { CountedReportsAreClear }
+    ensures seen { SeenLinesAreClear }
+{
+    lines_join();
+}
 
 /// The calls for the lines before a binary byte at which a search by line ends begin those for all lines of the input,
 /// under settings as they are built.

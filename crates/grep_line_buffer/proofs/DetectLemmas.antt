@@ -76,7 +76,7 @@ module _ (start line_end end count : ℕ) (bytes : List ℕ) (low : start ≤ li
     size : count ≡ end - (end - count)
     size = omega arith
 
-    pub changed-front : take (end - count) changed ≡ take (end - count) bytes
+    changed-front : take (end - count) changed ≡ take (end - count) bytes
     changed-front = take-put_mid_below (end - count) (end - (end - count)) bytes made (end - count) (omega arith) (omega arith)
 
     changed-end : take end changed ≡ take (end - count) bytes ++ made
@@ -85,13 +85,13 @@ module _ (start line_end end count : ℕ) (bytes : List ℕ) (low : start ≤ li
     changed-back : drop end changed ≡ drop end bytes
     changed-back = drop-put_mid (end - count) (end - (end - count)) bytes made end (omega arith) (omega arith) (omega (arith, counted))
 
-    pub length-changed : length changed ≡ length bytes
+    length-changed : length changed ≡ length bytes
     length-changed =
         let front : length (take (end - count) bytes) ≡ end - count = length-take-le (end - count) bytes (omega arith) in
         ap (λ l. length l) (sym (take-append-drop end changed) ∙ ap (λ l. l ++ drop end changed) changed-end ∙ ap (λ l. (take (end - count) bytes ++ made) ++ l) changed-back)
         ∙ rw (length-append, length-append, front, counted, length-drop) (omega arith)
 
-    pub changed-rest : slice changed line_end end ≡ slice bytes line_end (end - count) ++ made
+    changed-rest : slice changed line_end end ≡ slice bytes line_end (end - count) ++ made
     changed-rest =
         sym (slice-join changed line_end (end - count) end (omega arith) (omega arith))
         ∙ ap (λ l. l ++ slice changed (end - count) end) (slice-kept bytes changed line_end (end - count) (end - count) changed-front (omega arith))
@@ -100,6 +100,30 @@ module _ (start line_end end count : ℕ) (bytes : List ℕ) (low : start ≤ li
         last : slice changed (end - count) end ≡ made
         last = between_is changed (end - count) end ∙ ap (drop (end - count)) changed-end
             ∙ drop_at (take (end - count) bytes) made (end - count) (length-take-le (end - count) bytes (omega arith))
+
+    -- what a buffer over bytes that have become these shows, and how many it holds
+    pub record IsChanged (now : List ℕ) : Type 0 where
+      pub size : length now ≡ length bytes
+      pub shown : slice now start line_end ≡ slice bytes start line_end
+      pub rest : slice now line_end end ≡ slice bytes line_end (end - count) ++ made
+      pub sum : (length bytes - end) + length (slice bytes start line_end ++ (slice bytes line_end (end - count) ++ made))
+          ≡ (length bytes - end) + length (slice bytes start line_end ++ slice bytes line_end end)
+
+    pub is-changed : (now : List ℕ) → now ≡ changed → IsChanged now
+    is-changed now is = subst IsChanged (sym is) (record {
+      size = length-changed;
+      shown = slice-kept bytes changed start line_end (end - count) changed-front (omega arith);
+      rest = changed-rest;
+      sum = omega (
+        arith,
+        length-held,
+        length-append (slice bytes start line_end) (slice bytes line_end (end - count) ++ made),
+        length-append (slice bytes line_end (end - count)) made,
+        length-slice bytes start line_end (omega arith),
+        length-slice bytes line_end (end - count) (omega arith),
+        counted,
+      );
+    })
 
 -- nothing was found
 pub nothing-found : (before found : Option ℕ) (f : ℕ → ℕ) → found ≡ None → before ≡ first_of before (option_map f found)

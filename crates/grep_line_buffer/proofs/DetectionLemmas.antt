@@ -41,7 +41,7 @@ module _ (p : ℕ → Bool) where
   pub position-missing : (xs : List ℕ) → position_or_len p xs ≡ length xs → position p xs ≡ None
   position-missing xs none = rw (none, le-ltb (length xs) (length xs) (omega arith)) refl
 
-  first-same : (xs ys : List ℕ) → position_or_len p xs < length xs → position_or_len p (xs ++ ys) ≡ position_or_len p xs
+  pub first-same : (xs ys : List ℕ) → position_or_len p xs < length xs → position_or_len p (xs ++ ys) ≡ position_or_len p xs
   first-same xs ys some = prefix_len-append (λ x. not (p x)) xs ys
       ∙ rw (unlike (position_or_len p xs) (length xs) some) refl
 

@@ -156,6 +156,7 @@ module _ {R : Type 0} (remaining : R → Option (List ℕ)) (step : R → ReadRe
     pub unended : now.has_ended ≡ false
     pub same : IsSameBuffer old now
     pub rolled : now.free + length (held now) ≡ now.size
+    pub fits : length (held old) + length raw ≤ now.size
     pub within : IsWithin now.limit now.size
     pub grows : GrowsIfFull old now
     pub read : HasRead remaining step d r raw d' r'
@@ -187,6 +188,7 @@ module _ {R : Type 0} (remaining : R → Option (List ℕ)) (step : R → ReadRe
           unended = unended;
           same = record { offset = refl; limit = refl; terminator = refl; detection = refl };
           rolled = rw all rolled;
+          fits = omega (arith, rolled);
           within = within;
           grows = inl refl;
           read = HasRead-none remaining step d r none;
@@ -215,6 +217,7 @@ module _ {R : Type 0} (remaining : R → Option (List ℕ)) (step : R → ReadRe
           unended = f.unended;
           same = record { offset = f.same.offset; limit = f.same.limit; terminator = f.same.terminator; detection = f.same.detection };
           rolled = subst (λ w. free + length (held w) ≡ size) is rolled;
+          fits = fits grows;
           within = subst (λ w. IsWithin w.limit size) is within;
           grows = grows-more old now next f.grows refl (grew grows);
           read = f.read;
@@ -224,6 +227,11 @@ module _ {R : Type 0} (remaining : R → Option (List ℕ)) (step : R → ReadRe
         going = before.going;
       })
     where
+      fits : (size ≡ now.size) ⊎ (now.size < size) × (now.free ≡ 0) × (size ≤ 2 * now.size + 1)
+          → length (held old) + length before.filling.raw ≤ size
+      fits (inl same) = omega (arith, before.filling.fits, same)
+      fits (inr more) = omega (arith, before.filling.fits, more.0)
+
       grew : (size ≡ now.size) ⊎ (now.size < size) × (now.free ≡ 0) × (size ≤ 2 * now.size + 1)
           → (size ≡ now.size) ⊎ (now.size < size) × (now.size ≤ length (held now)) × (size ≤ 2 * length (held now) + 1)
       grew (inl same) = inl same
@@ -308,6 +316,17 @@ module _ {R : Type 0} (remaining : R → Option (List ℕ)) (step : R → ReadRe
           detection = ap detection_of comes.others ∙ f.same.detection;
         };
         rolled = comes.whole ∙ f.rolled ∙ sym (ap size_of comes.others);
+        fits = omega (
+          arith,
+          length-append f.raw came.given,
+          came.counted,
+          came.fits,
+          f.rolled,
+          held-now,
+          ap (λ l. length l) f.came,
+          length-uncut D t f.raw none,
+          ap size_of comes.others,
+        );
         within = subst (λ w. IsWithin w.limit w.size) (sym comes.others) f.within;
         grows = grows-held old now made f.grows (ap size_of comes.others) (omega (arith, len));
         read = HasRead-more remaining step d d1 d2 r r1 r2 f.raw came.given continues f.read came.reads capacity;
@@ -385,6 +404,7 @@ module _ {R : Type 0} (remaining : R → Option (List ℕ)) (step : R → ReadRe
           appended = is;
           found = binary ∙ f.found;
           uncut = λ was. absurd (false≢true (sym f.uncut ∙ was));
+          fits = λ some. omega (arith, f.fits, size);
           decodes = f.read.decodes;
         };
         stream = stream-filled old now new d d' r r' f (yet d' (remaining r')) is cut (same.detection ∙ f.same.detection)
@@ -406,6 +426,7 @@ module _ {R : Type 0} (remaining : R → Option (List ℕ)) (step : R → ReadRe
       found = sym (ap (λ o. first_of old.binary (option_map (λ i. old.offset + length (held old) + i) o)) (found-nil old.detection old.terminator)
           ∙ first_of-none old.binary);
       uncut = λ was. refl;
+      fits = λ some. absurd (omega (arith, some));
       decodes = none;
     };
     stream = Keeps-same (stream old (yet d (remaining r)));
@@ -425,6 +446,7 @@ module _ {R : Type 0} (remaining : R → Option (List ℕ)) (step : R → ReadRe
         ∙ sym (ap (λ o. first_of old.binary (option_map (λ i. old.offset + length (held old) + i) o)) (found-nil old.detection old.terminator)
         ∙ first_of-none old.binary);
     uncut = λ was. refl;
+    fits = λ some. absurd (omega (arith, some));
     decodes = none;
   }
 
@@ -487,6 +509,7 @@ module _ {R : Type 0} (remaining : R → Option (List ℕ)) (step : R → ReadRe
             appended = appended;
             found = f.found;
             uncut = λ was. absurd (false≢true (sym f.uncut ∙ was));
+            fits = λ some. f.fits;
             decodes = out.after.decodes;
           };
           unended = out.after.unended;

@@ -14,7 +14,8 @@ use Rattle.grep_line_buffer.specs.Detections.{detected, found_in, first_of}
 pub record Detects (count : ℕ) (old new : BufferState) : Type 0 where
   pub appended : new.rest ≡ take (length old.rest - count) old.rest
       ++ detected old.detection old.terminator (drop (length old.rest - count) old.rest)
-  pub found : new.binary ≡ first_of old.binary (option_map (λ i. old.offset + (length (held old) - count) + i)
+  pub found : new.binary
+      ≡ first_of old.binary (option_map (λ i. old.offset + (length (held old) - count) + i)
       (found_in old.detection old.terminator (drop (length old.rest - count) old.rest)))
   pub free : new.free + length (held new) ≡ old.free + length (held old)
   pub others : new ≡ record old { rest = new.rest; free = new.free; binary = new.binary }
@@ -28,7 +29,8 @@ module _ {R : Type 0} (remaining : R → Option (List ℕ)) (step : R → ReadRe
     pub settled : IsSettled decoder'.mode
     pub stays : IsSettled decoder.mode → decoder'.mode ≡ decoder.mode
     pub ahead : decoder'.mode ≡ Passing
-        → TakesAtMost (remaining reader) (remaining reader') (length given + runs_ahead decoder.mode)
+        → TakesAtMost (remaining reader) (remaining reader')
+        (length given + runs_ahead decoder.mode)
     pub passing : decoder'.mode ≡ Passing → (length decoder'.ready ≤ 3) × (decoder'.held ≡ [])
     pub done : given ≡ [] → IsDone decoder'
     pub end : given ≡ [] → IsAtEnd (yet decoder' (remaining reader'))
@@ -44,7 +46,8 @@ module _ {R : Type 0} (remaining : R → Option (List ℕ)) (step : R → ReadRe
     pub few : IsSettled decoder'.mode ⊎ TakesAtMost (remaining reader) (remaining reader') 2
 
   -- One read of a decoder gave so many bytes, which the buffer holds after the others.
-  pub record Appends (count : ℕ) (old : BufferState) (decoder : DecoderState) (reader : R) (new : BufferState)
+  pub record Appends (count : ℕ) (old : BufferState) (decoder : DecoderState) (reader : R)
+      (new : BufferState)
       (decoder' : DecoderState) (reader' : R) : Type 0 where
     pub given : List ℕ
     pub counted : length given ≡ count

@@ -80,7 +80,8 @@ pub record IsSameBuffer (old new : BufferState) : Type 0 where
 -- the size is as before, or a full buffer grew, to at most twice the bytes that it holds now
 abbrev pub GrowsIfFull : BufferState → BufferState → Type 0
 GrowsIfFull old new = (new.size ≡ old.size)
-    ⊎ (old.size < new.size) × (old.size ≤ length (held new)) × (new.size ≤ 2 * length (held new) + 1)
+    ⊎ (old.size < new.size) × (old.size ≤ length (held new))
+    × (new.size ≤ 2 * length (held new) + 1)
 
 -- Some of the bytes that were read last end a line, and just after the last of these the shown bytes end.
 pub record ShowsLine (old new : BufferState) (count : ℕ) : Type 0 where

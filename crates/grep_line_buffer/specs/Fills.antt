@@ -52,18 +52,22 @@ FillFails old new Memory = HasNoLine old new × MayGrow new
 
 module _ {R : Type 0} (remaining : R → Option (List ℕ)) (step : R → ReadResult → R → Type 0) where
   -- Reads of the decoder gave some bytes. What detection makes of these was appended to what the buffer held, and the
-  -- offset of the first binary byte is known. If the input was cut before, nothing was read.
+  -- offset of the first binary byte is known. If the input was cut before, nothing was read. The buffer had room for
+  -- all that was given, also for what came after a byte that ends the input.
   pub record Fills (old : BufferState) (decoder : DecoderState) (reader : R) (new : BufferState)
       (decoder' : DecoderState) (reader' : R) : Type 0 where
     pub given : List ℕ
     pub appended : held new ≡ held old ++ detected old.detection old.terminator given
     pub found : new.binary ≡ first_of old.binary
-        (option_map (λ i. old.offset + length (held old) + i) (found_in old.detection old.terminator given))
+        (option_map (λ i. old.offset + length (held old) + i)
+        (found_in old.detection old.terminator given))
     pub uncut : is_cut old ≡ true → given ≡ []
+    pub fits : 0 < length given → length (held old) + length given ≤ new.size
     pub decodes : Decodes remaining step decoder reader given decoder' reader'
 
   -- The same, and then one more call of the reader returned this error. The decoder has still to give all that it had then.
-  pub record FailsToFill (error : Error) (old : BufferState) (decoder : DecoderState) (reader : R) (new : BufferState)
+  pub record FailsToFill (error : Error) (old : BufferState) (decoder : DecoderState) (reader : R)
+      (new : BufferState)
       (decoder' : DecoderState) (reader' : R) : Type 0 where
     pub mid : R
     pub fills : Fills old decoder reader new decoder' mid

@@ -1,6 +1,6 @@
 //! All decoded bytes of a reader, for a search across lines.
-ghost use Rattle.std.specs.Prelude.{◌≡◌, ◌≢◌, ◌⊎◌, ◌+◌, ◌<◌, ◌≤◌, [], Some, length, take, OnOk, OnErr};
-ghost use Rattle.std.specs.Prelude.{IfErr, vec_len, vec_capacity};
+ghost use Rattle.std.specs.Prelude.{◌≡◌, ◌≢◌, ◌⊎◌, ◌+◌, ◌-◌, ◌<◌, ◌≤◌, ◌++◌, [], Some, length};
+ghost use Rattle.std.specs.Prelude.{OnOk, OnErr, IfErr, replicate, take, vec_len, vec_capacity};
 ghost use Rattle.std.specs.Io.KnownBytes.{Consumes, IsAtEnd};
 ghost use Rattle.grep_decode.specs.Source.{FailsWith};
 ghost use Rattle.grep_decode.specs.declared.mode.Mode.TheVariants.{Passing};
@@ -11,10 +11,10 @@ ghost use Rattle.grep_line_buffer.specs.Fills.{IfRead, UnlessRead};
 ghost use Rattle.grep_line_buffer.specs.Room.{IsFullFault, IsLarge, next_size};
 
 use crate::fill_error::FillError;
-use crate::room::{enlarge, read_after};
+use crate::room::{larger_size, read_after};
 use grep_decode::laws::{reads_continue, reads_fail};
 use grep_decode::{Decoder, Source};
-use std::alloc::Allocator;
+use std::alloc::{AllocError, Allocator};
 
 // For how many bytes there is room at first, if the limit isn't lower.
 const FIRST_SIZE: usize = 65_536;
@@ -24,7 +24,7 @@ const FIRST_SIZE: usize = 65_536;
 /// The contents have to be shorter than `limit`, if there is one: once `limit` bytes have come, the error is
 /// `FillError::HeapLimit`, and nothing more is read. There is room for 65,536 bytes at first, and then for twice as
 /// many whenever it is used up, but never for more than the limit. Each read asks for as many bytes as there is room
-/// for, and once a read has returned none, no other is made.
+/// for, at most 65,536, and once a read has returned none, no other is made.
 ///
 /// `FillError::Read` is the reader's own error, also one of kind `Interrupted`, and `Memory` means that the room was
 /// used up, might grow, and there was no memory. `Offset` isn't returned. After each error `contents` has the bytes
@@ -50,7 +50,8 @@ pub fn read_contents<A: Allocator, B: Allocator, R: Source>(
     ensures done { OnOk result (IsDone decoder.new) }
     ensures end { OnOk result (IsAtEnd (yet decoder.new (R.remaining reader.new))) }
     ensures below { OnOk result (IsBelow limit (length contents.new.items)) }
-    ensures error { IfErr result (ContentsFail limit (vec_capacity contents.old) contents.new.items) }
+    ensures error { IfErr result
+        (ContentsFail limit (vec_capacity contents.old) contents.new.items) }
     ensures fault { IfRead result (λ e. FailsWith R.step reader.old e reader.new) }
 
     // how far the reader is ahead of the contents, and what the decoder holds, if the bytes pass unchanged
@@ -109,5 +110,32 @@ fn make_room<A: Allocator>(
     if len < contents.len() {
         return Ok(());
     }
-    enlarge(contents, FIRST_SIZE, limit)
+    let Some(size) = larger_size(len, FIRST_SIZE, limit) else {
+        return Err(FillError::HeapLimit);
+    };
+    if show_zeros(contents, size.min(len + FIRST_SIZE), size).is_err() {
+        return Err(FillError::Memory);
+    }
+    Ok(())
+}
+
+// Fills up with zeros to `wanted` bytes; if there is no room for them, room for `size` is made.
+// An error leaves the bytes as they are.
+fn show_zeros<A: Allocator>(
+    bytes: &mut Vec<u8, A>,
+    wanted: usize,
+    size: usize,
+) -> Result<(), AllocError>
+    requires larger { vec_len bytes.old ≤ wanted }
+    requires within { wanted ≤ size }
+    ensures capacity { vec_capacity bytes.old ≤ vec_capacity bytes.new }
+    ensures ok { OnOk result (bytes.new.items
+        ≡ bytes.old.items ++ replicate (wanted - vec_len bytes.old) 0) }
+    ensures err { OnErr result ((bytes.new.items ≡ bytes.old.items)
+        × (vec_capacity bytes.old < wanted)) }
+{
+    if bytes.capacity() < wanted {
+        bytes.reserve_exact(size - bytes.len())?;
+    }
+    bytes.resize(wanted, 0)
 }

@@ -15,18 +15,19 @@ use grep_decode::laws::{reads_continue, reads_fail};
 /// byte is where it is among these. That stays so by a fill (`fills`) and by `consume` (`consumed`). An error of the reader
 /// is then the last of its calls since the first fill (`fails`); what came before it is a fill (`FailsToFill.fills`).
 pub fn fills_continue<R: Source>()
-    ensures fills { (old new : BufferState) (d d1 d2 : DecoderState) (r r1 r2 : R) (gone given : List ℕ)
+    ensures fills { (old new : BufferState) (d d1 d2 : DecoderState) (r r1 r2 : R)
+        (gone given : List ℕ)
         → Decodes R.remaining R.step d r given d1 r1
         → gone ++ held old ≡ detected old.detection old.terminator given
         → old.offset ≡ length gone → old.binary ≡ found_in old.detection old.terminator given
-        → is_cut old ≡ false → Fills R.remaining R.step old d1 r1 new d2 r2
-        → (later : List ℕ) × Decodes R.remaining R.step d r later d2 r2
-        × (gone ++ held new ≡ detected old.detection old.terminator later)
-        × (new.binary ≡ found_in old.detection old.terminator later)
-        × ((more : List ℕ) × (later ≡ given ++ more)) }
+        → is_cut old ≡ false → (fill : Fills R.remaining R.step old d1 r1 new d2 r2)
+        → Decodes R.remaining R.step d r (given ++ fill.given) d2 r2
+        × (gone ++ held new ≡ detected old.detection old.terminator (given ++ fill.given))
+        × (new.binary ≡ found_in old.detection old.terminator (given ++ fill.given)) }
     ensures consumed { (w : BufferState) (gone : List ℕ) (count : ℕ)
         → gone ++ held w ≡ (gone ++ take count w.shown) ++ (drop count w.shown ++ w.rest) }
-    ensures fails { (old new : BufferState) (d d1 d2 : DecoderState) (r r1 r2 : R) (given : List ℕ) (e : Error)
+    ensures fails { (old new : BufferState) (d d1 d2 : DecoderState) (r r1 r2 : R) (given : List ℕ)
+        (e : Error)
         → Decodes R.remaining R.step d r given d1 r1
         → FailsToFill R.remaining R.step e old d1 r1 new d2 r2 → FailsWith R.step r e r2 }
 {

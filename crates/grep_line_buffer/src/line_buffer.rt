@@ -65,11 +65,13 @@ impl<A: Allocator> Model for LineBuffer<A> {
       has_ended = b.has_ended;
     } };
 
-    ghost invariant = { λ b. (b.start ≤ b.line_end) × (b.line_end ≤ b.end) × (b.end ≤ length b.bytes.items)
+    ghost invariant = { λ b. (b.start ≤ b.line_end) × (b.line_end ≤ b.end)
+        × (b.end ≤ length b.bytes.items)
         × IsWithin b.limit (length b.bytes.items) × (b.offset + (b.line_end - b.start) < 2 ^ 64)
         × (b.has_ended ≡ true → (b.line_end ≡ b.end) × (b.end < length b.bytes.items))
         × IfSome b.binary (λ p. byte_offset p ≤ b.offset + (b.end - b.start))
-        × IfSome b.binary (λ _. is_quit b.detection ≡ true → b.end - b.start < length b.bytes.items) };
+        × IfSome b.binary (λ _. is_quit b.detection ≡ true
+        → b.end - b.start < length b.bytes.items) };
 }
 
 impl<A: Allocator> LineBuffer<A> {
@@ -145,8 +147,10 @@ impl<A: Allocator> LineBuffer<A> {
     /// The offset of the first binary byte that was read, from the start of the decoded input. An offset above 2^64 - 1,
     /// which comes only with `FillError::Offset`, is returned as that number.
     pub fn binary_byte_offset(&self) -> Option<u64>
-        ensures exact { self.now.offset + length (held self.now) < 2 ^ 64 → result ≡ self.now.binary }
+        ensures exact { self.now.offset + length (held self.now) < 2 ^ 64
+            → result ≡ self.now.binary }
         ensures room { length (held self.now) ≤ self.now.size }
+        ensures cut { is_cut self.now ≡ true → length (held self.now) < self.now.size }
     {
         match self.binary {
             Some((offset, index)) => Some(offset.saturating_add(index as u64)),
@@ -196,9 +200,11 @@ impl<A: Allocator> LineBuffer<A> {
 
         // what was held is followed by what detection makes of bytes that the decoder gave, and nothing is lost
         ensures reads { UnlessRead result
-            (Fills R.remaining R.step self.old decoder.old reader.old self.new decoder.new reader.new) }
+            (Fills R.remaining R.step self.old decoder.old reader.old self.new decoder.new
+            reader.new) }
         ensures read { IfRead result (λ e.
-            FailsToFill R.remaining R.step e self.old decoder.old reader.old self.new decoder.new reader.new) }
+            FailsToFill R.remaining R.step e self.old decoder.old reader.old self.new decoder.new
+            reader.new) }
         ensures stream { KeepsStream self.old self.new
             (yet decoder.old (R.remaining reader.old)) (yet decoder.new (R.remaining reader.new)) }
 
@@ -277,7 +283,8 @@ impl<A: Allocator> LineBuffer<A> {
     fn has_ended(&self) -> bool
         ensures value { result ≡ self.now.has_ended }
         ensures within { IsWithin self.now.limit self.now.size }
-        ensures shown { result ≡ true → (self.now.rest ≡ []) × (length self.now.shown < self.now.size) }
+        ensures shown { result ≡ true → (self.now.rest ≡ [])
+            × (length self.now.shown < self.now.size) }
     {
         self.has_ended
     }
@@ -322,7 +329,9 @@ impl<A: Allocator> LineBuffer<A> {
         ensures grows { (self.new.size ≡ self.old.size) ⊎ (self.old.size < self.new.size)
             × (self.old.free ≡ 0) × (self.new.size ≤ 2 * self.old.size + 1) }
         ensures ok { OnOk result (0 < self.new.free) }
-        ensures err { IfErr result (λ e. (self.new ≡ self.old) × (self.old.free ≡ 0) × IsFullFault self.old.limit self.old.size e) }
+        ensures err { IfErr result
+            (λ e. (self.new ≡ self.old) × (self.old.free ≡ 0)
+            × IsFullFault self.old.limit self.old.size e) }
     {
         if self.end < self.bytes.len() {
             return Ok(());
@@ -340,7 +349,8 @@ impl<A: Allocator> LineBuffer<A> {
         requires uncut { is_cut self.old ≡ false }
         requires free { 0 < self.old.free }
         ensures capacity { decoder.new.capacity ≡ decoder.old.capacity }
-        ensures reads { IfOk result (λ count. Appends R.remaining R.step count self.old decoder.old reader.old
+        ensures reads { IfOk result
+            (λ count. Appends R.remaining R.step count self.old decoder.old reader.old
             self.new decoder.new reader.new) }
         ensures same { OnErr result (self.new ≡ self.old) }
         ensures failed { IfErr result (λ e.

@@ -23,7 +23,8 @@ pub(crate) fn enlarge<A: Allocator>(
     ensures ok { OnOk result (bytes.new.items
         ≡ bytes.old.items ++ replicate (length bytes.new.items - vec_len bytes.old) 0) }
     ensures larger { OnOk result (vec_len bytes.old < length bytes.new.items) }
-    ensures size { OnOk result (length bytes.new.items ≡ next_size least limit (vec_len bytes.old)) }
+    ensures size { OnOk result
+        (length bytes.new.items ≡ next_size least limit (vec_len bytes.old)) }
     ensures same { OnErr result (bytes.new.items ≡ bytes.old.items) }
     ensures error { IfErr result (IsFullFault limit (vec_len bytes.old)) }
     ensures memory { OnErr result (limit ≢ Some (vec_len bytes.old)
@@ -39,7 +40,7 @@ pub(crate) fn enlarge<A: Allocator>(
 }
 
 // The size to which a full vector grows, twice its own or `least`; `None` at its limit.
-fn larger_size(size: usize, least: usize, limit: Option<usize>) -> Option<usize>
+pub(crate) fn larger_size(size: usize, least: usize, limit: Option<usize>) -> Option<usize>
     requires some { 0 < least }
     requires within { IsWithin limit size }
     requires small { size < 2 ^ 63 }

@@ -1,9 +1,11 @@
 -- Where a byte is first, and bytes in which each of them is replaced.
-use Rattle.std.proofs.Common.{◌≡◌, ◌≢◌, ℕ, zero, suc, ◌+◌, ◌-◌, ◌<◌, ◌≤◌, Bool, true, false, List, [], ◌∷◌, ◌++◌, length, map, take, drop, get_or, set, append-nil, length-drop, length-take}
+use Rattle.std.proofs.Common.{◌≡◌, ◌≢◌, ℕ, zero, suc, ◌+◌, ◌-◌, ◌<◌, ◌≤◌, Bool, true, false, List, [], ◌∷◌, ◌++◌, length, map, take, drop}
+use Rattle.std.proofs.Common.{get_or, set, append-nil, length-drop, length-take}
 use Rattle.std.proofs.Common.{Option, None, Some, refl, sym, ap, ◌∙◌, arith, if◌then◌else◌, ◌==◌}
 use Rattle.std.specs.List.{position, position_or_len}
 use Rattle.std.proofs.lemmas.Bool.{eq-eqb, eqb-true, le-ltb, lt-ltb, false_from_ne_true}
-use Rattle.std.proofs.lemmas.List.{take_more, take_more_set, drop-set-lt, map-append, drop_more, get_or-take, length-map, nil_from_length, take_all, take-append-drop}
+use Rattle.std.proofs.lemmas.List.{take_more, take_more_set, drop-set-lt, map-append, drop_more, get_or-take, length-map, nil_from_length}
+use Rattle.std.proofs.lemmas.List.{take_all, take-append-drop}
 use Rattle.std.proofs.lemmas.Grind.{drop_more_same}
 use borrow.Rule.Slice.PartMut.{mid_of, put_mid}
 use Rattle.std.proofs.lemmas.Slice.{drop-put_mid, take-put_mid}

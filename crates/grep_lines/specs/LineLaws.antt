@@ -1,5 +1,6 @@
 -- Laws of the lines of some bytes.
-use Rattle.std.specs.Prelude.{◌≡◌, ℕ, ◌-◌, ◌<◌, ◌≤◌, ◌==◌, List, ◌++◌, length, take, slice_index, count_by}
+use Rattle.std.specs.Prelude.{◌≡◌, ℕ, ◌-◌, ◌<◌, ◌≤◌, ◌==◌, List, ◌++◌, length, take, slice_index}
+use Rattle.std.specs.Prelude.{count_by}
 use Rattle.grep_matcher.specs.Lines.{lines, line_start, AreLines}
 
 -- the lines have the four properties that say what lines are
@@ -9,7 +10,8 @@ LinesJoin = (t : ℕ) (bytes : List ℕ) → AreLines t bytes (lines t bytes)
 -- no other pieces have them
 abbrev pub LinesAreDetermined : Type 0
 LinesAreDetermined =
-    (t : ℕ) (bytes : List ℕ) (pieces : List (List ℕ)) → AreLines t bytes pieces → pieces ≡ lines t bytes
+    (t : ℕ) (bytes : List ℕ) (pieces : List (List ℕ)) → AreLines t bytes pieces
+    → pieces ≡ lines t bytes
 
 -- after bytes that are empty or end in a terminator the lines begin anew
 abbrev pub LinesAppend : Type 0

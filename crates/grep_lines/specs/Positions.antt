@@ -1,5 +1,6 @@
 -- Where the lines of some bytes start and end.
-use Rattle.std.specs.Prelude.{◌≡◌, ℕ, ◌+◌, ◌-◌, ◌<◌, ◌≤◌, ◌==◌, List, [], length, take, drop, slice_index_or, count_by}
+use Rattle.std.specs.Prelude.{◌≡◌, ℕ, ◌+◌, ◌-◌, ◌<◌, ◌≤◌, ◌==◌, List, [], length, take, drop}
+use Rattle.std.specs.Prelude.{slice_index_or, count_by}
 use Rattle.grep_matcher.specs.Lines.{lines, line_start}
 
 -- the bytes from a position up to another

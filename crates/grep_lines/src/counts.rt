@@ -24,7 +24,8 @@ pub fn count(bytes: &[u8], terminator: u8) -> u64
     total + count_rest(rest, terminator)
 }
 
-/// How many lines the bytes have: one for each `terminator`, and one more if bytes come after the last.
+/// How many lines the bytes have: one for each `terminator`, and one more if bytes come after the
+/// last.
 pub fn line_count(bytes: &[u8], terminator: u8) -> u64
     ensures { result ≡ length (lines terminator bytes.now) }
 {

@@ -1,5 +1,6 @@
-//! The lines of some bytes, as positions in them: steps from line to line, a count of terminators, the whole lines
-//! that a match extends over, and the lines before a position. The functions follow grep-searcher's module `lines`.
+//! The lines of some bytes, as positions in them: steps from line to line, a count of terminators,
+//! the whole lines that a match extends over, and the lines before a position. The functions follow
+//! grep-searcher's module `lines`.
 #![tactic(auto)]
 
 mod counts;

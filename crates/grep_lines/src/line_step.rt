@@ -7,7 +7,8 @@ ghost use Rattle.grep_lines.specs.FirstLine.{IsFirstLine};
 use memchr::memchr;
 use std::marker::Model;
 
-/// A walk over the lines of some bytes. It doesn't hold the bytes: the caller passes the same ones at each step.
+/// A walk over the lines of some bytes. It doesn't hold the bytes: the caller passes the same ones
+/// at each step.
 #[derive(Debug, Drop)]
 pub struct LineStep {
     terminator: u8,
@@ -27,8 +28,8 @@ impl Model for LineStep {
 }
 
 impl LineStep {
-    /// The walk over the lines from position `start` up to position `end`, split at the byte `terminator`. The caller
-    /// ensures that `start` is at most `end`.
+    /// The walk over the lines from position `start` up to position `end`, split at the byte
+    /// `terminator`. The caller ensures that `start` is at most `end`.
     #[inline]
     pub fn new(terminator: u8, start: usize, end: usize) -> LineStep
         requires { start ≤ end }
@@ -41,11 +42,11 @@ impl LineStep {
         }
     }
 
-    /// The start and the end of the next line with its terminator, as positions in `bytes`; `None` if no bytes are
-    /// left. The caller ensures that the walk ends within `bytes`.
+    /// The start and the end of the next line with its terminator, as positions in `bytes`; `None`
+    /// if no bytes are left. The caller ensures that the walk ends within `bytes`.
     ///
-    /// If the walk is at the start of line i of all the bytes and goes up to their end, the result is line i, and
-    /// `None` means that there are i lines.
+    /// If the walk is at the start of line i of all the bytes and goes up to their end, the result
+    /// is line i, and `None` means that there are i lines.
     #[inline]
     pub fn next(&mut self, bytes: &[u8]) -> Option<(usize, usize)>
         requires { self.old.end ≤ length bytes.now }
@@ -75,7 +76,8 @@ impl LineStep {
     }
 }
 
-/// The length of the first line in bytes, with its terminator. The caller ensures that there is a byte.
+/// The length of the first line in bytes, with its terminator. The caller ensures that there is a
+/// byte.
 #[inline]
 pub(crate) fn first_line_length(terminator: u8, bytes: &[u8]) -> usize
     requires { 0 < length bytes.now }

@@ -6,7 +6,8 @@ ghost use Rattle.grep_lines.specs.Positions.{IsLineStart};
 
 use crate::whole_lines::last_start;
 
-/// The start of the line `count` lines before the last line of the bytes; 0 if there are fewer lines, or no bytes.
+/// The start of the line `count` lines before the last line of the bytes; 0 if there are fewer
+/// lines, or no bytes.
 pub fn preceding(bytes: &[u8], terminator: u8, count: usize) -> usize
     ensures line { (last : ℕ) → last + 1 ≡ length (lines terminator bytes.now)
         → result ≡ line_start terminator bytes.now (last - count) }
@@ -16,11 +17,11 @@ pub fn preceding(bytes: &[u8], terminator: u8, count: usize) -> usize
     preceding_by_pos(bytes, bytes.len(), terminator, count)
 }
 
-/// The start of the line `count` lines before the line with `start < pos <= end`; 0 if there are fewer lines, or
-/// `pos` is 0. The caller ensures that `pos` lies within the bytes.
+/// The start of the line `count` lines before the line with `start < pos <= end`; 0 if there are
+/// fewer lines, or `pos` is 0. The caller ensures that `pos` lies within the bytes.
 ///
-/// If line i starts at `pos`, or `pos` is the end of the bytes and they have i lines, that is line `i - 1 - count`. Unless
-/// the result is 0, a terminator is right before it.
+/// If line i starts at `pos`, or `pos` is the end of the bytes and they have i lines, that is line
+/// `i - 1 - count`. Unless the result is 0, a terminator is right before it.
 pub fn preceding_by_pos(bytes: &[u8], pos: usize, terminator: u8, count: usize) -> usize
     requires { pos ≤ length bytes.now }
     ensures line { (i : ℕ) → i < length (lines terminator bytes.now)

@@ -4,8 +4,8 @@ ghost use Rattle.std.specs.List.{position};
 
 use memchr::memchr;
 
-/// Replaces every `src` in some bytes by `new`, and returns the index of the first. If both are the same byte, nothing
-/// changes and the result is `None`. Bytes without `src` are only looked at.
+/// Replaces every `src` in some bytes by `new`, and returns the index of the first. If both are the
+/// same byte, nothing changes and the result is `None`. Bytes without `src` are only looked at.
 pub fn replace_bytes(bytes: &mut [u8], src: u8, new: u8) -> Option<usize>
     ensures bytes { bytes.new ≡ map (λ b. if b == src then new else b) bytes.old }
     ensures first { result ≡ (if src == new then None else position (λ b. b == src) bytes.old) }

@@ -4,8 +4,8 @@ ghost use Rattle.grep_matcher.specs.Lines.{strip};
 
 use grep_matcher::LineTerminator;
 
-/// The bytes without the terminator at their end, if they end with all of it; otherwise the same bytes. Under CRLF,
-/// bytes that end in a line feed alone keep it.
+/// The bytes without the terminator at their end, if they end with all of it; otherwise the same
+/// bytes. Under CRLF, bytes that end in a line feed alone keep it.
 #[inline]
 pub fn without_terminator(bytes: &[u8], terminator: LineTerminator) -> &[u8]
     ensures { result.now ≡ strip terminator bytes.now }

@@ -7,11 +7,12 @@ ghost use Rattle.grep_lines.specs.FirstLine.{IsLastStart};
 use grep_matcher::Match;
 use memchr::{memchr, memrchr};
 
-/// The whole lines that a match extends over. The caller ensures that the match lies within the bytes.
+/// The whole lines that a match extends over. The caller ensures that the match lies within the
+/// bytes.
 ///
-/// They start right after the last terminator before the match, or at 0. They end at the match's end if the match
-/// isn't empty and its last byte is the terminator; otherwise right after the first terminator at the match's end or
-/// later, or at the end of the bytes.
+/// They start right after the last terminator before the match, or at 0. They end at the match's
+/// end if the match isn't empty and its last byte is the terminator; otherwise right after the
+/// first terminator at the match's end or later, or at the end of the bytes.
 pub fn locate(bytes: &[u8], terminator: u8, found: Match) -> Match
     requires { found.1 ≤ length bytes.now }
     ensures value { result
@@ -28,11 +29,13 @@ pub fn locate(bytes: &[u8], terminator: u8, found: Match) -> Match
     Match::new(start, line_end(bytes, end, terminator))
 }
 
-/// The line of a position, with its terminator. The caller ensures that the position is at most the length.
+/// The line of a position, with its terminator. The caller ensures that the position is at most the
+/// length.
 ///
-/// It starts right after the last terminator before the position, or at 0, and ends right after the first terminator
-/// at the position or later, or at the end of the bytes: as `locate` has it of an empty match. At the end of bytes that
-/// end in the terminator it is empty. It takes one search for a terminator if it is the first line and has one.
+/// It starts right after the last terminator before the position, or at 0, and ends right after the
+/// first terminator at the position or later, or at the end of the bytes: as `locate` has it of an
+/// empty match. At the end of bytes that end in the terminator it is empty. It takes one search for
+/// a terminator if it is the first line and has one.
 #[inline]
 pub fn line_of(bytes: &[u8], terminator: u8, position: usize) -> Match
     requires { position ≤ length bytes.now }
@@ -61,7 +64,8 @@ pub(crate) fn last_start(bytes: &[u8], position: usize, terminator: u8) -> usize
     }
 }
 
-// The end of the line of a position: right after the first terminator from there on, or the end of the bytes.
+// The end of the line of a position: right after the first terminator from there on, or the end of
+// the bytes.
 fn line_end(bytes: &[u8], position: usize, terminator: u8) -> usize
     requires { position ≤ length bytes.now }
     ensures above { position ≤ result }

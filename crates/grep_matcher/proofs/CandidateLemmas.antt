@@ -1,5 +1,6 @@
 -- What a literal's first occurrence in many lines says of each of them.
-use Rattle.std.proofs.Common.{◌≡◌, inl, inr, ℕ, zero, suc, Bool, ◌+◌, ◌-◌, ◌<◌, ◌≤◌, true, false, List, [], length, slice_index, slice_index_or, Some, None, ap, sym, subst, arith, ⊎_elim, is_some}
+use Rattle.std.proofs.Common.{◌≡◌, inl, inr, ℕ, zero, suc, Bool, ◌+◌, ◌-◌, ◌<◌, ◌≤◌, true, false, List, [], length, slice_index}
+use Rattle.std.proofs.Common.{slice_index_or, Some, None, ap, sym, subst, arith, ⊎_elim, is_some}
 use Rattle.std.proofs.lemmas.Bool.{cases_lt, cases_eq}
 use Rattle.memchr.specs.Find.{OccursAt, NoneBefore, FindsNeedle}
 use Rattle.grep_matcher.specs.declared.line_match_kind.LineMatchKind.{LineMatchKind}

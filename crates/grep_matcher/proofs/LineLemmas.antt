@@ -1,5 +1,6 @@
 -- Where the lines of some bytes occur in them, and a line without its terminator in the line.
-use Rattle.std.proofs.Common.{◌≡◌, ℕ, zero, suc, ◌+◌, ◌-◌, ◌<◌, List, [], ◌∷◌, length, take, slice_index, slice_index_or, add-one, refl, ap, sym, subst, inl, inr, arith, ⊎_elim, ◌++◌, ◌⊎◌, length-append}
+use Rattle.std.proofs.Common.{◌≡◌, ℕ, zero, suc, ◌+◌, ◌-◌, ◌<◌, List, [], ◌∷◌, length, take, slice_index, slice_index_or, add-one, refl, ap}
+use Rattle.std.proofs.Common.{sym, subst, inl, inr, arith, ⊎_elim, ◌++◌, ◌⊎◌, length-append}
 use Rattle.std.proofs.lemmas.Bool.{cases_eq, cases_Bool, eq-eqb, ne_eqb}
 use Rattle.std.proofs.lemmas.Bool.Decides.{Decides-eqb}
 use Rattle.std.proofs.lemmas.List.{get_or_append_left}

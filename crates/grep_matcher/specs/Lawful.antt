@@ -1,9 +1,12 @@
--- When what a matcher finds in many lines at once can be trusted for a line terminator: a search that asks it about many
--- lines then finds the same lines as one that asks about one line at a time.
-use Rattle.std.specs.Prelude.{◌≡◌, ◌≢◌, ◌⊎◌, ℕ, ◌+◌, ◌-◌, ◌<◌, ◌≤◌, Bool, true, false, List, [], length}
+-- When what a matcher finds in many lines at once can be trusted for a line terminator: a search
+-- that asks it about many lines then finds the same lines as one that asks about one line at a
+-- time.
+use Rattle.std.specs.Prelude.{◌≡◌, ◌≢◌, ◌⊎◌, ℕ, ◌+◌, ◌-◌, ◌<◌, ◌≤◌, Bool, true, false, List, []}
+use Rattle.std.specs.Prelude.{length}
 use Rattle.std.specs.Prelude.{slice_index, slice_index_or, Option, Some, None, is_some}
 use Rattle.grep_matcher.specs.declared.line_match_kind.LineMatchKind.{LineMatchKind}
-use Rattle.grep_matcher.specs.declared.line_match_kind.LineMatchKind.TheVariants.{Confirmed, Candidate}
+use Rattle.grep_matcher.specs.declared.line_match_kind.LineMatchKind.TheVariants.{Confirmed}
+use Rattle.grep_matcher.specs.declared.line_match_kind.LineMatchKind.TheVariants.{Candidate}
 use Rattle.grep_matcher.specs.declared.line_terminator.LineTerminator.{LineTerminator}
 use Rattle.grep_matcher.specs.Terminators.{byte_of}
 use Rattle.grep_matcher.specs.Lines.{lines, line_start, strip}
@@ -24,7 +27,8 @@ module _ (terminator : LineTerminator) (meaning : Meaning) (bytes : List ℕ) wh
   matches_at i = is_some
       (meaning.first (strip terminator (slice_index_or (lines (byte_of terminator) bytes) i [])))
 
-  -- line i holds the positions from its start up to its end, and a last line without terminator its end too
+  -- line i holds the positions from its start up to its end, and a last line without terminator its
+  -- end too
   abbrev pub HoldsPosition : ℕ → ℕ → Type 0
   HoldsPosition i position =
       (line_start (byte_of terminator) bytes i ≤ position)
@@ -41,20 +45,23 @@ module _ (terminator : LineTerminator) (meaning : Meaning) (bytes : List ℕ) wh
   abbrev pub EachLine : (ℕ → Type 0) → Type 0
   EachLine P = (i : ℕ) → i < length (lines (byte_of terminator) bytes) → P i
 
-  -- if nothing is found, no line matches; if a position is found, no line that ends before it matches, and if it is
-  -- confirmed, the line that holds it does
+  -- if nothing is found, no line matches; if a position is found, no line that ends before it
+  -- matches, and if it is confirmed, the line that holds it does
   abbrev pub IsLawfulResult : Option LineMatchKind → Type 0
   IsLawfulResult None = EachLine (λ i. matches_at i ≡ false)
   IsLawfulResult (Some found) =
       EachLine (λ i. EndsBefore i (position_of found) → matches_at i ≡ false)
-      × EachLine (λ i. HoldsPosition i (position_of found) → is_confirmed found ≡ true → matches_at i ≡ true)
+      × EachLine (λ i.
+      HoldsPosition i (position_of found) → is_confirmed found ≡ true → matches_at i ≡ true)
 
--- the matcher says that no match contains the terminator: it declares it, or its byte is one that no match contains
+-- the matcher says that no match contains the terminator: it declares it, or its byte is one that
+-- no match contains
 abbrev pub ExcludesTerminator : LineTerminator → Meaning → Type 0
 ExcludesTerminator terminator meaning = (meaning.terminator ≡ Some terminator)
     ⊎ (meaning.absent (byte_of terminator) ≡ true)
 
--- what was found in some bytes can be trusted for each terminator that the matcher excludes and is lawful for
+-- what was found in some bytes can be trusted for each terminator that the matcher excludes and is
+-- lawful for
 abbrev pub IsTrusted : Meaning → (LineTerminator → Type 0) → List ℕ → Option LineMatchKind → Type 0
 IsTrusted meaning is_lawful bytes found =
     (terminator : LineTerminator) → is_lawful terminator → ExcludesTerminator terminator meaning

@@ -1,5 +1,6 @@
 -- The lines of some bytes, and a line without its terminator.
-use Rattle.std.specs.Prelude.{◌≡◌, ◌≢◌, ℕ, ◌+◌, ◌-◌, ◌<◌, if◌then◌else◌, ◌==◌, nat_eq, List, [], ◌∷◌, length, take, slice_index, All}
+use Rattle.std.specs.Prelude.{◌≡◌, ◌≢◌, ℕ, ◌+◌, ◌-◌, ◌<◌, if◌then◌else◌, ◌==◌, nat_eq, List, []}
+use Rattle.std.specs.Prelude.{◌∷◌, length, take, slice_index, All}
 use Rattle.std.specs.List.{concat, ends_with}
 use Rattle.grep_matcher.specs.declared.line_terminator.LineTerminator.{LineTerminator}
 use Rattle.grep_matcher.specs.Terminators.{bytes_of}
@@ -9,8 +10,8 @@ abbrev pub onto_first : ℕ → List (List ℕ) → List (List ℕ)
 onto_first b [] = (b ∷ []) ∷ []
 onto_first b (line ∷ later) = (b ∷ line) ∷ later
 
--- the lines of some bytes: a byte t ends a line and belongs to it; any other byte belongs to the same line as
--- the byte after it
+-- the lines of some bytes: a byte t ends a line and belongs to it; any other byte belongs to the
+-- same line as the byte after it
 abbrev pub lines : ℕ → List ℕ → List (List ℕ)
 lines t [] = []
 lines t (b ∷ bytes) = if b == t then (b ∷ []) ∷ lines t bytes else onto_first b (lines t bytes)
@@ -27,7 +28,8 @@ IsUnbroken t piece = (k : ℕ) → k + 1 < length piece → slice_index piece k 
 abbrev pub AreEnded : ℕ → List (List ℕ) → Type 0
 AreEnded t [] = Unit {0}
 AreEnded t (last ∷ []) = Unit {0}
-AreEnded t (piece ∷ next ∷ later) = (slice_index piece (length piece - 1) ≡ t) × AreEnded t (next ∷ later)
+AreEnded t (piece ∷ next ∷ later) = (slice_index piece (length piece - 1) ≡ t)
+    × AreEnded t (next ∷ later)
 
 -- what makes a list the lines of some bytes: exactly one list has these four properties
 pub record AreLines (t : ℕ) (bytes : List ℕ) (pieces : List (List ℕ)) : Type 0 where
@@ -36,8 +38,10 @@ pub record AreLines (t : ℕ) (bytes : List ℕ) (pieces : List (List ℕ)) : Ty
   pub unbroken : All (IsUnbroken t) pieces
   pub ended : AreEnded t pieces
 
--- a line without its terminator, if it ends with all of it; under CRLF a line that ends in a line feed alone keeps it
+-- a line without its terminator, if it ends with all of it; under CRLF a line that ends in a line
+-- feed alone keeps it
 abbrev pub strip : LineTerminator → List ℕ → List ℕ
 strip terminator line =
-    if ends_with nat_eq line (bytes_of terminator) then take (length line - length (bytes_of terminator)) line
+    if ends_with nat_eq line (bytes_of terminator)
+    then take (length line - length (bytes_of terminator)) line
     else line

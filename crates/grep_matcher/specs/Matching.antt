@@ -1,10 +1,11 @@
 -- What a matcher means.
-use Rattle.std.specs.Prelude.{◌≡◌, ℕ, ◌<◌, ◌≤◌, Bool, false, List, length, Option, None, Some, IfSome, is_some, slice_index}
+use Rattle.std.specs.Prelude.{◌≡◌, ℕ, ◌<◌, ◌≤◌, Bool, false, List, length, Option, None, Some}
+use Rattle.std.specs.Prelude.{IfSome, is_some, slice_index}
 use Rattle.grep_matcher.specs.declared.line_terminator.LineTerminator.{LineTerminator}
 use Rattle.grep_matcher.specs.ByteSets.{holds}
 
--- for each haystack its first match, by its start and its end, if it has one; the line terminator that the matcher
--- declares, if any; and bytes that no match contains
+-- for each haystack its first match, by its start and its end, if it has one; the line terminator
+-- that the matcher declares, if any; and bytes that no match contains
 pub record Meaning : Type 0 where
   pub first : List ℕ → Option (ℕ × ℕ)
   pub terminator : Option LineTerminator
@@ -16,11 +17,13 @@ IsWithin haystack found = IfSome found (λ m. (m.0 ≤ m.1) × (m.1 ≤ length h
 
 -- the match contains no byte of the set
 abbrev pub Avoids : (ℕ → Bool) → List ℕ → Option (ℕ × ℕ) → Type 0
-Avoids absent haystack found = IfSome found (λ m. (i : ℕ) → m.0 ≤ i → i < m.1 → absent (slice_index haystack i) ≡ false)
+Avoids absent haystack found = IfSome found (λ m.
+    (i : ℕ) → m.0 ≤ i → i < m.1 → absent (slice_index haystack i) ≡ false)
 
 -- a position in the haystack if it has a match, and none otherwise
 abbrev pub IsPosition : List ℕ → Option (ℕ × ℕ) → Option ℕ → Type 0
-IsPosition haystack found position = (is_some position ≡ is_some found) × IfSome position (λ p. p ≤ length haystack)
+IsPosition haystack found position = (is_some position ≡ is_some found)
+    × IfSome position (λ p. p ≤ length haystack)
 
 -- whether a number is in the set, if there is a set
 abbrev pub holds_if_some : Option (List Bool) → ℕ → Bool

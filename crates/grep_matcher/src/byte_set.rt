@@ -49,14 +49,16 @@ impl ByteSet {
         }
     }
 
-    /// Adds a byte to the set, and changes nothing else. It has no effect if the byte is in the set.
+    /// Adds a byte to the set, and changes nothing else. It has no effect if the byte is in the
+    /// set.
     pub fn add(&mut self, byte: u8)
         ensures { (other : ℕ) → holds self.new other ≡ (other == byte || holds self.old other) }
     {
         self.members[byte as usize] = true;
     }
 
-    /// Removes a byte from the set, and changes nothing else. It has no effect if the byte isn't in the set.
+    /// Removes a byte from the set, and changes nothing else. It has no effect if the byte isn't in
+    /// the set.
     pub fn remove(&mut self, byte: u8)
         ensures { (other : ℕ) →
             holds self.new other ≡ (not (other == byte) && holds self.old other) }

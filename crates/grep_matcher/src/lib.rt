@@ -1,5 +1,6 @@
-//! What a line-oriented search asks of a pattern: its matches, the line terminator that it declares, and the bytes that
-//! no match contains. `specs/` defines lines, a line without its terminator, and what a matcher means.
+//! What a line-oriented search asks of a pattern: its matches, the line terminator that it
+//! declares, and the bytes that no match contains. `specs/` defines lines, a line without its
+//! terminator, and what a matcher means.
 #![tactic(auto)]
 
 mod byte_set;

@@ -2,8 +2,8 @@
 ghost use Rattle.std.specs.Prelude.{◌≡◌};
 ghost use Rattle.grep_matcher.specs.Lawful.{position_of, is_confirmed};
 
-/// A line that a matcher found among many lines, by a position in the haystack, in bytes: from the line's start up to its
-/// end, or the end itself if the line has no terminator.
+/// A line that a matcher found among many lines, by a position in the haystack, in bytes: from the
+/// line's start up to its end, or the end itself if the line has no terminator.
 #[derive(Clone, Copy, Debug)]
 pub enum LineMatchKind {
     /// The line surely matches.

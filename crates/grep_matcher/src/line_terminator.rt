@@ -6,9 +6,9 @@ use std::slice;
 
 /// A line terminator: one byte, or a carriage return and a line feed (CRLF).
 ///
-/// Lines are split at one byte in both cases. Under CRLF that byte is the line feed, so `a\nb\r\n` has two lines. The
-/// terminators differ in which bytes are removed from a line before it is matched, so `byte(b'\n')` and `crlf()` are
-/// unequal.
+/// Lines are split at one byte in both cases. Under CRLF that byte is the line feed, so `a\nb\r\n`
+/// has two lines. The terminators differ in which bytes are removed from a line before it is
+/// matched, so `byte(b'\n')` and `crlf()` are unequal.
 #[derive(Clone, Copy, PartialEq, Eq, Debug)]
 pub enum LineTerminator {
     /// One byte.
@@ -49,8 +49,8 @@ impl LineTerminator {
         }
     }
 
-    /// The bytes that are removed from the end of a line before it is matched: the one byte, or a carriage return and a
-    /// line feed.
+    /// The bytes that are removed from the end of a line before it is matched: the one byte, or a
+    /// carriage return and a line feed.
     pub fn as_bytes(&self) -> &[u8]
         ensures { result.now ≡ bytes_of self.now }
     {

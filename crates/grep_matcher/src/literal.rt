@@ -13,11 +13,13 @@ use std::alloc::{AllocError, Global};
 use std::io;
 use std::marker::Model;
 
-/// A pattern that matches a literal: some bytes, exactly. The empty literal matches every haystack, at its start.
+/// A pattern that matches a literal: some bytes, exactly. The empty literal matches every haystack,
+/// at its start.
 ///
-/// It declares no line terminator, its non-matching bytes are all those that don't occur in the literal, and it never
-/// fails. A line that it finds among many is a `Candidate` if the literal has a carriage return, which may be part of
-/// the line's terminator, and `Confirmed` otherwise; it is lawful for every terminator.
+/// It declares no line terminator, its non-matching bytes are all those that don't occur in the
+/// literal, and it never fails. A line that it finds among many is a `Candidate` if the literal has
+/// a carriage return, which may be part of the line's terminator, and `Confirmed` otherwise; it is
+/// lawful for every terminator.
 #[derive(Drop)]
 pub struct LiteralMatcher<'n> {
     finder: Finder<'n>,
@@ -37,8 +39,9 @@ impl<'n> Model for LiteralMatcher<'n> {
 }
 
 impl LiteralMatcher<'static> {
-    /// The matcher of a literal, of which it keeps a copy. The only error is being out of memory for the copy, which
-    /// `memchr`'s `Finder` makes in the global allocator: for a literal in another one, see `borrowed`.
+    /// The matcher of a literal, of which it keeps a copy. The only error is being out of memory
+    /// for the copy, which `memchr`'s `Finder` makes in the global allocator: for a literal in
+    /// another one, see `borrowed`.
     pub fn new(alloc: Global, literal: &[u8]) -> Result<LiteralMatcher<'static>, AllocError>
         ensures { IfOk result (λ m. m ≡ literal.now) }
     {

@@ -11,10 +11,11 @@ use crate::line_terminator::LineTerminator;
 use crate::range::Match;
 use std::fmt::Display;
 
-/// A pattern, given by what it means: the first match of each haystack, the line terminator that it declares, and the
-/// bytes that no match contains.
+/// A pattern, given by what it means: the first match of each haystack, the line terminator that it
+/// declares, and the bytes that no match contains.
 ///
-/// A call may fail with an error of the matcher's own. A call that succeeds agrees with the meaning.
+/// A call may fail with an error of the matcher's own. A call that succeeds agrees with the
+/// meaning.
 pub trait Matcher {
     /// Why a call failed.
     type Error: Display + Drop;
@@ -25,22 +26,23 @@ pub trait Matcher {
     /// Which errors a call may return for a haystack.
     ghost fails: { Self → List ℕ → Self.Error → Type 0 };
 
-    /// For which line terminators `find_candidate_line` can be trusted. A search with another one is safe and
-    /// returns, but which calls it makes isn't promised if it may ask about many lines at once.
+    /// For which line terminators `find_candidate_line` can be trusted. A search with another one
+    /// is safe and returns, but which calls it makes isn't promised if it may ask about many lines
+    /// at once.
     ghost is_lawful: { Self → LineTerminator → Type 0 };
 
-    /// The first match of a haystack, as positions in it, or `None` if it has no match. The match lies within the
-    /// haystack and contains none of the non-matching bytes. An error is one that the matcher may return for this
-    /// haystack.
+    /// The first match of a haystack, as positions in it, or `None` if it has no match. The match
+    /// lies within the haystack and contains none of the non-matching bytes. An error is one that
+    /// the matcher may return for this haystack.
     fn find(&self, haystack: &[u8]) -> Result<Option<Match>, Self::Error>
         ensures value { IfOk result (λ m. m ≡ (meaning self.now).first haystack.now) }
         ensures within { IfOk result (IsWithin haystack.now) }
         ensures avoids { IfOk result (Avoids (meaning self.now).absent haystack.now) }
         ensures error { IfErr result (λ e. fails self.now haystack.now e) };
 
-    /// A position in the haystack if it has a match, and `None` otherwise. Which position isn't specified, so a matcher
-    /// can return as soon as it knows that there is a match. An error is one that the matcher may return for this
-    /// haystack.
+    /// A position in the haystack if it has a match, and `None` otherwise. Which position isn't
+    /// specified, so a matcher can return as soon as it knows that there is a match. An error is
+    /// one that the matcher may return for this haystack.
     ///
     /// The default calls `find` and returns the end of its match.
     fn shortest_match(&self, haystack: &[u8]) -> Result<Option<usize>, Self::Error>
@@ -54,7 +56,8 @@ pub trait Matcher {
         }
     }
 
-    /// Whether the haystack has a match. An error is one that the matcher may return for this haystack.
+    /// Whether the haystack has a match. An error is one that the matcher may return for this
+    /// haystack.
     ///
     /// The default calls `shortest_match`.
     fn is_match(&self, haystack: &[u8]) -> Result<bool, Self::Error>
@@ -65,21 +68,22 @@ pub trait Matcher {
         Ok(self.shortest_match(haystack)?.is_some())
     }
 
-    /// The first line of the haystack that may match, or `None` if no line matches. The haystack is a run of whole
-    /// lines, and a line matches if it has a match without its terminator. An error is one that the matcher may return
-    /// for this haystack.
+    /// The first line of the haystack that may match, or `None` if no line matches. The haystack is
+    /// a run of whole lines, and a line matches if it has a match without its terminator. An error
+    /// is one that the matcher may return for this haystack.
     ///
-    /// The line is given by a position in it: one from its start up to its end; the end itself belongs to the line
-    /// only if it has no terminator. No line before it matches, and if the position is `Confirmed` the line itself
-    /// does; of a `Candidate` a search asks again with the line alone. A position at the end of a haystack that ends
-    /// in its terminator is in no line, and says that no line matches.
+    /// The line is given by a position in it: one from its start up to its end; the end itself
+    /// belongs to the line only if it has no terminator. No line before it matches, and if the
+    /// position is `Confirmed` the line itself does; of a `Candidate` a search asks again with the
+    /// line alone. A position at the end of a haystack that ends in its terminator is in no line,
+    /// and says that no line matches.
     ///
-    /// A search asks this only if the matcher declares the search's line terminator, or has its byte among the
-    /// non-matching bytes, and trusts it for the terminators for which the matcher is lawful. A matcher that does neither
-    /// is never asked.
+    /// A search asks this only if the matcher declares the search's line terminator, or has its
+    /// byte among the non-matching bytes, and trusts it for the terminators for which the matcher
+    /// is lawful. A matcher that does neither is never asked.
     ///
-    /// The default finds the first line as a `Candidate`, which says nothing of any line. It asks nothing and never
-    /// fails.
+    /// The default finds the first line as a `Candidate`, which says nothing of any line. It asks
+    /// nothing and never fails.
     fn find_candidate_line(&self, haystack: &[u8]) -> Result<Option<LineMatchKind>, Self::Error>
         ensures inside { IfOk result (IsInside haystack.now) }
         ensures trusted { IfOk result
@@ -89,7 +93,8 @@ pub trait Matcher {
         Ok(Some(LineMatchKind::Candidate(0)))
     }
 
-    /// The line terminator that the matcher declares, if any. A search with another line terminator is refused.
+    /// The line terminator that the matcher declares, if any. A search with another line terminator
+    /// is refused.
     fn line_terminator(&self) -> Option<LineTerminator>
         ensures { result ≡ (meaning self.now).terminator };
 

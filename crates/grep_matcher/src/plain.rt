@@ -4,8 +4,9 @@ use crate::line_terminator::LineTerminator;
 use crate::matcher::Matcher;
 use crate::range::Match;
 
-/// The matches of another matcher, with no line terminator and no non-matching bytes, so that a search asks about one
-/// line at a time. `shortest_match`, `is_match` and `find_candidate_line` are the defaults.
+/// The matches of another matcher, with no line terminator and no non-matching bytes, so that a
+/// search asks about one line at a time. `shortest_match`, `is_match` and `find_candidate_line` are
+/// the defaults.
 #[derive(Drop)]
 pub struct Plain<M>(pub M);
 

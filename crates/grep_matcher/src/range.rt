@@ -3,7 +3,8 @@ ghost use Rattle.std.specs.Prelude.{◌≡◌, ◌≤◌, ◌<◌, ◌+◌, ◌-
 
 use std::marker::Model;
 
-/// A range of positions in a haystack, in bytes, from its start up to its end, which is at least its start.
+/// A range of positions in a haystack, in bytes, from its start up to its end, which is at least
+/// its start.
 #[derive(Clone, Copy, PartialEq, Eq, Debug)]
 pub struct Match {
     start: usize,
@@ -75,7 +76,8 @@ impl Match {
         self.start == self.end
     }
 
-    /// The range with both ends moved up by `amount`. The caller ensures that the new end fits in a `usize`.
+    /// The range with both ends moved up by `amount`. The caller ensures that the new end fits in a
+    /// `usize`.
     #[inline]
     pub fn offset(&self, amount: usize) -> Match
         requires { self.now.1 + amount < 2 ^ 64 }
@@ -87,7 +89,8 @@ impl Match {
         }
     }
 
-    /// The range from the same start up to `end`. The caller ensures that the start is at most `end`.
+    /// The range from the same start up to `end`. The caller ensures that the start is at most
+    /// `end`.
     #[inline]
     pub fn with_end(&self, end: usize) -> Match
         requires { self.now.0 ≤ end }

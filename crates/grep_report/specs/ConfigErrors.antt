@@ -6,4 +6,5 @@ use Rattle.grep_report.specs.declared.config_error.ConfigError.TheVariants.{Unkn
 
 -- the error is that of an unknown label with these bytes
 abbrev pub IsUnknownEncoding : List ℕ → ConfigError → Type 0
-IsUnknownEncoding label e = (held : Vec ℕ Global) × (e ≡ UnknownEncoding held) × (held.items ≡ label)
+IsUnknownEncoding label e = (held : Vec ℕ Global) × (e ≡ UnknownEncoding held)
+    × (held.items ≡ label)

@@ -3,8 +3,8 @@ use Rattle.std.specs.Prelude.{ℕ, List, Option}
 use Rattle.grep_lines.specs.Positions.{slice}
 use Rattle.grep_report.specs.declared.sink_context.SinkContextKind.{SinkContextKind}
 
--- a match: the byte at which its lines are split, the number of its first line, its offset in the whole input, and the
--- buffer with the positions at which it starts and ends there
+-- a match: the byte at which its lines are split, the number of its first line, its offset in the
+-- whole input, and the buffer with the positions at which it starts and ends there
 pub record MatchReport : Type 0 where
   pub terminator : ℕ
   pub line_number : Option ℕ

@@ -2,16 +2,16 @@
 ghost use Rattle.std.specs.Prelude.{◌≡◌, Some, None};
 ghost use Rattle.grep_report.specs.BinaryDetections.{convert_byte_of, quit_byte_of};
 
-/// What a search does about a byte that marks its input as binary, such as NUL. By default it does nothing. It follows
-/// grep-searcher's `BinaryDetection`.
+/// What a search does about a byte that marks its input as binary, such as NUL. By default it does
+/// nothing. It follows grep-searcher's `BinaryDetection`.
 #[derive(Clone, Copy, Debug, PartialEq, Eq)]
 pub enum BinaryDetection {
     /// No byte marks an input as binary: all bytes are searched as text.
     None,
     /// The search ends at the first such byte, and no line that holds it is reported.
     Quit(u8),
-    /// Each such byte is replaced by the line terminator's byte, in an input that is searched line by line as it is
-    /// read. Elsewhere it means nothing.
+    /// Each such byte is replaced by the line terminator's byte, in an input that is searched line
+    /// by line as it is read. Elsewhere, and if it is that byte itself, it means nothing.
     Convert(u8),
 }
 

@@ -8,7 +8,8 @@ use grep_decode::{Label, label_of};
 use std::alloc::Global;
 use std::marker::Model;
 
-/// The encoding that input is said to have: UTF-8, or UTF-16 of either byte order. It is a byte that is copied.
+/// The encoding that input is said to have: UTF-8, or UTF-16 of either byte order. It is a byte
+/// that is copied.
 #[derive(Clone, Copy, Debug, PartialEq, Eq)]
 pub struct Encoding {
     label: Label,
@@ -25,12 +26,13 @@ impl Model for Encoding {
 }
 
 impl Encoding {
-    /// The encoding that a label names, by the Encoding Standard's table of labels: those of UTF-8 and of UTF-16 are
-    /// known. Tabs, line feeds, form feeds, carriage returns and spaces before and after the label are ignored, and so
-    /// is the case of ASCII letters. A known label takes no memory.
+    /// The encoding that a label names, by the Encoding Standard's table of labels: those of UTF-8
+    /// and of UTF-16 are known. Tabs, line feeds, form feeds, carriage returns and spaces before
+    /// and after the label are ignored, and so is the case of ASCII letters. A known label takes no
+    /// memory.
     ///
-    /// For any other label the error is `UnknownEncoding` with the label's bytes as given, or `Memory` if there is none
-    /// for a copy of them, which is made in the global allocator.
+    /// For any other label the error is `UnknownEncoding` with the label's bytes as given, or
+    /// `Memory` if there is none for a copy of them, which is made in the global allocator.
     pub fn new(alloc: Global, label: &str) -> Result<Encoding, ConfigError>
         ensures known { IfOk result (λ encoding. label_named label.now ≡ Some encoding) }
         ensures unknown { IfErr result (λ e. (label_named label.now ≡ None)

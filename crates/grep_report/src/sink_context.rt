@@ -54,8 +54,8 @@ impl<'b> Clone for SinkContext<'b> {
 }
 
 impl<'b> SinkContext<'b> {
-    /// The report of the line with these bytes. `line_number` is counted from 1, and `absolute_byte_offset` is the
-    /// offset of the line's first byte in the whole input, in bytes.
+    /// The report of the line with these bytes. `line_number` is counted from 1, and
+    /// `absolute_byte_offset` is the offset of the line's first byte in the whole input, in bytes.
     #[inline]
     pub fn new(
         kind: SinkContextKind,

@@ -9,11 +9,14 @@ use std::fmt::Display;
 use std::io;
 use thiserror::Error as ThisError;
 
-/// An error type that a search can return: the searcher makes the error of what went wrong, by one of three functions.
+/// An error type that a search can return: the searcher makes the error of what went wrong, by one
+/// of three functions.
 ///
-/// `A` is the searcher's allocator. Each of the functions is given one, for an error that keeps text.
+/// `A` is the searcher's allocator. Each of the functions is given one, for an error that keeps
+/// text.
 pub trait SinkError<A: Allocator>: Sized {
-    /// Which errors may be made of a message, given by the text that its `Display` writes, if that text is known.
+    /// Which errors may be made of a message, given by the text that its `Display` writes, if that
+    /// text is known.
     ghost is_message: { Option (List ℕ) → Self → Type 0 };
 
     /// Which errors may be made of an `io::Error`.
@@ -22,13 +25,13 @@ pub trait SinkError<A: Allocator>: Sized {
     /// Which errors may be made of a `ConfigError`.
     ghost is_config: { ConfigError → Self → Type 0 };
 
-    /// The error of a message, such as a matcher's error. If there is no memory for its text, the error is made
-    /// without it.
+    /// The error of a message, such as a matcher's error. If there is no memory for its text, the
+    /// error is made without it.
     fn error_message<T: Display + Drop>(alloc: A, message: T) -> Self
         ensures { is_message (T.output message) result };
 
-    /// The error of an `io::Error`: a reader's, or one for a heap limit that was reached, or one for being out of
-    /// memory.
+    /// The error of an `io::Error`: a reader's, or one for a heap limit that was reached, or one
+    /// for being out of memory.
     fn error_io(alloc: A, error: io::Error) -> Self
         ensures { is_io error result };
 
@@ -37,13 +40,15 @@ pub trait SinkError<A: Allocator>: Sized {
         ensures { is_config error result };
 }
 
-/// The error for sinks that need none of their own: one variant for each of `SinkError`'s functions.
+/// The error for sinks that need none of their own: one variant for each of `SinkError`'s
+/// functions.
 #[derive(Debug, Drop, ThisError)]
 pub enum SearchError<A: Allocator = Global> {
     /// The text of a message, such as a matcher's error; empty if there was no memory for it.
     #[error("{0}")]
     Message(String<A>),
-    /// A reader's or a writer's error, or one for a heap limit that was reached, or one for being out of memory.
+    /// A reader's or a writer's error, or one for a heap limit that was reached, or one for being
+    /// out of memory.
     #[error("{0}")]
     Io(io::Error),
     /// A configuration that no search can run with.
@@ -77,8 +82,8 @@ impl<A: Allocator + Copy> SinkError<A> for SearchError<A> {
     }
 }
 
-/// An `io::Error` is kept as it is. Of a message, and of a configuration that no search can run with, the error is of
-/// the kind `Other` and has the text; std keeps the first 80 bytes of it.
+/// An `io::Error` is kept as it is. Of a message, and of a configuration that no search can run
+/// with, the error is of the kind `Other` and has the text; std keeps the first 80 bytes of it.
 impl<A: Allocator + Copy> SinkError<A> for io::Error {
     ghost use Rattle.std.specs.IoError.{error_kind};
     ghost use Rattle.std.specs.declared.io.ErrorKind.TheVariants.{Other};

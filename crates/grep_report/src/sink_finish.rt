@@ -27,8 +27,8 @@ impl Model for SinkFinish {
 }
 
 impl SinkFinish {
-    /// The end of a search that has been through the input's first `byte_count` bytes and found its first binary byte
-    /// at the offset `binary_byte_offset`, in bytes, if it found one.
+    /// The end of a search that has been through the input's first `byte_count` bytes and found its
+    /// first binary byte at the offset `binary_byte_offset`, in bytes, if it found one.
     #[inline]
     pub fn new(byte_count: u64, binary_byte_offset: Option<u64>) -> SinkFinish
         ensures { result ≡ record {
@@ -42,8 +42,8 @@ impl SinkFinish {
         }
     }
 
-    /// How many bytes of the input the search has been through: up to the end of the last line that it considered, or
-    /// of the line at whose call the sink returned false.
+    /// How many bytes of the input the search has been through: up to the end of the last line that
+    /// it considered, or of the line at whose call the sink returned false.
     #[inline]
     pub fn byte_count(&self) -> u64
         ensures { result ≡ self.now.byte_count }
@@ -51,8 +51,8 @@ impl SinkFinish {
         self.byte_count
     }
 
-    /// The offset of the first binary byte in the whole input, in bytes, if the search found one. No search looks for
-    /// one yet.
+    /// The offset of the first binary byte in the whole input, in bytes, if the search found one.
+    /// No search looks for one yet.
     #[inline]
     pub fn binary_byte_offset(&self) -> Option<u64>
         ensures { result ≡ self.now.binary_byte_offset }

@@ -56,11 +56,12 @@ impl<'b> Clone for SinkMatch<'b> {
 }
 
 impl<'b> SinkMatch<'b> {
-    /// The report of the match whose bytes are at `range` in `buffer`. The caller ensures that the range doesn't end
-    /// before it starts, and that it ends within the buffer.
+    /// The report of the match whose bytes are at `range` in `buffer`. The caller ensures that the
+    /// range doesn't end before it starts, and that it ends within the buffer.
     ///
-    /// `terminator` is the byte at which `lines` splits, `line_number` is the number of the match's first line, counted
-    /// from 1, and `absolute_byte_offset` is the offset of its first byte in the whole input, in bytes.
+    /// `terminator` is the byte at which `lines` splits, `line_number` is the number of the match's
+    /// first line, counted from 1, and `absolute_byte_offset` is the offset of its first byte in
+    /// the whole input, in bytes.
     #[inline]
     pub fn new(
         terminator: u8,
@@ -90,7 +91,8 @@ impl<'b> SinkMatch<'b> {
         }
     }
 
-    /// The bytes of the match: whole lines with their terminators, except that the input's last line may lack its own.
+    /// The bytes of the match: whole lines with their terminators, except that the input's last
+    /// line may lack its own.
     #[inline]
     pub fn bytes(&self) -> &'b [u8]
         ensures { result.now ≡ match_bytes self.now }
@@ -114,7 +116,8 @@ impl<'b> SinkMatch<'b> {
         self.absolute_byte_offset
     }
 
-    /// The number of the match's first line, counted from 1; `None` if the searcher doesn't number lines.
+    /// The number of the match's first line, counted from 1; `None` if the searcher doesn't number
+    /// lines.
     #[inline]
     pub fn line_number(&self) -> Option<u64>
         ensures { result ≡ self.now.line_number }
@@ -122,9 +125,9 @@ impl<'b> SinkMatch<'b> {
         self.line_number
     }
 
-    /// The buffer that the match is a range of. In a search's report this is all the bytes that the searcher has at
-    /// hand: in a search of a slice, the whole slice. A caller can rely only on `bytes_range_in_buffer`, where the
-    /// match is.
+    /// The buffer that the match is a range of. In a search's report this is all the bytes that the
+    /// searcher has at hand: in a search of a slice, the whole slice. A caller can rely only on
+    /// `bytes_range_in_buffer`, where the match is.
     #[inline]
     pub fn buffer(&self) -> &'b [u8]
         ensures { result.now ≡ self.now.buffer }

@@ -1,8 +1,9 @@
 -- How the calls of a walk across lines end, against those that are defined.
-use Rattle.std.proofs.Common.{◌≡◌, ℕ, ◌+◌, ◌-◌, ◌≤◌, true, List, ◌++◌, length, take, inl, inr}
-use Rattle.std.proofs.Common.{refl, sym, ◌∙◌, ap, subst, arith, ⊎_elim}
+use Rattle.std.proofs.Common.{◌≡◌, ℕ, suc, ◌+◌, ◌-◌, ◌≤◌, true, List, ◌++◌, length, drop, take, inl, inr}
+use Rattle.std.proofs.Common.{refl, sym, ◌∙◌, ap, subst, arith, ⊎_elim, length-take, length-drop}
 use Rattle.std.proofs.lemmas.Bool.{cases_lt}
 use Rattle.std.specs.Prelude.{Ok, Err, false}
+use Rattle.grep_lines.specs.Positions.{slice}
 use Rattle.grep_lines.proofs.LawLemmas.{AreLines-lines}
 use Rattle.grep_matcher.specs.Lines.{lines}
 use Rattle.grep_matcher.specs.Matching.{Meaning}
@@ -14,14 +15,17 @@ use Rattle.grep_definitions.specs.LineSearch.{start}
 use Rattle.grep_definitions.specs.Searches.{ErrorMakers, MatcherFacts, IsFaultIn, of_sink, of_matcher}
 use Rattle.grep_definitions.specs.SearchTurns.{calls_across}
 use Rattle.grep_definitions.specs.Settings.{Settings}
-use Rattle.grep_definitions.specs.SinkCalls.{Turn, begins}
+use Rattle.grep_definitions.specs.SinkCalls.{Turn, begins, ends_in_break}
 use Rattle.grep_definitions.specs.SinkRuns.{Steps, Outcome, all_true, stopped, failed, AreReported}
+use Rattle.grep_definitions.proofs.BreakLemmas.{paired-front, paired-last}
 use Rattle.grep_definitions.proofs.LineStartLemmas.{line_start-ascends, line_start-within}
 use Rattle.grep_definitions.proofs.SinkRunLemmas.{AreReported-append, AreReported-ended}
 use Rattle.grep_searcher.specs.declared.searcher.walk.Walk.{Walk}
 use Rattle.grep_searcher.specs.AcrossWalks.{IsAcross, turns_before}
-use Rattle.grep_searcher.specs.Walks.{Counted}
+use Rattle.grep_searcher.specs.Walks.{Counted, walk_past}
 use Rattle.grep_definitions.proofs.AcrossWalkLemmas as calls
+use Rattle.grep_searcher.proofs.AcrossStepLemmas as steps
+use Rattle.grep_searcher.proofs.AcrossUnitLemmas.{IsNext}
 
 module _ (k : Settings) (meaning : Meaning) (bytes : List ℕ) where
   abbrev n : ℕ
@@ -35,6 +39,13 @@ module _ (k : Settings) (meaning : Meaning) (bytes : List ℕ) where
 
   passed-few : (w : Walk) → IsAcross k meaning bytes w → w.reported_through ≤ n
   passed-few w across = omega (arith, across.placed.low, across.placed.at.listed)
+
+  -- the last of the calls so far is no break
+  front-whole : (w : Walk) → IsAcross k meaning bytes w
+      → ends_in_break (take (length (front w.reported_through)) (turns k meaning bytes)) ≡ false
+  front-whole w across =
+      ap ends_in_break (calls.front-first k meaning bytes w.reported_through (passed-few w across))
+      ∙ paired-last (front w.reported_through) (paired-front k meaning bytes w.reported_through (passed-few w across))
 
   module _ {State E : Type 0} (step : Steps State E) (first : State) where
     abbrev IsCounted : ℕ → Outcome E → State → Type 0
@@ -98,6 +109,17 @@ module _ (k : Settings) (meaning : Meaning) (bytes : List ℕ) where
           is_count = sym across.placed.at.begins ∙ ap (start k meaning bytes) all;
         }
 
+    -- the lines up to the end are passed unreported
+    pub counted-past : (w : Walk) (p q : ℕ) → w.offset ≡ p → IsAcross k meaning bytes w → IsNext k meaning bytes w p q
+        → q ≡ length bytes → k.passthru ≡ false → w.after_context_left ≡ 0 → (new : State)
+        → AreReported step k first (front w.reported_through) all_true new → IsCounted q all_true new
+    counted-past w p q same across next end plain none new reported =
+        let past = steps.across-past k meaning bytes w p q same across next plain none in
+        let size : w.offset + length (slice bytes p q) ≡ q =
+        omega (arith, same, next.from, next.within, length-take (q - p) (drop p bytes), length-drop p bytes) in
+        subst (λ count. IsCounted count all_true new) size
+        (counted-end (walk_past k w (slice bytes p q)) new past (size ∙ end) reported)
+
     -- the calls so far are some first calls
     pub taken : (w : Walk) (now : State) → IsAcross k meaning bytes w
         → AreReported step k first (front w.reported_through) all_true now
@@ -127,6 +149,7 @@ module _ {State E F : Type 0} (step : Steps State E) (errors : ErrorMakers E) (m
       → (haystack : List ℕ) (error : F) (e : E) → IsAskedAcross k matcher.meaning bytes haystack → matcher.fails haystack error
       → errors.is_message (matcher.text_of error) e → IsFaulty e now
   fault-matcher w now across reported haystack error e asked fails message =
-      of_matcher haystack error (take (length (turns_before k matcher.meaning bytes w.reported_through)) (turns k matcher.meaning bytes))
-      (asked, (length (turns_before k matcher.meaning bytes w.reported_through), refl)) fails message
+      let later = joined_from (turns_at k matcher.meaning bytes) 0 w.reported_through in
+      of_matcher haystack error (take (suc (length later)) (turns k matcher.meaning bytes))
+      (asked, (length later, refl), front-whole k matcher.meaning bytes w across) fails message
       (taken k matcher.meaning bytes step first w now across reported)

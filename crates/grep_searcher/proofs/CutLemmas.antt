@@ -1,13 +1,13 @@
 -- A search of a stream that ends at a binary byte, or after one was noted.
-use Rattle.std.proofs.Common.{◌≡◌, ℕ, ◌+◌, ◌≤◌, Bool, true, false, List, [], ◌++◌, length, Option, Some, None, Ok, Err}
-use Rattle.std.proofs.Common.{inl, inr, refl, sym, ◌∙◌, ap, subst, arith, length-append}
-use Rattle.std.proofs.lemmas.Bool.{false≢true}
+use Rattle.std.proofs.Common.{◌≡◌, ◌⊎◌, ℕ, ◌+◌, ◌<◌, ◌≤◌, Bool, true, false, List, [], ◌++◌, length, take, Option, Some, None}
+use Rattle.std.proofs.Common.{Ok, Err, inl, inr, refl, sym, ◌∙◌, ap, subst, arith, append_assoc, length-append, is_some, ⊎_elim}
+use Rattle.std.proofs.lemmas.Bool.{cases_lt, false≢true}
 use Rattle.std.specs.Prelude.{◌&&◌, is_none}
 use Rattle.std.specs.declared.io.Error.{Error}
 use Rattle.grep_decode.specs.declared.mode.Mode.TheVariants.{Passing}
 use Rattle.grep_decode.specs.DecoderStates.{DecoderState, Decodes, IsDone, IsSettled, started, still_to_give}
 use Rattle.grep_decode.specs.Source.{ReadResult}
-use Rattle.grep_line_buffer.specs.BufferStates.{BufferState, held, is_cut, IsSameBuffer, IsWithin}
+use Rattle.grep_line_buffer.specs.BufferStates.{BufferState, held, is_cut, IsFilled, IsSameBuffer, IsWithin}
 use Rattle.grep_line_buffer.specs.Detections.{detected, found_in, is_quit}
 use Rattle.grep_line_buffer.specs.Fills.{Fills}
 use Rattle.grep_lines.specs.LineLaws.{LinesJoin, LinesAppend}
@@ -22,29 +22,32 @@ use Rattle.grep_definitions.specs.LineSearch.{turns}
 use Rattle.grep_definitions.specs.LineTurns.{one_turn}
 use Rattle.grep_definitions.specs.NotedSinks.{noted}
 use Rattle.grep_definitions.specs.ReaderSearches.{is_idle, IsLineUnread, IsReaderFaultIn, IsStreamSearched, Taken, of_reading}
-use Rattle.grep_definitions.specs.Searches.{ErrorMakers, MatcherFacts}
+use Rattle.grep_definitions.specs.InputFronts.{IsClosed, IsFront}
+use Rattle.grep_definitions.specs.Searches.{ErrorMakers, MatcherFacts, IsClearFault, IsLineFault}
 use Rattle.grep_definitions.specs.Settings.{Settings}
 use Rattle.grep_definitions.specs.SearchLaws.{UnchangedIsInput}
 use Rattle.grep_definitions.specs.SinkCalls.{begins, binary_data}
 use Rattle.grep_definitions.specs.SinkRuns.{Steps, Outcome, all_true, stopped, failed, AreReported}
 use Rattle.grep_definitions.specs.StreamSearches.{IsNotedFor, stream_calls}
 use Rattle.grep_definitions.proofs.LineReportLemmas as reports
-use Rattle.grep_definitions.proofs.NotedLemmas.{unnoted}
-use Rattle.grep_definitions.proofs.SinkViewLemmas.{IsReaderFaultIn-seen}
+use Rattle.grep_definitions.proofs.NotedLemmas.{unnoted, unnoted-clear}
+use Rattle.grep_definitions.proofs.SinkViewLemmas.{IsClearFault-seen, IsReaderFaultIn-seen}
 use Rattle.grep_searcher.specs.declared.searcher.noted.Noted.{Noted}
 use Rattle.grep_searcher.specs.declared.searcher.walk.Walk.{Walk}
 use Rattle.grep_searcher.specs.HeldViews.{HoldsGiven}
 use Rattle.grep_searcher.specs.NotedCalls.{FailsAtBinary, HasNoted, Notes, PassesBinary, noted_of}
-use Rattle.grep_searcher.specs.Rolls.{HasCounted, HasCut, IsCountedFor, IsRolling, IsStreamCounted}
+use Rattle.grep_searcher.specs.Rolls.{HasCounted, HasCut, IsCountedFor, HasEnded, IsReady, IsRolling, IsStreamCounted, start_in}
 use Rattle.grep_searcher.specs.SearchBuffers.{AreFitting, detection_of}
 use Rattle.grep_searcher.specs.Walks.{IsCount}
 use Rattle.grep_searcher.proofs.NotedLemmas.{called-known, called-none}
+use Rattle.grep_searcher.proofs.HeldLemmas as holding
+use Rattle.grep_searcher.proofs.HeldLemmas.{FillsContinue}
 use Rattle.grep_searcher.proofs.ReadingLemmas as reading
 use Rattle.grep_searcher.proofs.RollLemmas as rolls
 use Rattle.grep_searcher.proofs.RollingLemmas as rolling
 use Rattle.grep_searcher.proofs.FrontLemmas.{turns-seen}
 use Rattle.grep_searcher.proofs.StreamBeginLemmas.{binary-nil, front-none}
-use Rattle.grep_searcher.proofs.StreamEndLemmas.{passed, reported-seen}
+use Rattle.grep_searcher.proofs.StreamEndLemmas.{has_counted-seen, has_noted-passed, noted-passed, passed, reported-seen, uncut-passed}
 use Rattle.grep_searcher.proofs.StreamFinishLemmas.{cut-ended}
 use Rattle.grep_searcher.proofs.StreamViewLemmas as views
 use Rattle.grep_searcher.proofs.WalkLemmas as walks
@@ -91,21 +94,26 @@ module _ {R : Type 0} (remaining : R → Option (List ℕ)) (read_step : R → R
     taken-so_far = reading.taken remaining read_step k capacity reader given d r reads
 
     found-so_far : buffer.binary ≡ found_in (detection_of k.binary_detection) t given
-    found-so_far = rolling.found-there remaining read_step join append step k meaning gone given like buffer decoder d reader r
+    found-so_far = holding.found-there remaining read_step k gone given like buffer decoder d reader r
         holds detects ends_at same
 
-    first-so_far : (bytes : List ℕ) → IsInput k d.has_ended reads.pieces bytes → (offset : ℕ) → buffer.binary ≡ Some offset
-        → binary_of k bytes ≡ Some offset
-    first-so_far bytes input offset is =
-        let text = reading.input-is remaining read_step k capacity reader given d r reads none bytes input in
+    -- an input begins with what was given
+    abbrev Begins : List ℕ → Type 0
+    Begins bytes = (later : List ℕ) × (bytes ≡ given ++ later)
+
+    begins-so_far : (bytes : List ℕ) → IsInput k d.has_ended reads.pieces bytes → Begins bytes
+    begins-so_far bytes input =
+        let text = reading.input-is remaining read_step k capacity reader given d r reads none bytes input in (text.0, text.1)
+
+    first-so_far : (bytes : List ℕ) → Begins bytes → (offset : ℕ) → buffer.binary ≡ Some offset → binary_of k bytes ≡ Some offset
+    first-so_far bytes text offset is =
         ap (binary_of k) text.1 ∙ views.first-kept k.binary_detection t given text.0 offset (sym found-so_far ∙ is)
 
     -- the byte that was found is the first one of every input
-    noted-so_far : is_cut buffer ≡ false → (bytes : List ℕ) → IsInput k d.has_ended reads.pieces bytes
-        → IsNotedFor k bytes buffer.binary
-    noted-so_far uncut bytes input = record {
-      first = first-so_far bytes input;
-      goes_on = λ b quits. rolling.unquit-there remaining read_step join append step k meaning gone given like buffer decoder d
+    noted-so_far : is_cut buffer ≡ false → (bytes : List ℕ) → Begins bytes → IsNotedFor k bytes buffer.binary
+    noted-so_far uncut bytes text = record {
+      first = first-so_far bytes text;
+      goes_on = λ b quits. holding.unquit-there remaining read_step k gone given like buffer decoder d
           reader r holds detects ends_at same uncut (ap (λ x. is_quit (detection_of x)) quits);
     }
 
@@ -126,23 +134,80 @@ module _ {R : Type 0} (remaining : R → Option (List ℕ)) (read_step : R → R
     reported-so_far = reported-seen step k (turns k meaning seen) (From first base sink.binary) all_true sink
         (rolls.counted-seen join append (Notes step) k meaning so_far.gone old (From first base sink.binary) w sink so_far.between).reported
 
-    -- the input wasn't searched to its end
-    pub fault-unread : HasNoted sink → sink.binary ≡ old.binary → {F : Type 0} (errors : ErrorMakers E) (facts : MatcherFacts F)
-        (has_buffers : Bool) (e : E) (io : Error) (r' : R)
-        → IsLineUnread remaining read_step (record { settings = k; has_buffers = has_buffers }) meaning reader (Some seen) io r'
-        → errors.is_io io e
-        → IsStreamSearched remaining read_step step errors (record facts { meaning = meaning })
-        (record { settings = k; has_buffers = has_buffers }) reader first (Err e) r' sink.sink.now
-    fault-unread called known errors facts has_buffers e io r' unread made = inl (record {
-      found = sink.binary;
-      fault = of_reading (Some seen) io unread made
-          (subst (λ found. AreReported (noted step) k (first, None) (turns k meaning seen) all_true (sink.sink.now, found))
-          (called-known sink called) reported-so_far);
-      mid = r;
-      taken = taken-so_far so_far.gone so_far.given old old d r so_far.holds so_far.detects ends_at (same-buffer old);
-      noted_for = λ bytes input. subst (IsNotedFor k bytes) (sym known)
-          (noted-so_far so_far.gone so_far.given old old d r so_far.holds so_far.detects ends_at (same-buffer old) so_far.uncut bytes input);
-    })
+    -- without `binary_data` these are calls of the sink itself
+    unnoted-so_far : sink.binary ≡ None → AreReported step k first (turns k meaning seen) all_true sink.sink.now
+    unnoted-so_far unknown = unnoted step k (turns k meaning seen) first all_true sink.sink.now
+        (subst (λ found. AreReported (noted step) k (first, None) (turns k meaning seen) all_true (sink.sink.now, found))
+        (called-none sink unknown) reported-so_far)
+
+    -- the lines that were seen are at the front of every input that begins with what was given, and hold no binary byte if
+    -- none was found
+    front-seen : (bytes later : List ℕ) → bytes ≡ so_far.given ++ later → IsFront k (view_of k bytes) seen
+    front-seen bytes later is =
+        let back = holding.fronts-there remaining read_step k so_far.gone so_far.given old old decoder d
+        reader r so_far.holds so_far.detects ends_at (same-buffer old) later in
+        (rolls.goes-on join append (Notes step) k meaning so_far.gone old (From first base sink.binary) w sink so_far.between
+        (view_of k bytes) (old.rest ++ back.0)
+        (ap (view_of k) is ∙ (back.1 ∙ (ap (λ xs. xs ++ back.0) (sym (append_assoc so_far.gone old.shown old.rest))
+        ∙ append_assoc seen old.rest back.0)))).front
+
+    clear-seen : old.binary ≡ None → (bytes later : List ℕ) → bytes ≡ so_far.given ++ later
+        → binary_of k (take (length seen) bytes) ≡ None
+    clear-seen unfound bytes later is =
+        let view = holding.view-there remaining read_step k so_far.gone so_far.given old old decoder d
+        reader r so_far.holds so_far.detects ends_at (same-buffer old) so_far.uncut in
+        ap (λ xs. binary_of k (take (length seen) xs)) is
+        ∙ views.clear-front k.binary_detection t so_far.given later (length seen)
+        (omega (
+          arith,
+          ap length view,
+          views.view-length k.binary_detection t so_far.given,
+          length-append so_far.gone (held old),
+          length-append so_far.gone old.shown,
+          length-append old.shown old.rest,
+        ))
+        (sym (found-so_far so_far.gone so_far.given old old d r so_far.holds so_far.detects ends_at (same-buffer old)) ∙ unfound)
+
+    -- the input wasn't searched to its end, after a fill that read up to `mid`, and a call that may have failed
+    module _ (new : BufferState) (d' : DecoderState) (mid r' : R)
+        (held_now : (more : List ℕ) × HoldsGiven remaining read_step so_far.gone old.detection old.terminator new decoder reader
+        (so_far.given ++ more) d' mid)
+        (then_failed : (mid ≡ r') ⊎ ((error : Error) × (d'.has_ended ≡ false) × read_step mid (Err error) r')) where
+      abbrev reads-to : Decodes remaining read_step (started capacity k.encoding k.bom_sniffing) reader (so_far.given ++ held_now.0) d' mid
+      reads-to = subst (λ x. Decodes remaining read_step x reader (so_far.given ++ held_now.0) d' mid) begun held_now.1.decodes
+
+      begins-to : (bytes : List ℕ) → IsInput k d'.has_ended reads-to.pieces bytes
+          → (later : List ℕ) × (bytes ≡ so_far.given ++ later)
+      begins-to bytes input =
+          let text = reading.input-is remaining read_step k capacity reader (so_far.given ++ held_now.0) d' mid reads-to none bytes input in
+          (held_now.0 ++ text.0, text.1 ∙ append_assoc so_far.given held_now.0 text.0)
+
+      pub fault-unread : HasNoted sink → sink.binary ≡ old.binary → {F : Type 0} (errors : ErrorMakers E) (facts : MatcherFacts F)
+          (has_buffers : Bool) (e : E) (io : Error)
+          → IsLineUnread remaining read_step (record { settings = k; has_buffers = has_buffers }) meaning reader (Some seen) io r'
+          → errors.is_io io e
+          → IsStreamSearched remaining read_step step errors (record facts { meaning = meaning })
+          (record { settings = k; has_buffers = has_buffers }) reader first (Err e) r' sink.sink.now
+      fault-unread called known errors facts has_buffers e io unread made = inl (record {
+        found = sink.binary;
+        fault = of_reading (Some seen) io unread made
+            (subst (λ found. AreReported (noted step) k (first, None) (turns k meaning seen) all_true (sink.sink.now, found))
+            (called-known sink called) reported-so_far);
+        came = record {
+          mid = mid;
+          taken = reading.taken remaining read_step k capacity reader (so_far.given ++ held_now.0) d' mid reads-to;
+          then_failed = then_failed;
+        };
+        noted_for = λ bytes input. subst (IsNotedFor k bytes) (sym known)
+            (noted-so_far so_far.gone so_far.given old old d r so_far.holds so_far.detects ends_at (same-buffer old) so_far.uncut
+            bytes (begins-to bytes input));
+        clear = λ unknown. record {
+          seen = seen;
+          front = λ bytes input. let text = begins-to bytes input in front-seen bytes text.0 text.1;
+          clear = λ bytes input. let text = begins-to bytes input in clear-seen (sym known ∙ unknown) bytes text.0 text.1;
+          made = inr (io, made, inl (unnoted-so_far unknown));
+        };
+      })
 
     -- a fill came after that
     module _ (new : BufferState) (d' : DecoderState) (r' : R) (same : IsSameBuffer old new)
@@ -152,31 +217,73 @@ module _ {R : Type 0} (remaining : R → Option (List ℕ)) (read_step : R → R
       abbrev raw : List ℕ
       raw = so_far.given ++ held_now.0
 
-      -- the search of what it shows ended in an error
-      pub fault-shown : is_cut new ≡ false → (last : Noted S) → HasNoted last → last.binary ≡ new.binary → {F : Type 0}
-          (errors : ErrorMakers E) (facts : MatcherFacts F) (has_buffers : Bool) (e : E) (other : Option ℕ)
-          → IsReaderFaultIn remaining read_step (Notes step) errors (record facts { meaning = meaning }) (stream_calls k meaning)
-          (record { settings = k; has_buffers = has_buffers }) reader (From first base other) e r' last
-          → IsStreamSearched remaining read_step step errors (record facts { meaning = meaning })
-          (record { settings = k; has_buffers = has_buffers }) reader first (Err e) r' last.sink.now
-      fault-shown uncut last called known errors facts has_buffers e other fault = inl (record {
-        found = last.binary;
-        fault = subst (λ found. IsReaderFaultIn remaining read_step (noted step) errors (record facts { meaning = meaning })
-            (stream_calls k meaning) (record { settings = k; has_buffers = has_buffers }) reader (first, None) e r'
+      -- the search of what it shows
+      module _ (busy : is_idle k ≡ false) (fitting : AreFitting k.heap_limit t old) (uncut : is_cut new ≡ false)
+          (filled : IsFilled old new) (room : length (held new) ≤ new.size) (within : IsWithin new.limit new.size)
+          (done : (old.has_ended ≡ true → is_cut old ≡ false → IsDone d) → new.has_ended ≡ true → is_cut new ≡ false → IsDone d') where
+        -- it came to its end
+        pub counted-shown : (w' : Walk) (last : Noted S) → HasNoted last → last.binary ≡ new.binary
+            → HasEnded (Notes step) k meaning new w sink w' last → UnchangedIsInput → IsSettled d'.mode
+            → (d'.mode ≡ Passing → (length d'.ready ≤ 3) × (d'.held ≡ []))
+            → HasCounted (noted step) k meaning remaining read_step reader (first, None) w'.offset last.binary r'
+            (last.sink.now, last.binary)
+        counted-shown w' last called known ended unchanged settled passing =
+            subst (λ found. HasCounted (noted step) k meaning remaining read_step reader (first, None) w'.offset last.binary r'
             (last.sink.now, found)) (called-known last called)
-            (IsReaderFaultIn-seen noted_of (Notes step) (noted step) (λ old k call result new passes. passes.2) errors
-            (record facts { meaning = meaning }) (stream_calls k meaning) remaining read_step
-            (record { settings = k; has_buffers = has_buffers }) reader (From first base other) e r' last fault);
-        mid = r';
-        taken = taken-so_far so_far.gone raw old new d' r' held_now.1 so_far.detects ends_at same;
-        noted_for = λ bytes input. subst (IsNotedFor k bytes) (sym known)
-            (noted-so_far so_far.gone raw old new d' r' held_now.1 so_far.detects ends_at same uncut bytes input);
-      })
+            (subst (λ found. HasCounted (noted step) k meaning remaining read_step reader (first, None) w'.offset found r' (noted_of last))
+            (sym known)
+            (has_counted-seen step k meaning remaining read_step reader (From first base sink.binary) w'.offset new.binary r' last
+            (rolling.counted-filled remaining read_step join append (Notes step) k meaning busy capacity reader decoder begun
+            (From first base sink.binary) old new d d' r r' w sink so_far fitting same fills held_now uncut filled room within none done
+            w' last ended unchanged settled passing)))
+
+        -- or it ended in an error
+        module _ {F : Type 0} (errors : ErrorMakers E) (matcher : MatcherFacts F) (e : E) (last : Noted S)
+            (fails : (gone : List ℕ) (start : Noted S) → IsReady (Notes step) k meaning gone new.shown (start_in new w) start w sink
+            → (after : List ℕ) → (0 < length after → IsClosed t new.shown)
+            → IsLineFault (Notes step) errors matcher k (gone ++ (new.shown ++ after)) start e last) where
+          abbrev One : List ℕ → Type 0
+          One = IsInput k d'.has_ended (reads so_far.gone raw old new d' r' held_now.1 so_far.detects ends_at same).pieces
+
+          clear-last : last.binary ≡ None → new.binary ≡ None → IsClearFault step errors matcher One k first e last.sink.now
+          clear-last unknown unfound = unnoted-clear step errors matcher One k first e last.sink.now
+              (subst (λ found. IsClearFault (noted step) errors matcher One k (first, None) e (last.sink.now, found))
+              (called-none last unknown)
+              (IsClearFault-seen noted_of (Notes step) (noted step) (λ old k call result new passes. passes.2) errors matcher One k
+              (From first base sink.binary) e last
+              (rolling.cleared-filled remaining read_step join append (Notes step) k meaning busy capacity reader decoder begun
+              (From first base sink.binary) old new d d' r r' w sink so_far fitting same fills held_now uncut filled room within none done
+              errors matcher e last fails unfound)))
+
+          pub fault-shown : HasNoted last → last.binary ≡ new.binary → (has_buffers : Bool)
+              → IsStreamSearched remaining read_step step errors matcher
+              (record { settings = k; has_buffers = has_buffers }) reader first (Err e) r' last.sink.now
+          fault-shown called known has_buffers = inl (record {
+            found = last.binary;
+            fault = subst (λ found. IsReaderFaultIn remaining read_step (noted step) errors matcher
+                (stream_calls k matcher.meaning) (record { settings = k; has_buffers = has_buffers }) reader (first, None) e r'
+                (last.sink.now, found)) (called-known last called)
+                (IsReaderFaultIn-seen noted_of (Notes step) (noted step) (λ old k call result new passes. passes.2) errors
+                matcher (stream_calls k matcher.meaning) remaining read_step
+                (record { settings = k; has_buffers = has_buffers }) reader (From first base sink.binary) e r' last
+                (rolling.faulted-filled remaining read_step join append (Notes step) k meaning busy capacity reader decoder begun
+                (From first base sink.binary) old new d d' r r' w sink so_far fitting same fills held_now uncut filled room within none
+                done errors matcher has_buffers e last fails));
+            came = record {
+              mid = r';
+              taken = taken-so_far so_far.gone raw old new d' r' held_now.1 so_far.detects ends_at same;
+              then_failed = inl refl;
+            };
+            noted_for = λ bytes input. subst (IsNotedFor k bytes) (sym known)
+                (noted-so_far so_far.gone raw old new d' r' held_now.1 so_far.detects ends_at same uncut bytes
+                (begins-so_far so_far.gone raw old new d' r' held_now.1 so_far.detects ends_at same bytes input));
+            clear = λ unknown. clear-last unknown (sym known ∙ unknown);
+          })
 
       -- a byte that it found is after all that was held
       past : sink.binary ≡ old.binary → sink.binary ≡ None → (offset : ℕ) → new.binary ≡ Some offset
           → length so_far.gone + length (held old) ≤ offset
-      past known unknown = rolling.found-past remaining read_step join append (Notes step) k meaning so_far.gone raw old new decoder d'
+      past known unknown = holding.found-past remaining read_step k so_far.gone raw old new decoder d'
           reader r' held_now.1 so_far.detects ends_at same so_far.given held_now.0 refl (sym known ∙ unknown) so_far.holds.found
           so_far.holds.whole
 
@@ -196,25 +303,28 @@ module _ {R : Type 0} (remaining : R → Option (List ℕ)) (read_step : R → R
           so_far
 
       -- no line may have a turn: the search ends once the first bytes are read
-      pub counted-idle : sink.binary ≡ old.binary → is_idle k ≡ true → is_cut new ≡ false → length (held new) ≤ new.size → IsWithin new.limit new.size
-          → AreFitting k.heap_limit t old → (sink' : Noted S) → HasNoted sink' → sink'.binary ≡ new.binary
-          → (on : IsRolling (Notes step) k meaning remaining read_step decoder reader (From first base sink'.binary) old d r w sink')
+      pub counted-idle : is_idle k ≡ true → is_cut new ≡ false → length (held new) ≤ new.size → IsWithin new.limit new.size
+          → AreFitting k.heap_limit t old → HasNoted sink → sink.binary ≡ new.binary
           → UnchangedIsInput → IsSettled d'.mode → (d'.mode ≡ Passing → (length d'.ready ≤ 3) × (d'.held ≡ []))
-          → HasCounted (noted step) k meaning remaining read_step reader (first, None) w.offset sink'.binary r'
-          (sink'.sink.now, sink'.binary)
-      counted-idle was idle uncut room within fitting sink' called known on unchanged settled passing =
-          let unread = on.between.idle idle in
-          let before = so_far.between.idle idle in
-          let calls : noted step (first, None) k begins (Ok true) (sink'.sink.now, sink'.binary) =
-          subst (λ found. noted step (first, None) k begins (Ok true) (sink'.sink.now, found)) (called-known sink' called)
+          → HasCounted (noted step) k meaning remaining read_step reader (first, None) w.offset sink.binary r'
+          (sink.sink.now, sink.binary)
+      counted-idle idle uncut room within fitting called known unchanged settled passing =
+          let unread = so_far.between.idle idle in
+          let calls : noted step (first, None) k begins (Ok true) (sink.sink.now, sink.binary) =
+          subst (λ found. noted step (first, None) k begins (Ok true) (sink.sink.now, found)) (called-known sink called)
           unread.begun.2 in
-          let zero : w.offset ≡ 0 = omega (arith, on.between.at, ap length unread.none, length-append on.gone old.shown) in
+          let zero : w.offset ≡ 0 = omega (
+            arith,
+            so_far.between.at,
+            ap length unread.none,
+            length-append so_far.gone old.shown,
+          ) in
           let from_start = reads so_far.gone raw old new d' r' held_now.1 so_far.detects ends_at same in
           let over : (bytes : List ℕ)
-          → IsCountedFor (noted step) k meaning (first, None) bytes 0 all_true (sink'.sink.now, sink'.binary) =
-          λ bytes. walks.counted-idle k meaning bytes (noted step) (first, None) (sink'.sink.now, sink'.binary) idle calls in
-          subst (λ n. HasCounted (noted step) k meaning remaining read_step reader (first, None) n sink'.binary r'
-          (sink'.sink.now, sink'.binary)) (sym zero) (record {
+          → IsCountedFor (noted step) k meaning (first, None) bytes 0 all_true (sink.sink.now, sink.binary) =
+          λ bytes. walks.counted-idle k meaning bytes (noted step) (first, None) (sink.sink.now, sink.binary) idle calls in
+          subst (λ n. HasCounted (noted step) k meaning remaining read_step reader (first, None) n sink.binary r'
+          (sink.sink.now, sink.binary)) (sym zero) (record {
             taken = taken-so_far so_far.gone raw old new d' r' held_now.1 so_far.detects ends_at same;
             seen = [];
             outcome = all_true;
@@ -226,7 +336,7 @@ module _ {R : Type 0} (remaining : R → Option (List ℕ)) (read_step : R → R
             ahead = λ limit is same_bytes.
                 let few = reading.taken-few remaining read_step k capacity reader raw d' r' from_start unchanged same_bytes
                 settled passing in
-                let view = rolling.view-there remaining read_step join append (Notes step) k meaning so_far.gone raw old new decoder d'
+                let view = holding.view-there remaining read_step k so_far.gone raw old new decoder d'
                 reader r' held_now.1 so_far.detects ends_at same uncut in
                 omega (
                   arith,
@@ -236,19 +346,24 @@ module _ {R : Type 0} (remaining : R → Option (List ℕ)) (read_step : R → R
                   ap length view,
                   views.view-length k.binary_detection t raw,
                   length-append so_far.gone (held new),
-                  ap length before.none,
+                  ap length unread.none,
                   length-append so_far.gone old.shown,
                 );
             noted_for = λ bytes input. subst (IsNotedFor k bytes) (sym known)
-                (noted-so_far so_far.gone raw old new d' r' held_now.1 so_far.detects ends_at same uncut bytes input);
+                (noted-so_far so_far.gone raw old new d' r' held_now.1 so_far.detects ends_at same uncut bytes
+                (begins-so_far so_far.gone raw old new d' r' held_now.1 so_far.detects ends_at same bytes input));
             clear = λ bytes input none. binary-nil k.binary_detection t;
+            clear_seen = λ bytes input none. binary-nil k.binary_detection t;
           })
 
       -- it found the first binary byte, and the search ends there
-      module _ (fitting : AreFitting k.heap_limit t old) (room : length (held new) ≤ new.size) (within : IsWithin new.limit new.size)
+      module _ (fitting : AreFitting k.heap_limit t old) (room : length (held new) ≤ new.size)
+          (tight : is_cut new ≡ true → length (held new) < new.size) (within : IsWithin new.limit new.size)
+          (more_is : held_now.0 ≡ fills.given) (unchanged : UnchangedIsInput) (settled : IsSettled d'.mode)
+          (passing : d'.mode ≡ Passing → (length d'.ready ≤ 3) × (d'.held ≡ []))
           (known : sink.binary ≡ old.binary) (unknown : sink.binary ≡ None) (offset : ℕ) (is : new.binary ≡ Some offset) where
         holds-is : so_far.gone ++ held new ≡ detected (detection_of k.binary_detection) t raw
-        holds-is = rolling.holds-is remaining read_step join append (Notes step) k meaning so_far.gone raw old new decoder d' reader r'
+        holds-is = holding.holds-is remaining read_step k so_far.gone raw old new decoder d' reader r'
             held_now.1 so_far.detects ends_at same
 
         found-is : new.binary ≡ found_in (detection_of k.binary_detection) t raw
@@ -257,6 +372,43 @@ module _ {R : Type 0} (remaining : R → Option (List ℕ)) (read_step : R → R
         limit-within : (limit : ℕ) → k.heap_limit ≡ Some limit → new.size ≤ limit
         limit-within limit is_limit =
             subst (λ m. IsWithin m new.size) (same.limit ∙ (fitting.limit ∙ is_limit)) within
+
+        cut-if : is_quit (detection_of k.binary_detection) ≡ true → is_cut new ≡ true
+        cut-if quits = ap (λ d. is_quit d && is_some new.binary) (same.detection ∙ so_far.detects)
+            ∙ (ap (λ b. b && is_some new.binary) quits ∙ ap is_some is)
+
+        -- the byte is at an offset that the buffer has room for
+        found-low : offset < length so_far.gone + new.size
+        found-low = ⊎_elim
+            (λ less. omega (arith, less, room, ap length holds-is, length-append so_far.gone (held new)))
+            (λ quits. omega (arith, quits.0, tight (cut-if quits.1), ap length holds-is, length-append so_far.gone (held new)))
+            (views.found-below k.binary_detection t raw offset (sym found-is ∙ is))
+
+        -- and so is all that was given, also what came after the byte
+        raw-fits : length raw ≤ length so_far.gone + new.size
+        raw-fits = ⊎_elim
+            (λ some. omega (arith, held-before, fills.fits some, length-append so_far.given held_now.0, ap length more_is))
+            (λ none. omega (
+              arith,
+              held-before,
+              none,
+              length-append so_far.given held_now.0,
+              ap length more_is,
+              past known unknown offset is,
+              found-low,
+            ))
+            (cases_lt 0 (length fills.given))
+          where
+            held-before : length so_far.given ≡ length so_far.gone + length (held old)
+            held-before =
+                let view = holding.view-there remaining read_step k so_far.gone so_far.given old old decoder d reader r
+                so_far.holds so_far.detects ends_at (same-buffer old) so_far.uncut in
+                omega (
+                  arith,
+                  ap length view,
+                  views.view-length k.binary_detection t so_far.given,
+                  length-append so_far.gone (held old),
+                )
 
         pub cut-here : (outcome : Outcome E) (last : S)
             → AreReported step k sink.sink.now (one_turn (binary_data offset) w.offset) outcome last
@@ -268,16 +420,17 @@ module _ {R : Type 0} (remaining : R → Option (List ℕ)) (read_step : R → R
           mid = sink.sink.now;
           cut = λ bytes input.
               let text = reading.front-is remaining read_step k capacity reader raw d' r'
-              (reads so_far.gone raw old new d' r' held_now.1 so_far.detects ends_at same) none (so_far.gone ++ held new)
-              (rolling.fronts-there remaining read_step join append (Notes step) k meaning so_far.gone raw old new decoder d' reader r'
+              (reads so_far.gone raw old new d' r' held_now.1 so_far.detects ends_at same) none (view_of k) (so_far.gone ++ held new)
+              (holding.fronts-there remaining read_step k so_far.gone raw old new decoder d' reader r'
               held_now.1 so_far.detects ends_at same) bytes input in
               let more : List ℕ = detected old.detection old.terminator fills.given in
               record {
                 front = rolls.goes-on join append (Notes step) k meaning so_far.gone old (From first base sink.binary) w sink so_far.between
                     (view_of k bytes) ((old.rest ++ more) ++ text.0)
-                    (rolling.split-text so_far.gone old.shown old.rest more text.0 (view_of k bytes)
+                    (holding.split-text so_far.gone old.shown old.rest more text.0 (view_of k bytes)
                     (text.1 ∙ ap (λ xs. (so_far.gone ++ xs) ++ text.0) fills.appended));
-                first = first-so_far so_far.gone raw old new d' r' held_now.1 so_far.detects ends_at same bytes input offset is;
+                first = first-so_far so_far.gone raw old new d' r' held_now.1 so_far.detects ends_at same bytes
+                    (begins-so_far so_far.gone raw old new d' r' held_now.1 so_far.detects ends_at same bytes input) offset is;
                 after = omega (
                   arith,
                   past known unknown offset is,
@@ -287,27 +440,25 @@ module _ {R : Type 0} (remaining : R → Option (List ℕ)) (read_step : R → R
                 near = λ limit is_limit. omega (
                   arith,
                   limit-within limit is_limit,
-                  room,
-                  views.found-within k.binary_detection t raw offset (sym found-is ∙ is),
-                  ap length holds-is,
-                  length-append so_far.gone (held new),
+                  found-low,
                   length-append so_far.gone old.shown,
                 );
               };
-          low = omega (
-            arith,
-            past known unknown offset is,
-            rolls.walk-at join append (Notes step) k meaning so_far.gone old (From first base sink.binary) w sink so_far.between,
-            length-append old.shown old.rest,
-          );
-          reported = unnoted step k (turns k meaning seen) first all_true sink.sink.now
-              (subst (λ found. AreReported (noted step) k (first, None) (turns k meaning seen) all_true (sink.sink.now, found))
-              (called-none sink unknown) reported-so_far);
+          counted = omega (arith, so_far.between.at, length-append so_far.gone old.shown);
+          ahead = λ limit is_limit same_bytes.
+              let from_start = reads so_far.gone raw old new d' r' held_now.1 so_far.detects ends_at same in
+              let few = reading.taken-few remaining read_step k capacity reader raw d' r' from_start unchanged same_bytes
+              settled passing in
+              omega (arith, few, raw-fits, limit-within limit is_limit, length-append so_far.gone old.shown);
+          reported = unnoted-so_far unknown;
           called = called;
           quits = quits;
         }
 
-      module _ (fitting : AreFitting k.heap_limit t old) (room : length (held new) ≤ new.size) (within : IsWithin new.limit new.size)
+      module _ (fitting : AreFitting k.heap_limit t old) (room : length (held new) ≤ new.size)
+          (tight : is_cut new ≡ true → length (held new) < new.size) (within : IsWithin new.limit new.size)
+          (more_is : held_now.0 ≡ fills.given) (unchanged : UnchangedIsInput) (settled : IsSettled d'.mode)
+          (passing : d'.mode ≡ Passing → (length d'.ready ≤ 3) × (d'.held ≡ []))
           (known : sink.binary ≡ old.binary) where
         -- `binary_data` returned false, or the search is one that ends at the byte
         pub ended-cut : (sink' : Noted S) → PassesBinary step k new.binary sink false sink'
@@ -317,7 +468,7 @@ module _ {R : Type 0} (remaining : R → Option (List ℕ)) (read_step : R → R
           outcome_of returned w.offset,
           now_known,
           outcome-count E returned w.offset,
-          cut-here fitting room within known unknown offset is (outcome_of returned w.offset) sink'.sink.now
+          cut-here fitting room tight within more_is unchanged settled passing known unknown offset is (outcome_of returned w.offset) sink'.sink.now
               (outcome-called step k sink.sink.now offset w.offset returned sink'.sink.now called)
               (ends-there k.binary_detection returned w.offset goes),
         )
@@ -331,5 +482,36 @@ module _ {R : Type 0} (remaining : R → Option (List ℕ)) (read_step : R → R
         fault-cut errors facts has_buffers e sink' (offset, is, unknown, fails) = inr
             (cut-ended step errors (record facts { meaning = meaning }) remaining read_step k has_buffers reader first w.offset r'
             offset (failed e) sink'.sink.now (Err e) sink'.sink.now
-            (cut-here fitting room within known unknown offset is (failed e) sink'.sink.now (inr (inr (e, refl, fails)))
+            (cut-here fitting room tight within more_is unchanged settled passing known unknown offset is (failed e) sink'.sink.now (inr (inr (e, refl, fails)))
             (λ all. absurd (cc))) (refl, refl))
+
+  -- a fill succeeded, and the search goes on after `binary_data` or without it: what is known of it then
+  module _ (continues : FillsContinue remaining read_step) (first : S) (base : Noted S) (old new : BufferState) (d d' : DecoderState)
+      (r r' : R) (w : Walk) (sink' : Noted S) where
+    pub record GoesOn : Type 0 where
+      pub rolling : IsRolling (Notes step) k meaning remaining read_step decoder reader (From first base sink'.binary) old d r w sink'
+      pub held_now : (more : List ℕ) × HoldsGiven remaining read_step rolling.gone old.detection old.terminator new decoder reader
+          (rolling.given ++ more) d' r'
+      pub uncut : is_cut new ≡ false
+      pub known : sink'.binary ≡ new.binary
+      pub called : HasNoted sink'
+
+    pub goes-on : (sink : Noted S)
+        (so_far : IsRolling (Notes step) k meaning remaining read_step decoder reader (From first base sink.binary) old d r w sink)
+        → old.terminator ≡ t → IsSameBuffer old new → Fills remaining read_step old d r new d' r'
+        → sink.binary ≡ old.binary → HasNoted sink → (binary : Option ℕ) → binary ≡ new.binary → (goes : Bool) → goes ≡ true
+        → PassesBinary step k binary sink goes sink' → sink'.sink.ghost_name ≡ sink.sink.ghost_name → GoesOn
+    goes-on sink so_far ends_at same fills known called binary exact goes on passes name =
+        let passes_on : PassesBinary step k new.binary sink true sink' =
+        subst (λ b. PassesBinary step k b sink true sink') exact (subst (λ x. PassesBinary step k binary sink x sink') on passes) in
+        let before = holding.held-next remaining read_step continues old new decoder d d' reader r r' so_far.gone so_far.given
+        so_far.between.offset so_far.uncut so_far.holds fills in
+        let next = passes-on first base old d r w sink so_far ends_at new d' r' same fills before known sink' passes_on name in
+        record {
+          rolling = next;
+          held_now = holding.held-next remaining read_step continues old new decoder d d' reader r r' next.gone next.given
+              next.between.offset next.uncut next.holds fills;
+          uncut = uncut-passed step k old new sink sink' so_far.uncut same.detection so_far.detects known passes_on;
+          known = noted-passed step k old.binary new.binary _ sink sink' fills.found known passes_on;
+          called = has_noted-passed step k new.binary sink sink' called passes_on;
+        }

@@ -19,7 +19,8 @@ use Rattle.grep_definitions.specs.ReaderSearches.{of_contents as unread_contents
 use Rattle.grep_definitions.specs.ReaderSearches as readers
 use Rattle.grep_definitions.specs.ReadingFaults.{IsUndecodedIn, IsUndecoded}
 use Rattle.grep_definitions.specs.ReadingFaults.{of_cut as undecoded_cut, of_contents as undecoded_contents, of_buffers as undecoded_buffers}
-use Rattle.grep_definitions.specs.Searches.{ErrorMakers, MatcherFacts, IsFaultIn, HasReportedIn, IsQuitFault, IsRunUntil, IsUnsearched}
+use Rattle.grep_definitions.specs.Searches.{ErrorMakers, MatcherFacts, IsClearFault, IsFaultIn, HasReportedIn, IsQuitFault}
+use Rattle.grep_definitions.specs.Searches.{IsRunUntil, IsUnsearched}
 use Rattle.grep_definitions.specs.Searches as inputs
 use Rattle.grep_definitions.specs.SearchTurns.{SearchCalls, calls_if, search_calls}
 use Rattle.grep_definitions.specs.Settings.{SearcherState}
@@ -59,7 +60,7 @@ not-false false is = absurd cc
 -- across lines an input isn't searched in a view
 across-view : (view other : List ℕ → List ℕ) (state : SearcherState) (meaning : Meaning) (input : List ℕ) (seen : Option (List ℕ))
     (error : Error) → IsUndecodedIn true view state meaning input seen error → IsUndecodedIn true other state meaning input seen error
-across-view view other state meaning input _ error (undecoded_cut by_line changed on cut) = absurd (false≢true (sym by_line))
+across-view view other state meaning input _ error (undecoded_cut by_line changed unquit on cut) = absurd (false≢true (sym by_line))
 across-view view other state meaning input _ error (undecoded_contents across changed cut) = undecoded_contents across changed cut
 across-view view other state meaning input _ error (undecoded_buffers changed none memory) = undecoded_buffers changed none memory
 
@@ -71,11 +72,11 @@ module _ {R : Type 0} (remaining : R → Option (List ℕ)) (read_step : R → R
       → (seen : Option (List ℕ)) (error : Error)
       → IsUnreadIn remaining read_step across view state meaning reader seen error reader'
       → IsUndecodedIn across view state meaning input seen error
-  undecoded-in across view meaning reader reader' all _ error (unread_cut by_line taken each) =
+  undecoded-in across view meaning reader reader' all _ error (unread_cut by_line unquit taken each) =
       let both = each (searched_bytes state.settings input)
       (taken-input remaining read_step state.settings input reader reader' all taken) in
-      undecoded_cut by_line changed both.0 both.1
-  undecoded-in across view meaning reader reader' all _ error (unread_reader by_line mid taken unended fails on seen) =
+      undecoded_cut by_line changed unquit both.0 both.1
+  undecoded-in across view meaning reader reader' all _ error (unread_reader by_line unquit mid taken unended fails on seen) =
       absurd (never mid error reader' fails)
   undecoded-in across view meaning reader reader' all _ error (unread_contents whole taken cut) =
       undecoded_contents whole changed (cut (searched_bytes state.settings input)
@@ -186,12 +187,10 @@ module _ {R : Type 0} (remaining : R → Option (List ℕ)) (read_step : R → R
     cut-run taken-bytes one old result new run = record {
       seen = run.seen;
       offset = run.offset;
-      count = run.count;
       outcome = run.outcome;
       mid = run.mid;
       last = run.last;
       cut = λ bytes is. run.cut bytes (subst taken-bytes (sym is) one);
-      low = run.low;
       reported = run.reported;
       called = run.called;
       finished = run.finished;
@@ -202,6 +201,17 @@ module _ {R : Type 0} (remaining : R → Option (List ℕ)) (read_step : R → R
     (never : (s : R) (e : Error) (t : R) → read_step s (Err e) t → ⊥) (state : SearcherState) (input : List ℕ)
     (changed : is_searched_unchanged state.settings input ≡ false)
     {S E F : Type 0} (step : Steps S E) (errors : ErrorMakers E) (matcher : MatcherFacts F) where
+  -- what an error without `binary_data` says of an input, whichever it is, it says of this one
+  abbrev clear-one : (IsOne : List ℕ → Type 0) → IsOne (searched_bytes state.settings input) → (old : S) (e : E) (new : S)
+      → IsClearFault step errors matcher IsOne state.settings old e new
+      → IsClearFault step errors matcher (λ bytes. bytes ≡ searched_bytes state.settings input) state.settings old e new
+  clear-one IsOne one old e new fault = record {
+    seen = fault.seen;
+    front = λ bytes is. fault.front bytes (subst IsOne (sym is) one);
+    clear = λ bytes is. fault.clear bytes (subst IsOne (sym is) one);
+    made = fault.made;
+  }
+
   -- if it is searched as it is read
   streamed : is_across state.settings matcher.meaning ≡ false → (reader reader' : R) → remaining reader ≡ Some input
       → (old : S) (result : Result (Unit {0}) E) (new : S)
@@ -217,12 +227,16 @@ module _ {R : Type 0} (remaining : R → Option (List ℕ)) (read_step : R → R
   streamed by_line reader reader' all old (Err e) new (inl noted_fault) =
       inl (record {
         found = noted_fault.found;
-        noted_for = noted_fault.noted_for (searched_bytes state.settings input)
-            (taken-input remaining read_step state.settings input reader noted_fault.mid all noted_fault.taken);
+        noted_for = noted_fault.noted_for (searched_bytes state.settings input) one;
+        clear = λ unfound. clear-one (IsInput state.settings noted_fault.came.taken.ended noted_fault.came.taken.pieces) one old e new
+            (noted_fault.clear unfound);
         fault = go (fault-in remaining read_step never state input changed (noted step) errors matcher
             (stream_calls state.settings matcher.meaning) reader reader' all (old, None) e (new, noted_fault.found) noted_fault.fault);
       })
     where
+      one : IsInput state.settings noted_fault.came.taken.ended noted_fault.came.taken.pieces (searched_bytes state.settings input)
+      one = taken-input remaining read_step state.settings input reader noted_fault.came.mid all noted_fault.came.taken
+
       go : IsFaultIn (noted step) errors matcher (stream_calls state.settings matcher.meaning) state.settings
           (view_of state.settings (searched_bytes state.settings input)) (old, None) e (new, noted_fault.found)
           ⊎ IsUnsearchedIn remaining read_step never state input changed (noted step) errors matcher

@@ -10,6 +10,7 @@ pub mod ReadingLemmas
 pub mod RollLemmas
 pub mod SkipLemmas
 pub mod RollingLemmas
+pub mod UnreadLemmas
 pub mod WindowLemmas
 pub mod WindowSearchLemmas
 pub mod FinishLemmas

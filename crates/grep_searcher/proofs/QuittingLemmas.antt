@@ -1,7 +1,7 @@
 -- A search by a sink that looks for a byte in each report: the calls that it makes of the sink that it has.
 use Rattle.std.proofs.Common.{◌≡◌, ◌⊎◌, ℕ, zero, suc, ◌+◌, ◌-◌, ◌<◌, Bool, true, false, List, [], ◌∷◌, take}
 use Rattle.std.proofs.Common.{if◌then◌else◌, ◌==◌, Result, Ok, Err}
-use Rattle.std.proofs.Common.{Option, None, Some, refl, sym, ap, ◌∙◌, arith, ⊎_elim, inl, inr, subst}
+use Rattle.std.proofs.Common.{Option, None, Some, refl, sym, ap, ◌∙◌, arith, inl, inr, subst}
 use Rattle.std.specs.Prelude.{is_some}
 use Rattle.std.specs.List.{position}
 use Rattle.std.proofs.lemmas.Bool.{true≢false, false≢true}
@@ -373,90 +373,6 @@ module _ {S E : Type 0} (step : Steps S E) (may_call : S → Type 0) (k : Settin
   quits-all turns old new (ended_before n is clear some reported) = absurd (some refl)
   quits-all turns old new (ended_at n is found last reported (Ok goes_on) called (end, stops)) = absurd (not-stopped end stops)
   quits-all turns old new (ended_at n is found last reported (Err e) called fails) = absurd (not-failed e fails)
-
-  -- a report was made, and the search went on
-  went-on : (turn : Turn) (rest : List Turn) (old new : Watch S) → is_report turn.call ≡ true → old.found ≡ None
-      → AreReported Q k old (turn ∷ rest) all_true new
-      → (mid : Watch S) × (holds_byte b turn ≡ false) × (mid.found ≡ None) × (mid.has_break ≡ false)
-      × IsMadeAfter step may_call old.has_break old.sink k turn.call (Ok true) mid.sink × AreReported Q k mid rest all_true new
-  went-on turn rest old new is clear (inl (mid, made, later)) =
-      go (position_of b (reported_bytes turn.call)) refl (looked turn.call old (Ok true) mid is made)
-    where
-      not-ended : (returned : Result Bool E) → ◌≡◌ {A = Result Bool E} (Ok true) (ended returned) → ⊥
-      not-ended (Ok goes_on) eq = true≢false (ap goes eq)
-        where
-          goes : Result Bool E → Bool
-          goes (Ok c) = c
-          goes (Err e) = false
-      not-ended (Err e) eq = true≢false (ap goes eq)
-        where
-          goes : Result Bool E → Bool
-          goes (Ok c) = c
-          goes (Err e) = false
-
-      go : (at : Option ℕ) → position_of b (reported_bytes turn.call) ≡ at
-          → IsLookedAt step may_call at (reported_from turn.call) old k turn.call (Ok true) mid
-          → (mid : Watch S) × (holds_byte b turn ≡ false) × (mid.found ≡ None) × (mid.has_break ≡ false)
-          × IsMadeAfter step may_call old.has_break old.sink k turn.call (Ok true) mid.sink × AreReported Q k mid rest all_true new
-      go None free (same, whole, made) = (mid, ap is_some free, same ∙ clear, whole, made, later)
-      go (Some index) holds (found, whole, (returned, ends, called)) = absurd (not-ended returned ends)
-  went-on turn rest old new is clear (inr (inl (never, made))) = absurd (not-stopped turn.end never)
-  went-on turn rest old new is clear (inr (inr (e, never, made))) = absurd (not-failed e never)
-
-  abbrev Taken : List Turn → S → S → Type 0
-  Taken turns old new =
-      (n : ℕ) × (position (holds_byte b) (take n turns) ≡ None) × AreReported step k old (take n turns) all_true new
-
-  taken-more : (turn : Turn) (later : List Turn) (old mid new : S) → holds_byte b turn ≡ false → step old k turn.call (Ok true) mid
-      → Taken later mid new → Taken (turn ∷ later) old new
-  taken-more turn later old mid new free made (n, none, reported) =
-      (suc n, first.position-never (holds_byte b) turn (take n later) free none, inl (mid, made, reported))
-
-  -- some first ones were made: no report of those without a last break does
-  pub quits-taken : (turns : List Turn) → AreJoined turns → (count : ℕ) (old new : Watch S) → old.has_break ≡ false → old.found ≡ None
-      → AreReported Q k old (take count turns) all_true new → Taken turns old.sink new.sink
-  quits-taken turns joined zero old new whole clear (all, same) = (0, refl, (refl, ap (λ (w : Watch S). w.sink) same))
-  quits-taken [] no_turns (suc count) old new whole clear (all, same) = (0, refl, (refl, ap (λ (w : Watch S). w.sink) same))
-  quits-taken (turn ∷ later) (joined_report is joined) (suc count) old new whole clear reported =
-      let made = went-on turn (take count later) old new is clear reported in
-      taken-more turn later old.sink made.0.sink new.sink made.1
-      (subst (λ c. IsMadeAfter step may_call c old.sink k turn.call (Ok true) made.0.sink) whole made.4)
-      (quits-taken later joined count made.0 new made.3 made.2 made.5)
-  quits-taken (gap ∷ turn ∷ later) (joined_break off is same_end joined) (suc zero) old new whole clear
-      (inl (mid, made, (all, same))) =
-      let held : (mid ≡ record old { has_break = true }) × (◌≡◌ {A = Result Bool E} (Ok true) (Ok true)) =
-      subst (λ call. Q old k call (Ok true) mid) off made in
-      (0, refl, (refl, ap (λ (w : Watch S). w.sink) (same ∙ held.0)))
-  quits-taken (gap ∷ turn ∷ later) (joined_break off is same_end joined) (suc zero) old new whole clear
-      (inr (inl (never, made))) = absurd (not-stopped gap.end never)
-  quits-taken (gap ∷ turn ∷ later) (joined_break off is same_end joined) (suc zero) old new whole clear
-      (inr (inr (e, never, made))) = absurd (not-failed e never)
-  quits-taken (gap ∷ turn ∷ later) (joined_break off is same_end joined) (suc (suc count)) old new whole clear
-      (inl (mid, made, rest)) =
-      let held : (mid ≡ record old { has_break = true }) × (◌≡◌ {A = Result Bool E} (Ok true) (Ok true)) =
-      subst (λ call. Q old k call (Ok true) mid) off made in
-      let next = went-on turn (take count later) (record old { has_break = true }) new is clear
-      (subst (λ w. AreReported Q k w (turn ∷ take count later) all_true new) held.0 rest) in
-      let later_taken = quits-taken later joined count next.0 new next.3 next.2 next.5 in
-      ⊎_elim
-      (λ both. taken-more gap (turn ∷ later) old.sink both.0 new.sink (rw off refl)
-      (subst (λ call. step old.sink k call (Ok true) both.0) (sym off) both.2)
-      (taken-more turn later both.0 next.0.sink new.sink next.1 both.3 later_taken))
-      (λ none. absurd (none.0 refl)) next.4
-  quits-taken (gap ∷ turn ∷ later) (joined_break off is same_end joined) (suc (suc count)) old new whole clear
-      (inr (inl (never, made))) = absurd (not-stopped gap.end never)
-  quits-taken (gap ∷ turn ∷ later) (joined_break off is same_end joined) (suc (suc count)) old new whole clear
-      (inr (inr (e, never, made))) = absurd (not-failed e never)
-
-  pub quits-taken-begun : (end : ℕ) (turns : List Turn) → AreJoined turns → (count : ℕ) (old new : Watch S) → old.has_break ≡ false
-      → old.found ≡ None → AreReported Q k old (take count (record { call = begins; end = end } ∷ turns)) all_true new
-      → Taken (record { call = begins; end = end } ∷ turns) old.sink new.sink
-  quits-taken-begun end turns joined zero old new whole clear (all, same) = (0, refl, (refl, ap (λ (w : Watch S). w.sink) same))
-  quits-taken-begun end turns joined (suc count) old new whole clear (inl (mid, (found, held, made), later)) =
-      taken-more (record { call = begins; end = end }) turns old.sink mid.sink new.sink refl made
-      (quits-taken turns joined count mid new (held ∙ whole) (found ∙ clear) later)
-  quits-taken-begun end turns joined (suc count) old new whole clear (inr (inl (never, made))) = absurd (not-stopped end never)
-  quits-taken-begun end turns joined (suc count) old new whole clear (inr (inr (e, never, made))) = absurd (not-failed e never)
 
 -- `binary_data` and `finish`, whatever the first returned
 pub run-called : {S E : Type 0} (step : Steps S E) (k : Settings) (offset count : ℕ) (first mid new : S) (goes_on : Bool)

@@ -48,16 +48,16 @@ module _ {R : Type 0} (remaining : R → Option (List ℕ)) (step : R → ReadRe
   unfolding searched_bytes
   input-is none bytes (more, end, is) = (still_to_give d more, is ∙ reads.gives more end, none d more)
 
-  -- its view begins with what was made of that
-  pub front-is : ((d : DecoderState) (more : List ℕ) → IsDone d → still_to_give d more ≡ []) → (shown : List ℕ)
-      → ((later : List ℕ) → (back : List ℕ) × (view_of settings (given ++ later) ≡ shown ++ back)) → (bytes : List ℕ)
-      → IsInput settings d.has_ended reads.pieces bytes → (back : List ℕ) × (view_of settings bytes ≡ shown ++ back)
-  front-is none shown fronts bytes input =
+  -- what is made of it begins with what was made of that
+  pub front-is : ((d : DecoderState) (more : List ℕ) → IsDone d → still_to_give d more ≡ []) → (made : List ℕ → List ℕ)
+      (shown : List ℕ) → ((later : List ℕ) → (back : List ℕ) × (made (given ++ later) ≡ shown ++ back)) → (bytes : List ℕ)
+      → IsInput settings d.has_ended reads.pieces bytes → (back : List ℕ) × (made bytes ≡ shown ++ back)
+  front-is none made shown fronts bytes input =
       let text = input-is none bytes input in
       let front = fronts text.0 in
-      (front.0, ap (view_of settings) text.1 ∙ front.1)
+      (front.0, ap made text.1 ∙ front.1)
 
-  -- and is all of it once it is done, if no byte cut it
+  -- and its view is all of it once it is done, if no byte cut it
   pub view-is : ((d : DecoderState) (more : List ℕ) → IsDone d → still_to_give d more ≡ []) → (shown : List ℕ)
       → ((later : List ℕ) → view_of settings (given ++ later) ≡ shown ++ view_of settings later) → (bytes : List ℕ)
       → IsInput settings d.has_ended reads.pieces bytes

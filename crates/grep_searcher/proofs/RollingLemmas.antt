@@ -1,38 +1,30 @@
 -- A search of a reader, fill by fill, against what the reader gives.
-use Rattle.std.proofs.Common.{◌≡◌, ◌≢◌, ◌⊎◌, ℕ, ◌+◌, ◌<◌, ◌≤◌, Bool, true, false, List, [], ◌++◌, length, take, drop}
-use Rattle.std.proofs.Common.{Option, Some, None, Ok, Err, inl, inr, refl, sym, ◌∙◌, ap, subst, arith, ⊎_elim}
+use Rattle.std.proofs.Common.{◌≡◌, ℕ, ◌<◌, ◌≤◌, Bool, true, false, List, [], ◌++◌, length, take, drop}
+use Rattle.std.proofs.Common.{Option, Some, None, Ok, inl, inr, refl, sym, ◌∙◌, ap, subst, arith}
 use Rattle.std.proofs.Common.{append-nil, append_assoc, length-append}
-use Rattle.std.proofs.lemmas.Bool.{cases_lt, false≢true}
-use Rattle.std.proofs.lemmas.List.{append_cancel_left}
-use Rattle.std.proofs.lemmas.List.Elements.{All-append}
+use Rattle.std.proofs.lemmas.Bool.{false≢true}
 use Rattle.std.specs.List.{position}
-use Rattle.std.specs.Prelude.{All, not, ◌||◌, IfSome, if◌then◌else◌, is_some, ◌==◌, ◌&&◌}
-use Rattle.std.specs.declared.io.Error.{Error}
+use Rattle.std.specs.Prelude.{not, ◌||◌, if◌then◌else◌, is_some, ◌==◌, ◌&&◌}
 use Rattle.grep_decode.specs.declared.mode.Mode.TheVariants.{Passing}
-use Rattle.grep_decode.specs.DecoderStates.{DecoderState, Decodes, IsDone, IsSettled, TakesAtMost, started, still_to_give}
+use Rattle.grep_decode.specs.DecoderStates.{DecoderState, Decodes, IsDone, IsSettled, started, still_to_give}
 use Rattle.grep_decode.specs.Source.{ReadResult}
-use Rattle.grep_line_buffer.specs.declared.fill_error.FillError.{FillError}
-use Rattle.grep_line_buffer.specs.declared.fill_error.FillError.TheVariants.{Read, HeapLimit, Offset, Memory}
 use Rattle.grep_line_buffer.specs.declared.detection.Detection.{Detection}
 use Rattle.grep_line_buffer.specs.declared.detection.Detection.TheVariants.{None as no_detection, Quit, Convert}
-use Rattle.grep_line_buffer.specs.BufferStates.{BufferState, held, is_cut, GrowsIfFull, HasNoLine, IsFilled, IsSameBuffer, IsWithin}
+use Rattle.grep_line_buffer.specs.BufferStates.{BufferState, held, is_cut, GrowsIfFull, IsFilled, IsSameBuffer, IsWithin}
 use Rattle.grep_line_buffer.specs.Detections.{detected, found_in, is_quit}
-use Rattle.grep_line_buffer.proofs.DetectionLemmas.{length-detected, uncut-none}
-use Rattle.grep_line_buffer.specs.Fills.{FailsToFill, FillFails, Fills, IfRead, UnlessRead}
+use Rattle.grep_line_buffer.specs.Fills.{Fills}
 use Rattle.grep_searcher.specs.HeldViews.{HoldsGiven}
 use Rattle.grep_lines.specs.LineLaws.{LinesJoin, LinesAppend, LinesAreNumbered, LinesAreFew}
 use Rattle.grep_matcher.specs.Lines.{lines}
 use Rattle.grep_matcher.specs.Matching.{Meaning}
 use Rattle.grep_matcher.specs.Terminators.{byte_of}
-use Rattle.grep_definitions.specs.Below.{is_at}
 use Rattle.grep_definitions.specs.BinaryBytes.{binary_of, is_detecting, view_of}
 use Rattle.grep_definitions.specs.DecodedInputs.{IsInput}
-use Rattle.grep_definitions.specs.InputFronts.{IsClosed, IsCrowded, IsFront}
+use Rattle.grep_definitions.specs.InputFronts.{IsClosed, IsFront}
 use Rattle.grep_definitions.specs.LineSearch
-use Rattle.grep_definitions.specs.ReaderSearches.{IsLineUnread, IsReaderFaultIn, Taken, is_idle, reads_lines, of_cut, of_reader, of_search}
-use Rattle.grep_definitions.specs.ReadingFaults.{of_limit, of_memory, of_offset}
+use Rattle.grep_definitions.specs.ReaderSearches.{IsReaderFaultIn, Taken, is_idle, reads_lines, of_search}
 use Rattle.grep_definitions.specs.SearchLaws.{UnchangedIsInput}
-use Rattle.grep_definitions.specs.Searches.{ErrorMakers, MatcherFacts, IsFaultIn, IsLineFault, of_matcher, of_sink}
+use Rattle.grep_definitions.specs.Searches.{ErrorMakers, MatcherFacts, IsClearFault, IsFaultIn, IsLineFault, of_matcher, of_sink}
 use Rattle.grep_definitions.specs.StreamSearches.{stream_calls}
 use Rattle.grep_definitions.specs.Settings.{Settings}
 use Rattle.grep_definitions.specs.SinkCalls.{begins}
@@ -41,43 +33,17 @@ use Rattle.grep_searcher.specs.declared.searcher.walk.Walk.{Walk}
 use Rattle.grep_searcher.specs.Rolls.{HasCounted, HasEnded, HasMovedOn, IsBetween, IsCountedFor, IsLast, IsReady, IsRolling, start_in}
 use Rattle.grep_searcher.specs.Walks.{IsCount}
 use Rattle.grep_searcher.specs.Windows.{HasSearched}
-use Rattle.grep_searcher.specs.SearchBuffers.{AreFitting, IsMadeOf, detection_of, least_size}
-use Rattle.grep_searcher.proofs.FrontLemmas.{crowded, turns-seen}
+use Rattle.grep_searcher.specs.SearchBuffers.{AreFitting, detection_of, least_size}
+use Rattle.grep_searcher.proofs.FrontLemmas.{turns-seen}
+use Rattle.grep_searcher.proofs.HeldLemmas as holding
 use Rattle.grep_searcher.proofs.ReadingLemmas as reading
 use Rattle.grep_searcher.proofs.RollLemmas as rolls
 use Rattle.grep_searcher.proofs.StreamViewLemmas as views
+use Rattle.grep_searcher.proofs.UnreadLemmas.{grown}
 use Rattle.grep_searcher.proofs.WalkLemmas.{start_walk}
 use Rattle.grep_searcher.proofs.WindowLemmas as windows
 use Rattle.grep_searcher.proofs.WindowLemmas.{closed-append}
 use Rattle.grep_searcher.proofs.WindowSearchLemmas.{searched-start}
-
--- the bytes that were held and given come after those that were shown
-pub split-text : (gone shown rest given later bytes : List ℕ) → bytes ≡ (gone ++ ((shown ++ rest) ++ given)) ++ later
-    → bytes ≡ (gone ++ shown) ++ ((rest ++ given) ++ later)
-split-text gone shown rest given later bytes is =
-    is ∙ (ap (λ xs. (gone ++ xs) ++ later) (append_assoc shown rest given)
-    ∙ (ap (λ xs. xs ++ later) (sym (append_assoc gone shown (rest ++ given))) ∙ append_assoc (gone ++ shown) (rest ++ given) later))
-
--- a limit that isn't 0 is above it
-limit-above : (limit : Option ℕ) (size : ℕ) → is_at 0 limit ≡ false → limit ≡ Some size → 0 < size
-limit-above limit size allowed is = ⊎_elim (λ some. some)
-    (λ none. let zero : size ≡ 0 = omega (arith, none) in
-    absurd (false≢true (sym allowed ∙ (ap (is_at 0) (is ∙ ap Some zero)))))
-    (cases_lt 0 size)
-
--- a buffer that may grow is as large as it was made, and its limit is above that
-may-grow : (limit : Option ℕ) (size : ℕ) → least_size limit ≤ size → IsWithin limit size → (limit ≡ Some size → ⊥)
-    → IfSome limit (λ most. 65536 < most) × (65536 ≤ size)
-may-grow None size least within below = (tt, least)
-may-grow (Some most) size least within below = ⊎_elim
-    (λ above. (above, omega (arith, least, above)))
-    (λ low. let same : most ≡ size = omega (arith, low, least, within) in absurd (below (ap Some same)))
-    (cases_lt 65536 most)
-
--- a fill leaves a buffer at least as large
-grown : (least : ℕ) (old new : BufferState) → GrowsIfFull old new → least ≤ old.size → least ≤ new.size
-grown least old new (inl same) low = omega (arith, same, low)
-grown least old new (inr (more, full, few)) low = omega (arith, more, low)
 
 -- a fault of a search by line is one of a search of a view
 stream-fault : {S E F : Type 0} (step : Steps S E) (errors : ErrorMakers E) (matcher : MatcherFacts F) (k : Settings) (bytes : List ℕ)
@@ -161,126 +127,9 @@ module _ {R : Type 0} (remaining : R → Option (List ℕ)) (read_step : R → R
     abbrev seen : List ℕ
     seen = gone ++ old.shown
 
-    -- it failed
-    module _ (has_buffers : Bool) (grows : GrowsIfFull old new) (within : IsWithin new.limit new.size)
-        (allowed : is_at 0 k.heap_limit ≡ false) (unchanged : UnchangedIsInput)
-        (none : (d : DecoderState) (more : List ℕ) → IsDone d → still_to_give d more ≡ []) where
-      -- why it is cut short there, for an input that goes on with what was given
-      crowded-there : (given later bytes : List ℕ) (least : ℕ) → held new ≡ held old ++ given → HasNoLine old new
-          → bytes ≡ (gone ++ held new) ++ later → length (held new) ≡ new.size → 0 < least → least ≤ new.size
-          → IsCrowded k meaning bytes seen least
-      crowded-there given later bytes least whole no_line is full some enough =
-          let tail : given ≡ new.rest = append_cancel_left (held old) given new.rest
-          (sym whole ∙ ap (λ xs. xs ++ new.rest) no_line.shown) in
-          let lacks : All (λ b. b ≢ t) (old.rest ++ given) = All-append (λ b. b ≢ t) old.rest given between.unfinished
-          (subst (All (λ b. b ≢ t)) (sym tail) (subst (λ c. All (λ b. b ≢ c) new.rest) fitting.terminator no_line.none)) in
-          subst (λ xs. IsCrowded k meaning xs seen least)
-          (sym (split-text gone old.shown old.rest given later bytes (is ∙ ap (λ xs. (gone ++ xs) ++ later) whole)))
-          (crowded join append k meaning gone old.shown (old.rest ++ given) later least between.opens between.shut lacks between.few some
-          (omega (
-            arith,
-            enough,
-            full,
-            ap length whole,
-            length-append (held old) given,
-            length-append old.shown old.rest,
-            length-append old.rest given,
-          )))
-
-      abbrev IsCut : FillError → Error → Type 0
-      IsCut error io =
-          IsLineUnread remaining read_step (record { settings = k; has_buffers = has_buffers }) meaning reader (Some seen) io reader'
-
-      -- the view of every input begins with what is gone and what is held
-      abbrev Fronts : List ℕ → Type 0
-      Fronts raw = (later : List ℕ) → (back : List ℕ) × (view_of k (raw ++ later) ≡ (gone ++ held new) ++ back)
-
-      limit-is : new.limit ≡ Some new.size → k.heap_limit ≡ Some new.size
-      limit-is at = sym fitting.limit ∙ (sym same.limit ∙ at)
-
-      pub unread-cut : (error : FillError) (io : Error) → IsMadeOf error io → FillFails old new error
-          → (raw : List ℕ) → Fronts raw
-          → (reads : Decodes remaining read_step (started capacity k.encoding k.bom_sniffing) reader raw d' reader')
-          → (given : List ℕ) → held new ≡ held old ++ given → ((e : Error) → error ≡ Read e → ⊥)
-          → IsCut error io
-      unread-cut (Read e) io made fails raw fronts reads given whole other = absurd (other e refl)
-      unread-cut HeapLimit io made (no_line, at) raw fronts reads given whole other = of_cut refl
-          (reading.taken remaining read_step k capacity reader raw d' reader' reads)
-          (λ bytes input.
-          let text = reading.front-is remaining read_step k capacity reader raw d' reader' reads none (gone ++ held new) fronts bytes input in
-          let is = split-text gone old.shown old.rest given text.0 (view_of k bytes) (text.1 ∙ ap (λ xs. (gone ++ xs) ++ text.0) whole) in
-          let some = limit-above k.heap_limit new.size allowed (limit-is at.limit) in (
-            rolls.goes-on join append step k meaning gone old first w now between (view_of k bytes) ((old.rest ++ given) ++ text.0) is,
-            of_limit new.size (limit-is at.limit) made
-                (crowded-there given text.0 (view_of k bytes) new.size whole no_line text.1 at.full some (omega arith)),
-          ))
-      unread-cut Offset io made fails raw fronts reads given whole other = of_cut refl
-          (reading.taken remaining read_step k capacity reader raw d' reader' reads)
-          (λ bytes input.
-          let text = reading.front-is remaining read_step k capacity reader raw d' reader' reads none (gone ++ held new) fronts bytes input in
-          let is = split-text gone old.shown old.rest given text.0 (view_of k bytes) (text.1 ∙ ap (λ xs. (gone ++ xs) ++ text.0) whole) in (
-            rolls.goes-on join append step k meaning gone old first w now between (view_of k bytes) ((old.rest ++ given) ++ text.0) is,
-            of_offset made (omega (
-              arith,
-              fails.past,
-              same.offset,
-              between.offset,
-              ap length text.1,
-              length-append (gone ++ held new) text.0,
-              length-append gone (held new),
-            )),
-          ))
-      unread-cut Memory io made (no_line, may) raw fronts reads given whole other = of_cut refl
-          (reading.taken remaining read_step k capacity reader raw d' reader' reads)
-          (λ bytes input.
-          let text = reading.front-is remaining read_step k capacity reader raw d' reader' reads none (gone ++ held new) fronts bytes input in
-          let is = split-text gone old.shown old.rest given text.0 (view_of k bytes) (text.1 ∙ ap (λ xs. (gone ++ xs) ++ text.0) whole) in
-          let limit : new.limit ≡ k.heap_limit = same.limit ∙ fitting.limit in
-          let large = may-grow k.heap_limit new.size (grown (least_size k.heap_limit) old new grows fitting.size)
-          (subst (λ m. IsWithin m new.size) limit within) (λ is. may.limit (limit ∙ is)) in (
-            rolls.goes-on join append step k meaning gone old first w now between (view_of k bytes) ((old.rest ++ given) ++ text.0) is,
-            of_memory made large.0 (crowded-there given text.0 (view_of k bytes) 65536 whole no_line text.1 may.full (omega arith) large.1),
-          ))
-
-      -- the reader's own error
-      pub unread-read : (error : Error) (mid : R)
-          → (raw : List ℕ) → Fronts raw → view_of k raw ≡ gone ++ held new
-          → (reads : Decodes remaining read_step (started capacity k.encoding k.bom_sniffing) reader raw d' mid)
-          → (given : List ℕ) → held new ≡ held old ++ given → HasNoLine old new → length (held new) < new.size → d'.has_ended ≡ false
-          → read_step mid (Err error) reader' → d'.ready ≡ [] → (d'.mode ≡ Passing → d'.held ≡ [])
-          → IsSettled d'.mode ⊎ TakesAtMost (remaining reader) (remaining reader') 2
-          → IsLineUnread remaining read_step (record { settings = k; has_buffers = has_buffers }) meaning reader (Some seen) error reader'
-      unread-read error mid raw fronts shows reads given whole no_line room unended failed ready held_none few = of_reader refl mid
-          (reading.taken remaining read_step k capacity reader raw d' mid reads) unended failed
-          (λ bytes input.
-          let text = reading.front-is remaining read_step k capacity reader raw d' mid reads none (gone ++ held new) fronts bytes input in
-          rolls.goes-on join append step k meaning gone old first w now between (view_of k bytes) ((old.rest ++ given) ++ text.0)
-          (split-text gone old.shown old.rest given text.0 (view_of k bytes) (text.1 ∙ ap (λ xs. (gone ++ xs) ++ text.0) whole)))
-          (λ same_bytes more.
-          let settled = ⊎_elim (λ is. is) (λ two. absurd (more two)) few in
-          let all = reading.taken-all remaining read_step k capacity reader raw d' mid reads unchanged same_bytes settled
-          ready held_none in
-          let tail : given ≡ new.rest = append_cancel_left (held old) given new.rest
-          (sym whole ∙ ap (λ xs. xs ++ new.rest) no_line.shown) in
-          record {
-            rest = old.rest ++ given;
-            whole = ap (view_of k) all ∙ (shows ∙ (ap (λ xs. gone ++ xs) whole ∙ (ap (λ xs. gone ++ xs) (append_assoc old.shown old.rest given)
-                ∙ sym (append_assoc gone old.shown (old.rest ++ given)))));
-            unended = All-append (λ b. b ≢ t) old.rest given between.unfinished
-                (subst (All (λ b. b ≢ t)) (sym tail) (subst (λ c. All (λ b. b ≢ c) new.rest) fitting.terminator no_line.none));
-            room = λ limit is. omega (
-              arith,
-              subst (λ m. IsWithin m new.size) (same.limit ∙ (fitting.limit ∙ is)) within,
-              room,
-              ap length whole,
-              length-append (held old) given,
-              length-append old.shown old.rest,
-              length-append old.rest given,
-            );
-          })
-
     -- it succeeded
-    module _ (busy : is_idle k ≡ false) (given : List ℕ) (whole : held new ≡ held old ++ given) (filled : rolls.IsUncut old new) (room : length (held new) ≤ new.size)
+    module _ (busy : is_idle k ≡ false) (given : List ℕ) (whole : held new ≡ held old ++ given) (filled : rolls.IsUncut old new)
+        (room : length (held new) ≤ new.size)
         (within : IsWithin new.limit new.size) (raw : List ℕ)
         (shows : (later : List ℕ) → view_of k (raw ++ later) ≡ (gone ++ held new) ++ view_of k later)
         (reads : Decodes remaining read_step (started capacity k.encoding k.bom_sniffing) reader raw d' reader')
@@ -349,7 +198,36 @@ module _ {R : Type 0} (remaining : R → Option (List ℕ)) (read_step : R → R
       ready = subst (λ p. IsReady step k meaning gone new.shown p first w now) (sym start-is)
           (rolls.filled-ready join append step k meaning gone old first w now between new given whole fitting.terminator busy filled)
 
+      -- no binary byte is among the first bytes of what is shown, if none was found
+      clear-shown : (count : ℕ) → count ≤ length shown → new.binary ≡ None → (bytes : List ℕ) → Input bytes
+          → binary_of k (take count bytes) ≡ None
+      clear-shown count low unfound bytes input =
+          let text = reading.input-is remaining read_step k capacity reader raw d' reader' reads none bytes input in
+          ap (λ xs. binary_of k (take count xs)) text.1
+          ∙ views.clear-front k.binary_detection t raw text.0 count
+          (omega (
+            arith,
+            low,
+            raw-length,
+            length-append gone (held new),
+            length-append gone new.shown,
+            length-append new.shown new.rest,
+          )) (sym is_found ∙ unfound)
+
       -- a fault within what is shown
+      pub cleared : {F : Type 0} (errors : ErrorMakers E) (matcher : MatcherFacts F) (e : E) (now' : S)
+          → ((gone : List ℕ) (first : S) → IsReady step k meaning gone new.shown (start_in new w) first w now
+          → (after : List ℕ) → (0 < length after → IsClosed t new.shown)
+          → IsLineFault step errors matcher k (gone ++ (new.shown ++ after)) first e now')
+          → new.binary ≡ None → IsClearFault step errors matcher Input k first e now'
+      cleared errors matcher e now' fault unfound = record {
+        seen = shown;
+        front = front;
+        clear = clear-shown (length shown) (omega arith) unfound;
+        made = inl (subst (λ xs. IsLineFault step errors matcher k (gone ++ xs) first e now') (append-nil new.shown)
+            (fault gone first ready [] rolls.nothing));
+      }
+
       pub faulted : {F : Type 0} (errors : ErrorMakers E) (matcher : MatcherFacts F) (has_buffers : Bool) (e : E) (now' : S)
           → ((gone : List ℕ) (first : S) → IsReady step k meaning gone new.shown (start_in new w) first w now
           → (after : List ℕ) → (0 < length after → IsClosed t new.shown)
@@ -417,138 +295,13 @@ module _ {R : Type 0} (remaining : R → Option (List ℕ)) (read_step : R → R
                     ∙ views.first-kept k.binary_detection t raw text.0 offset (sym is_found ∙ is);
                 goes_on = λ b quits. unquit (ap (λ d. is_quit (detection_of d)) quits);
               };
-          clear = λ bytes input is.
-              let text = reading.input-is remaining read_step k capacity reader raw d' reader' reads none bytes input in
-              ap (λ xs. binary_of k (take w'.offset xs)) text.1
-              ∙ views.clear-front k.binary_detection t raw text.0 w'.offset
-              (omega (
-                arith,
-                high,
-                raw-length,
-                length-append gone (held new),
-                length-append gone new.shown,
-                length-append new.shown new.rest,
-              )) (sym is_found ∙ is);
+          clear = λ bytes input is. clear-shown w'.offset high is bytes input;
+          clear_seen = λ bytes input is. clear-shown (length shown) (omega arith) is bytes input;
         }
 
-  -- what the view of an input is, by what a buffer holds of it
-  module _ (gone raw : List ℕ) (old new : BufferState) (decoder d' : DecoderState) (reader r' : R)
-      (holds : HoldsGiven remaining read_step gone old.detection old.terminator new decoder reader raw d' r')
-      (detects : old.detection ≡ detection_of k.binary_detection) (ends_at : old.terminator ≡ t) (same : IsSameBuffer old new) where
-    pub holds-is : gone ++ held new ≡ detected (detection_of k.binary_detection) t raw
-    holds-is = holds.whole ∙ (ap (λ d. detected d old.terminator raw) detects
-        ∙ ap (λ c. detected (detection_of k.binary_detection) c raw) ends_at)
-
-    pub found-there : new.binary ≡ found_in (detection_of k.binary_detection) t raw
-    found-there = holds.found ∙ (ap (λ d. found_in d old.terminator raw) detects
-        ∙ ap (λ c. found_in (detection_of k.binary_detection) c raw) ends_at)
-
-    pub fronts-there : (later : List ℕ) → (back : List ℕ) × (view_of k (raw ++ later) ≡ (gone ++ held new) ++ back)
-    fronts-there later =
-        let front = views.view-front k.binary_detection t raw later in
-        (front.0, front.1 ∙ ap (λ xs. xs ++ front.0) (sym holds-is))
-
-    -- a byte that wasn't found before is after all that was held then
-    pub found-past : (given more : List ℕ) → raw ≡ given ++ more → old.binary ≡ None
-        → old.binary ≡ found_in old.detection old.terminator given → gone ++ held old ≡ detected old.detection old.terminator given
-        → (o : ℕ) → new.binary ≡ Some o → length gone + length (held old) ≤ o
-    found-past given more all none before was o is =
-        let absent : found_in (detection_of k.binary_detection) t given ≡ None =
-        sym (ap (λ d. found_in d old.terminator given) detects ∙ ap (λ c. found_in (detection_of k.binary_detection) c given) ends_at)
-        ∙ (sym before ∙ none) in
-        let there = views.found-after k.binary_detection t given more o absent
-        (ap (found_in (detection_of k.binary_detection) t) (sym all) ∙ (sym found-there ∙ is)) in
-        let same_length = length-detected (detection_of k.binary_detection) t given absent in
-        let as_held = ap length (was ∙ (ap (λ d. detected d old.terminator given) detects
-        ∙ ap (λ c. detected (detection_of k.binary_detection) c given) ends_at)) in
-        omega (arith, there, same_length, as_held, length-append gone (held old))
-
-    module _ (uncut : is_cut new ≡ false) where
-      pub unquit-there : is_quit (detection_of k.binary_detection) ≡ true → new.binary ≡ None
-      unquit-there quits = uncut-none new.detection new.binary uncut (ap is_quit (same.detection ∙ detects) ∙ quits)
-
-      pub view-there : view_of k raw ≡ gone ++ held new
-      view-there = sym (holds-is ∙ views.view-held k.binary_detection t raw (λ quits. sym found-there ∙ unquit-there quits))
-
-      pub shows-there : (later : List ℕ) → view_of k (raw ++ later) ≡ (gone ++ held new) ++ view_of k later
-      shows-there later = views.view-append k.binary_detection t raw later ∙ ap (λ xs. xs ++ view_of k later) view-there
-
-  -- why a search that reads on is cut short by a fill that failed
-  pub unread-filled : (capacity : ℕ) (reader : R) (decoder : DecoderState)
-      → decoder ≡ started capacity k.encoding k.bom_sniffing → (first : S) (old new : BufferState) (d d' : DecoderState) (r r' : R)
-      (w : Walk) (now : S) (so_far : IsRolling step k meaning remaining read_step decoder reader first old d r w now)
-      → AreFitting k.heap_limit t old → IsSameBuffer old new
-      → ((r2 : R) → Fills remaining read_step old d r new d' r2
-      → (more : List ℕ) × HoldsGiven remaining read_step so_far.gone old.detection old.terminator new decoder reader
-      (so_far.given ++ more) d' r2)
-      → (has_buffers : Bool) → GrowsIfFull old new → IsWithin new.limit new.size → is_at 0 k.heap_limit ≡ false
-      → UnchangedIsInput → ((d : DecoderState) (more : List ℕ) → IsDone d → still_to_give d more ≡ [])
-      → (error : FillError) (io : Error) → IsMadeOf error io → FillFails old new error
-      → UnlessRead {X = Bool} (Err error) (Fills remaining read_step old d r new d' r')
-      → IfRead {X = Bool} (Err error) (λ e. FailsToFill remaining read_step e old d r new d' r')
-      → IfRead {X = Bool} (Err error) (λ _. is_cut new ≡ false)
-      → IfRead {X = Bool} (Err error) (λ _. d'.mode ≡ Passing → d'.held ≡ [])
-      → IfRead {X = Bool} (Err error) (λ _. d'.ready ≡ [])
-      → IfRead {X = Bool} (Err error) (λ _. IsSettled d'.mode ⊎ TakesAtMost (remaining r) (remaining r') 2)
-      → (IsSettled d.mode → d'.mode ≡ d.mode)
-      → IsLineUnread remaining read_step (record { settings = k; has_buffers = has_buffers }) meaning reader
-      (Some (so_far.gone ++ old.shown)) io r'
-  unread-filled capacity reader decoder begun first old new d d' r r' w now so_far fitting same reads has_buffers grows within allowed
-      unchanged none error io made fails cut read uncut passed empty few stays = go error made fails cut read uncut passed empty few
-    where
-      raw : (r2 : R) → Fills remaining read_step old d r new d' r2 → List ℕ
-      raw r2 fills = so_far.given ++ (reads r2 fills).0
-
-      from_start : (r2 : R) (fills : Fills remaining read_step old d r new d' r2)
-          → Decodes remaining read_step (started capacity k.encoding k.bom_sniffing) reader (raw r2 fills) d' r2
-      from_start r2 fills = subst (λ x. Decodes remaining read_step x reader (raw r2 fills) d' r2) begun (reads r2 fills).1.decodes
-
-      fronts : (r2 : R) (fills : Fills remaining read_step old d r new d' r2) (later : List ℕ)
-          → (back : List ℕ) × (view_of k (raw r2 fills ++ later) ≡ (so_far.gone ++ held new) ++ back)
-      fronts r2 fills =
-          fronts-there so_far.gone (raw r2 fills) old new decoder d' reader r2 (reads r2 fills).1 so_far.detects fitting.terminator same
-
-      view-is : (r2 : R) (fills : Fills remaining read_step old d r new d' r2) → is_cut new ≡ false
-          → view_of k (raw r2 fills) ≡ so_far.gone ++ held new
-      view-is r2 fills =
-          view-there so_far.gone (raw r2 fills) old new decoder d' reader r2 (reads r2 fills).1 so_far.detects fitting.terminator same
-
-      go : (error : FillError) → IsMadeOf error io → FillFails old new error
-          → UnlessRead {X = Bool} (Err error) (Fills remaining read_step old d r new d' r')
-          → IfRead {X = Bool} (Err error) (λ e. FailsToFill remaining read_step e old d r new d' r')
-          → IfRead {X = Bool} (Err error) (λ _. is_cut new ≡ false)
-          → IfRead {X = Bool} (Err error) (λ _. d'.mode ≡ Passing → d'.held ≡ [])
-          → IfRead {X = Bool} (Err error) (λ _. d'.ready ≡ [])
-          → IfRead {X = Bool} (Err error) (λ _. IsSettled d'.mode ⊎ TakesAtMost (remaining r) (remaining r') 2)
-          → IsLineUnread remaining read_step (record { settings = k; has_buffers = has_buffers }) meaning reader
-          (Some (so_far.gone ++ old.shown)) io r'
-      go (Read e) made fails cut read uncut passed empty few =
-          let ahead = ⊎_elim
-          (λ settled. inl (subst IsSettled (sym (stays settled)) settled))
-          (λ first_read. subst (λ x. IsSettled d'.mode ⊎ TakesAtMost (remaining x) (remaining r') 2) first_read few)
-          so_far.settled in
-          subst (λ x. IsLineUnread remaining read_step (record { settings = k; has_buffers = has_buffers }) meaning reader
-          (Some (so_far.gone ++ old.shown)) x r') (sym made)
-          (unread-read capacity reader r' d d' so_far.gone old new first w now so_far.between fitting same has_buffers grows within allowed
-          unchanged none e read.mid (raw read.mid read.fills) (fronts read.mid read.fills) (view-is read.mid read.fills uncut)
-          (from_start read.mid read.fills) (detected old.detection old.terminator read.fills.given) read.fills.appended fails.0 fails.1 read.unended read.failed
-          empty passed ahead)
-      go HeapLimit made fails cut read uncut passed empty few =
-          unread-cut capacity reader r' d d' so_far.gone old new first w now so_far.between fitting same has_buffers grows within allowed
-          unchanged none HeapLimit io made fails (raw r' cut) (fronts r' cut) (from_start r' cut) (detected old.detection old.terminator cut.given)
-          cut.appended (λ e is. cc)
-      go Offset made fails cut read uncut passed empty few =
-          unread-cut capacity reader r' d d' so_far.gone old new first w now so_far.between fitting same has_buffers grows within allowed
-          unchanged none Offset io made fails (raw r' cut) (fronts r' cut) (from_start r' cut) (detected old.detection old.terminator cut.given)
-          cut.appended (λ e is. cc)
-      go Memory made fails cut read uncut passed empty few =
-          unread-cut capacity reader r' d d' so_far.gone old new first w now so_far.between fitting same has_buffers grows within allowed
-          unchanged none Memory io made fails (raw r' cut) (fronts r' cut) (from_start r' cut) (detected old.detection old.terminator cut.given)
-          cut.appended (λ e is. cc)
-
   -- what comes after a fill that succeeded
-  module _ (busy : is_idle k ≡ false) (capacity : ℕ) (reader : R) (decoder : DecoderState) (begun : decoder ≡ started capacity k.encoding k.bom_sniffing)
-      (first : S) (old new : BufferState) (d d' : DecoderState) (r r' : R) (w : Walk) (now : S)
+  module _ (busy : is_idle k ≡ false) (capacity : ℕ) (reader : R) (decoder : DecoderState)
+      (begun : decoder ≡ started capacity k.encoding k.bom_sniffing) (first : S) (old new : BufferState) (d d' : DecoderState) (r r' : R) (w : Walk) (now : S)
       (so_far : IsRolling step k meaning remaining read_step decoder reader first old d r w now)
       (fitting : AreFitting k.heap_limit t old) (same : IsSameBuffer old new) (fills : Fills remaining read_step old d r new d' r')
       (held_now : (more : List ℕ) × HoldsGiven remaining read_step so_far.gone old.detection old.terminator new decoder reader
@@ -561,13 +314,16 @@ module _ {R : Type 0} (remaining : R → Option (List ℕ)) (read_step : R → R
     from_start = subst (λ x. Decodes remaining read_step x reader raw d' r') begun held_now.1.decodes
 
     abbrev shows : (later : List ℕ) → view_of k (raw ++ later) ≡ (so_far.gone ++ held new) ++ view_of k later
-    shows = shows-there so_far.gone raw old new decoder d' reader r' held_now.1 so_far.detects fitting.terminator same uncut
+    shows = holding.shows-there remaining read_step k so_far.gone raw old new decoder d' reader r' held_now.1 so_far.detects
+        fitting.terminator same uncut
 
     abbrev is_found : new.binary ≡ found_in (detection_of k.binary_detection) t raw
-    is_found = found-there so_far.gone raw old new decoder d' reader r' held_now.1 so_far.detects fitting.terminator same
+    is_found = holding.found-there remaining read_step k so_far.gone raw old new decoder d' reader r' held_now.1 so_far.detects
+        fitting.terminator same
 
     abbrev unquit : is_quit (detection_of k.binary_detection) ≡ true → new.binary ≡ None
-    unquit = unquit-there so_far.gone raw old new decoder d' reader r' held_now.1 so_far.detects fitting.terminator same uncut
+    unquit = holding.unquit-there remaining read_step k so_far.gone raw old new decoder d' reader r' held_now.1 so_far.detects
+        fitting.terminator same uncut
 
     abbrev appended : List ℕ
     appended = detected old.detection old.terminator fills.given
@@ -587,6 +343,15 @@ module _ {R : Type 0} (remaining : R → Option (List ℕ)) (read_step : R → R
           → IsReaderFaultIn remaining read_step step errors matcher (stream_calls k matcher.meaning)
           (record { settings = k; has_buffers = has_buffers }) reader first e r' now'
       faulted-filled = faulted capacity reader r' d d' so_far.gone old new first w now so_far.between fitting same busy appended
+          fills.appended shows_whole room within raw shows from_start is_found unquit none done_then
+
+      pub cleared-filled : {F : Type 0} (errors : ErrorMakers E) (matcher : MatcherFacts F) (e : E) (now' : S)
+          → ((gone : List ℕ) (first : S) → IsReady step k meaning gone new.shown (start_in new w) first w now
+          → (after : List ℕ) → (0 < length after → IsClosed t new.shown)
+          → IsLineFault step errors matcher k (gone ++ (new.shown ++ after)) first e now')
+          → new.binary ≡ None
+          → IsClearFault step errors matcher (IsInput k d'.has_ended from_start.pieces) k first e now'
+      cleared-filled = cleared capacity reader r' d d' so_far.gone old new first w now so_far.between fitting same busy appended
           fills.appended shows_whole room within raw shows from_start is_found unquit none done_then
 
       pub counted-filled : (w' : Walk) (now' : S) → HasEnded step k meaning new w now w' now' → UnchangedIsInput → IsSettled d'.mode

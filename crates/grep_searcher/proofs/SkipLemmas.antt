@@ -1,6 +1,6 @@
 -- A walk that skips lines which don't match.
 use Rattle.std.proofs.Common.{◌≡◌, ℕ, zero, suc, ◌+◌, ◌-◌, ◌<◌, ◌≤◌, Bool, true, false, not, ◌&&◌, ◌||◌, ◌==◌, if◌then◌else◌}
-use Rattle.std.proofs.Common.{List, [], length, drop, Some, None, refl, sym, ◌∙◌, ap, subst, arith, ⊎_elim}
+use Rattle.std.proofs.Common.{List, [], length, drop, Option, Some, None, refl, sym, ◌∙◌, ap, subst, arith, ⊎_elim}
 use Rattle.std.proofs.Common.{length-take, length-drop}
 use Rattle.std.proofs.lemmas.Bool.{cases_lt, cases_Bool, eqb-true, ltb-true, ltb-false}
 use Rattle.std.specs.Prelude.{nat_lt, IfSome}
@@ -21,7 +21,7 @@ use Rattle.grep_definitions.specs.Settings.{Settings}
 use Rattle.grep_definitions.specs.SinkRuns.{Steps, all_true, AreReported}
 use Rattle.grep_searcher.specs.declared.searcher.look_ahead.Ahead.{Ahead}
 use Rattle.grep_searcher.specs.declared.searcher.walk.Walk.{Walk}
-use Rattle.grep_searcher.specs.LookAheads.{IsKnown, MayAskAhead, can_skip, known_at, skips}
+use Rattle.grep_searcher.specs.LookAheads.{IsBounded, IsExact, IsKnown, MayAskAhead, can_skip, known_at, skips}
 use Rattle.grep_searcher.specs.Walks.{is_over, line_end, line_turns, next_walk, walk_past}
 use Rattle.grep_searcher.specs.Windows.{HasSearched}
 use Rattle.grep_searcher.proofs.LineRangeLemmas.{line-at, lines-between, starts-ordered}
@@ -58,6 +58,45 @@ same-walk w offset line reported left count a b c d e = rw (a, b, c, d, e) refl
 and-false : (b : Bool) → (b && false) ≡ false
 and-false true = refl
 and-false false = refl
+
+module _ (k : Settings) (meaning : Meaning) (window : List ℕ) where
+  -- at first nothing is known
+  pub known-nothing : (p : ℕ) → IsKnown k meaning window p (record { misses = 0; hits = 0 })
+  known-nothing p = record {
+    index = 0;
+    at = record { listed = omega arith; begins = refl };
+    exact = λ some. absurd (omega (arith, some));
+    miss = λ i a b line low high. absurd (omega (arith, high));
+    hit = λ i a b line low high. absurd (omega (arith, high));
+  }
+
+  -- what is known from a position on is known from a later one on
+  pub known-later : (p r : ℕ) (a : Ahead) → p ≤ r → IsKnown k meaning window p a → IsKnown k meaning window r a
+  known-later p r a low known = record {
+    index = known.index;
+    at = known.at;
+    exact = known.exact;
+    miss = λ i x y line above below. known.miss i x y line (omega (arith, low, above)) below;
+    hit = known.hit;
+  }
+
+  -- and is so of the line there
+  pub known-line : (a : Ahead) (i p q : ℕ) → IsKnown k meaning window p a → IsLine (byte_of k.line_terminator) window i p q
+      → IfSome (known_at a p) (λ matches. matches ≡ matches_line k meaning (slice window p q))
+  known-line a i p q known line = go (nat_lt p a.misses) (nat_lt p a.hits) refl refl
+    where
+      go : (b c : Bool) → nat_lt p a.misses ≡ b → nat_lt p a.hits ≡ c
+          → IfSome (if b then Some false else (if c then Some true else None)) (λ m. m ≡ matches_line k meaning (slice window p q))
+      go true c is_b is_c = sym (known.miss i p q line (omega arith) (ltb-true p a.misses is_b))
+      go false true is_b is_c = sym (known.hit i p q line (ltb-false p a.misses is_b) (ltb-true p a.hits is_c))
+      go false false is_b is_c = tt
+
+-- what a turn of a walk has of the line from p up to q that it decides
+pub record HasLine {S E : Type 0} (step : Steps S E) (k : Settings) (meaning : Meaning) (gone window input : List ℕ) (first : S)
+    (p q : ℕ) (w : Walk) (now : S) (known : Option Bool) : Type 0 where
+  pub here : HasSearched step k meaning gone window input first p w now
+  pub line : (i : ℕ) → IsLineStart (byte_of k.line_terminator) window p i → IsLine (byte_of k.line_terminator) window i p q
+  pub agrees : IfSome known (λ matches. matches ≡ matches_line k meaning (slice window p q))
 
 module _ {S E F : Type 0} (join : LinesJoin) (append : LinesAppend) (step : Steps S E) (errors : ErrorMakers E)
     (matcher : MatcherFacts F) (k : Settings) (gone window input : List ℕ) (first now : S) (bare : Bare k matcher.meaning input) where
@@ -213,34 +252,19 @@ module _ {S E F : Type 0} (join : LinesJoin) (append : LinesAppend) (step : Step
   searched-on w p a so_far within known r next is_r is_next = subst (λ q. Searched q next) (sym is_r)
       (subst (Searched (if skips k w p a.misses then a.misses else p)) (sym is_next) (searched-skipped w p a so_far within known))
 
-module _ (k : Settings) (meaning : Meaning) (window : List ℕ) where
-  -- at first nothing is known
-  pub known-nothing : (p : ℕ) → IsKnown k meaning window p (record { misses = 0; hits = 0 })
-  known-nothing p = record {
-    index = 0;
-    at = record { listed = omega arith; begins = refl };
-    exact = λ some. absurd (omega (arith, some));
-    miss = λ i a b line low high. absurd (omega (arith, high));
-    hit = λ i a b line low high. absurd (omega (arith, high));
-  }
-
-  -- what is known from a position on is known from a later one on
-  pub known-later : (p r : ℕ) (a : Ahead) → p ≤ r → IsKnown k meaning window p a → IsKnown k meaning window r a
-  known-later p r a low known = record {
-    index = known.index;
-    at = known.at;
-    exact = known.exact;
-    miss = λ i x y line above below. known.miss i x y line (omega (arith, low, above)) below;
-    hit = known.hit;
-  }
-
-  -- and is so of the line there
-  pub known-line : (a : Ahead) (i p q : ℕ) → IsKnown k meaning window p a → IsLine (byte_of k.line_terminator) window i p q
-      → IfSome (known_at a p) (λ matches. matches ≡ matches_line k meaning (slice window p q))
-  known-line a i p q known line = go (nat_lt p a.misses) (nat_lt p a.hits) refl refl
-    where
-      go : (b c : Bool) → nat_lt p a.misses ≡ b → nat_lt p a.hits ≡ c
-          → IfSome (if b then Some false else (if c then Some true else None)) (λ m. m ≡ matches_line k meaning (slice window p q))
-      go true c is_b is_c = sym (known.miss i p q line (omega arith) (ltb-true p a.misses is_b))
-      go false true is_b is_c = sym (known.hit i p q line (ltb-false p a.misses is_b) (ltb-true p a.hits is_c))
-      go false false is_b is_c = tt
+  -- the line that the walk decides after that
+  pub line-reached : (w : Walk) (p : ℕ) (a : Ahead) → Searched p w → IsBounded window a → IsKnown k matcher.meaning window p a
+      → (r : ℕ) (next : Walk) → p ≤ r → r ≡ (if skips k w p a.misses then a.misses else p)
+      → next ≡ (if skips k w p a.misses then walk_past k w (slice window p a.misses) else w)
+      → (b q : ℕ) → b ≡ t → (IsExact b window a → (i : ℕ) → IsLineStart b window r i → IsLine b window i r q)
+      → (o : Option Bool) → o ≡ known_at a r → HasLine step k matcher.meaning gone window input first r q next now o
+  line-reached w p a so_far bounded known r next low is_r is_next b q is_b ends o is_o =
+      let here = searched-on w p a so_far (omega (arith, bounded.ordered, bounded.within)) known r next is_r is_next in
+      let line = subst (λ b. IsExact b window a → (i : ℕ) → IsLineStart b window r i → IsLine b window i r q) is_b ends known.exact in
+      record {
+        here = here;
+        line = line;
+        agrees = subst (λ o. IfSome o (λ m. m ≡ matches_line k matcher.meaning (slice window r q))) (sym is_o)
+            (known-line k matcher.meaning window a _ r q (known-later k matcher.meaning window p r a low known)
+            (line _ here.inside.line.begins));
+      }

@@ -1,23 +1,19 @@
 -- A search of a reader with the searcher's buffers.
 use Rattle.std.proofs.Common.{◌≡◌, ℕ, Bool, false, List, [], Option, None, Result, Ok, Err, inl, inr, refl, sym, subst}
-use Rattle.std.proofs.KnownBytes.{Consumes-nil}
 use Rattle.std.specs.Prelude.{IfErr}
 use Rattle.std.specs.IoError.{error_kind}
 use Rattle.std.specs.declared.io.Error.{Error}
 use Rattle.std.specs.declared.io.ErrorKind.TheVariants.{OutOfMemory}
 use Rattle.grep_decode.specs.Source.{ReadResult}
 use Rattle.grep_definitions.specs.BinaryBytes.{Look, nowhere, in_contents, on_stream, look_of}
+use Rattle.grep_definitions.specs.DecodedInputs.{IsInput}
 use Rattle.grep_definitions.specs.ReaderSearches.{IsReaderFaultUnless, IsReaderSearched, IsSearchedAt, IsSourceSearched}
 use Rattle.grep_definitions.specs.ReaderSearches.{IsUnread, of_buffers, of_reading}
 use Rattle.grep_definitions.specs.Refusals.{refusal_of}
 use Rattle.grep_definitions.specs.Searches.{ErrorMakers, MatcherFacts, IsLawful}
 use Rattle.grep_definitions.specs.Settings.{Settings, SearcherState}
 use Rattle.grep_definitions.specs.SinkRuns.{Steps}
-use Rattle.grep_definitions.specs.StreamSearches.{IsNotedFor}
-
--- no binary byte was noted
-pub unnoted-for : (k : Settings) (bytes : List ℕ) → IsNotedFor k bytes None
-unnoted-for k bytes = record { first = λ offset is. absurd cc; goes_on = λ b is. refl }
+use Rattle.grep_searcher.proofs.StreamBeginLemmas.{came-none, clear-none, unnoted-for}
 
 module _ {S E F : Type 0} (step : Steps S E) (errors : ErrorMakers E) (matcher : MatcherFacts F)
     {R : Type 0} (remaining : R → Option (List ℕ)) (read_step : R → ReadResult → R → Type 0) where
@@ -33,9 +29,10 @@ module _ {S E F : Type 0} (step : Steps S E) (errors : ErrorMakers E) (matcher :
       go on_stream = inl (record {
         found = None;
         fault = of_reading None error (of_buffers none memory) made refl;
-        mid = reader;
-        taken = record { ended = false; pieces = []; calls = refl; takes = Consumes-nil (remaining reader) };
+        came = came-none remaining read_step reader;
         noted_for = λ bytes input. unnoted-for state.settings bytes;
+        clear = λ none_found. clear-none step errors matcher (IsInput state.settings false []) state.settings old e old
+            (inr (error, made, refl));
       })
 
   -- why an input wasn't searched to its end, of a searcher with these settings

@@ -1,9 +1,10 @@
 -- A search that is read line by line, and ends before it reads.
-use Rattle.std.proofs.Common.{◌≡◌, ℕ, Bool, true, false, List, [], Option, None, Ok, Err, inl, inr}
-use Rattle.std.proofs.Common.{refl, sym, subst, arith}
+use Rattle.std.proofs.Common.{◌≡◌, ◌⊎◌, ℕ, Bool, true, false, List, [], Option, None, Ok, Err, inl, inr}
+use Rattle.std.proofs.Common.{refl, sym, subst, arith, ⊎_elim}
 use Rattle.std.proofs.KnownBytes.{Consumes-nil}
 use Rattle.std.proofs.lemmas.Bool.{false≢true}
 use Rattle.std.specs.Prelude.{if◌then◌else◌, ◌==◌, ◌||◌, not}
+use Rattle.std.specs.declared.io.Error.{Error}
 use Rattle.grep_decode.specs.Source.{ReadResult}
 use Rattle.grep_lines.specs.LineLaws.{LinesJoin, LinesAppend}
 use Rattle.grep_matcher.specs.Matching.{Meaning}
@@ -11,20 +12,20 @@ use Rattle.grep_matcher.specs.Terminators.{byte_of}
 use Rattle.grep_report.specs.declared.binary_detection.BinaryDetection.{BinaryDetection}
 use Rattle.grep_report.specs.declared.binary_detection.BinaryDetection.TheVariants.{None as no_detection, Quit, Convert}
 use Rattle.grep_definitions.specs.BinaryBytes.{binary_position, position_of, view_of}
+use Rattle.grep_definitions.specs.DecodedInputs.{IsInput}
 use Rattle.grep_definitions.specs.InputFronts.{IsFront}
 use Rattle.grep_definitions.specs.LineSearch.{byte_count}
 use Rattle.grep_definitions.specs.NotedSinks.{noted}
-use Rattle.grep_definitions.specs.ReaderSearches.{Taken, is_idle, reads_lines, IsStreamSearched, of_search}
-use Rattle.grep_definitions.specs.Searches.{ErrorMakers, MatcherFacts, IsFaultIn, of_sink}
+use Rattle.grep_definitions.specs.ReaderSearches.{Taken, Came, is_idle, reads_lines, IsStreamSearched, of_search}
+use Rattle.grep_definitions.specs.Searches.{ErrorMakers, MatcherFacts, IsClearFault, IsFaultIn, IsLineFault, of_sink}
 use Rattle.grep_definitions.specs.Settings.{Settings, SearcherState}
 use Rattle.grep_definitions.specs.SinkCalls.{begins}
 use Rattle.grep_definitions.specs.SinkRuns.{Steps, Outcome, all_true, stopped, failed}
-use Rattle.grep_definitions.specs.StreamSearches.{stream_calls}
+use Rattle.grep_definitions.specs.StreamSearches.{IsNotedFor, stream_calls}
 use Rattle.grep_definitions.proofs.BoolLemmas.{clash}
 use Rattle.grep_searcher.specs.Rolls.{HasBegun, IsCountedFor, IsStreamCounted}
 use Rattle.grep_searcher.specs.Walks.{IsCount}
 use Rattle.grep_searcher.proofs.FrontLemmas.{turns-seen}
-use Rattle.grep_searcher.proofs.SourceSearchLemmas.{unnoted-for}
 use Rattle.grep_searcher.proofs.WalkLemmas as walks
 
 -- a search reads, unless no line may have a turn and it looks for no binary byte
@@ -55,10 +56,29 @@ binary-nil (Convert b) t = go (b == t)
     go true = refl
     go false = refl
 
+-- no binary byte was noted
+pub unnoted-for : (k : Settings) (bytes : List ℕ) → IsNotedFor k bytes None
+unnoted-for k bytes = record { first = λ offset is. absurd cc; goes_on = λ b is. refl }
+
+-- an error before any line was seen, with `begin` or without it
+pub clear-none : {S E F : Type 0} (step : Steps S E) (errors : ErrorMakers E) (matcher : MatcherFacts F) (IsOne : List ℕ → Type 0)
+    (k : Settings) (old : S) (e : E) (new : S) → IsLineFault step errors matcher k [] old e new
+    ⊎ ((error : Error) × errors.is_io error e × (new ≡ old))
+    → IsClearFault step errors matcher IsOne k old e new
+clear-none step errors matcher IsOne k old e new made = record {
+  seen = [];
+  front = λ bytes one. front-none k (view_of k bytes);
+  clear = λ bytes one. binary-nil k.binary_detection (byte_of k.line_terminator);
+  made = ⊎_elim inl (λ read. inr (read.0, read.1, inr read.2)) made;
+}
+
 module _ {R : Type 0} (remaining : R → Option (List ℕ)) (read_step : R → ReadResult → R → Type 0) where
   -- nothing was taken
   abbrev taken-none : (reader : R) → Taken remaining read_step reader reader
   taken-none reader = record { ended = false; pieces = []; calls = refl; takes = Consumes-nil (remaining reader) }
+
+  abbrev pub came-none : (reader : R) → Came remaining read_step reader reader
+  came-none reader = record { mid = reader; taken = taken-none reader; then_failed = inl refl }
 
   module _ {S E : Type 0} (step : Steps S E) (k : Settings) (meaning : Meaning) where
     -- a search that made no report and reads nothing
@@ -77,6 +97,7 @@ module _ {R : Type 0} (remaining : R → Option (List ℕ)) (read_step : R → R
       ahead = λ limit is same. omega arith;
       noted_for = λ bytes input. unnoted-for k bytes;
       clear = λ bytes input none. binary-nil k.binary_detection (byte_of k.line_terminator);
+      clear_seen = λ bytes input none. binary-nil k.binary_detection (byte_of k.line_terminator);
     })
 
     -- `begin` returned false
@@ -111,9 +132,11 @@ module _ {R : Type 0} (remaining : R → Option (List ℕ)) (read_step : R → R
           fault (view_of state.settings bytes),
           (λ across. absurd (false≢true across)),
         ));
-    mid = reader;
-    taken = taken-none reader;
+    came = came-none reader;
     noted_for = λ bytes input. unnoted-for state.settings bytes;
+    clear = λ none_found. clear-none step errors matcher (IsInput state.settings false []) state.settings old e new
+        (inl (of_sink
+        (record { outcome = failed e; mid = new; reported = inr (inr (e, refl, fails)); finished = (refl, refl) })));
   })
     where
       fault : (bytes : List ℕ) → IsFaultIn {S = S × Option ℕ} (noted step) errors matcher (stream_calls state.settings matcher.meaning) state.settings bytes

@@ -10,6 +10,7 @@ use Rattle.grep_definitions.specs.Settings.{Settings}
 use Rattle.grep_definitions.specs.SinkCalls.{Turn, begins, binary_data, is_finish}
 use Rattle.grep_definitions.specs.SinkRuns.{Steps, Outcome, all_true, AreReported}
 use Rattle.grep_definitions.specs.LineSearch.{turns, turns_before}
+use Rattle.grep_definitions.proofs.BreakLemmas.{AreBreaksPaired, paired-before, paired-last}
 use Rattle.grep_definitions.proofs.SinkViewLemmas.{AreReported-seen}
 use Rattle.grep_searcher.specs.declared.searcher.noted.Noted.{Noted}
 use Rattle.grep_decode.specs.DecoderStates.{DecoderState}
@@ -34,13 +35,13 @@ module _ {S E : Type 0} (step : Steps S E) (k : Settings) where
 
   -- after calls that all returned true `binary_data` is called, and belongs to the last of them
   pub jump : (calls : List Turn) (first mid : Noted S) (o : ℕ) (last : Noted S) → 0 < length calls
-      → All (λ turn. reported_to turn.call ≤ o) calls → All (λ turn. is_finish turn.call ≡ false) calls
+      → All (λ turn. reported_to turn.call ≤ o) calls → All (λ turn. is_finish turn.call ≡ false) calls → AreBreaksPaired calls
       → first.binary ≡ None → AreReported (Notes step) k first calls all_true mid
       → step mid.sink.now k (binary_data o) (Ok true) last.sink.now
       → last.sink.ghost_name ≡ mid.sink.ghost_name → last.binary ≡ Some o → last.has_called ≡ true
       → AreReported (Notes step) k (record first { binary = Some o; has_called = false }) calls all_true last
-  jump [] first mid o last some low before none reported called name known told = absurd (omega (arith, some))
-  jump (turn ∷ []) first mid o last some low before none (inl (next, (same, kept, goes), (is, end))) called name known told =
+  jump [] first mid o last some low before paired none reported called name known told = absurd (omega (arith, some))
+  jump (turn ∷ []) first mid o last some low before paired none (inl (next, (same, kept, goes), (is, end))) called name known told =
       let same_now = ap (λ (n : Noted S). n.sink.now) end in
       let plain : noted step (first.sink.now, None) k turn.call (Ok true) (next.sink.now, None) =
       subst (λ x. noted step (first.sink.now, x) k turn.call (Ok true) (next.sink.now, None)) (called-none first none)
@@ -54,13 +55,15 @@ module _ {S E : Type 0} (step : Steps S E) (k : Settings) where
           subst (λ x. noted step (first.sink.now, None) k turn.call (Ok true) (last.sink.now, x)) (sym found) (
             refl,
             All-head (λ turn. is_finish turn.call ≡ false) turn [] before,
+            paired-last (turn ∷ []) paired,
             All-head (λ turn. reported_to turn.call ≤ o) turn [] low,
             (next.sink.now, plain, subst (λ s. step s k (binary_data o) (Ok true) last.sink.now) same_now called),
           ),
         ),
         (refl, refl),
       )
-  jump (turn ∷ more ∷ later) first mid o last some low before none (inl (next, (same, kept, goes), reported)) called name known told =
+  jump (turn ∷ more ∷ later) first mid o last some low before paired none (inl (next, (same, kept, goes), reported))
+      called name known told =
       inl (
         record next { binary = Some o; has_called = false },
         (
@@ -70,10 +73,11 @@ module _ {S E : Type 0} (step : Steps S E) (k : Settings) where
               (subst (λ x. noted step (noted_of first) k turn.call (Ok true) (next.sink.now, x)) (called-none next (kept ∙ none)) goes),
         ),
         jump (more ∷ later) next mid o last (omega arith) (All-tail (λ turn. reported_to turn.call ≤ o) turn (more ∷ later) low)
-            (All-tail (λ turn. is_finish turn.call ≡ false) turn (more ∷ later) before) (kept ∙ none) reported called name known told,
+            (All-tail (λ turn. is_finish turn.call ≡ false) turn (more ∷ later) before) paired.1 (kept ∙ none)
+            reported called name known told,
       )
-  jump (turn ∷ later) first mid o last some low before none (inr (inl (is, stops))) called name known told = absurd (cc)
-  jump (turn ∷ later) first mid o last some low before none (inr (inr (e, is, fails))) called name known told = absurd (cc)
+  jump (turn ∷ later) first mid o last some low before paired none (inr (inl (is, stops))) called name known told = absurd (cc)
+  jump (turn ∷ later) first mid o last some low before paired none (inr (inr (e, is, fails))) called name known told = absurd (cc)
 
   -- the only call returned true
   called-once : (old : Noted S) (turn : Turn) (new : Noted S) → AreReported (Notes step) k old (turn ∷ []) all_true new
@@ -106,6 +110,7 @@ module _ {S E : Type 0} (step : Steps S E) (k : Settings) where
       ahead = counted.ahead;
       noted_for = counted.noted_for;
       clear = counted.clear;
+      clear_seen = counted.clear_seen;
     }
 
     -- a search goes on after `binary_data`, if no line that ended before was reported past the byte
@@ -150,7 +155,8 @@ module _ {S E : Type 0} (step : Steps S E) (k : Settings) where
                       walk = there.reported.walk;
                       reported = jump calls (From old.binary) old o new (omega arith)
                           (below o calls (past o is none) (low bytes w.reported_through) there.reported.walk.ended)
-                          (before bytes w.reported_through) none there.reported.reported called name known told;
+                          (before bytes w.reported_through) (paired-before k meaning bytes w.reported_through) none
+                          there.reported.reported called name known told;
                     };
                   };
               idle = λ idle.
@@ -163,7 +169,7 @@ module _ {S E : Type 0} (step : Steps S E) (k : Settings) where
                         (jump (start ∷ []) (From old.binary) old o new (omega arith)
                         (All-cons (λ turn. reported_to turn.call ≤ o) start [] (omega arith) (All-nil (λ turn. reported_to turn.call ≤ o)))
                         (All-cons (λ turn. is_finish turn.call ≡ false) start [] refl (All-nil (λ turn. is_finish turn.call ≡ false)))
-                        none (inl (old, unread.begun, (refl, refl))) called name known told);
+                        ((λ is. absurd (cc)), tt) none (inl (old, unread.begun, (refl, refl))) called name known told);
                   };
             };
             holds = so_far.holds;

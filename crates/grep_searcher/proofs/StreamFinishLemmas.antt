@@ -9,11 +9,12 @@ use Rattle.grep_definitions.specs.LineSearch.{turns, byte_count}
 use Rattle.grep_definitions.specs.LineTurns.{one_turn}
 use Rattle.grep_definitions.specs.NotedSinks.{noted}
 use Rattle.grep_definitions.specs.ReaderSearches.{IsReaderCut, IsStreamSearched, of_search}
-use Rattle.grep_definitions.specs.Searches.{ErrorMakers, MatcherFacts, of_sink}
+use Rattle.grep_definitions.specs.Searches.{ErrorMakers, MatcherFacts, IsClearFault, of_sink}
 use Rattle.grep_definitions.specs.Settings.{Settings, SearcherState}
 use Rattle.grep_definitions.specs.SinkCalls.{binary_data, finishes}
 use Rattle.grep_definitions.specs.SinkRuns.{Steps, Outcome, all_true, stopped, failed, AreReported, IsFinished, IsRun, count_of, finish_result}
 use Rattle.grep_definitions.specs.StreamSearches.{IsClear}
+use Rattle.grep_definitions.proofs.NotedLemmas.{unnoted-clear}
 use Rattle.grep_searcher.specs.Rolls.{HasBegun, HasCounted, HasCut, IsCountedFor, IsStreamCounted}
 use Rattle.grep_searcher.specs.Walks.{IsCount}
 use Rattle.grep_searcher.proofs.FinishLemmas.{finish-counted}
@@ -57,17 +58,16 @@ module _ {S E F : Type 0} (step : Steps S E) (errors : ErrorMakers E) (matcher :
     run = record {
       seen = cut.seen;
       offset = offset;
-      count = count;
       outcome = outcome;
       mid = cut.mid;
       last = last;
       cut = cut.cut;
-      low = cut.low;
       reported = cut.reported;
-      called = cut.called;
-      finished = finished;
+      called = subst (λ n. AreReported step k cut.mid (one_turn (binary_data offset) n) outcome last) cut.counted cut.called;
+      finished = subst (λ n. IsFinished step k outcome last n (Some offset) result new) cut.counted finished;
       quits = cut.quits;
     };
+    ahead = cut.ahead;
   }
 
   module _ (found : Option ℕ) (mid new : S)
@@ -149,9 +149,16 @@ module _ {S E F : Type 0} (step : Steps S E) (errors : ErrorMakers E) (matcher :
             of_sink (run-over (Err e) finish (view_of k bytes) (counted.over_all bytes input)),
             (λ across. absurd (false≢true across)),
           ));
-      mid = reader';
-      taken = counted.taken;
+      came = record { mid = reader'; taken = counted.taken; then_failed = inl refl };
       noted_for = counted.noted_for;
+      clear = λ unfound. unnoted-clear step errors matcher (IsInput k counted.taken.ended counted.taken.pieces) k old e new
+          (subst (λ o. IsClearFault (noted step) errors matcher (IsInput k counted.taken.ended counted.taken.pieces) k
+          (old, None) e (new, o)) unfound (record {
+            seen = counted.seen;
+            front = counted.front;
+            clear = λ bytes input. counted.clear_seen bytes input unfound;
+            made = inl (of_sink (run-over (Err e) finish counted.seen counted.over_seen));
+          }));
     })
 
   -- `finish` ends a search that came to its end

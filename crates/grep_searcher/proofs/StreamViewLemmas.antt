@@ -1,15 +1,17 @@
 -- What detection makes of an input that is searched as it is read, against what a line buffer makes of its parts.
 use Rattle.std.proofs.Common.{◌≡◌, ℕ, ◌+◌, ◌<◌, ◌≤◌, ◌==◌, Bool, true, false, List, [], ◌++◌, length, take, drop, map, Option, Some, None}
-use Rattle.std.proofs.Common.{refl, sym, ◌∙◌, ap, arith, append_assoc, ⊎_elim}
+use Rattle.std.proofs.Common.{◌⊎◌, inl, inr, refl, sym, ◌∙◌, ap, arith, append-nil, append_assoc, length-append, ⊎_elim}
 use Rattle.std.proofs.lemmas.List.{take_all, length-map, length-take-le, map-append, take-append-le, take-append-drop}
 use Rattle.std.specs.List.{position, position_or_len}
 use Rattle.std.specs.Option.{option_map}
 use Rattle.std.specs.Prelude.{if◌then◌else◌}
+use Rattle.grep_line_buffer.specs.declared.detection.Detection.TheVariants.{Quit as quits_at}
 use Rattle.grep_line_buffer.specs.Detections.{detected, found_in, first_of, is_quit}
 use Rattle.grep_line_buffer.proofs.DetectionLemmas.{all-before, found-append, passes-or-not, position-at, position-missing}
+use Rattle.grep_line_buffer.proofs.DetectionLemmas.{detected-append, detected-cut, first-same}
 use Rattle.grep_report.specs.declared.binary_detection.BinaryDetection.{BinaryDetection}
 use Rattle.grep_report.specs.declared.binary_detection.BinaryDetection.TheVariants.{None as no_detection, Quit, Convert}
-use Rattle.grep_definitions.specs.BinaryBytes.{binary_position, stream_view}
+use Rattle.grep_definitions.specs.BinaryBytes.{before_quit, binary_position, stream_view}
 use Rattle.grep_searcher.specs.SearchBuffers.{detection_of}
 
 -- where the first binary byte of an input is
@@ -49,6 +51,60 @@ view-front (Quit b) t xs ys =
     let n = position_or_len (λ x. x == b) xs in
     (drop n xs ++ ys, ap (λ zs. zs ++ ys) (sym (take-append-drop n xs)) ∙ append_assoc (take n xs) (drop n xs) ys)
 view-front (Convert b) t xs ys = (map (λ x. if x == b then t else x) ys, map-append (λ x. if x == b then t else x) xs ys)
+
+-- and the front of what comes before the byte of `Quit`
+pub before-front : (d : BinaryDetection) (t : ℕ) (xs ys : List ℕ)
+    → (back : List ℕ) × (before_quit d (stream_view d t (xs ++ ys)) ≡ detected (detection_of d) t xs ++ back)
+before-front no_detection t xs ys = (ys, refl)
+before-front (Quit b) t xs ys = ⊎_elim
+    (λ some. (
+      [],
+      detected-cut (quits_at b) t xs ys refl (position_or_len (λ x. x == b) xs) (position-at (λ x. x == b) xs some)
+          ∙ sym (append-nil (detected (quits_at b) t xs)),
+    ))
+    (λ all. (
+      detected (quits_at b) t ys,
+      detected-append (quits_at b) t xs ys (λ _. position-missing (λ x. x == b) xs all),
+    ))
+    (passes-or-not (λ x. x == b) xs)
+before-front (Convert b) t xs ys = (map (λ x. if x == b then t else x) ys, map-append (λ x. if x == b then t else x) xs ys)
+
+-- no byte of what a buffer holds ends a search
+pub before-held : (d : BinaryDetection) (t : ℕ) (xs : List ℕ)
+    → before_quit d (detected (detection_of d) t xs) ≡ detected (detection_of d) t xs
+before-held no_detection t xs = refl
+before-held (Convert b) t xs = refl
+before-held (Quit b) t xs = ⊎_elim
+    (λ some. absurd (omega (arith, some, first-same p front (drop n xs) some, ap (position_or_len p) (take-append-drop n xs), count)))
+    (λ all. take_all (position_or_len p front) front (omega (arith, all)))
+    (passes-or-not p front)
+  where
+    p : ℕ → Bool
+    p = λ x. x == b
+
+    n : ℕ
+    n = position_or_len p xs
+
+    front : List ℕ
+    front = take n xs
+
+    count : length front ≡ n
+    count = length-take-le n xs (⊎_elim (λ some. omega (arith, some)) (λ all. omega (arith, all)) (passes-or-not p xs))
+
+-- nor does one of a front of such bytes
+pub before-kept : (d : BinaryDetection) (xs ys : List ℕ) → before_quit d (xs ++ ys) ≡ xs ++ ys → before_quit d xs ≡ xs
+before-kept no_detection xs ys same = refl
+before-kept (Convert b) xs ys same = refl
+before-kept (Quit b) xs ys same = ⊎_elim
+    (λ some.
+    let at = first-same p xs ys some in
+    let count = length-take-le (position_or_len p (xs ++ ys)) (xs ++ ys) (omega (arith, at, some, length-append xs ys)) in
+    absurd (omega (arith, some, at, count, ap length same, length-append xs ys)))
+    (λ all. take_all (position_or_len p xs) xs (omega (arith, all)))
+    (passes-or-not p xs)
+  where
+    p : ℕ → Bool
+    p = λ x. x == b
 
 -- the first binary byte of a front is that of all
 pub first-kept : (d : BinaryDetection) (t : ℕ) (xs ys : List ℕ) (offset : ℕ) → found_in (detection_of d) t xs ≡ Some offset
@@ -99,16 +155,22 @@ position-is p xs offset is = ⊎_elim
     none-some : {n : ℕ} → None ≡ Some n → ⊥
     none-some same = absurd (cc)
 
--- a buffer holds no more bytes before the first binary byte than all that it holds
-pub found-within : (d : BinaryDetection) (t : ℕ) (xs : List ℕ) (offset : ℕ) → found_in (detection_of d) t xs ≡ Some offset
-    → offset ≤ length (detected (detection_of d) t xs)
-found-within no_detection t xs offset is = absurd (cc)
-found-within (Quit b) t xs offset is =
+-- the first binary byte is among what a buffer holds, or right after it if the byte ends the input
+pub found-below : (d : BinaryDetection) (t : ℕ) (xs : List ℕ) (offset : ℕ) → found_in (detection_of d) t xs ≡ Some offset
+    → (offset < length (detected (detection_of d) t xs))
+    ⊎ ((offset ≤ length (detected (detection_of d) t xs)) × (is_quit (detection_of d) ≡ true))
+found-below no_detection t xs offset is = absurd (cc)
+found-below (Quit b) t xs offset is =
     let at = position-is (λ x. x == b) xs offset is in
-    omega (arith, at.0, at.1, length-take-le (position_or_len (λ x. x == b) xs) xs (omega (arith, at.0, at.1)))
-found-within (Convert b) t xs offset is = go (b == t) is
+    inr (
+      omega (arith, at.0, at.1, length-take-le (position_or_len (λ x. x == b) xs) xs (omega (arith, at.0, at.1))),
+      refl,
+    )
+found-below (Convert b) t xs offset is = go (b == t) is
   where
     go : (same : Bool) → (if same then None else position (λ x. x == b) xs) ≡ Some offset
-        → offset ≤ length (map (λ x. if x == b then t else x) xs)
+        → (offset < length (map (λ x. if x == b then t else x) xs))
+        ⊎ ((offset ≤ length (map (λ x. if x == b then t else x) xs)) × (false ≡ true))
     go true is = absurd (cc)
-    go false is = omega (arith, (position-is (λ x. x == b) xs offset is).1, length-map xs (λ x. if x == b then t else x))
+    go false is =
+        inl (omega (arith, (position-is (λ x. x == b) xs offset is).1, length-map xs (λ x. if x == b then t else x)))

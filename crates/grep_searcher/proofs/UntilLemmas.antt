@@ -18,7 +18,7 @@ use Rattle.grep_definitions.specs.Searches.{ErrorMakers, MatcherFacts, IsFaultIn
 use Rattle.grep_definitions.specs.Searches.{of_sink, of_matcher, of_quit_sink, of_quit_matcher}
 use Rattle.grep_definitions.specs.SearchTurns.{calls_if}
 use Rattle.grep_definitions.specs.Settings.{Settings}
-use Rattle.grep_definitions.specs.SinkCalls.{Call, Turn, begins, matches, context, breaks, binary_data, finishes, is_break}
+use Rattle.grep_definitions.specs.SinkCalls.{Call, Turn, begins, matches, context, breaks, binary_data, finishes, is_break, ends_in_break}
 use Rattle.grep_definitions.specs.SinkRuns.{Steps, Outcome, all_true, stopped, failed}
 use Rattle.grep_definitions.specs.SinkRuns.{AreReported, IsFinished, IsRun, NeverFails, finish_result}
 use Rattle.grep_definitions.proofs.BreakLemmas as pairs
@@ -75,6 +75,11 @@ lines-append (turn ∷ front) back (is, rest) lines = (is, lines-append front ba
 lines-joined : (f : ℕ → List Turn) (i n : ℕ) → ((j : ℕ) → AreOfLines (f j)) → AreOfLines (joined_from f i n)
 lines-joined f i zero each = tt
 lines-joined f i (suc n) each = lines-append (f i) (joined_from f (i + 1) n) (each i) (lines-joined f (i + 1) n each)
+
+lines-take : (n : ℕ) (turns : List Turn) → AreOfLines turns → AreOfLines (take n turns)
+lines-take zero turns lines = tt
+lines-take (suc n) [] lines = tt
+lines-take (suc n) (turn ∷ later) (line, lines) = (line, lines-take n later lines)
 
 lines-through : (offset : ℕ) (turns : List Turn) → AreOfLines turns → AreOfLines (filter (λ turn. nat_le turn.end offset) turns)
 lines-through offset [] lines = tt
@@ -210,11 +215,13 @@ module _ (k : Settings) (meaning : Meaning) (bytes : List ℕ) where
   joined-by_line : AreJoined line_turns
   joined-by_line = joined-of line_turns (pairs.paired-by_line k meaning bytes).1 lines-by_line
 
-  joined-across : AreJoined unit_turns
-  joined-across = joined-of unit_turns (pairs.paired-across k meaning bytes).1
-      (lines-joined (AcrossLines.turns_at k meaning bytes) 0 (AcrossLines.turn_count k meaning bytes)
+  lines-across : AreOfLines unit_turns
+  lines-across = lines-joined (AcrossLines.turns_at k meaning bytes) 0 (AcrossLines.turn_count k meaning bytes)
       (λ i. broken-lines (AcrossLines.breaks_before k meaning bytes i) _ (AcrossLines.report k meaning bytes i
-      (AcrossLines.kind k meaning bytes i)) (unit-report i (AcrossLines.kind k meaning bytes i))))
+      (AcrossLines.kind k meaning bytes i)) (unit-report i (AcrossLines.kind k meaning bytes i)))
+
+  joined-across : AreJoined unit_turns
+  joined-across = joined-of unit_turns (pairs.paired-across k meaning bytes).1 lines-across
 
 -- where the byte is in the bytes that are looked at first
 pub first-found : (b : ℕ) (bytes : List ℕ) (n : ℕ) (found : Option ℕ) → n ≡ min (length bytes) first_look
@@ -258,18 +265,34 @@ module _ {S E F : Type 0} (step : Steps S E) (may_call : S → Type 0) (errors :
       rw none (until-run step may_call k b (line_turns k matcher.meaning bytes) (joined-by_line k matcher.meaning bytes)
       ((calls_if k matcher.meaning false).byte_count bytes) old is whole clear result new run)
 
+  -- the matcher's error came after calls that were all made
+  fault-made : (across : Bool) (haystack : List ℕ) (error : F) (made later : List Turn) (e : E) (new : Quitting S)
+      → made ≡ record { call = begins; end = 0 } ∷ later → AreJoined later
+      → (calls_if k matcher.meaning across).IsAsked bytes haystack made → matcher.fails haystack error
+      → errors.is_message (matcher.text_of error) e → AreReported (Quits step may_call) k old made all_true new
+      → IsQuitFault step errors matcher (calls_if k matcher.meaning across) b k bytes old.sink.now e new.sink.now
+  fault-made across haystack error made later e new begun joined asked fails message reported =
+      let seen = watched step may_call k b made old all_true new is reported in
+      let all = quitting_calls.quits-all step may_call k b (record { call = begins; end = 0 } ∷ later) old.sink.now (watch_of new)
+      (quitting_calls.quits-begun step may_call k b 0 later joined (watch_of old) all_true (watch_of new) whole clear
+      (subst (λ l. AreReported (quitting step may_call b) k (watch_of old) l all_true (watch_of new)) begun seen.1)) in
+      of_quit_matcher haystack error made asked fails message
+      (rw none (subst (λ l. quit_in_reports b l ≡ None) (sym begun) (rw all.0 refl)))
+      (subst (λ l. AreReported step k old.sink.now l all_true new.sink.now) (sym begun) all.1)
+
   -- a search that ended in an error before
   pub fault-until : (across : Bool) (e : E) (new : Quitting S)
       → IsFaultIn (Quits step may_call) errors matcher (calls_if k matcher.meaning across) k bytes old e new
       → IsQuitFault step errors matcher (calls_if k matcher.meaning across) b k bytes old.sink.now e new.sink.now
   fault-until across e new (of_sink run) = of_quit_sink (searched-until across (Err e) new run)
-  fault-until true e new (of_matcher haystack error made (asked, (count, taken)) fails message reported) =
+  fault-until true e new (of_matcher haystack error made (asked, (count, taken), last) fails message reported) =
       let turns = (calls_if k matcher.meaning true).turns bytes in
-      let seen = watched step may_call k b made old all_true new is reported in
-      let part = quitting_calls.quits-taken-begun step may_call k b 0 (unit_turns k matcher.meaning bytes)
-      (joined-across k matcher.meaning bytes) count (watch_of old) (watch_of new) whole clear
-      (subst (λ l. AreReported (quitting step may_call b) k (watch_of old) l all_true (watch_of new)) taken seen.1) in
-      of_quit_matcher haystack error (take part.0 turns) (asked, (part.0, refl)) fails message (rw none (rw part.1 refl)) part.2
+      let whole_made : ends_in_break (take (suc count) turns) ≡ false = ap ends_in_break (sym taken) ∙ last in
+      let paired = pairs.paired-take (suc count) turns (pairs.paired-across k matcher.meaning bytes) whole_made in
+      let joined = joined-of (take count (unit_turns k matcher.meaning bytes)) paired.1
+      (lines-take count (unit_turns k matcher.meaning bytes) (lines-across k matcher.meaning bytes)) in
+      fault-made true haystack error made (take count (unit_turns k matcher.meaning bytes)) e new taken joined
+      (asked, (count, taken), last) fails message reported
   fault-until false e new (of_matcher haystack error made asked fails message reported) =
       let offset = LineSearch.start k matcher.meaning bytes asked.index in
       let later : List Turn = filter (λ turn. nat_le turn.end offset) (line_turns k matcher.meaning bytes) in
@@ -278,13 +301,7 @@ module _ {S E F : Type 0} (step : Steps S E) (may_call : S → Type 0) (errors :
       let joined : AreJoined later = joined-of later
       (pairs.paired-through offset (line_turns k matcher.meaning bytes) (pairs.paired-by_line k matcher.meaning bytes).1)
       (lines-through offset (line_turns k matcher.meaning bytes) (lines-by_line k matcher.meaning bytes)) in
-      let seen = watched step may_call k b made old all_true new is reported in
-      let all = quitting_calls.quits-all step may_call k b (record { call = begins; end = 0 } ∷ later) old.sink.now (watch_of new)
-      (quitting_calls.quits-begun step may_call k b 0 later joined (watch_of old) all_true (watch_of new) whole clear
-      (subst (λ l. AreReported (quitting step may_call b) k (watch_of old) l all_true (watch_of new)) begun seen.1)) in
-      of_quit_matcher haystack error made asked fails message
-      (rw none (subst (λ l. quit_in_reports b l ≡ None) (sym begun) (rw all.0 refl)))
-      (subst (λ l. AreReported step k old.sink.now l all_true new.sink.now) (sym begun) all.1)
+      fault-made false haystack error made later e new begun joined asked fails message reported
 
   -- `finish` ends what was counted
   pub until-finished : (across : Bool) (count : ℕ) (outcome : Outcome E) (mid : Quitting S) (result : Result (Unit {0}) E)

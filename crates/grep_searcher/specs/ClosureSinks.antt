@@ -101,7 +101,8 @@ module _ {F : Type 0} (call : F → ℕ → Bor (List ℕ) → Result Bool Error
   abbrev pub ClosuresKeep : {S : Type 0} → (S → F) → (List ℕ → List ℕ) → Type 0
   ClosuresKeep {S} closure text_of =
       (name : F → ℕ) (kept : F → List (ℕ × List ℕ)) → KeepsCalls name kept
-      → (settings : Settings) (meaning : Meaning) (bytes : List ℕ) → is_across settings meaning ≡ false
+      → (settings : Settings) (meaning : Meaning) (bytes : List ℕ)
+      → is_across settings meaning ≡ false
       → (old : S) (count : ℕ) (binary : Option ℕ) (new : S)
       → IsRun (ClosureSteps closure) settings old
       (search_turns settings meaning bytes) count binary (Ok tt) new

@@ -10,7 +10,8 @@ use Rattle.grep_line_buffer.specs.Detections.{detected, found_in}
 module _ {R : Type 0} (remaining : R → Option (List ℕ)) (step : R → ReadResult → R → Type 0) where
   -- Reads of a decoder gave some bytes. What detection makes of these is what was consumed and then what is held, and where
   -- the first binary byte is among them is known.
-  pub record HoldsGiven (gone : List ℕ) (detection : Detection) (t : ℕ) (w : BufferState) (decoder : DecoderState) (reader : R)
+  pub record HoldsGiven (gone : List ℕ) (detection : Detection) (t : ℕ) (w : BufferState)
+      (decoder : DecoderState) (reader : R)
       (given : List ℕ) (decoder' : DecoderState) (reader' : R) : Type 0 where
     pub whole : gone ++ held w ≡ detected detection t given
     pub found : w.binary ≡ found_in detection t given

@@ -30,7 +30,8 @@ IsExact t window ahead =
     → IsLine t window i ahead.misses ahead.hits
 
 -- what is known of the lines of a window from `start` on is so
-pub record IsKnown (settings : Settings) (meaning : Meaning) (window : List ℕ) (start : ℕ) (ahead : Ahead)
+pub record IsKnown (settings : Settings) (meaning : Meaning) (window : List ℕ) (start : ℕ)
+    (ahead : Ahead)
     : Type 0 where
   pub index : ℕ
   pub at : IsLineStart (byte_of settings.line_terminator) window ahead.misses index

@@ -33,7 +33,8 @@ module _ {S E : Type 0} (step : Steps S E) (settings : Settings) where
   PassesBinary binary old goes_on new =
       ((offset : ℕ) × (binary ≡ Some offset) × (old.binary ≡ None) × (new.binary ≡ Some offset)
       × (new.has_called ≡ true)
-      × ((returned : Bool) × step old.sink.now settings (binary_data offset) (Ok returned) new.sink.now
+      × ((returned : Bool)
+      × step old.sink.now settings (binary_data offset) (Ok returned) new.sink.now
       × (goes_on ≡ (returned && is_none (quit_byte_of settings.binary_detection)))))
       ⊎ ((binary ≡ None) ⊎ (is_some old.binary ≡ true)) × (goes_on ≡ true) × (new ≡ old)
 

@@ -29,12 +29,14 @@ module _ {S E : Type 0} (step : Steps S E) (may_call : S → Type 0) where
   abbrev pub IsMadeAfter : Bool → S → Settings → Call → Result Bool E → S → Type 0
   IsMadeAfter false old settings call result new = step old settings call result new
   IsMadeAfter true old settings call result new =
-      ((mid : S) × may_call mid × step old settings breaks (Ok true) mid × step mid settings call result new)
+      ((mid : S) × may_call mid × step old settings breaks (Ok true) mid
+      × step mid settings call result new)
       ⊎ (result ≡ Ok true → ⊥) × step old settings breaks result new
 
   -- a report of bytes from an offset on, by where the byte is in them: without it the report is made, else `binary_data`
   -- is called in its place and its break isn't made
-  abbrev pub IsLookedAt : Option ℕ → ℕ → Watch S → Settings → Call → Result Bool E → Watch S → Type 0
+  abbrev pub IsLookedAt : Option ℕ → ℕ → Watch S → Settings → Call → Result Bool E → Watch S
+      → Type 0
   IsLookedAt None from old settings call result new =
       (new.found ≡ old.found) × (new.has_break ≡ false)
       × IsMadeAfter old.has_break old.sink settings call result new.sink
@@ -46,7 +48,8 @@ module _ {S E : Type 0} (step : Steps S E) (may_call : S → Type 0) where
   -- any other call is passed on
   abbrev pub IsPassedOn : Watch S → Settings → Call → Result Bool E → Watch S → Type 0
   IsPassedOn old settings call result new =
-      (new.found ≡ old.found) × (new.has_break ≡ old.has_break) × step old.sink settings call result new.sink
+      (new.found ≡ old.found) × (new.has_break ≡ old.has_break)
+      × step old.sink settings call result new.sink
 
   abbrev pub quitting : ℕ → Steps (Watch S) E
   quitting b old settings begins result new = IsPassedOn old settings begins result new
@@ -56,7 +59,8 @@ module _ {S E : Type 0} (step : Steps S E) (may_call : S → Type 0) where
       IsLookedAt (position_of b bytes) from old settings (context kind number from bytes) result new
   quitting b old settings breaks result new =
       (new ≡ record old { has_break = true }) × (result ≡ Ok true)
-  quitting b old settings (binary_data offset) result new = IsPassedOn old settings (binary_data offset) result new
+  quitting b old settings (binary_data offset) result new =
+      IsPassedOn old settings (binary_data offset) result new
   quitting b old settings (finishes count binary) result new =
       IsPassedOn old settings (finishes (count_to old.found count) old.found) result new
 

@@ -44,12 +44,14 @@ module _ {S E : Type 0} (step : Steps S E) (settings : Settings) (meaning : Mean
 
   -- a walk has passed the bytes that are shown, whatever is shown with them next
   abbrev pub IsNext : List ℕ → List ℕ → S → Walk → S → Type 0
-  IsNext gone shown first w now = (more : List ℕ) → IsReady gone (shown ++ more) (length shown) first w now
+  IsNext gone shown first w now =
+      (more : List ℕ) → IsReady gone (shown ++ more) (length shown) first w now
 
   -- the calls were counted for an input
   abbrev pub IsCountedFor : S → List ℕ → ℕ → Outcome E → S → Type 0
   IsCountedFor first input count outcome new =
-      Counted step settings first (turns settings meaning input) (byte_count settings meaning input) count outcome new
+      Counted step settings first (turns settings meaning input)
+      (byte_count settings meaning input) count outcome new
 
   -- a search in which no line may have a turn has read nothing yet, and looks for a binary byte
   pub record IsIdle (gone : List ℕ) (buffer : BufferState) (first : S) (now : S) : Type 0 where
@@ -58,13 +60,15 @@ module _ {S E : Type 0} (step : Steps S E) (settings : Settings) (meaning : Mean
     pub begun : step first settings begins (Ok true) now
 
   -- between two fills
-  pub record IsBetween (gone : List ℕ) (buffer : BufferState) (first : S) (w : Walk) (now : S) : Type 0 where
+  pub record IsBetween (gone : List ℕ) (buffer : BufferState) (first : S) (w : Walk)
+      (now : S) : Type 0 where
     pub opens : IsClosed (byte_of settings.line_terminator) gone
     pub shut : IsClosed (byte_of settings.line_terminator) buffer.shown
     pub unfinished : Lacks (byte_of settings.line_terminator) buffer.rest
     pub offset : buffer.offset ≡ length gone
     pub unended : buffer.has_ended ≡ false
-    pub few : length (lines (byte_of settings.line_terminator) buffer.shown) ≤ settings.before_context
+    pub few : length (lines (byte_of settings.line_terminator) buffer.shown)
+        ≤ settings.before_context
     pub fits : (limit : ℕ) → settings.heap_limit ≡ Some limit
         → All (λ line. IsTooLong (byte_of settings.line_terminator) limit line → ⊥)
         (lines (byte_of settings.line_terminator) (gone ++ buffer.shown))
@@ -73,7 +77,8 @@ module _ {S E : Type 0} (step : Steps S E) (settings : Settings) (meaning : Mean
     pub idle : is_idle settings ≡ true → IsIdle gone buffer first now
 
   -- a walk went to the end of what a buffer shows, which are whole lines, and the buffer moved past some of them
-  pub record HasMovedOn (old : BufferState) (w : Walk) (now : S) (new : BufferState) (w' : Walk) (now' : S) : Type 0 where
+  pub record HasMovedOn (old : BufferState) (w : Walk) (now : S) (new : BufferState) (w' : Walk)
+      (now' : S) : Type 0 where
     pub count : ℕ
     pub within : count ≤ length old.shown
     pub some : start_in old w < length old.shown
@@ -81,7 +86,8 @@ module _ {S E : Type 0} (step : Steps S E) (settings : Settings) (meaning : Mean
     pub below : w'.offset < 2 ^ 64
     pub moved : new ≡ record old { shown = drop count old.shown; offset = old.offset + count }
     pub closed : IsClosed (byte_of settings.line_terminator) old.shown
-    pub few : length (lines (byte_of settings.line_terminator) (drop count old.shown)) ≤ settings.before_context
+    pub few : length (lines (byte_of settings.line_terminator) (drop count old.shown))
+        ≤ settings.before_context
     pub next : (gone : List ℕ) (first : S) → IsClosed (byte_of settings.line_terminator) gone
         → IsReady gone old.shown (start_in old w) first w now
         → IsClosed (byte_of settings.line_terminator) (gone ++ take count old.shown)
@@ -94,19 +100,23 @@ module _ {S E : Type 0} (step : Steps S E) (settings : Settings) (meaning : Mean
     pub high : w'.offset ≤ old.offset + length old.shown
     pub counted : (gone : List ℕ) (first : S) → IsClosed (byte_of settings.line_terminator) gone
         → IsReady gone old.shown (start_in old w) first w now
-        → (after : List ℕ) → (0 < length after → IsClosed (byte_of settings.line_terminator) old.shown)
+        → (after : List ℕ) → (0 < length after
+        → IsClosed (byte_of settings.line_terminator) old.shown)
         → (IsLast (byte_of settings.line_terminator) old.shown (start_in old w) → after ≡ [])
         → IsCountedFor first (gone ++ (old.shown ++ after)) w'.offset outcome now'
 
-  module _ {R : Type 0} (remaining : R → Option (List ℕ)) (read_step : R → ReadResult → R → Type 0) where
+  module _ {R : Type 0} (remaining : R → Option (List ℕ))
+      (read_step : R → ReadResult → R → Type 0) where
     -- a search that reads on: what is gone and what is held is what detection makes of the bytes that were given since
     -- its start, and they hold no byte that ends it
-    pub record IsRolling (decoder : DecoderState) (reader : R) (first : S) (buffer : BufferState) (decoder' : DecoderState)
+    pub record IsRolling (decoder : DecoderState) (reader : R) (first : S) (buffer : BufferState)
+        (decoder' : DecoderState)
         (reader' : R) (w : Walk) (now : S) : Type 0 where
       pub gone : List ℕ
       pub given : List ℕ
       pub between : IsBetween gone buffer first w now
-      pub holds : HoldsGiven remaining read_step gone buffer.detection buffer.terminator buffer decoder reader given
+      pub holds : HoldsGiven remaining read_step gone buffer.detection buffer.terminator buffer
+          decoder reader given
           decoder' reader'
       pub detects : buffer.detection ≡ detection_of settings.binary_detection
       pub uncut : is_cut buffer ≡ false
@@ -115,7 +125,8 @@ module _ {S E : Type 0} (step : Steps S E) (settings : Settings) (meaning : Mean
     -- a search of a reader came to its end with this count, and with the offset of the first binary byte if
     -- `binary_data` was called: that of the lines that were seen, and of the view of every input that begins with what
     -- was taken
-    pub record HasCounted (reader : R) (first : S) (count : ℕ) (found : Option ℕ) (reader' : R) (new : S)
+    pub record HasCounted (reader : R) (first : S) (count : ℕ) (found : Option ℕ) (reader' : R)
+        (new : S)
         : Type 0 where
       pub taken : Taken remaining read_step reader reader'
       pub seen : List ℕ
@@ -125,7 +136,8 @@ module _ {S E : Type 0} (step : Steps S E) (settings : Settings) (meaning : Mean
           → IsFront settings (view_of settings bytes) seen
       pub over_all : (bytes : List ℕ) → IsInput settings taken.ended taken.pieces bytes
           → IsCountedFor first (view_of settings bytes) count outcome new
-      pub all : (bytes : List ℕ) → IsInput settings taken.ended taken.pieces bytes → outcome ≡ all_true
+      pub all : (bytes : List ℕ) → IsInput settings taken.ended taken.pieces bytes
+          → outcome ≡ all_true
           → turn_count settings meaning (view_of settings bytes)
           ≤ length (lines (byte_of settings.line_terminator) seen)
       pub ahead : (limit : ℕ) → settings.heap_limit ≡ Some limit
@@ -135,17 +147,23 @@ module _ {S E : Type 0} (step : Steps S E) (settings : Settings) (meaning : Mean
           → IsNotedFor settings bytes found
       pub clear : (bytes : List ℕ) → IsInput settings taken.ended taken.pieces bytes
           → IsClear settings bytes found count
+      pub clear_seen : (bytes : List ℕ) → IsInput settings taken.ended taken.pieces bytes
+          → IsClear settings bytes found (length seen)
 
     -- a search of a reader ended at the first binary byte of every input that begins with what was taken: after the
     -- calls for the lines that were seen came `binary_data`, with this outcome
-    pub record HasCut (reader : R) (first : S) (count offset : ℕ) (outcome : Outcome E) (reader' : R) (last : S)
+    pub record HasCut (reader : R) (first : S) (count offset : ℕ) (outcome : Outcome E)
+        (reader' : R) (last : S)
         : Type 0 where
       pub taken : Taken remaining read_step reader reader'
       pub seen : List ℕ
       pub mid : S
       pub cut : (bytes : List ℕ) → IsInput settings taken.ended taken.pieces bytes
           → IsCutAt settings meaning bytes seen offset
-      pub low : count ≤ offset
+      pub counted : count ≡ length seen
+      pub ahead : (limit : ℕ) → settings.heap_limit ≡ Some limit
+          → is_searched_unchanged settings (concat taken.pieces) ≡ true
+          → length (concat taken.pieces) ≤ length seen + limit + 3
       pub reported : AreReported step settings first (turns settings meaning seen) all_true mid
       pub called : AreReported step settings mid (one_turn (binary_data offset) count) outcome last
       pub quits : outcome ≡ all_true → (b : ℕ) × (settings.binary_detection ≡ Quit b)
@@ -158,10 +176,13 @@ module _ {S E : Type 0} (step : Steps S E) (settings : Settings) (meaning : Mean
       pub unread : (begun && reads_lines settings) ≡ false → reader' ≡ reader
 
 -- a search of a reader came to its end, and `finish` is still to be called, with this count and this offset
-abbrev pub IsStreamCounted : {S E : Type 0} → Steps S E → Settings → Meaning → {R : Type 0} → (R → Option (List ℕ))
+abbrev pub IsStreamCounted : {S E : Type 0} → Steps S E → Settings → Meaning → {R : Type 0}
+    → (R → Option (List ℕ))
     → (R → ReadResult → R → Type 0) → R → S → ℕ → Option ℕ → R → S → Type 0
-IsStreamCounted {S} {E} step settings meaning remaining read_step reader first count found reader' last =
+IsStreamCounted {S} {E} step settings meaning remaining read_step reader first count found
+    reader' last =
     HasCounted (noted step) settings meaning remaining read_step reader (first, None) count found
     reader' (last, found)
     ⊎ ((offset : ℕ) × (outcome : Outcome E) × (found ≡ Some offset) × IsCount outcome count count
-    × HasCut step settings meaning remaining read_step reader first count offset outcome reader' last)
+    × HasCut step settings meaning remaining read_step reader first count offset outcome
+    reader' last)

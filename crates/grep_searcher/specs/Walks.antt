@@ -59,7 +59,8 @@ walk_past settings w passed = record w {
 abbrev pub is_over : Settings → Walk → Bool → Bool
 is_over settings w chosen =
     (settings.stop_on_nonmatch && nat_lt 0 w.match_count && not chosen)
-    || (not settings.passthru && is_at w.match_count settings.max_matches && w.after_context_left == 0)
+    || (not settings.passthru && is_at w.match_count settings.max_matches
+    && w.after_context_left == 0)
 
 -- the byte count after calls: that of the whole search, or the end of the turn that returned false
 abbrev pub IsCount : {E : Type 0} → Outcome E → ℕ → ℕ → Type 0
@@ -68,7 +69,8 @@ IsCount (stopped end) whole count = count ≡ end
 IsCount (failed e) whole count = ⊥
 
 -- the calls were made up to the first false or the last, with this outcome, and that is the byte count
-pub record Counted {S E : Type 0} (step : Steps S E) (settings : Settings) (old : S) (turns : List Turn)
+pub record Counted {S E : Type 0} (step : Steps S E) (settings : Settings) (old : S)
+    (turns : List Turn)
     (whole count : ℕ) (outcome : Outcome E) (new : S) : Type 0 where
   pub reported : AreReported step settings old turns outcome new
   pub is_count : IsCount outcome whole count
@@ -93,16 +95,20 @@ module _ (settings : Settings) (meaning : Meaning) (bytes : List ℕ) where
     pub placed : IsPlaced w
     pub near : IsNear settings meaning bytes w.reported_through w.line w.after_context_left
     pub opened : IsOpen settings meaning bytes w.line w.after_context_left w.match_count
-    pub ended : All (λ turn. turn.end ≤ w.offset) (turns_before settings meaning bytes w.reported_through)
+    pub ended : All (λ turn. turn.end ≤ w.offset)
+        (turns_before settings meaning bytes w.reported_through)
 
   -- the calls that are defined up to a walk were made from a first state on, and all returned true
-  pub record HasReported {S E : Type 0} (step : Steps S E) (first : S) (w : Walk) (now : S) : Type 0 where
+  pub record HasReported {S E : Type 0} (step : Steps S E) (first : S) (w : Walk)
+      (now : S) : Type 0 where
     pub walk : IsWalk w
-    pub reported : AreReported step settings first (turns_before settings meaning bytes w.reported_through) all_true now
+    pub reported : AreReported step settings first
+        (turns_before settings meaning bytes w.reported_through) all_true now
 
 -- a number that each call of a sink keeps is kept
 abbrev pub IsKept : {S E : Type 0} → Steps S E → Settings → S → S → Type 0
 IsKept {S} {E} step settings old new =
     (name : S → ℕ)
-    → ((s : S) (call : Call) (result : Result Bool E) (t : S) → step s settings call result t → name t ≡ name s)
+    → ((s : S) (call : Call) (result : Result Bool E) (t : S) → step s settings call result t
+    → name t ≡ name s)
     → name new ≡ name old

@@ -25,7 +25,8 @@ pub record IsLineIn (settings : Settings) (gone window : List ℕ) (position i :
 
 -- a walk is at `start` of a window, and of the lines before that which weren't reported the window has as many as are
 -- reported with a match
-pub record IsInWindow (settings : Settings) (gone window input : List ℕ) (start : ℕ) (w : Walk) : Type 0 where
+pub record IsInWindow (settings : Settings) (gone window input : List ℕ) (start : ℕ)
+    (w : Walk) : Type 0 where
   pub shown : IsWindow (byte_of settings.line_terminator) gone window input
   pub at : w.offset ≡ length gone + start
   pub line : IsLineIn settings gone window start w.line

@@ -4,6 +4,7 @@ ghost use Rattle.std.specs.Str.Lossy.{utf8_lossy};
 ghost use Rattle.grep_searcher.specs.ClosureSinks.{ClosuresAreCalled, ClosuresKeep};
 ghost use Rattle.grep_searcher.specs.ClosureSinks.{IsUtf8Text, IsLossyText, IsWholeText};
 ghost use Rattle.grep_definitions.specs.FileSearches.{IsFileRead};
+ghost use Rattle.grep_definitions.specs.Searches.{errors_by, facts_by};
 ghost use Rattle.grep_definitions.specs.SinkFolds.{RunsFold, RunsFoldAll, RunsFoldMatches};
 ghost use Rattle.grep_definitions.specs.SinkFolds.{SearchesRun, ReaderSearchesRun};
 ghost use Rattle.grep_definitions.specs.SinkFolds.{SearchesFail, ReaderSearchesFail, KnownReadersRun};
@@ -12,7 +13,7 @@ use crate::sink::Sink;
 use crate::sinks::{Bytes, Lossy, UTF8};
 use grep_decode::Source;
 pub use grep_definitions::laws::{
-    after_wins, at_most_limit, at_most_limit_across, clear_lines_are_reported, first_lines_begin,
+    after_wins, at_most_limit, at_most_limit_across, counted_reports_are_clear, first_lines_begin,
     first_match_is_first, inversion_complements, inversion_complements_across, lines_are_numbered,
     matches_are_all, matches_are_counted, matches_are_few, matches_are_selected, matches_decide,
     matches_touch_their_lines, quit_reports_are_clear, reports_are_apart_across,
@@ -90,17 +91,8 @@ pub fn searches_run<A: Allocator + Copy, M: Matcher, S: Sink>(_: &S)
 where
     S::Error: SinkError<A>,
     ensures { (matcher : M) → SearchesRun S.step
-        (record {
-          is_message = S.Error.is_message;
-          is_io = S.Error.is_io;
-          is_config = S.Error.is_config;
-        })
-        (record {
-          meaning = M.meaning matcher;
-          fails = M.fails matcher;
-          is_lawful = M.is_lawful matcher;
-          text_of = M.Error.output;
-        }) }
+        (errors_by S.Error.is_message S.Error.is_io S.Error.is_config)
+        (facts_by M.meaning M.fails M.is_lawful M.Error.output matcher) }
 {}
 
 /// The same of a search of a reader: it is a run over what was taken, whatever follows.
@@ -108,17 +100,8 @@ pub fn reader_searches_run<A: Allocator + Copy, M: Matcher, R: Source, S: Sink>(
 where
     S::Error: SinkError<A>,
     ensures { (matcher : M) → ReaderSearchesRun S.step
-        (record {
-          is_message = S.Error.is_message;
-          is_io = S.Error.is_io;
-          is_config = S.Error.is_config;
-        })
-        (record {
-          meaning = M.meaning matcher;
-          fails = M.fails matcher;
-          is_lawful = M.is_lawful matcher;
-          text_of = M.Error.output;
-        })
+        (errors_by S.Error.is_message S.Error.is_io S.Error.is_config)
+        (facts_by M.meaning M.fails M.is_lawful M.Error.output matcher)
         R.remaining R.step }
 {}
 
@@ -128,17 +111,8 @@ pub fn searches_fail<A: Allocator + Copy, M: Matcher, S: Sink>()
 where
     S::Error: SinkError<A>,
     ensures { (matcher : M) → SearchesFail S.step
-        (record {
-          is_message = S.Error.is_message;
-          is_io = S.Error.is_io;
-          is_config = S.Error.is_config;
-        })
-        (record {
-          meaning = M.meaning matcher;
-          fails = M.fails matcher;
-          is_lawful = M.is_lawful matcher;
-          text_of = M.Error.output;
-        }) }
+        (errors_by S.Error.is_message S.Error.is_io S.Error.is_config)
+        (facts_by M.meaning M.fails M.is_lawful M.Error.output matcher) }
 {}
 
 /// The same of a search of a reader: an error is that of a step of the sink, or one of reading.
@@ -146,17 +120,8 @@ pub fn reader_searches_fail<A: Allocator + Copy, M: Matcher, R: Source, S: Sink>
 where
     S::Error: SinkError<A>,
     ensures { (matcher : M) → ReaderSearchesFail S.step
-        (record {
-          is_message = S.Error.is_message;
-          is_io = S.Error.is_io;
-          is_config = S.Error.is_config;
-        })
-        (record {
-          meaning = M.meaning matcher;
-          fails = M.fails matcher;
-          is_lawful = M.is_lawful matcher;
-          text_of = M.Error.output;
-        })
+        (errors_by S.Error.is_message S.Error.is_io S.Error.is_config)
+        (facts_by M.meaning M.fails M.is_lawful M.Error.output matcher)
         R.remaining R.step }
 {}
 
@@ -166,17 +131,8 @@ pub fn known_readers_run<A: Allocator + Copy, M: Matcher, R: Source, S: Sink>()
 where
     S::Error: SinkError<A>,
     ensures { (matcher : M) → KnownReadersRun S.step
-        (record {
-          is_message = S.Error.is_message;
-          is_io = S.Error.is_io;
-          is_config = S.Error.is_config;
-        })
-        (record {
-          meaning = M.meaning matcher;
-          fails = M.fails matcher;
-          is_lawful = M.is_lawful matcher;
-          text_of = M.Error.output;
-        })
+        (errors_by S.Error.is_message S.Error.is_io S.Error.is_config)
+        (facts_by M.meaning M.fails M.is_lawful M.Error.output matcher)
         R.remaining R.step }
 {}
 
@@ -185,16 +141,7 @@ pub fn known_files_run<A: Allocator + Copy, M: Matcher, F: Read, S: Sink>()
 where
     S::Error: SinkError<A>,
     ensures { (matcher : M) → KnownReadersRun S.step
-        (record {
-          is_message = S.Error.is_message;
-          is_io = S.Error.is_io;
-          is_config = S.Error.is_config;
-        })
-        (record {
-          meaning = M.meaning matcher;
-          fails = M.fails matcher;
-          is_lawful = M.is_lawful matcher;
-          text_of = M.Error.output;
-        })
+        (errors_by S.Error.is_message S.Error.is_io S.Error.is_config)
+        (facts_by M.meaning M.fails M.is_lawful M.Error.output matcher)
         F.remaining (IsFileRead F.remaining) }
 {}

@@ -13,6 +13,7 @@ ghost use Rattle.grep_definitions.specs.ReaderSearches.{IsReaderSearched, IsUnre
 ghost use Rattle.grep_definitions.specs.ReadingFaults.{IsUndecoded};
 ghost use Rattle.grep_definitions.specs.Refusals.{refusal_of};
 ghost use Rattle.grep_definitions.specs.Searches.{IsFaultIn, IsInputSearched, IsSearched};
+ghost use Rattle.grep_definitions.specs.Searches.{errors_by, facts_by};
 ghost use Rattle.grep_definitions.specs.SearchTurns.{calls_if};
 ghost use Rattle.grep_definitions.specs.Settings.{default_settings};
 ghost use Rattle.grep_definitions.specs.SinkRuns.{NeverFails, Outcome};
@@ -65,7 +66,8 @@ impl<A: Allocator + Copy> Model for Searcher<A> {
 
     ghost Value = { SearcherState };
 
-    ghost view = { λ s. record { settings = settings_of s.config; has_buffers = is_some s.buffers } };
+    ghost view = { λ s. record
+        { settings = settings_of s.config; has_buffers = is_some s.buffers } };
 
     ghost invariant = { λ s.
         (s.config.passthru ≡ true → (s.config.after_context ≡ 0) × (s.config.before_context ≡ 0))
@@ -77,7 +79,8 @@ impl<A: Allocator + Copy> Searcher<A> {
     /// The searcher with the default settings, those of `SearcherBuilder::new`. The only error is `Memory`, if there is
     /// none for its buffers.
     pub fn new(alloc: A) -> Result<Searcher<A>, ConfigError>
-        ensures settings { IfOk result (λ searcher. searcher ≡ record { settings = default_settings; has_buffers = true }) }
+        ensures settings { IfOk result
+            (λ searcher. searcher ≡ record { settings = default_settings; has_buffers = true }) }
         ensures error { IfErr result (λ e. e ≡ ConfigError.Memory) }
     {
         SearcherBuilder::new().build(alloc)
@@ -135,9 +138,10 @@ impl<A: Allocator + Copy> Searcher<A> {
     /// way. The settings stay as they were, and a searcher that has its buffers has them afterwards.
     ///
     /// Under `BinaryDetection::Quit` a slice that is searched as it is ends at a binary byte: after `begin` it is looked
-    /// for in the first 65,536 bytes, and then in what each report would show. Where it is found, `binary_data` is called
-    /// with its offset in place of that report and its break, and then `finish` with that offset. A byte in other lines
-    /// isn't looked for. `BinaryDetection::Convert` changes nothing of such a search.
+    /// for in the first 65,536 bytes, and then in what each report would show. If it is found, no other report is made, nor
+    /// the break before it: `binary_data` is called with its offset, and then `finish` with that offset. The byte count is
+    /// 0 if it was among the first bytes, and its offset if it was in a report. A byte in other lines isn't looked for.
+    /// `BinaryDetection::Convert` changes nothing of such a search.
     pub fn search_slice<M: Matcher, S: Sink>(
         &mut self,
         matcher: M,
@@ -150,19 +154,11 @@ impl<A: Allocator + Copy> Searcher<A> {
         requires { S.may_call sink.old }
         ensures settings { self.new.settings ≡ self.old.settings }
         ensures buffers { self.old.has_buffers ≡ true → self.new.has_buffers ≡ true }
-        ensures same { is_searched_unchanged self.old.settings bytes.now ≡ true → self.new ≡ self.old }
+        ensures same { is_searched_unchanged self.old.settings bytes.now ≡ true
+            → self.new ≡ self.old }
         ensures searched { IsSearched S.step
-            (record {
-              is_message = S.Error.is_message;
-              is_io = S.Error.is_io;
-              is_config = S.Error.is_config;
-            })
-            (record {
-              meaning = M.meaning matcher;
-              fails = M.fails matcher;
-              is_lawful = M.is_lawful matcher;
-              text_of = M.Error.output;
-            })
+            (errors_by S.Error.is_message S.Error.is_io S.Error.is_config)
+            (facts_by M.meaning M.fails M.is_lawful M.Error.output matcher)
             self.old bytes.now sink.old result sink.new }
         ensures completes { NeverFails S.step S.may_call → IsInfallible (M.fails matcher)
             → refusal_of self.old.settings (M.meaning matcher) ≡ None
@@ -171,7 +167,8 @@ impl<A: Allocator + Copy> Searcher<A> {
             → IsLawfulFor self.old.settings (M.meaning matcher) (M.is_lawful matcher)
             → refusal_of self.old.settings (M.meaning matcher) ≡ None
             → IfErr result (λ e. (seen : Option (List ℕ)) × (error : Error)
-            × IsUndecoded self.old (M.meaning matcher) bytes.now seen error × S.Error.is_io error e) }
+            × IsUndecoded self.old (M.meaning matcher) bytes.now seen error
+            × S.Error.is_io error e) }
         ensures may_call { S.may_call sink.new }
     {
         match self.refusal(&matcher) {
@@ -201,7 +198,8 @@ impl<A: Allocator + Copy> Searcher<A> {
     /// Under binary detection a search by line calls `binary_data` with the offset of the first binary byte once the
     /// buffer has it, before the lines that were read with it are searched. `BinaryDetection::Quit` ends the search
     /// there, and so does a false; `BinaryDetection::Convert` goes on, and each binary byte is searched as the line
-    /// terminator's byte. `finish` has that offset then. Such a search reads even if no line may have a turn.
+    /// terminator's byte. `finish` has that offset then. A byte that ends lines isn't converted, nor reported so. Such a
+    /// search reads even if no line may have a turn.
     ///
     /// A search across lines (`multi_line_with_matcher`) first reads the reader to its end, and keeps all decoded bytes
     /// in memory. If an error of reading comes then, the sink has no call: the reader's error; one of kind `Other`, once
@@ -223,23 +221,15 @@ impl<A: Allocator + Copy> Searcher<A> {
         ensures buffers { self.old.has_buffers ≡ true → self.new.has_buffers ≡ true }
         ensures gets { OnOk result (self.new.has_buffers ≡ true) }
         ensures searched { IsReaderSearched R.remaining R.step S.step
-            (record {
-              is_message = S.Error.is_message;
-              is_io = S.Error.is_io;
-              is_config = S.Error.is_config;
-            })
-            (record {
-              meaning = M.meaning matcher;
-              fails = M.fails matcher;
-              is_lawful = M.is_lawful matcher;
-              text_of = M.Error.output;
-            })
+            (errors_by S.Error.is_message S.Error.is_io S.Error.is_config)
+            (facts_by M.meaning M.fails M.is_lawful M.Error.output matcher)
             self.old reader.old sink.old result reader.new sink.new }
         ensures succeeds { NeverFails S.step S.may_call → IsInfallible (M.fails matcher)
             → IsLawfulFor self.old.settings (M.meaning matcher) (M.is_lawful matcher)
             → refusal_of self.old.settings (M.meaning matcher) ≡ None
             → IfErr result (λ e. (seen : Option (List ℕ)) × (error : Error)
-            × IsUnread R.remaining R.step self.old (M.meaning matcher) reader.old seen error reader.new
+            × IsUnread R.remaining R.step self.old
+            (M.meaning matcher) reader.old seen error reader.new
             × S.Error.is_io error e) }
         ensures may_call { S.may_call sink.new }
     {
@@ -321,27 +311,21 @@ impl<A: Allocator + Copy> Searcher<A> {
         requires may_call { S.may_call sink.old }
         ensures settings { self.new.settings ≡ self.old.settings }
         ensures buffers { self.old.has_buffers ≡ true → self.new.has_buffers ≡ true }
-        ensures same { is_searched_unchanged self.old.settings input.now ≡ true → self.new ≡ self.old }
-        ensures searched { IsLawfulFor self.old.settings (M.meaning matcher.now) (M.is_lawful matcher.now)
+        ensures same { is_searched_unchanged self.old.settings input.now ≡ true
+            → self.new ≡ self.old }
+        ensures searched { IsLawfulFor self.old.settings (M.meaning matcher.now)
+            (M.is_lawful matcher.now)
             → IsInputSearched S.step
-            (record {
-              is_message = S.Error.is_message;
-              is_io = S.Error.is_io;
-              is_config = S.Error.is_config;
-            })
-            (record {
-              meaning = M.meaning matcher.now;
-              fails = M.fails matcher.now;
-              is_lawful = M.is_lawful matcher.now;
-              text_of = M.Error.output;
-            })
+            (errors_by S.Error.is_message S.Error.is_io S.Error.is_config)
+            (facts_by M.meaning M.fails M.is_lawful M.Error.output matcher.now)
             self.old input.now sink.old result sink.new }
         ensures completes { NeverFails S.step S.may_call → IsInfallible (M.fails matcher.now)
             → is_searched_unchanged self.old.settings input.now ≡ true → IsOk result }
         ensures succeeds { NeverFails S.step S.may_call → IsInfallible (M.fails matcher.now)
             → IsLawfulFor self.old.settings (M.meaning matcher.now) (M.is_lawful matcher.now)
             → IfErr result (λ e. (seen : Option (List ℕ)) × (error : Error)
-            × IsUndecoded self.old (M.meaning matcher.now) input.now seen error × S.Error.is_io error e) }
+            × IsUndecoded self.old (M.meaning matcher.now) input.now seen error
+            × S.Error.is_io error e) }
         ensures may_call { S.may_call sink.new }
     {
         unchanged_is_searched();
@@ -362,20 +346,13 @@ impl<A: Allocator + Copy> Searcher<A> {
     where
         S::Error: SinkError<A>,
         requires { S.may_call sink.old }
-        ensures searched { IsLawfulFor self.now.settings (M.meaning matcher.now) (M.is_lawful matcher.now)
+        ensures searched { IsLawfulFor self.now.settings (M.meaning matcher.now)
+            (M.is_lawful matcher.now)
             → IsBytesSearched S.step
-            (record {
-              is_message = S.Error.is_message;
-              is_io = S.Error.is_io;
-              is_config = S.Error.is_config;
-            })
-            (record {
-              meaning = M.meaning matcher.now;
-              fails = M.fails matcher.now;
-              is_lawful = M.is_lawful matcher.now;
-              text_of = M.Error.output;
-            })
-            (look_at self.now.settings.binary_detection false) self.now.settings bytes.now sink.old result sink.new }
+            (errors_by S.Error.is_message S.Error.is_io S.Error.is_config)
+            (facts_by M.meaning M.fails M.is_lawful M.Error.output matcher.now)
+            (look_at self.now.settings.binary_detection false) self.now.settings bytes.now sink.old
+            result sink.new }
         ensures succeeds { NeverFails S.step S.may_call → IsInfallible (M.fails matcher.now)
             → IsOk result }
         ensures may_call { S.may_call sink.new }
@@ -400,26 +377,19 @@ impl<A: Allocator + Copy> Searcher<A> {
         S::Error: SinkError<A>,
         requires { S.may_call sink.old }
         ensures reported { IfOk result (λ count.
-            (is_across ≡ false → IsLawfulFor self.now.settings (M.meaning matcher.now) (M.is_lawful matcher.now))
+            (is_across ≡ false → IsLawfulFor self.now.settings (M.meaning matcher.now)
+            (M.is_lawful matcher.now))
             → (outcome : Outcome S.Error)
             × Counted S.step self.now.settings sink.old
             ((calls_if self.now.settings (M.meaning matcher.now) is_across).turns bytes.now)
             ((calls_if self.now.settings (M.meaning matcher.now) is_across).byte_count bytes.now)
             count outcome sink.new) }
         ensures fault { IfErr result (λ e.
-            (is_across ≡ false → IsLawfulFor self.now.settings (M.meaning matcher.now) (M.is_lawful matcher.now))
+            (is_across ≡ false → IsLawfulFor self.now.settings (M.meaning matcher.now)
+            (M.is_lawful matcher.now))
             → IsFaultIn S.step
-            (record {
-              is_message = S.Error.is_message;
-              is_io = S.Error.is_io;
-              is_config = S.Error.is_config;
-            })
-            (record {
-              meaning = M.meaning matcher.now;
-              fails = M.fails matcher.now;
-              is_lawful = M.is_lawful matcher.now;
-              text_of = M.Error.output;
-            })
+            (errors_by S.Error.is_message S.Error.is_io S.Error.is_config)
+            (facts_by M.meaning M.fails M.is_lawful M.Error.output matcher.now)
             (calls_if self.now.settings (M.meaning matcher.now) is_across)
             self.now.settings bytes.now sink.old e sink.new) }
         ensures succeeds { NeverFails S.step S.may_call → IsInfallible (M.fails matcher.now)

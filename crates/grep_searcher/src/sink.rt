@@ -96,7 +96,8 @@ pub trait Sink {
         finish: &SinkFinish,
     ) -> Result<(), Self::Error>
         requires { may_call self.old }
-        ensures step { step self.old searcher.now.settings (finish_call finish.now) (finish_result result)
+        ensures step { step self.old searcher.now.settings (finish_call finish.now)
+            (finish_result result)
             self.new }
         ensures may_call { may_call self.new };
 }

@@ -1,9 +1,11 @@
 -- How calls are written, and what a recorder returns at each.
-use Rattle.std.specs.Prelude.{◌≡◌, ◌⊎◌, ℕ, ◌==◌, not, Bool, true, false, List, ◌++◌, codes, decimal, Option, Some, None, Result, MatchResult}
+use Rattle.std.specs.Prelude.{◌≡◌, ◌⊎◌, ℕ, ◌==◌, not, Bool, true, false, List, ◌++◌, codes, decimal}
+use Rattle.std.specs.Prelude.{Option, Some, None, Result, MatchResult}
 use Rattle.hex.specs.Hex.{encode_lower}
 use Rattle.grep_searcher.specs.declared.SinkContextKind.{SinkContextKind}
 use Rattle.grep_searcher.specs.declared.SinkContextKind.TheVariants.{Before, After, Other}
-use Rattle.grep_searcher.specs.SinkCalls.{Call, begins, matches, context, breaks, binary_data, finishes}
+use Rattle.grep_searcher.specs.SinkCalls.{Call, begins, matches, context, breaks, binary_data}
+use Rattle.grep_searcher.specs.SinkCalls.{finishes}
 use Rattle.grep_testing.specs.Counts.{counted}
 
 -- a number, or a dash for none
@@ -51,8 +53,8 @@ is_asked breaks = true
 is_asked (binary_data offset) = true
 is_asked (finishes count binary) = false
 
--- the text of the calls that were made, how many these were, and at which call, counted from 1, false or an error is
--- returned, if at any
+-- the text of the calls that were made, how many these were, and at which call, counted from 1,
+-- false or an error is returned, if at any
 pub record Notes : Type 0 where
   pub text : List ℕ
   pub calls : ℕ
@@ -77,12 +79,14 @@ goes_on true false_at call = not (is_at false_at call)
 abbrev pub IsWritten : Notes → List ℕ → Notes → Type 0
 IsWritten old text new = IsAdded old text new × (is_at old.error_at new.calls ≡ false)
 
--- there was no memory for a call, and nothing changed; or it is written and counted, and is the one to fail
+-- there was no memory for a call, and nothing changed; or it is written and counted, and is the one
+-- to fail
 abbrev pub IsFailed : Notes → List ℕ → Notes → Type 0
 IsFailed old text new = (new ≡ old) ⊎ (IsAdded old text new × (is_at old.error_at new.calls ≡ true))
 
 -- what a recorder does at a call
 abbrev pub IsNoted : {E : Type 0} → Notes → Call → Result Bool E → Notes → Type 0
 IsNoted old call result new = MatchResult result
-    (λ goes. IsWritten old (call_text call) new × (goes ≡ goes_on (is_asked call) old.false_at new.calls))
+    (λ goes. IsWritten old (call_text call) new
+    × (goes ≡ goes_on (is_asked call) old.false_at new.calls))
     (λ _. IsFailed old (call_text call) new)

@@ -7,7 +7,11 @@ use Rattle.grep_matcher.specs.Literals.{literal_match}
 
 -- some first matches, with a terminator that is named and no byte set
 abbrev pub naming : LineTerminator → (List ℕ → Option (ℕ × ℕ)) → Meaning
-naming terminator first = record { first = first; terminator = Some terminator; absent = λ _. false }
+naming terminator first = record {
+  first = first;
+  terminator = Some terminator;
+  absent = λ _. false;
+}
 
 -- the empty haystack matches, and no other
 abbrev pub empty_match : List ℕ → Option (ℕ × ℕ)
@@ -19,4 +23,5 @@ end_match haystack = Some (length haystack, length haystack)
 
 -- the match of the first literal, or else that of the second
 abbrev pub either_match : List ℕ → List ℕ → List ℕ → Option (ℕ × ℕ)
-either_match first second haystack = option_or (literal_match first haystack) (literal_match second haystack)
+either_match first second haystack =
+    option_or (literal_match first haystack) (literal_match second haystack)

@@ -7,8 +7,8 @@ use std::io;
 // The error of `CandidatesOnly`.
 const CANDIDATES_ONLY: &str = "only candidates are found";
 
-/// Another matcher, of which only candidates among many lines are found: any other question about a haystack fails. Its
-/// meaning is the other's.
+/// Another matcher, of which only candidates among many lines are found: any other question about a
+/// haystack fails. Its meaning is the other's.
 #[derive(Drop)]
 pub struct CandidatesOnly<M>(pub M);
 
@@ -41,8 +41,8 @@ impl<M: Matcher> Matcher for CandidatesOnly<M> {
     }
 }
 
-/// Another matcher, for which every line is a candidate: of lines that are split at a line feed it finds the first, as
-/// a `Candidate` at its last byte.
+/// Another matcher, for which every line is a candidate: of lines that are split at a line feed it
+/// finds the first, as a `Candidate` at its last byte.
 #[derive(Drop)]
 pub struct EveryLine<M>(pub M);
 
@@ -78,8 +78,8 @@ impl<M: Matcher> Matcher for EveryLine<M> {
     }
 }
 
-/// Matches nothing, and declares a line feed. Of lines that end in one it confirms the position at their end, which is
-/// in no line. It never fails.
+/// Matches nothing, and declares a line feed. Of lines that end in one it confirms the position at
+/// their end, which is in no line. It never fails.
 #[derive(Drop)]
 pub struct ConfirmsEnd;
 
@@ -117,8 +117,8 @@ impl Matcher for ConfirmsEnd {
     }
 }
 
-/// Matches every haystack or none, declares a line feed, and says the contrary of many lines: that none of them matches,
-/// or surely the first. So it is lawful for no terminator. It never fails.
+/// Matches every haystack or none, declares a line feed, and says the contrary of many lines: that
+/// none of them matches, or surely the first. So it is lawful for no terminator. It never fails.
 #[derive(Drop)]
 pub struct Contrary {
     /// Whether every haystack matches, at its start.

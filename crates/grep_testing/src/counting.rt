@@ -19,8 +19,8 @@ pub struct Counts {
     pub candidates: u64,
 }
 
-/// Another matcher, whose calls with a haystack are counted; each is passed on as the same call. A call whose haystack
-/// isn't the expected one is counted as a stray, and one of the calls may fail.
+/// Another matcher, whose calls with a haystack are counted; each is passed on as the same call. A
+/// call whose haystack isn't the expected one is counted as a stray, and one of the calls may fail.
 #[derive(Drop)]
 pub struct Counting<'a, M> {
     matcher: M,
@@ -34,8 +34,9 @@ pub struct Counting<'a, M> {
 }
 
 impl<'a, M> Counting<'a, M> {
-    /// The calls of `matcher`, which are expected to be for the haystacks of `expected`, in that order and no more.
-    /// `fault` is which call fails, counted from 1, and its error; that call isn't passed on.
+    /// The calls of `matcher`, which are expected to be for the haystacks of `expected`, in that
+    /// order and no more. `fault` is which call fails, counted from 1, and its error; that call
+    /// isn't passed on.
     pub fn new(
         matcher: M,
         expected: &'a [&'a [u8]],
@@ -76,7 +77,8 @@ impl<'a, M> Counting<'a, M> {
             .saturating_add(counts.candidates)
     }
 
-    /// How many calls had another haystack than the expected one, or came after all that were expected.
+    /// How many calls had another haystack than the expected one, or came after all that were
+    /// expected.
     pub fn strays(&self) -> u64 {
         self.strays.get()
     }

@@ -1,5 +1,5 @@
-//! What tests of searches share: a reader that gives its bytes in pieces, a sink that writes its calls as text, and
-//! matchers that do what no literal matcher does.
+//! What tests of searches share: a reader that gives its bytes in pieces, a sink that writes its
+//! calls as text, and matchers that do what no literal matcher does.
 #![tactic(auto)]
 
 mod candidates;

@@ -2,8 +2,8 @@
 use grep_matcher::{ByteSet, LineMatchKind, LineTerminator, LiteralMatcher, Match, Matcher};
 use std::io;
 
-/// The matches of a matcher, with a terminator that it names and no byte set. Of many lines it finds the matcher's
-/// candidates.
+/// The matches of a matcher, with a terminator that it names and no byte set. Of many lines it
+/// finds the matcher's candidates.
 #[derive(Drop)]
 pub struct Naming<M> {
     /// Whose matches these are.
@@ -104,8 +104,8 @@ impl Matcher for AtEnd {
     }
 }
 
-/// Either of two literals. The match is that of the first literal, or that of the second if the first has none. It
-/// never fails.
+/// Either of two literals. The match is that of the first literal, or that of the second if the
+/// first has none. It never fails.
 #[derive(Drop)]
 pub struct Either {
     /// The literal that is looked for first.

@@ -6,7 +6,8 @@ use std::io;
 use std::io::Read;
 use std::marker::Model;
 
-/// A reader of a slice, which gives a piece of it at a read. It counts its reads, and one of them may fail.
+/// A reader of a slice, which gives a piece of it at a read. It counts its reads, and one of them
+/// may fail.
 #[derive(Drop)]
 pub struct Pieces<'a> {
     bytes: &'a [u8],
@@ -29,8 +30,9 @@ impl<'a> Model for Pieces<'a> {
 }
 
 impl<'a> Pieces<'a> {
-    /// The reader of `bytes`. It gives at most `piece` bytes at a read, or as many as are asked for if `piece` is 0.
-    /// `fault` is which read fails, counted from 1, and its error; that read takes no bytes, and the next goes on.
+    /// The reader of `bytes`. It gives at most `piece` bytes at a read, or as many as are asked for
+    /// if `piece` is 0. `fault` is which read fails, counted from 1, and its error; that read takes
+    /// no bytes, and the next goes on.
     pub fn new(bytes: &'a [u8], piece: usize, fault: Option<(u64, io::Error)>) -> Pieces<'a>
         ensures { result ≡ record { bytes = bytes.now; piece = piece; reads = 0; fault = fault } }
     {

@@ -1,6 +1,7 @@
 //! A sink that writes down its calls.
 ghost use Rattle.std.specs.Prelude.{◌≡◌, [], true, IfOk, OnOk, OnErr, string_bytes};
-ghost use Rattle.grep_testing.specs.CallTexts.{IsWritten, IsFailed, goes_on, line_text, binary_text, finish_text, kind_text};
+ghost use Rattle.grep_testing.specs.CallTexts.{IsWritten, IsFailed, goes_on, line_text};
+ghost use Rattle.grep_testing.specs.CallTexts.{binary_text, finish_text, kind_text};
 
 use grep_searcher::{
     SearchError, Searcher, Sink, SinkContext, SinkContextKind, SinkError, SinkFinish, SinkMatch,
@@ -22,8 +23,8 @@ pub const RECORDER_MESSAGE: &str = "the recorder fails here";
 /// finish COUNT BINARY_OFFSET   BINARY_OFFSET is - without one
 /// ```
 ///
-/// One of its calls may return false, and one an error. A call that finds no memory for its text returns an `Io` error,
-/// and isn't written.
+/// One of its calls may return false, and one an error. A call that finds no memory for its text
+/// returns an `Io` error, and isn't written.
 #[derive(Drop)]
 pub struct Recorder {
     alloc: Global,
@@ -48,11 +49,16 @@ impl Model for Recorder {
 }
 
 impl Recorder {
-    /// A recorder with no calls yet. Calls are counted from 1, and the first is `begin`. The call `false_at`,
-    /// if it isn't `finish`, will return false; the call `error_at` will be written and then return a
-    /// `Message` error with `RECORDER_MESSAGE`.
+    /// A recorder with no calls yet. Calls are counted from 1, and the first is `begin`. The call
+    /// `false_at`, if it isn't `finish`, will return false; the call `error_at` will be written and
+    /// then return a `Message` error with `RECORDER_MESSAGE`.
     pub fn new(alloc: Global, false_at: Option<u64>, error_at: Option<u64>) -> Recorder
-        ensures { result ≡ record { text = []; calls = 0; false_at = false_at; error_at = error_at } }
+        ensures { result ≡ record {
+          text = [];
+          calls = 0;
+          false_at = false_at;
+          error_at = error_at;
+        } }
     {
         Recorder {
             alloc,
@@ -70,7 +76,8 @@ impl Recorder {
         self.text.as_str()
     }
 
-    // Adds a call's text, and fails if the call is the one to fail. Without memory for the text nothing changes.
+    // Adds a call's text, and fails if the call is the one to fail. Without memory for the text
+    // nothing changes.
     fn add(&mut self, call: &str) -> Result<(), SearchError>
         ensures ok { OnOk result (IsWritten self.old call.now self.new) }
         ensures err { OnErr result (IsFailed self.old call.now self.new) }

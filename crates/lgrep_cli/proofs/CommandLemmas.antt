@@ -1,6 +1,7 @@
 -- Arguments that are read one after another.
 use Rattle.std.proofs.Common.{◌≡◌, ℕ, List, [], ◌∷◌, length, refl, sym, ap, subst, ◌∙◌, inl, inr, Iter}
-use Rattle.std.specs.Prelude.{Bool, true, false, ◌||◌, ◌⊎◌, ◌↔◌, codes, String, Option, Some, None, Result, Ok, Err, IfOk, if◌then◌else◌, MatchOption, string_bytes}
+use Rattle.std.specs.Prelude.{Bool, true, false, ◌||◌, ◌⊎◌, ◌↔◌, codes, String, Option, Some, None, Result, Ok, Err, IfOk, if◌then◌else◌}
+use Rattle.std.specs.Prelude.{MatchOption, string_bytes}
 use Rattle.std.specs.Bool.{Decides}
 use Rattle.std.specs.Borrow.{Bor}
 use Rattle.std.specs.Global.{Global}
@@ -11,7 +12,9 @@ use Rattle.std.proofs.lemmas.Slice.Eq.{bytes_eq-Decides}
 use Rattle.lgrep_cli.specs.declared.options.Options.{Options}
 use Rattle.lgrep_cli.specs.declared.options.OptionsFault.{OptionsFault}
 use Rattle.lgrep_cli.specs.declared.options.OptionsFault.TheVariants.{Usage, Memory}
-use Rattle.lgrep_cli.specs.CommandLine.{Request, AreLast, AreOptionsOf, AskFor, bare, is_dashed, operands, operands_in, operands_of, with_number, request_of, text_of, texts, with_invert, with_multi_line, with_passthru, with_after, with_before, with_max}
+use Rattle.lgrep_cli.specs.CommandLine.{Request, AreLast, AreOptionsOf, AskFor, bare, is_dashed, operands, operands_in, operands_of}
+use Rattle.lgrep_cli.specs.CommandLine.{with_number, request_of, text_of, texts, with_invert, with_multi_line, with_passthru, with_after}
+use Rattle.lgrep_cli.specs.CommandLine.{with_before, with_max}
 use Rattle.lgrep_cli.specs.Numerals.{number_of}
 
 -- what a request comes to

@@ -1,5 +1,7 @@
 -- What the arguments of a program ask for.
-use Rattle.std.specs.Prelude.{◌≡◌, ℕ, Bool, true, false, ◌&&◌, ◌==◌, codes, if◌then◌else◌, List, [], ◌∷◌, ◌++◌, map, length, nat_lt, slice_index, Option, Some, None, option_to_list, String, string_bytes}
+use Rattle.std.specs.Prelude.{◌≡◌, ℕ, Bool, true, false, ◌&&◌, ◌==◌, codes, if◌then◌else◌, List, []}
+use Rattle.std.specs.Prelude.{◌∷◌, ◌++◌, map, length, nat_lt, slice_index, Option, Some, None}
+use Rattle.std.specs.Prelude.{option_to_list, String, string_bytes}
 use Rattle.std.specs.Borrow.{Bor}
 use Rattle.std.specs.Global.{Global}
 use Rattle.std.specs.Option.{option_map, unwrap_or}
@@ -66,18 +68,23 @@ operands_of (literal ∷ []) = Some (bare literal)
 operands_of (literal ∷ path ∷ []) = Some (record (bare literal) { path = Some path })
 operands_of (literal ∷ path ∷ next ∷ later) = None
 
--- what some arguments ask for; `None` is a usage error. The options come first, each with its number if it needs
--- one, and `--` ends them; the others are the literal and the path
+-- what some arguments ask for; `None` is a usage error. The options come first, each with its
+-- number if it needs one, and `--` ends them; the others are the literal and the path
 abbrev pub request_of : List (List ℕ) → Option Request
 request_of [] = None
 request_of (argument ∷ []) = if is_dashed argument then None else operands_of (argument ∷ [])
 request_of (argument ∷ next ∷ later) =
     if bytes_eq argument (codes "-v") then option_map with_invert (request_of (next ∷ later))
-    else if bytes_eq argument (codes "-U") then option_map with_multi_line (request_of (next ∷ later))
-    else if bytes_eq argument (codes "--passthru") then option_map with_passthru (request_of (next ∷ later))
-    else if bytes_eq argument (codes "-A") then with_number with_after (number_of next) (request_of later)
-    else if bytes_eq argument (codes "-B") then with_number with_before (number_of next) (request_of later)
-    else if bytes_eq argument (codes "-m") then with_number with_max (number_of next) (request_of later)
+    else if bytes_eq argument (codes "-U")
+    then option_map with_multi_line (request_of (next ∷ later))
+    else if bytes_eq argument (codes "--passthru")
+    then option_map with_passthru (request_of (next ∷ later))
+    else if bytes_eq argument (codes "-A")
+    then with_number with_after (number_of next) (request_of later)
+    else if bytes_eq argument (codes "-B")
+    then with_number with_before (number_of next) (request_of later)
+    else if bytes_eq argument (codes "-m")
+    then with_number with_max (number_of next) (request_of later)
     else if bytes_eq argument (codes "--") then operands_of (next ∷ later)
     else if is_dashed argument then None
     else operands_of (argument ∷ next ∷ later)

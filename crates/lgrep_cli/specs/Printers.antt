@@ -5,7 +5,8 @@ use Rattle.std.specs.declared.io.Error.{Error}
 use Rattle.grep_searcher.specs.declared.SearchError.{SearchError}
 use Rattle.grep_searcher.specs.declared.SearchError.TheVariants.{Io}
 use Rattle.grep_searcher.specs.Settings.{Settings}
-use Rattle.grep_searcher.specs.SinkCalls.{Call, begins, matches, context, breaks, binary_data, finishes}
+use Rattle.grep_searcher.specs.SinkCalls.{Call, begins, matches, context, breaks, binary_data}
+use Rattle.grep_searcher.specs.SinkCalls.{finishes}
 use Rattle.grep_searcher.specs.SearchLaws.{is_match}
 use Rattle.lgrep_cli.specs.Texts.{call_text}
 use Rattle.lgrep_cli.specs.Writing.{Writes}
@@ -22,7 +23,8 @@ is_written (finishes count binary) = false
 
 module _ {W : Type 0} (contents : W → Option (List ℕ)) where
   -- a call returns true: its text is written, and whether a match was reported is kept
-  pub record PrintsCall (old : Printer W) (call : Call) (goes_on : Bool) (new : Printer W) : Type 0 where
+  pub record PrintsCall (old : Printer W) (call : Call) (goes_on : Bool) (new : Printer W)
+      : Type 0 where
     pub same_writer : new.writer.ghost_name ≡ old.writer.ghost_name
     pub continues : goes_on ≡ true
     pub written : Writes contents old.writer.now (call_text call) (Ok tt) new.writer.now
@@ -30,7 +32,8 @@ module _ {W : Type 0} (contents : W → Option (List ℕ)) where
     pub has_failed : new.has_failed ≡ old.has_failed
 
   -- a call that has a text fails with the writer's error, after some first bytes of the text
-  pub record FailsAtCall (old : Printer W) (call : Call) (e : SearchError Global) (new : Printer W) : Type 0 where
+  pub record FailsAtCall (old : Printer W) (call : Call) (e : SearchError Global) (new : Printer W)
+      : Type 0 where
     pub same_writer : new.writer.ghost_name ≡ old.writer.ghost_name
     pub has_text : is_written call ≡ true
     pub has_failed : new.has_failed ≡ true
@@ -39,6 +42,7 @@ module _ {W : Type 0} (contents : W → Option (List ℕ)) where
     pub written : Writes contents old.writer.now (call_text call) (Err error) new.writer.now
 
   -- what a printer does at a call
-  abbrev pub Prints : Printer W → Settings → Call → Result Bool (SearchError Global) → Printer W → Type 0
+  abbrev pub Prints : Printer W → Settings → Call → Result Bool (SearchError Global)
+      → Printer W → Type 0
   Prints old settings call (Ok goes_on) new = PrintsCall old call goes_on new
   Prints old settings call (Err e) new = FailsAtCall old call e new

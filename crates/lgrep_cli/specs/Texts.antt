@@ -1,14 +1,17 @@
 -- The text that lgrep writes for the calls of a search.
-use Rattle.std.specs.Prelude.{ℕ, ◌+◌, ◌-◌, ◌^◌, min, Bool, false, ◌||◌, ◌==◌, if◌then◌else◌, List, [], ◌∷◌, ◌++◌, length, slice_index, decimal, Option, Some, None}
+use Rattle.std.specs.Prelude.{ℕ, ◌+◌, ◌-◌, ◌^◌, min, Bool, false, ◌||◌, ◌==◌, if◌then◌else◌, List}
+use Rattle.std.specs.Prelude.{[], ◌∷◌, ◌++◌, length, slice_index, decimal, Option, Some, None}
 use Rattle.grep_matcher.specs.Lines.{lines}
 use Rattle.grep_searcher.specs.SearchLaws.{is_match}
-use Rattle.grep_searcher.specs.SinkCalls.{Call, Turn, begins, matches, context, breaks, binary_data, finishes}
+use Rattle.grep_searcher.specs.SinkCalls.{Call, Turn, begins, matches, context, breaks, binary_data}
+use Rattle.grep_searcher.specs.SinkCalls.{finishes}
 
 -- a line with a line feed at its end, which is added if there is none
 abbrev pub ended : List ℕ → List ℕ
 ended line = if slice_index line (length line - 1) == 10 then line else line ++ 10 ∷ []
 
--- a line after its number, if it has one, and a mark: a colon for a match, a dash for any other line
+-- a line after its number, if it has one, and a mark: a colon for a match, a dash for any other
+-- line
 abbrev pub numbered : Option ℕ → ℕ → List ℕ → List ℕ
 numbered None mark line = ended line
 numbered (Some number) mark line = decimal number ++ mark ∷ ended line

@@ -18,10 +18,12 @@ Begins part text = (rest : List ℕ) × (text ≡ part ++ rest)
 
 -- an error of a write: the last call returned it, or took none of the bytes that were left
 abbrev pub IsWriteError : LastCall → Error → Type 0
-IsWriteError last error = (last ≡ Write (Err error)) ⊎ ((last ≡ Write (Ok 0)) × (error_kind error ≡ WriteZero))
+IsWriteError last error = (last ≡ Write (Err error))
+    ⊎ ((last ≡ Write (Ok 0)) × (error_kind error ≡ WriteZero))
 
 module _ {W : Type 0} (contents : W → Option (List ℕ)) where
-  -- a text is written: the known bytes grow by it, or by some first bytes of it, and then the last write failed
+  -- a text is written: the known bytes grow by it, or by some first bytes of it, and then the last
+  -- write failed
   abbrev pub Writes : Writer W → List ℕ → Result (Unit {0}) Error → Writer W → Type 0
   Writes old text (Ok u) new = Appends (contents old.inner) (contents new.inner) text
   Writes old text (Err error) new =

@@ -1,8 +1,9 @@
-//! A search of lines for a literal, as a program makes it: the options that its arguments ask for, the search of a
-//! reader or a file, whose text is written, and the status that the program exits with.
+//! A search of lines for a literal, as a program makes it: the options that its arguments ask for,
+//! the search of a reader or a file, whose text is written, and the status that the program exits
+//! with.
 //!
-//! `specs/CommandLine.antt` defines what arguments ask for, `specs/Texts.antt` the text of a search's calls, and
-//! `specs/ProgramRuns.antt` what a run does. `CALLING.md` has an example.
+//! `specs/CommandLine.antt` defines what arguments ask for, `specs/Texts.antt` the text of a
+//! search's calls, and `specs/ProgramRuns.antt` what a run does. `CALLING.md` has an example.
 #![tactic(auto)]
 
 mod exit;

@@ -3,7 +3,8 @@ ghost use Rattle.std.specs.Prelude.{◌≡◌, ◌↔◌, [], ◌∷◌, None, E
 ghost use Rattle.std.specs.Option.{ok_or, option_and_then};
 ghost use Rattle.std.specs.Char.{is_ascii_digit};
 ghost use Rattle.std.specs.List.{list_all};
-ghost use Rattle.lgrep_cli.specs.CommandLine.{bare, is_dashed, operands_in, operands_of, text_of, texts};
+ghost use Rattle.lgrep_cli.specs.CommandLine.{bare, is_dashed, operands_in, operands_of, text_of};
+ghost use Rattle.lgrep_cli.specs.CommandLine.{texts};
 ghost use Rattle.lgrep_cli.specs.CommandLine.{AreLast, AreOptionsOf, AskFor, AskForNothing};
 ghost use Rattle.lgrep_cli.specs.Numerals.{is_numeral, number_of};
 
@@ -19,8 +20,8 @@ pub const USAGE: &str =
 pub struct Options {
     /// Whether the lines without the literal are selected, instead of those with it.
     pub invert: bool,
-    /// Whether the literal is also looked for across lines: if it contains a line feed, and so never matches within a
-    /// line. Any other literal is searched for line by line all the same.
+    /// Whether the literal is also looked for across lines: if it contains a line feed, and so
+    /// never matches within a line. Any other literal is searched for line by line all the same.
     pub multi_line: bool,
     /// How many lines are reported after each match.
     pub after: usize,
@@ -28,8 +29,8 @@ pub struct Options {
     pub before: usize,
     /// Whether every line is reported.
     pub passthru: bool,
-    /// How many lines are selected at most, and across lines, unless `invert` is set, how many matches count; `None` is
-    /// no limit.
+    /// How many lines are selected at most, and across lines, unless `invert` is set, how many
+    /// matches count; `None` is no limit.
     pub max: Option<u64>,
     /// The text that lines are searched for. The empty text is in each line.
     pub literal: String,
@@ -49,13 +50,14 @@ pub enum OptionsFault {
 }
 
 impl Options {
-    /// The options that some arguments, which are without the program's name, ask for: options, then the literal, then
-    /// a path or nothing. `--` ends the options, and `-` alone is a literal. After the literal an argument is the path,
-    /// whatever its first byte is. If an option is repeated, the last one counts. A number has one to ten decimal
-    /// digits, and is below 2 ^ 32.
+    /// The options that some arguments, which are without the program's name, ask for: options,
+    /// then the literal, then a path or nothing. `--` ends the options, and `-` alone is a literal.
+    /// After the literal an argument is the path, whatever its first byte is. If an option is
+    /// repeated, the last one counts. A number has one to ten decimal digits, and is below 2 ^ 32.
     ///
-    /// An error is `Usage` exactly if the arguments aren't a command line (`request_of` of `specs/CommandLine.antt` has
-    /// nothing for them); any other error is `Memory`: there is no memory for the literal or the path.
+    /// An error is `Usage` exactly if the arguments aren't a command line (`request_of` of
+    /// `specs/CommandLine.antt` has nothing for them); any other error is `Memory`: there is no
+    /// memory for the literal or the path.
     pub fn parse(alloc: Global, arguments: &[String]) -> Result<Options, OptionsFault>
         ensures options { IfOk result (AskFor arguments.now) }
         ensures operands { IfOk result (λ options.

@@ -11,7 +11,8 @@ use std::alloc::Allocator;
 use std::io;
 use std::io::Write;
 
-// Writes the lines that are reported, and keeps whether one of them was a match, and whether the writer failed.
+// Writes the lines that are reported, and keeps whether one of them was a match, and whether the
+// writer failed.
 #[derive(Drop)]
 pub(crate) struct Printer<'w, W> {
     pub(crate) writer: &'w mut Writing<W>,
@@ -38,7 +39,8 @@ impl<'w, W: Write> Printer<'w, W> {
     fn returned(&mut self, written: io::Result<()>) -> Result<bool, SearchError>
         ensures { MatchResult written
             (λ _. (result ≡ Ok true) × (self.new ≡ self.old))
-            (λ error. (result ≡ Err (SearchError.Io error)) × (self.new ≡ record self.old { has_failed = true })) }
+            (λ error. (result ≡ Err (SearchError.Io error))
+            × (self.new ≡ record self.old { has_failed = true })) }
     {
         match written {
             Ok(()) => Ok(true),

@@ -16,18 +16,20 @@ use std::io::Write;
 use std::path::Path;
 use std::rt::Files;
 
-/// Searches what a reader gives, line by line as it comes, writes the text of what is found, flushes the writer, and
-/// returns whether a match was reported. The reader is read no further than the search needs. With `multi_line` and a
-/// literal that contains a line feed the search is across lines: then the reader is read to its end first.
+/// Searches what a reader gives, line by line as it comes, writes the text of what is found,
+/// flushes the writer, and returns whether a match was reported. The reader is read no further than
+/// the search needs. With `multi_line` and a literal that contains a line feed the search is across
+/// lines: then the reader is read to its end first.
 ///
 /// An error is a `SearchError::Io`:
 /// - of kind `OutOfMemory`, if there is no memory for the search: nothing is read or written;
-/// - an error of reading: the reader's own, or of kind `OutOfMemory`, if there is no memory for a line that is longer
-///   than the buffer, or across lines for the input, or of kind `InvalidData`, if the decoded input is longer than
-///   2^64 - 1 bytes. The text of the lines before it is written, which across lines is nothing, and the writer is
-///   flushed; if that fails too, the error of reading is returned;
-/// - what the writer's last call returned, or of kind `WriteZero` if that call took nothing: at a write, after some
-///   first bytes of the text, or at the flush, after all of it.
+/// - an error of reading: the reader's own, or of kind `OutOfMemory`, if there is no memory for a
+///   line that is longer than the buffer, or across lines for the input, or of kind `InvalidData`,
+///   if the decoded input is longer than 2^64 - 1 bytes. The text of the lines before it is
+///   written, which across lines is nothing, and the writer is flushed; if that fails too, the
+///   error of reading is returned;
+/// - what the writer's last call returned, or of kind `WriteZero` if that call took nothing: at a
+///   write, after some first bytes of the text, or at the flush, after all of it.
 pub fn run<R: Source, W: Write>(
     alloc: Global,
     options: &Options,
@@ -46,11 +48,11 @@ pub fn run<R: Source, W: Write>(
     }
 }
 
-/// Opens the file at `path` for reading, and searches it as `run` searches a reader, with no buffer between: it writes
-/// the same text, and returns the same. The options' own path isn't read.
+/// Opens the file at `path` for reading, and searches it as `run` searches a reader, with no buffer
+/// between: it writes the same text, and returns the same. The options' own path isn't read.
 ///
-/// If the file can't be opened, the error is a `SearchError::Io` with the error of opening it, and the writer has no
-/// call. Any other error is one of `run`.
+/// If the file can't be opened, the error is a `SearchError::Io` with the error of opening it, and
+/// the writer has no call. Any other error is one of `run`.
 pub fn run_path<R: Files, W: Write>(
     rt: &R,
     alloc: Global,
@@ -68,8 +70,8 @@ pub fn run_path<R: Files, W: Write>(
     run(alloc, options, &mut Reading::new(file), writer)
 }
 
-// Searches what a reader gives with a printer to which nothing is reported yet. After an error of reading the writer is
-// flushed.
+// Searches what a reader gives with a printer to which nothing is reported yet. After an error of
+// reading the writer is flushed.
 fn print<R: Source, W: Write>(
     alloc: Global,
     options: &Options,

@@ -64,7 +64,8 @@ fn refuses_arguments(rt: HostRuntime) {
     );
 }
 
-// A line, and its options: `invert`, `multi_line`, `after`, `before`, `passthru`, `max`, `literal` and `path`.
+// A line, and its options: `invert`, `multi_line`, `after`, `before`, `passthru`, `max`, `literal`
+// and `path`.
 type OptionsRow = (
     &'static str,
     bool,

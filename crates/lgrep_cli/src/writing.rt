@@ -22,7 +22,8 @@ pub enum LastCall {
     Flush(io::Result<()>),
 }
 
-/// A standard writer that keeps what its last call returned, so that a contract can say where an error comes from.
+/// A standard writer that keeps what its last call returned, so that a contract can say where an
+/// error comes from.
 #[derive(Drop)]
 pub struct Writing<W> {
     inner: W,
@@ -59,10 +60,11 @@ impl<W> Writing<W> {
 }
 
 impl<W: Write> Writing<W> {
-    /// Writes all of `buffer`, by as many calls of `write` as it takes. A call that is interrupted is made again.
+    /// Writes all of `buffer`, by as many calls of `write` as it takes. A call that is interrupted
+    /// is made again.
     ///
-    /// On an error some first bytes of `buffer` are written. The error is what the writer's last call returned, or of
-    /// kind `WriteZero` if that call took none of the bytes that were left.
+    /// On an error some first bytes of `buffer` are written. The error is what the writer's last
+    /// call returned, or of kind `WriteZero` if that call took none of the bytes that were left.
     pub fn write_all(&mut self, buffer: &[u8]) -> io::Result<()>
         ensures { Writes W.contents self.old buffer.now result self.new }
     {
@@ -87,7 +89,8 @@ impl<W: Write> Writing<W> {
         flushed
     }
 
-    // Writes some first bytes of a buffer, and returns how many. A call that is interrupted is made again.
+    // Writes some first bytes of a buffer, and returns how many. A call that is interrupted is made
+    // again.
     fn write(&mut self, buffer: &[u8]) -> io::Result<usize>
         ensures bound { WritesAtMost result buffer.now }
         ensures bytes { WriteAppends (W.contents self.old.inner) (W.contents self.new.inner)

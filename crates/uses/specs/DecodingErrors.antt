@@ -8,6 +8,8 @@ use Rattle.grep_searcher.specs.declared.SearchError.{SearchError}
 use Rattle.grep_searcher.specs.declared.SearchError.TheVariants.{Io}
 
 -- the bytes have to be decoded and weren't to their end: the error is of the cause of that
-abbrev pub IsDecodingError : {A : Type 0} → SearcherState → Meaning → List ℕ → SearchError A → Type 0
+abbrev pub IsDecodingError : {A : Type 0} → SearcherState → Meaning → List ℕ → SearchError A
+    → Type 0
 IsDecodingError {A} state meaning bytes e =
-    (seen : Option (List ℕ)) × (error : Error) × IsUndecoded state meaning bytes seen error × (e ≡ Io error)
+    (seen : Option (List ℕ)) × (error : Error) × IsUndecoded state meaning bytes seen error
+    × (e ≡ Io error)

@@ -1,8 +1,10 @@
 -- What the sinks of these callers make of a call.
-use Rattle.std.specs.Prelude.{ℕ, ◌+◌, ◌-◌, ◌^◌, true, min, List, [], ◌∷◌, ◌++◌, codes, map, Option, Some, None}
+use Rattle.std.specs.Prelude.{ℕ, ◌+◌, ◌-◌, ◌^◌, true, min, List, [], ◌∷◌, ◌++◌, codes, map, Option}
+use Rattle.std.specs.Prelude.{Some, None}
 use Rattle.std.specs.List.{concat}
 use Rattle.grep_searcher.specs.Settings.{Settings, SearcherState, default_settings}
-use Rattle.grep_searcher.specs.SinkCalls.{Call, Turn, begins, matches, context, breaks, binary_data, finishes}
+use Rattle.grep_searcher.specs.SinkCalls.{Call, Turn, begins, matches, context, breaks, binary_data}
+use Rattle.grep_searcher.specs.SinkCalls.{finishes}
 use Rattle.uses.specs.declared.count.MatchCount.{MatchCount}
 use Rattle.uses.specs.declared.first.FirstMatch.{FirstMatch}
 
@@ -43,7 +45,8 @@ one_before = record default_settings { before_context = 1 }
 abbrev pub reporter : SearcherState
 reporter = record { settings = one_before; has_buffers = true }
 
--- what a report has of a call: a match after `>`, a line before it after a space, a break as two dashes
+-- what a report has of a call: a match after `>`, a line before it after a space, a break as two
+-- dashes
 abbrev pub marked : Call → List ℕ
 marked (matches number offset line) = 62 ∷ line
 marked (context kind number offset line) = 32 ∷ line

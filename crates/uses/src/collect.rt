@@ -16,14 +16,15 @@ use grep_searcher::{
 use std::alloc::{Allocator, Global};
 use std::marker::Model;
 
-/// Returns the selected lines of `bytes`, decoded and joined: each with its terminator, in order. That is
-/// promised of a search by line.
+/// Returns the selected lines of `bytes`, decoded and joined: each with its terminator, in order.
+/// That is promised of a search by line.
 ///
 /// An error is made of the matcher's, of a configuration that the searcher refuses, or of being out
 /// of memory. If the bytes have to be decoded, it may also be of the heap limit, or of more than
 /// 2^64 - 1 decoded bytes.
 ///
-/// All this is promised without binary detection, for a matcher that is lawful for the searcher's terminator.
+/// All this is promised without binary detection, for a matcher that is lawful for the searcher's
+/// terminator.
 pub fn matching_lines<M: Matcher + Drop>(
     alloc: Global,
     searcher: &mut Searcher,

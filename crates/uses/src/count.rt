@@ -16,16 +16,16 @@ use grep_searcher::{
 };
 use std::alloc::{Allocator, Global};
 
-/// Returns how many lines of `bytes` are selected. If the bytes have to be decoded, it is how many of
-/// the decoded lines are, up to the largest `u64`. The count is promised of a search by line: across lines,
-/// under `multi_line`, a match may be several lines.
+/// Returns how many lines of `bytes` are selected. If the bytes have to be decoded, it is how many
+/// of the decoded lines are, up to the largest `u64`. The count is promised of a search by line:
+/// across lines, under `multi_line`, a match may be several lines.
 ///
 /// An error is made of the matcher's, or of a configuration that the searcher refuses. If the bytes
 /// have to be decoded, it may also be of the heap limit, of being out of memory, or of more than
 /// 2^64 - 1 decoded bytes.
 ///
-/// All this is promised for a matcher that is lawful for the searcher's terminator, and the count without binary
-/// detection.
+/// All this is promised for a matcher that is lawful for the searcher's terminator, and the count
+/// without binary detection.
 pub fn count_matching_lines<M: Matcher + Drop>(
     searcher: &mut Searcher,
     matcher: M,

@@ -17,17 +17,18 @@ use grep_searcher::{
 use std::alloc::{Allocator, Global};
 
 /// Returns the number of the first selected line of what a reader gives, counted from 1, and its
-/// offset in the decoded bytes; `None` if no line is selected. The caller ensures that the searcher numbers
-/// lines.
+/// offset in the decoded bytes; `None` if no line is selected. The caller ensures that the searcher
+/// numbers lines.
 ///
-/// Whatever follows what was taken of the reader, in a search by line this is the first selected line. The reader
-/// is read no further than the search needs, and by line not again once a line is selected.
+/// Whatever follows what was taken of the reader, in a search by line this is the first selected
+/// line. The reader is read no further than the search needs, and by line not again once a line is
+/// selected.
 ///
-/// An error is made of the reader's, of the matcher's, of a configuration that the searcher refuses,
-/// of the heap limit, of being out of memory, or of more than 2^64 - 1 decoded bytes.
+/// An error is made of the reader's, of the matcher's, of a configuration that the searcher
+/// refuses, of the heap limit, of being out of memory, or of more than 2^64 - 1 decoded bytes.
 ///
-/// All this is promised for a matcher that is lawful for the searcher's terminator, and the first line without binary
-/// detection.
+/// All this is promised for a matcher that is lawful for the searcher's terminator, and the first
+/// line without binary detection.
 pub fn first_match<M: Matcher + Drop, R: Source>(
     searcher: &mut Searcher,
     matcher: M,
@@ -46,7 +47,8 @@ pub fn first_match<M: Matcher + Drop, R: Source>(
         → IsLawfulFor searcher.old.settings (M.meaning matcher) (M.is_lawful matcher)
         → refusal_of searcher.old.settings (M.meaning matcher) ≡ None
         → IfErr result (λ e. (seen : Option (List ℕ)) × (error : Error)
-        × IsUnread R.remaining R.step searcher.old (M.meaning matcher) reader.old seen error reader.new
+        × IsUnread R.remaining R.step searcher.old (M.meaning matcher)
+        reader.old seen error reader.new
         × (e ≡ SearchError.Io error)) }
 {
     let mut first = FirstMatch { position: None };

@@ -1,10 +1,10 @@
-//! Small callers of grep_searcher, each proved from its public contracts: copy the one that is closest
-//! to what you need.
+//! Small callers of grep_searcher, each proved from its public contracts: copy the one that is
+//! closest to what you need.
 //!
 //! `count_matching_lines` counts, `first_match` stops at the first match of a reader, and
 //! `matching_lines` keeps the lines of all matches. `in_context` builds its searcher, and writes a
-//! report with a sink of its own. `numbered_lines` collects by a closure, and `count_in_path` searches
-//! a path. `CALLING.md` says which laws they use.
+//! report with a sink of its own. `numbered_lines` collects by a closure, and `count_in_path`
+//! searches a path. `CALLING.md` says which laws they use.
 #![tactic(auto)]
 
 mod collect;

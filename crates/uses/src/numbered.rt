@@ -12,16 +12,18 @@ use grep_searcher::{BinaryDetection, Matcher, Searcher};
 use std::alloc::Global;
 use std::io;
 
-/// Returns the number and the text of each selected line of `bytes`, in order. The number is counted from 1, and the
-/// text ends in the line's terminator, if it has one. If the bytes have to be decoded, they are the decoded lines.
+/// Returns the number and the text of each selected line of `bytes`, in order. The number is
+/// counted from 1, and the text ends in the line's terminator, if it has one. If the bytes have to
+/// be decoded, they are the decoded lines.
 ///
-/// An error of the kind `OutOfMemory` is of being out of memory. One of the kind `Other` is made of the matcher's, of a
-/// configuration that the searcher refuses, of a selected line that isn't UTF-8, or of one without a number, if the
-/// searcher doesn't number lines. If the bytes have to be decoded, it may also be of the heap limit, or, of the kind
-/// `InvalidData`, of more than 2^64 - 1 decoded bytes. What an error is isn't in the contract.
+/// An error of the kind `OutOfMemory` is of being out of memory. One of the kind `Other` is made of
+/// the matcher's, of a configuration that the searcher refuses, of a selected line that isn't
+/// UTF-8, or of one without a number, if the searcher doesn't number lines. If the bytes have to be
+/// decoded, it may also be of the heap limit, or, of the kind `InvalidData`, of more than 2^64 - 1
+/// decoded bytes. What an error is isn't in the contract.
 ///
-/// The lines are promised of a search by line without binary detection, for a matcher that is lawful for the searcher's
-/// terminator.
+/// The lines are promised of a search by line without binary detection, for a matcher that is
+/// lawful for the searcher's terminator.
 pub fn numbered_lines<M: Matcher + Drop>(
     alloc: Global,
     searcher: &mut Searcher,

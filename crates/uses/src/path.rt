@@ -1,5 +1,6 @@
 //! How many lines of a file match.
-ghost use Rattle.std.specs.Prelude.{◌≡◌, ◌-◌, ◌^◌, ℕ, List, Some, None, true, false, min, IfOk, IfErr};
+ghost use Rattle.std.specs.Prelude.{◌≡◌, ◌-◌, ◌^◌, ℕ, List, Some, None, true, false, min, IfOk};
+ghost use Rattle.std.specs.Prelude.{IfErr};
 ghost use Rattle.std.specs.declared.io.Error.{Error};
 ghost use Rattle.grep_searcher.specs.DecodedInputs.{searched_bytes};
 ghost use Rattle.grep_searcher.specs.Matching.{IsInfallible};
@@ -15,13 +16,16 @@ use std::alloc::Global;
 use std::path::AsPath;
 use std::rt::Files;
 
-/// Opens the file at a path, and returns how many of its decoded lines are selected, up to the largest `u64`.
+/// Opens the file at a path, and returns how many of its decoded lines are selected, up to the
+/// largest `u64`.
 ///
-/// An error is that of opening the file, or one of reading it; or it is made of the matcher's, of a configuration that
-/// the searcher refuses, of the heap limit, of being out of memory, or of more than 2^64 - 1 decoded bytes.
+/// An error is that of opening the file, or one of reading it; or it is made of the matcher's, of a
+/// configuration that the searcher refuses, of the heap limit, of being out of memory, or of more
+/// than 2^64 - 1 decoded bytes.
 ///
-/// All this is promised for a matcher that is lawful for the searcher's terminator, and the count of a search by line
-/// without binary detection, for a file that was opened, if it says which bytes remain.
+/// All this is promised for a matcher that is lawful for the searcher's terminator, and the count
+/// of a search by line without binary detection, for a file that was opened, if it says which bytes
+/// remain.
 pub fn count_in_path<R: Files, M: Matcher + Drop, P: AsPath>(
     rt: &R,
     searcher: &mut Searcher,

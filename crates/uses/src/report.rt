@@ -18,8 +18,8 @@ use std::marker::Model;
 /// Returns a report of a log: each line that has the literal, after a `>`, and the line before it,
 /// after a space. Two dashes are between two reported lines if lines were left out there.
 ///
-/// An error is one of being out of memory. If the log has to be decoded, it may also be of more than
-/// 2^64 - 1 decoded bytes.
+/// An error is one of being out of memory. If the log has to be decoded, it may also be of more
+/// than 2^64 - 1 decoded bytes.
 pub fn in_context(alloc: Global, log: &[u8], literal: &[u8]) -> Result<Vec<u8>, SearchError>
     ensures report { IfOk result (λ text.
         text.items ≡ report_of (turns one_before (literal_meaning literal.now)

@@ -5,6 +5,7 @@ ghost use Rattle.grep_matcher.specs.Matching.{IsInfallible};
 ghost use Rattle.grep_decode.specs.DecoderStates.{started};
 ghost use Rattle.grep_definitions.specs.BinaryBytes.{look_at, view_of};
 ghost use Rattle.grep_definitions.specs.ReaderSearches.{IsUnreadIn};
+ghost use Rattle.grep_definitions.specs.Searches.{errors_by, facts_by};
 ghost use Rattle.grep_definitions.specs.SinkRuns.{NeverFails};
 ghost use Rattle.grep_searcher.specs.InputSearches.{IsAcrossSearched};
 
@@ -37,24 +38,16 @@ impl<A: Allocator + Copy> Searcher<A> {
             self.now.settings.bom_sniffing }
         requires may_call { S.may_call sink.old }
         ensures searched { (has_buffers : Bool) → IsAcrossSearched R.remaining R.step S.step
-            (record {
-              is_message = S.Error.is_message;
-              is_io = S.Error.is_io;
-              is_config = S.Error.is_config;
-            })
-            (record {
-              meaning = M.meaning matcher.now;
-              fails = M.fails matcher.now;
-              is_lawful = M.is_lawful matcher.now;
-              text_of = M.Error.output;
-            })
+            (errors_by S.Error.is_message S.Error.is_io S.Error.is_config)
+            (facts_by M.meaning M.fails M.is_lawful M.Error.output matcher.now)
             (look_at self.now.settings.binary_detection false)
             (record { settings = self.now.settings; has_buffers = has_buffers })
             reader.old sink.old result reader.new sink.new }
         ensures succeeds { NeverFails S.step S.may_call → IsInfallible (M.fails matcher.now)
             → IfErr result (λ e. (has_buffers : Bool) → (seen : Option (List ℕ)) × (error : Error)
             × IsUnreadIn R.remaining R.step true (view_of self.now.settings)
-            (record { settings = self.now.settings; has_buffers = has_buffers }) (M.meaning matcher.now)
+            (record { settings = self.now.settings; has_buffers = has_buffers })
+            (M.meaning matcher.now)
             reader.old seen error reader.new × S.Error.is_io error e) }
         ensures may_call { S.may_call sink.new }
     {

@@ -5,6 +5,7 @@ ghost use Rattle.grep_definitions.specs.FileSearches.{IsFileRead, IsFileSearched
 ghost use Rattle.grep_definitions.specs.Questions.{IsLawfulFor};
 ghost use Rattle.grep_definitions.specs.ReaderSearches.{IsUnread};
 ghost use Rattle.grep_definitions.specs.Refusals.{refusal_of};
+ghost use Rattle.grep_definitions.specs.Searches.{errors_by, facts_by};
 ghost use Rattle.grep_definitions.specs.SinkRuns.{NeverFails};
 ghost use Rattle.grep_matcher.specs.Matching.{IsInfallible};
 
@@ -42,17 +43,8 @@ impl<A: Allocator + Copy> Searcher<A> {
         ensures buffers { self.old.has_buffers ≡ true → self.new.has_buffers ≡ true }
         ensures gets { OnOk result (self.new.has_buffers ≡ true) }
         ensures searched { IsFileSearched F.remaining S.step
-            (record {
-              is_message = S.Error.is_message;
-              is_io = S.Error.is_io;
-              is_config = S.Error.is_config;
-            })
-            (record {
-              meaning = M.meaning matcher;
-              fails = M.fails matcher;
-              is_lawful = M.is_lawful matcher;
-              text_of = M.Error.output;
-            })
+            (errors_by S.Error.is_message S.Error.is_io S.Error.is_config)
+            (facts_by M.meaning M.fails M.is_lawful M.Error.output matcher)
             self.old file.old sink.old result file.new sink.new }
         ensures succeeds { NeverFails S.step S.may_call → IsInfallible (M.fails matcher)
             → IsLawfulFor self.old.settings (M.meaning matcher) (M.is_lawful matcher)
@@ -85,17 +77,8 @@ impl<A: Allocator + Copy> Searcher<A> {
         ensures buffers { self.old.has_buffers ≡ true → self.new.has_buffers ≡ true }
         ensures gets { OnOk result (self.new.has_buffers ≡ true) }
         ensures searched { IsPathSearched R.File.remaining S.step
-            (record {
-              is_message = S.Error.is_message;
-              is_io = S.Error.is_io;
-              is_config = S.Error.is_config;
-            })
-            (record {
-              meaning = M.meaning matcher;
-              fails = M.fails matcher;
-              is_lawful = M.is_lawful matcher;
-              text_of = M.Error.output;
-            })
+            (errors_by S.Error.is_message S.Error.is_io S.Error.is_config)
+            (facts_by M.meaning M.fails M.is_lawful M.Error.output matcher)
             self.old sink.old result sink.new }
         ensures succeeds { NeverFails S.step S.may_call → IsInfallible (M.fails matcher)
             → IsLawfulFor self.old.settings (M.meaning matcher) (M.is_lawful matcher)

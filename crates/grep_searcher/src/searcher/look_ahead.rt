@@ -83,7 +83,8 @@ impl<A: Allocator + Copy> Searcher<A> {
             → IsKnown self.now.settings (M.meaning matcher.now) window.now start ahead
             → IsKnown self.now.settings (M.meaning matcher.now) window.now start next) }
         ensures some { IfErr result (λ e. start < length window.now) }
-        ensures allowed { IfErr result (λ e. MayAskAhead self.now.settings (M.meaning matcher.now) walk.now) }
+        ensures allowed { IfErr result
+            (λ e. MayAskAhead self.now.settings (M.meaning matcher.now) walk.now) }
         ensures fault { IfErr result (λ e. (error : M.Error) × E.is_message (M.Error.output error) e
             × M.fails matcher.now (drop start window.now) error) }
     {

@@ -5,7 +5,7 @@ ghost use Rattle.grep_matcher.specs.Terminators.{byte_of};
 ghost use Rattle.grep_matcher.specs.Matching.{IsInfallible};
 ghost use Rattle.grep_lines.specs.Positions.{IsLine, IsLineStart};
 ghost use Rattle.grep_definitions.specs.AcrossQuestions.{IsAskedAcross};
-ghost use Rattle.grep_definitions.specs.Searches.{IsFaultIn};
+ghost use Rattle.grep_definitions.specs.Searches.{IsFaultIn, errors_by, facts_by};
 ghost use Rattle.grep_definitions.specs.SearchTurns.{calls_across};
 ghost use Rattle.grep_definitions.specs.SinkCalls.{begins};
 ghost use Rattle.grep_definitions.specs.SinkRuns.{Outcome, NeverFails};
@@ -40,17 +40,8 @@ impl<A: Allocator + Copy> Searcher<A> {
             ((calls_across self.now.settings (M.meaning matcher.now)).byte_count bytes.now)
             count outcome sink.new) }
         ensures fault { IfErr result (λ e. IsFaultIn S.step
-            (record {
-              is_message = S.Error.is_message;
-              is_io = S.Error.is_io;
-              is_config = S.Error.is_config;
-            })
-            (record {
-              meaning = M.meaning matcher.now;
-              fails = M.fails matcher.now;
-              is_lawful = M.is_lawful matcher.now;
-              text_of = M.Error.output;
-            })
+            (errors_by S.Error.is_message S.Error.is_io S.Error.is_config)
+            (facts_by M.meaning M.fails M.is_lawful M.Error.output matcher.now)
             (calls_across self.now.settings (M.meaning matcher.now))
             self.now.settings bytes.now sink.old e sink.new) }
         ensures succeeds { NeverFails S.step S.may_call → IsInfallible (M.fails matcher.now)
@@ -83,17 +74,8 @@ impl<A: Allocator + Copy> Searcher<A> {
         ensures fault { IfErr result (λ e. (first : S)
             → S.step first self.now.settings begins (Ok true) sink.old
             → IsFaultIn S.step
-            (record {
-              is_message = S.Error.is_message;
-              is_io = S.Error.is_io;
-              is_config = S.Error.is_config;
-            })
-            (record {
-              meaning = M.meaning matcher.now;
-              fails = M.fails matcher.now;
-              is_lawful = M.is_lawful matcher.now;
-              text_of = M.Error.output;
-            })
+            (errors_by S.Error.is_message S.Error.is_io S.Error.is_config)
+            (facts_by M.meaning M.fails M.is_lawful M.Error.output matcher.now)
             (calls_across self.now.settings (M.meaning matcher.now))
             self.now.settings bytes.now first e sink.new) }
         ensures succeeds { NeverFails S.step S.may_call → IsInfallible (M.fails matcher.now)
@@ -109,6 +91,10 @@ impl<A: Allocator + Copy> Searcher<A> {
             unit = self.unit_at::<M, S::Error>(matcher, bytes, start, &walk, unit, &mut blocks)?;
             let next = self.next_chosen(bytes, start, &unit, &walk);
             if start < next && !self.config.passthru && walk.after_context_left == 0 {
+                // Nothing is reported after these lines, so they needn't be counted.
+                if next == bytes.len() {
+                    return Ok(next as u64);
+                }
                 walk = self.walk_past(&walk, &bytes[start..next]);
                 start = next;
                 continue;

@@ -42,7 +42,8 @@ impl<'s, S: Sink> Quitting<'s, S> {
     // The offset of the byte in bytes that begin at an offset, if they hold it.
     fn offset_in(&self, offset: u64, bytes: &[u8]) -> Option<u64>
         requires { offset + length bytes.now < 2 ^ 64 }
-        ensures { result ≡ option_map (λ index. offset + index) (position_of self.now.byte bytes.now) }
+        ensures { result ≡ option_map (λ index. offset + index)
+            (position_of self.now.byte bytes.now) }
     {
         match memchr(self.byte, bytes) {
             Some(index) => Some(offset + index as u64),
@@ -58,7 +59,8 @@ impl<'s, S: Sink> Quitting<'s, S> {
     ) -> Result<bool, S::Error>
         requires { S.may_call self.old.sink.now }
         ensures step { (returned : Result Bool S.Error) × (result ≡ ended returned)
-            × S.step self.old.sink.now searcher.now.settings (binary_data offset) returned self.new.sink.now }
+            × S.step self.old.sink.now searcher.now.settings
+            (binary_data offset) returned self.new.sink.now }
         ensures found { self.new.found ≡ Some offset }
         ensures has_break { self.new.has_break ≡ false }
         ensures same_byte { self.new.byte ≡ self.old.byte }

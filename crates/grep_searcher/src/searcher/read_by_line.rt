@@ -10,7 +10,7 @@ ghost use Rattle.grep_definitions.specs.Below.{is_at};
 ghost use Rattle.grep_definitions.specs.InputFronts.{IsClosed};
 ghost use Rattle.grep_definitions.specs.ReaderSearches.{IsLineUnread, IsSourceSearched, IsStreamSearched, IsUnread, reads_lines};
 ghost use Rattle.grep_definitions.specs.Questions.{IsLawfulFor};
-ghost use Rattle.grep_definitions.specs.Searches.{IsLineFault};
+ghost use Rattle.grep_definitions.specs.Searches.{IsLineFault, errors_by, facts_by};
 ghost use Rattle.grep_definitions.specs.SinkCalls.{begins};
 ghost use Rattle.grep_definitions.specs.SinkRuns.{NeverFails};
 ghost use Rattle.grep_searcher.specs.NotedCalls.{FailsAtBinary, HasNoted, PassesBinary};
@@ -50,24 +50,17 @@ impl<A: Allocator + Copy> Searcher<A> {
         ensures settings { self.new.settings ≡ self.old.settings }
         ensures buffers { self.old.has_buffers ≡ true → self.new.has_buffers ≡ true }
         ensures gets { OnOk result (self.new.has_buffers ≡ true) }
-        ensures searched { IsLawfulFor self.old.settings (M.meaning matcher.now) (M.is_lawful matcher.now)
+        ensures searched { IsLawfulFor self.old.settings (M.meaning matcher.now)
+            (M.is_lawful matcher.now)
             → IsSourceSearched R.remaining R.step S.step
-            (record {
-              is_message = S.Error.is_message;
-              is_io = S.Error.is_io;
-              is_config = S.Error.is_config;
-            })
-            (record {
-              meaning = M.meaning matcher.now;
-              fails = M.fails matcher.now;
-              is_lawful = M.is_lawful matcher.now;
-              text_of = M.Error.output;
-            })
+            (errors_by S.Error.is_message S.Error.is_io S.Error.is_config)
+            (facts_by M.meaning M.fails M.is_lawful M.Error.output matcher.now)
             self.old reader.old sink.old result reader.new sink.new }
         ensures succeeds { NeverFails S.step S.may_call → IsInfallible (M.fails matcher.now)
             → IsLawfulFor self.old.settings (M.meaning matcher.now) (M.is_lawful matcher.now)
             → IfErr result (λ e. (seen : Option (List ℕ)) × (error : Error)
-            × IsUnread R.remaining R.step self.old (M.meaning matcher.now) reader.old seen error reader.new
+            × IsUnread R.remaining R.step self.old
+            (M.meaning matcher.now) reader.old seen error reader.new
             × S.Error.is_io error e) }
         ensures may_call { S.may_call sink.new }
     {
@@ -96,25 +89,18 @@ impl<A: Allocator + Copy> Searcher<A> {
         requires may_call { S.may_call sink.old }
         ensures fitting { AreFitting self.now.settings.heap_limit
             (byte_of self.now.settings.line_terminator) buffers.new.lines }
-        ensures searched { IsLawfulFor self.now.settings (M.meaning matcher.now) (M.is_lawful matcher.now)
+        ensures searched { IsLawfulFor self.now.settings (M.meaning matcher.now)
+            (M.is_lawful matcher.now)
             → (has_buffers : Bool) → IsSourceSearched R.remaining R.step S.step
-            (record {
-              is_message = S.Error.is_message;
-              is_io = S.Error.is_io;
-              is_config = S.Error.is_config;
-            })
-            (record {
-              meaning = M.meaning matcher.now;
-              fails = M.fails matcher.now;
-              is_lawful = M.is_lawful matcher.now;
-              text_of = M.Error.output;
-            })
+            (errors_by S.Error.is_message S.Error.is_io S.Error.is_config)
+            (facts_by M.meaning M.fails M.is_lawful M.Error.output matcher.now)
             (record { settings = self.now.settings; has_buffers = has_buffers })
             reader.old sink.old result reader.new sink.new }
         ensures succeeds { NeverFails S.step S.may_call → IsInfallible (M.fails matcher.now)
             → IsLawfulFor self.now.settings (M.meaning matcher.now) (M.is_lawful matcher.now)
             → IfErr result (λ e. (has_buffers : Bool) → (seen : Option (List ℕ)) × (error : Error)
-            × IsUnread R.remaining R.step (record { settings = self.now.settings; has_buffers = has_buffers })
+            × IsUnread R.remaining R.step
+            (record { settings = self.now.settings; has_buffers = has_buffers })
             (M.meaning matcher.now) reader.old seen error reader.new × S.Error.is_io error e) }
         ensures may_call { S.may_call sink.new }
     {
@@ -146,25 +132,18 @@ impl<A: Allocator + Copy> Searcher<A> {
         requires may_call { S.may_call sink.old }
         ensures fitting { AreFitting self.now.settings.heap_limit
             (byte_of self.now.settings.line_terminator) buffers.new.lines }
-        ensures searched { IsLawfulFor self.now.settings (M.meaning matcher.now) (M.is_lawful matcher.now)
+        ensures searched { IsLawfulFor self.now.settings (M.meaning matcher.now)
+            (M.is_lawful matcher.now)
             → (has_buffers : Bool) → IsStreamSearched R.remaining R.step S.step
-            (record {
-              is_message = S.Error.is_message;
-              is_io = S.Error.is_io;
-              is_config = S.Error.is_config;
-            })
-            (record {
-              meaning = M.meaning matcher.now;
-              fails = M.fails matcher.now;
-              is_lawful = M.is_lawful matcher.now;
-              text_of = M.Error.output;
-            })
+            (errors_by S.Error.is_message S.Error.is_io S.Error.is_config)
+            (facts_by M.meaning M.fails M.is_lawful M.Error.output matcher.now)
             (record { settings = self.now.settings; has_buffers = has_buffers })
             reader.old sink.old result reader.new sink.new }
         ensures succeeds { NeverFails S.step S.may_call → IsInfallible (M.fails matcher.now)
             → IsLawfulFor self.now.settings (M.meaning matcher.now) (M.is_lawful matcher.now)
             → IfErr result (λ e. (has_buffers : Bool) → (seen : Option (List ℕ)) × (error : Error)
-            × IsLineUnread R.remaining R.step (record { settings = self.now.settings; has_buffers = has_buffers })
+            × IsLineUnread R.remaining R.step
+            (record { settings = self.now.settings; has_buffers = has_buffers })
             (M.meaning matcher.now) reader.old seen error reader.new × S.Error.is_io error e) }
         ensures may_call { S.may_call sink.new }
     {
@@ -188,7 +167,8 @@ impl<A: Allocator + Copy> Searcher<A> {
         requires may_call { S.may_call sink.old }
         ensures fitting { AreFitting self.now.settings.heap_limit
             (byte_of self.now.settings.line_terminator) buffers.new.lines }
-        ensures begun { IfOk result (λ finish. HasBegun S.step self.now.settings (M.meaning matcher.now)
+        ensures begun { IfOk result
+            (λ finish. HasBegun S.step self.now.settings (M.meaning matcher.now)
             R.remaining R.step reader.old sink.old reader.new) }
         ensures counted { IfOk result (λ finish.
             IsLawfulFor self.now.settings (M.meaning matcher.now) (M.is_lawful matcher.now)
@@ -198,23 +178,15 @@ impl<A: Allocator + Copy> Searcher<A> {
         ensures fault { IfErr result (λ e.
             IsLawfulFor self.now.settings (M.meaning matcher.now) (M.is_lawful matcher.now)
             → (has_buffers : Bool) → IsStreamSearched R.remaining R.step S.step
-            (record {
-              is_message = S.Error.is_message;
-              is_io = S.Error.is_io;
-              is_config = S.Error.is_config;
-            })
-            (record {
-              meaning = M.meaning matcher.now;
-              fails = M.fails matcher.now;
-              is_lawful = M.is_lawful matcher.now;
-              text_of = M.Error.output;
-            })
+            (errors_by S.Error.is_message S.Error.is_io S.Error.is_config)
+            (facts_by M.meaning M.fails M.is_lawful M.Error.output matcher.now)
             (record { settings = self.now.settings; has_buffers = has_buffers })
             reader.old sink.old (Err e) reader.new sink.new) }
         ensures succeeds { NeverFails S.step S.may_call → IsInfallible (M.fails matcher.now)
             → IsLawfulFor self.now.settings (M.meaning matcher.now) (M.is_lawful matcher.now)
             → IfErr result (λ e. (has_buffers : Bool) → (seen : Option (List ℕ)) × (error : Error)
-            × IsLineUnread R.remaining R.step (record { settings = self.now.settings; has_buffers = has_buffers })
+            × IsLineUnread R.remaining R.step
+            (record { settings = self.now.settings; has_buffers = has_buffers })
             (M.meaning matcher.now) reader.old seen error reader.new × S.Error.is_io error e) }
         ensures may_call { S.may_call sink.new }
     {
@@ -272,7 +244,8 @@ impl<A: Allocator + Copy> Searcher<A> {
         requires busy { reads_lines self.now.settings ≡ true }
         requires fitting { AreFitting self.now.settings.heap_limit
             (byte_of self.now.settings.line_terminator) lines.old }
-        requires empty { lines.old ≡ empty_buffer lines.old.size lines.old.limit lines.old.terminator
+        requires empty { lines.old
+            ≡ empty_buffer lines.old.size lines.old.limit lines.old.terminator
             (detection_of self.now.settings.binary_detection) }
         requires started { decoder.old ≡ started decoder.old.capacity self.now.settings.encoding
             self.now.settings.bom_sniffing }
@@ -292,24 +265,17 @@ impl<A: Allocator + Copy> Searcher<A> {
             → (first : S)
             → S.step first self.now.settings begins (Ok true) sink.old.sink.now
             → (has_buffers : Bool) → IsStreamSearched R.remaining R.step S.step
-            (record {
-              is_message = S.Error.is_message;
-              is_io = S.Error.is_io;
-              is_config = S.Error.is_config;
-            })
-            (record {
-              meaning = M.meaning matcher.now;
-              fails = M.fails matcher.now;
-              is_lawful = M.is_lawful matcher.now;
-              text_of = M.Error.output;
-            })
+            (errors_by S.Error.is_message S.Error.is_io S.Error.is_config)
+            (facts_by M.meaning M.fails M.is_lawful M.Error.output matcher.now)
             (record { settings = self.now.settings; has_buffers = has_buffers })
             reader.old first (Err e) reader.new sink.new.sink.now) }
         ensures succeeds { NeverFails S.step S.may_call → IsInfallible (M.fails matcher.now)
             → IsLawfulFor self.now.settings (M.meaning matcher.now) (M.is_lawful matcher.now)
-            → IfErr result (λ e. (first : S) → S.step first self.now.settings begins (Ok true) sink.old.sink.now
+            → IfErr result (λ e. (first : S)
+            → S.step first self.now.settings begins (Ok true) sink.old.sink.now
             → (has_buffers : Bool) → (seen : Option (List ℕ)) × (error : Error)
-            × IsLineUnread R.remaining R.step (record { settings = self.now.settings; has_buffers = has_buffers })
+            × IsLineUnread R.remaining R.step
+            (record { settings = self.now.settings; has_buffers = has_buffers })
             (M.meaning matcher.now) reader.old seen error reader.new × S.Error.is_io error e) }
         ensures may_call { S.may_call sink.new.sink.now }
         ensures same_sink { sink.new.sink.ghost_name ≡ sink.old.sink.ghost_name }
@@ -349,7 +315,8 @@ impl<A: Allocator + Copy> Searcher<A> {
         requires noted { HasNoted sink.old }
         ensures passes { IfOk result (λ goes_on.
             PassesBinary S.step self.now.settings binary sink.old goes_on sink.new) }
-        ensures fails { IfErr result (λ e. FailsAtBinary S.step self.now.settings binary sink.old e sink.new) }
+        ensures fails { IfErr result
+            (λ e. FailsAtBinary S.step self.now.settings binary sink.old e sink.new) }
         ensures same_sink { sink.new.sink.ghost_name ≡ sink.old.sink.ghost_name }
         ensures may_call { S.may_call sink.new.sink.now }
     {
@@ -383,7 +350,8 @@ impl<A: Allocator + Copy> Searcher<A> {
         ensures at { IfOk result (λ goes_on. goes_on ≡ true
             → walk.new.offset ≡ lines.new.offset + length lines.new.shown) }
         ensures below { IfOk result (λ goes_on. goes_on ≡ true → walk.new.offset < 2 ^ 64) }
-        ensures ahead { IfOk result (λ goes_on. goes_on ≡ true → walk.old.offset < walk.new.offset) }
+        ensures ahead { IfOk result
+            (λ goes_on. goes_on ≡ true → walk.old.offset < walk.new.offset) }
         ensures goes_on { IfOk result (λ goes_on.
             IsLawfulFor self.now.settings (M.meaning matcher.now) (M.is_lawful matcher.now)
             → goes_on ≡ true → HasMovedOn S.step self.now.settings (M.meaning matcher.now)
@@ -399,19 +367,11 @@ impl<A: Allocator + Copy> Searcher<A> {
             → IsReady S.step self.now.settings (M.meaning matcher.now) gone lines.old.shown
             (start_in lines.old walk.old) first walk.old sink.old
             → (after : List ℕ)
-            → (0 < length after → IsClosed (byte_of self.now.settings.line_terminator) lines.old.shown)
+            → (0 < length after → IsClosed
+            (byte_of self.now.settings.line_terminator) lines.old.shown)
             → IsLineFault S.step
-            (record {
-              is_message = S.Error.is_message;
-              is_io = S.Error.is_io;
-              is_config = S.Error.is_config;
-            })
-            (record {
-              meaning = M.meaning matcher.now;
-              fails = M.fails matcher.now;
-              is_lawful = M.is_lawful matcher.now;
-              text_of = M.Error.output;
-            })
+            (errors_by S.Error.is_message S.Error.is_io S.Error.is_config)
+            (facts_by M.meaning M.fails M.is_lawful M.Error.output matcher.now)
             self.now.settings (gone ++ (lines.old.shown ++ after)) first e sink.new) }
         ensures kept { OnErr result (lines.new ≡ lines.old) }
         ensures room { length (held lines.old) ≤ lines.old.size }

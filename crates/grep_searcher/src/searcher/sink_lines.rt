@@ -107,7 +107,8 @@ impl<A: Allocator + Copy> Searcher<A> {
             → slice_index window.now (result - 1) ≡ byte_of self.now.settings.line_terminator }
         ensures start { (i : ℕ)
             → IsLineStart (byte_of self.now.settings.line_terminator) window.now position i
-            → IsLineStart (byte_of self.now.settings.line_terminator) window.now result (i - lines) }
+            → IsLineStart (byte_of self.now.settings.line_terminator) window.now result
+            (i - lines) }
     {
         if lines == 0 {
             return position;
@@ -120,12 +121,14 @@ impl<A: Allocator + Copy> Searcher<A> {
     // shown: those of the last lines that weren't reported, as many as are reported with a match.
     pub(crate) fn first_kept(&self, window: &[u8], walk: &Walk) -> usize
         ensures within { result ≤ length window.now }
-        ensures few { length (lines (byte_of self.now.settings.line_terminator) (drop result window.now))
+        ensures few { length
+            (lines (byte_of self.now.settings.line_terminator) (drop result window.now))
             ≤ self.now.settings.before_context }
         ensures closed { (gone : List ℕ)
             → IsClosed (byte_of self.now.settings.line_terminator) gone
             → IsClosed (byte_of self.now.settings.line_terminator) window.now
-            → IsClosed (byte_of self.now.settings.line_terminator) (gone ++ take result window.now) }
+            → IsClosed (byte_of self.now.settings.line_terminator)
+            (gone ++ take result window.now) }
         ensures kept { (gone more after : List ℕ)
             → IsClosed (byte_of self.now.settings.line_terminator) gone
             → IsClosed (byte_of self.now.settings.line_terminator) window.now
@@ -147,7 +150,8 @@ impl<A: Allocator + Copy> Searcher<A> {
 
     // How many lines before the one that a walk is at are reported with it, if that is chosen.
     fn lines_before(&self, walk: &Walk) -> usize
-        ensures { result ≡ min self.now.settings.before_context (walk.now.line - walk.now.reported_through) }
+        ensures { result ≡ min self.now.settings.before_context
+            (walk.now.line - walk.now.reported_through) }
     {
         let passed = walk.line.saturating_sub(walk.reported_through) as usize;
         self.config.before_context.min(passed)
@@ -246,7 +250,8 @@ impl<A: Allocator + Copy> Searcher<A> {
         requires number { walk.now.line + 1 < 2 ^ 64 }
         requires may_call { S.may_call sink.old }
         ensures reported { (stop : ℕ) → AreReported S.step self.now.settings sink.old
-            (match_turns self.now.settings walk.now.reported_through walk.now.line walk.now.offset stop
+            (match_turns self.now.settings walk.now.reported_through walk.now.line walk.now.offset
+            stop
             (slice window.now start end))
             (outcome_of stop result) sink.new }
         ensures succeeds { NeverFails S.step S.may_call → IsOk result }
@@ -285,7 +290,8 @@ impl<A: Allocator + Copy> Searcher<A> {
     // Makes a break if lines were left out. Returns whether the search goes on.
     fn sink_break<S: Sink>(&self, is_gap: bool, sink: &mut S) -> Result<bool, S::Error>
         requires { S.may_call sink.old }
-        ensures reported { (end : ℕ) → AreReported S.step self.now.settings sink.old (break_turns is_gap end)
+        ensures reported { (end : ℕ)
+            → AreReported S.step self.now.settings sink.old (break_turns is_gap end)
             (outcome_of end result) sink.new }
         ensures succeeds { NeverFails S.step S.may_call → IsOk result }
         ensures kept { IsKept S.step self.now.settings sink.old sink.new }

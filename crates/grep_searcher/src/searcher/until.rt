@@ -6,6 +6,7 @@ ghost use Rattle.grep_definitions.specs.LineTurns.{one_turn};
 ghost use Rattle.grep_definitions.specs.Questions.{IsLawfulFor};
 ghost use Rattle.grep_definitions.specs.QuitPoints.{IsQuitRun, first_look};
 ghost use Rattle.grep_definitions.specs.SearchTurns.{calls_if};
+ghost use Rattle.grep_definitions.specs.Searches.{errors_by, facts_by};
 ghost use Rattle.grep_definitions.specs.SinkCalls.{begins};
 ghost use Rattle.grep_definitions.specs.SinkRuns.{NeverFails};
 ghost use Rattle.grep_searcher.specs.InputSearches.{IsSearchedUntil};
@@ -38,17 +39,8 @@ impl<A: Allocator + Copy> Searcher<A> {
         ensures searched { (is_across ≡ false
             → IsLawfulFor self.now.settings (M.meaning matcher.now) (M.is_lawful matcher.now))
             → IsSearchedUntil S.step
-            (record {
-              is_message = S.Error.is_message;
-              is_io = S.Error.is_io;
-              is_config = S.Error.is_config;
-            })
-            (record {
-              meaning = M.meaning matcher.now;
-              fails = M.fails matcher.now;
-              is_lawful = M.is_lawful matcher.now;
-              text_of = M.Error.output;
-            })
+            (errors_by S.Error.is_message S.Error.is_io S.Error.is_config)
+            (facts_by M.meaning M.fails M.is_lawful M.Error.output matcher.now)
             (calls_if self.now.settings (M.meaning matcher.now) is_across)
             byte self.now.settings bytes.now sink.old result sink.new }
         ensures succeeds { NeverFails S.step S.may_call → IsInfallible (M.fails matcher.now)
@@ -98,17 +90,8 @@ impl<A: Allocator + Copy> Searcher<A> {
         ensures searched { (is_across ≡ false
             → IsLawfulFor self.now.settings (M.meaning matcher.now) (M.is_lawful matcher.now))
             → IsSearchedUntil S.step
-            (record {
-              is_message = S.Error.is_message;
-              is_io = S.Error.is_io;
-              is_config = S.Error.is_config;
-            })
-            (record {
-              meaning = M.meaning matcher.now;
-              fails = M.fails matcher.now;
-              is_lawful = M.is_lawful matcher.now;
-              text_of = M.Error.output;
-            })
+            (errors_by S.Error.is_message S.Error.is_io S.Error.is_config)
+            (facts_by M.meaning M.fails M.is_lawful M.Error.output matcher.now)
             (calls_if self.now.settings (M.meaning matcher.now) is_across)
             sink.old.byte self.now.settings bytes.now sink.old.sink.now result sink.new.sink.now }
         ensures succeeds { NeverFails S.step S.may_call → IsInfallible (M.fails matcher.now)

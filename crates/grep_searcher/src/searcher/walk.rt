@@ -10,7 +10,7 @@ ghost use Rattle.grep_definitions.specs.Below.{is_at};
 ghost use Rattle.grep_definitions.specs.LineSearch.{turns, byte_count, differ};
 ghost use Rattle.grep_definitions.specs.LineTurns.{number_of, matches_line};
 ghost use Rattle.grep_definitions.specs.Questions.{IsLawfulFor};
-ghost use Rattle.grep_definitions.specs.Searches.{IsLineFault};
+ghost use Rattle.grep_definitions.specs.Searches.{IsLineFault, errors_by, facts_by};
 ghost use Rattle.grep_definitions.specs.SinkRuns.{Outcome, NeverFails};
 ghost use Rattle.grep_searcher.specs.Walks.{next_walk, walk_past, is_over, Counted, IsOrdered, IsKept};
 ghost use Rattle.grep_searcher.specs.Windows.{HasSearched, HasPassed};
@@ -69,17 +69,8 @@ impl<A: Allocator + Copy> Searcher<A> {
         ensures fault { IfErr result (λ e.
             IsLawfulFor self.now.settings (M.meaning matcher.now) (M.is_lawful matcher.now)
             → IsLineFault S.step
-            (record {
-              is_message = S.Error.is_message;
-              is_io = S.Error.is_io;
-              is_config = S.Error.is_config;
-            })
-            (record {
-              meaning = M.meaning matcher.now;
-              fails = M.fails matcher.now;
-              is_lawful = M.is_lawful matcher.now;
-              text_of = M.Error.output;
-            })
+            (errors_by S.Error.is_message S.Error.is_io S.Error.is_config)
+            (facts_by M.meaning M.fails M.is_lawful M.Error.output matcher.now)
             self.now.settings bytes.now sink.old e sink.new) }
         ensures succeeds { NeverFails S.step S.may_call → IsInfallible (M.fails matcher.now)
             → IsOk result }
@@ -144,17 +135,8 @@ impl<A: Allocator + Copy> Searcher<A> {
             → HasSearched S.step self.now.settings (M.meaning matcher.now) gone window.now input
             first start walk.old sink.old
             → IsLineFault S.step
-            (record {
-              is_message = S.Error.is_message;
-              is_io = S.Error.is_io;
-              is_config = S.Error.is_config;
-            })
-            (record {
-              meaning = M.meaning matcher.now;
-              fails = M.fails matcher.now;
-              is_lawful = M.is_lawful matcher.now;
-              text_of = M.Error.output;
-            })
+            (errors_by S.Error.is_message S.Error.is_io S.Error.is_config)
+            (facts_by M.meaning M.fails M.is_lawful M.Error.output matcher.now)
             self.now.settings input first e sink.new) }
         ensures succeeds { NeverFails S.step S.may_call → IsInfallible (M.fails matcher.now)
             → IsOk result }
@@ -228,7 +210,8 @@ impl<A: Allocator + Copy> Searcher<A> {
 
     // Whether no line has a turn.
     pub(crate) fn is_idle(&self) -> bool
-        ensures { result ≡ (not self.now.settings.passthru && is_at 0 self.now.settings.max_matches) }
+        ensures { result ≡ (not self.now.settings.passthru
+            && is_at 0 self.now.settings.max_matches) }
     {
         match self.config.max_matches {
             Some(limit) => !self.config.passthru && limit == 0,
@@ -303,7 +286,8 @@ impl<A: Allocator + Copy> Searcher<A> {
             → chosen ≡ (not (is_at walk.now.match_count self.now.settings.max_matches)
             && differ (matches_line self.now.settings (M.meaning matcher.now) line.now)
             self.now.settings.invert_match)) }
-        ensures open { IfErr result (λ e. is_at walk.now.match_count self.now.settings.max_matches ≡ false) }
+        ensures open { IfErr result
+            (λ e. is_at walk.now.match_count self.now.settings.max_matches ≡ false) }
         ensures fault { IfErr result (λ e. (error : M.Error) × E.is_message (M.Error.output error) e
             × M.fails matcher.now (strip self.now.settings.line_terminator line.now) error) }
     {

@@ -5,7 +5,8 @@ pub returns-in-Little-clause-text : goal.returns-in-Little-clause-text
 returns-in-Little-clause-text c = λ done more.
     let made = c.put_lows.ensures in
     let output = c.put_lows.new.output in
-    rw c.in-Little.is (little-block c.args.input.now c.halves.result.0 c.halves.result.1 output more c.requires.input c.halves.ensures.firsts
+    rw c.in-Little.is (little-block c.args.input.now c.halves.result.0 c.halves.result.1 output more c.requires.input
+    c.halves.ensures.firsts
     c.halves.ensures.seconds (made.bytes done) (made.lows done) (made.highs done))
 
 pub returns-in-Big-clause-text : goal.returns-in-Big-clause-text

@@ -1,8 +1,12 @@
 use Rattle.std.proofs.Common.{◌⊎◌, ◌<◌, ◌≤◌, drop, inl, inr, ap, ◌∙◌, ◌++◌, encode_utf8, arith}
 use Rattle.grep_decode.specs.Decoded.{utf16_text}
-use Rattle.grep_decode.proofs.UnitLemmas.{high_is, low_is, not_low, not_high, alone-plain, alone-surrogate, text-alone, text-high, text-pair, text-waiting, text-odd}
+use Rattle.grep_decode.proofs.UnitLemmas.{high_is, low_is, not_low, not_high, alone-plain, alone-surrogate, text-alone, text-high}
+use Rattle.grep_decode.proofs.UnitLemmas.{text-pair, text-waiting, text-odd}
 use Rattle.grep_decode.proofs.utf16.next_scalar.Goals as goal
-use Rattle.grep_decode.proofs.utf16.next_scalar.Goals.{then-unit-lt55296-via-then-unit-lt55296, then-unit-lt55296-via-else-unit-lt55296+then-unit-ge57344, else-next-ge56320-via-then-next-ge56320+else-next-lt57344, else-next-ge56320-via-else-next-ge56320}
+use Rattle.grep_decode.proofs.utf16.next_scalar.Goals.{then-unit-lt55296-via-then-unit-lt55296}
+use Rattle.grep_decode.proofs.utf16.next_scalar.Goals.{then-unit-lt55296-via-else-unit-lt55296+then-unit-ge57344}
+use Rattle.grep_decode.proofs.utf16.next_scalar.Goals.{else-next-ge56320-via-then-next-ge56320+else-next-lt57344}
+use Rattle.grep_decode.proofs.utf16.next_scalar.Goals.{else-next-ge56320-via-else-next-ge56320}
 
 pub returns-then-unit-lt55296-clause-first : goal.returns-then-unit-lt55296-clause-first
 returns-then-unit-lt55296-clause-first c = λ more when.
@@ -24,7 +28,8 @@ returns-then-unit-ge56320-clause-first c = λ more when.
 pub returns-then-is_last-2-clause-first : goal.returns-then-is_last-2-clause-first
 returns-then-is_last-2-clause-first c = λ more when.
     let u = c.unit_at-unit.result in
-    text-waiting c.args.order c.args.input.now more u (omega arith) (omega arith) c.unit_at-unit.ensures.value (high_is u (omega arith) (omega arith)) (when c.if-is_last-2.true)
+    text-waiting c.args.order c.args.input.now more u (omega arith) (omega arith) c.unit_at-unit.ensures.value
+    (high_is u (omega arith) (omega arith)) (when c.if-is_last-2.true)
 
 pub returns-then-is_last-clause-first : goal.returns-then-is_last-clause-first
 returns-then-is_last-clause-first c = λ more when. text-odd c.args.order c.args.input.now more (omega arith) (when c.if-is_last.true)

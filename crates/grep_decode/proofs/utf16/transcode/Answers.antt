@@ -20,7 +20,8 @@ loop-written-preserved c =
       taken = omega (arith, made.taken, l.invariant.taken, length-drop l.taken c.args.input.now);
       written = grind (arith, places);
       progress = λ none. absurd (omega (arith, none, some));
-      text = λ more when. text-more (utf16_text c.args.order) c.args.input.now l.output c.transcode_some-more.new.output more l.taken l.written
+      text = λ more when. text-more (utf16_text c.args.order) c.args.input.now l.output c.transcode_some-more.new.output
+          more l.taken l.written
           next count (length l.output - l.written) l.invariant.written made.written (l.invariant.text more when)
           (subst (Written more) whole (made.text more when));
     }

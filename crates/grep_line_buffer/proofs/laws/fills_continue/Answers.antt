@@ -36,12 +36,10 @@ found-more detection t offset gone old given more None now whole at was is =
 pub returns : goal.returns
 returns g c = record {
   fills = λ old new d d1 d2 r r1 r2 gone given before whole offset found uncut fill. (
-    given ++ fill.given,
     c.reads_continue.ensures.more d d1 d2 r r1 r2 given fill.given before fill.decodes,
     whole-more old.detection old.terminator gone (held old) (held new) given fill.given whole fill.appended
         (λ quits. sym found ∙ uncut-none old.detection old.binary uncut quits),
     found-more old.detection old.terminator old.offset gone (held old) given fill.given old.binary new.binary whole offset found fill.found,
-    (fill.given, refl),
   );
   consumed = λ w gone count. consumed-held gone w.shown w.rest count;
   fails = λ old new d d1 d2 r r1 r2 given e before fill.

@@ -1,7 +1,8 @@
 use Rattle.std.proofs.Common.{◌≡◌, [], ap, sym, ◌∙◌}
 use Rattle.grep_decode.specs.declared.mode.Mode.TheVariants.{Fresh, Passing}
 use Rattle.grep_decode.specs.DecoderStates.{Decodes, HasNoMark, TakesAtMost, runs_ahead}
-use Rattle.grep_decode.proofs.DecoderLemmas.{Decodes-none, first-passes, fits-fresh, looks-fresh, result-decodes, result-fails, result-first, result-ahead, takes-none}
+use Rattle.grep_decode.proofs.DecoderLemmas.{Decodes-none, first-passes, fits-fresh, looks-fresh, result-decodes, result-fails}
+use Rattle.grep_decode.proofs.DecoderLemmas.{result-first, result-ahead, takes-none}
 use Rattle.grep_decode.proofs.decoder.Decoder.read_some.Goals as goal
 use Rattle.grep_decode.proofs.decoder.Decoder.read_some.Goals.{in-Fresh+in-Ok, in_default}
 
@@ -9,7 +10,8 @@ pub returns-clause-decodes : goal.returns-clause-decodes
 returns-clause-decodes g c =
     let remaining = g.R.Source.remaining in
     let step = g.R.Source.step in
-    let begun : Decodes remaining step c.args.self.now c.args.reader.now [] c.match-self.self c.match-self.reader = elim c.match-self.branch [
+    let begun : Decodes remaining step c.args.self.now c.args.reader.now [] c.match-self.self c.match-self.reader =
+    elim c.match-self.branch [
       | in-Fresh+in-Ok w ↦ rw (w.self-is, w.reader-is) w.in-Ok.ensures.decodes
       | in_default w ↦ rw (w.self-is, w.reader-is) (Decodes-none remaining step c.args.self.now c.args.reader.now)
     ] in
@@ -20,7 +22,8 @@ pub returns-clause-failed : goal.returns-clause-failed
 returns-clause-failed g c =
     let remaining = g.R.Source.remaining in
     let step = g.R.Source.step in
-    let begun : Decodes remaining step c.args.self.now c.args.reader.now [] c.match-self.self c.match-self.reader = elim c.match-self.branch [
+    let begun : Decodes remaining step c.args.self.now c.args.reader.now [] c.match-self.self c.match-self.reader =
+    elim c.match-self.branch [
       | in-Fresh+in-Ok w ↦ rw (w.self-is, w.reader-is) w.in-Ok.ensures.decodes
       | in_default w ↦ rw (w.self-is, w.reader-is) (Decodes-none remaining step c.args.self.now c.args.reader.now)
     ] in
@@ -46,7 +49,8 @@ returns-clause-first g c = λ none unended looks.
     let Kept : Type 0 = c.read_on.new.reader ≡ c.match-self.reader in
     elim c.match-self.branch [
       | in-Fresh+in-Ok w ↦
-          let fresh : c.args.self.now.mode ≡ Fresh w.in-Fresh.label w.in-Fresh.sniff = ap (λ s. s.mode) (sym c.self.view_is) ∙ w.in-Fresh.is in
+          let fresh : c.args.self.now.mode ≡ Fresh w.in-Fresh.label w.in-Fresh.sniff =
+          ap (λ s. s.mode) (sym c.self.view_is) ∙ w.in-Fresh.is in
           let fits = fits-fresh d.mode d.ready d.held.bytes w.in-Fresh.label w.in-Fresh.sniff c.self.invariant.1 w.in-Fresh.is in
           let empty = sym (ap (λ s. s.ready) c.self.view_is) ∙ fits.0 in
           let mode : Passes → w.settle.new.self.mode ≡ Passing =

@@ -22,7 +22,8 @@ returns-clause-decodes g c =
           (w.in-Ok.ensures.decodes d.mode))
       | else-sniff+else-is_some w ↦ rw (w.self-is, w.reader-is) (Decodes-none remaining step c.args.self.now c.args.reader.now)
     ] in
-    Decodes-append remaining step c.args.self.now c.if-sniff.self c.choose.new.self c.args.reader.now c.if-sniff.reader c.if-sniff.reader [] []
+    Decodes-append remaining step c.args.self.now c.if-sniff.self c.choose.new.self c.args.reader.now
+    c.if-sniff.reader c.if-sniff.reader [] []
     ahead (Decodes-within remaining step c.if-sniff.self c.choose.new.self c.if-sniff.reader [] c.choose.ensures.ended c.choose.ensures.same
     c.choose.ensures.next)
 
@@ -39,12 +40,14 @@ returns-clause-first g c = λ none unended looks.
       | then-sniff+in-Ok w ↦
           let bytes : c.if-sniff.self.held ≡ w.fill.new.self.bytes = ap (λ s. s.held) w.self-is in
           first-by c.args.self.now.mode c.args.label c.args.sniff Passes (remaining c.args.reader.now) c.choose.new.self.ready c.requires
-          (λ passing. first-ready c.args.label c.args.sniff d.held w.fill.new.self (remaining c.args.reader.now) (remaining w.fill.new.reader)
+          (λ passing. first-ready c.args.label c.args.sniff d.held w.fill.new.self (remaining c.args.reader.now)
+          (remaining w.fill.new.reader)
           c.choose.new.self.ready
           (Decodes-yet remaining step (holding Passing d.held) (holding Passing w.fill.new.self) c.args.reader.now w.fill.new.reader []
           (w.in-Ok.ensures.decodes Passing)) held before w.in-Ok.ensures.few w.in-Ok.ensures.enough
           (λ unmarked. c.choose.ensures.ready (ap (found_mark c.args.label c.args.sniff) bytes ∙ unmarked) passing ∙ bytes))
       | else-sniff+else-is_some w ↦
-          let unlooked : (c.args.sniff || is_some c.args.label) ≡ is_some c.args.label = ap (λ b. b || is_some c.args.label) w.if-sniff.false in
+          let unlooked : (c.args.sniff || is_some c.args.label) ≡ is_some c.args.label =
+          ap (λ b. b || is_some c.args.label) w.if-sniff.false in
           absurd (false≢true (sym w.if-is_some.false ∙ (w.is_some.ensures ∙ (sym unlooked ∙ looked))))
     ]

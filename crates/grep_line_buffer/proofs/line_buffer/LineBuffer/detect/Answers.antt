@@ -1,5 +1,6 @@
 use borrow.Rule.Slice.PartMut.{put_mid}
-use Rattle.std.proofs.Common.{◌≡◌, if◌then◌else◌, ◌==◌, ◌+◌, ◌-◌, ◌≤◌, ◌++◌, length, take, refl, sym, ap, subst, ◌∙◌, arith, length-append, None, Some, ◌&&◌, false}
+use Rattle.std.proofs.Common.{◌≡◌, if◌then◌else◌, ◌==◌, ◌+◌, ◌-◌, ◌≤◌, ◌++◌, ◌∙◌, ◌&&◌, false, None, Some}
+use Rattle.std.proofs.Common.{length, take, refl, sym, ap, subst, arith}
 use Rattle.std.specs.Option.{option_map, is_some}
 use Rattle.std.proofs.lemmas.List.{length-map, with_items_is}
 use Rattle.grep_lines.specs.Positions.{slice}
@@ -8,9 +9,9 @@ use Rattle.grep_line_buffer.specs.declared.detection.Detection.TheVariants.{Conv
 use Rattle.grep_line_buffer.specs.BufferStates.{BufferState, is_cut}
 use Rattle.grep_line_buffer.specs.Detections.{detected, found_in, first_of, byte_offset, is_quit}
 use Rattle.grep_line_buffer.proofs.BufferStateLemmas.{window-same}
-use Rattle.grep_line_buffer.proofs.DetectLemmas.{Detects-made, found-at, found-first, length-cut, nothing-found, quit-at, quit-none, split-rest, length-last, length-held, slice-before}
-use Rattle.grep_line_buffer.proofs.DetectLemmas.{changed-front, changed-rest, length-changed}
-use Rattle.grep_line_buffer.proofs.SliceLemmas.{length-slice, slice-kept}
+use Rattle.grep_line_buffer.proofs.DetectLemmas.{Detects-made, found-at, found-first, length-cut, nothing-found, quit-at}
+use Rattle.grep_line_buffer.proofs.DetectLemmas.{is-changed, length-held, length-last, quit-none, slice-before, split-rest}
+use Rattle.grep_line_buffer.proofs.SliceLemmas.{length-slice}
 use Rattle.grep_line_buffer.proofs.line_buffer.LineBuffer.detect.Goals as goal
 
 pub returns-in-Some : goal.returns-in-Some
@@ -18,31 +19,28 @@ returns-in-Some g c =
     let b = c.self.inside in
     let bs = b.bytes.items in
     let n = c.args.count in
-    let P : BufferState → Type 0 = λ w. n ≤ length w.rest in
-    let fits = subst P (sym c.self.view_is) c.requires.count in
-    let rest = length-slice bs b.line_end b.end (omega arith) in
+    let fits = rw (← c.self.view_is) at c.requires.count in
     let low : b.start ≤ b.line_end = omega arith in
     let high : b.line_end ≤ b.end = omega arith in
     let within : b.end ≤ length bs = omega arith in
-    let read : n ≤ b.end - b.line_end = omega (arith, fits, rest) in
+    let read : n ≤ b.end - b.line_end = omega (arith, fits, length-slice bs b.line_end b.end (omega arith)) in
     let last = slice bs (b.end - n) b.end in
     let front = slice bs b.line_end (b.end - n) in
     let split = split-rest b.start b.line_end b.end n bs low high within read in
     let counted = length-last b.start b.line_end b.end n bs low high within read in
     let at = c.in-Some.at in
     let here = position-found c.in-Quit.byte last (Some at) (rw c.deref.ensures.value at c.in-Some.ensures) in
-    let found : found_in b.detection b.terminator last ≡ Some at =
-    subst (λ D. found_in D b.terminator last ≡ Some at) (sym c.in-Quit.is) here in
+    let found : found_in b.detection b.terminator last ≡ Some at = rw c.in-Quit.is here in
     let made : take at last ≡ detected b.detection b.terminator last =
-    subst (λ D. take at last ≡ detected D b.terminator last) (sym c.in-Quit.is) (quit-at c.in-Quit.byte b.terminator last at here) in
+    rw c.in-Quit.is (quit-at c.in-Quit.byte b.terminator last at here) in
     let part : at ≤ n = omega (arith, counted, (rw c.deref.ensures.value at c.in-Some.ensures).0.high) in
     let U : BufferState → Type 0 = λ w. is_cut w ≡ false in
     let uncut = subst U (sym c.self.view_is) c.requires.uncut in
     let first : option_map byte_offset b.binary ≡ None =
     found-first _ (subst (λ D. (is_quit D && is_some (option_map byte_offset b.binary)) ≡ false) c.in-Quit.is uncut) in
     let all = length-held b.start b.line_end b.end n bs low high within read in
-    let sum : b.offset + ((b.end - n + at) - b.start) ≡ b.offset + (length (slice bs b.start b.line_end ++ slice bs b.line_end b.end) - n) + at =
-    omega (arith, all) in
+    let sum : b.offset + ((b.end - n + at) - b.start)
+    ≡ b.offset + (length (slice bs b.start b.line_end ++ slice bs b.line_end b.end) - n) + at = omega (arith, all) in
     let joined = slice-before b.start b.line_end b.end n bs low high within read at part in
     record {
       detects = rw (← c.self.view_is) (Detects-made n _ _ front last (take at last) (length bs - (b.end - n + at))
@@ -58,24 +56,22 @@ returns-in_default g c =
     let b = c.self.inside in
     let bs = b.bytes.items in
     let n = c.args.count in
-    let P : BufferState → Type 0 = λ w. n ≤ length w.rest in
-    let fits = subst P (sym c.self.view_is) c.requires.count in
-    let rest = length-slice bs b.line_end b.end (omega arith) in
+    let fits = rw (← c.self.view_is) at c.requires.count in
     let low : b.start ≤ b.line_end = omega arith in
     let high : b.line_end ≤ b.end = omega arith in
     let within : b.end ≤ length bs = omega arith in
-    let read : n ≤ b.end - b.line_end = omega (arith, fits, rest) in
+    let read : n ≤ b.end - b.line_end = omega (arith, fits, length-slice bs b.line_end b.end (omega arith)) in
     let last = slice bs (b.end - n) b.end in
     let front = slice bs b.line_end (b.end - n) in
     let split = split-rest b.start b.line_end b.end n bs low high within read in
     let counted = length-last b.start b.line_end b.end n bs low high within read in
     let missing = position-found c.in-Quit.byte last None (rw c.deref.ensures.value at c.in_default.ensures) in
-    let none : found_in b.detection b.terminator last ≡ None =
-    subst (λ D. found_in D b.terminator last ≡ None) (sym c.in-Quit.is) missing in
+    let none : found_in b.detection b.terminator last ≡ None = rw c.in-Quit.is missing in
     let same : last ≡ detected b.detection b.terminator last =
-    subst (λ D. last ≡ detected D b.terminator last) (sym c.in-Quit.is) (quit-none c.in-Quit.byte b.terminator last missing) in
+    rw c.in-Quit.is (quit-none c.in-Quit.byte b.terminator last missing) in
     record {
-      detects = rw (← c.self.view_is) (Detects-made n _ _ front last last (length bs - b.end) (option_map byte_offset b.binary) split counted same
+      detects = rw (← c.self.view_is) (Detects-made n _ _ front last last (length bs - b.end)
+          (option_map byte_offset b.binary) split counted same
           (window-same _ _ _ _ _ _ _ _ _ _ _ _ _ _ refl split refl refl) (nothing-found _ _ _ none)
           (ap (λ l. length bs - b.end + length (slice bs b.start b.line_end ++ l)) (sym split)));
     }
@@ -85,13 +81,11 @@ returns-in-Some-replace_bytes g c =
     let b = c.self.inside in
     let bs = b.bytes.items in
     let n = c.args.count in
-    let P : BufferState → Type 0 = λ w. n ≤ length w.rest in
-    let fits = subst P (sym c.self.view_is) c.requires.count in
-    let rest = length-slice bs b.line_end b.end (omega arith) in
+    let fits = rw (← c.self.view_is) at c.requires.count in
     let low : b.start ≤ b.line_end = omega arith in
     let high : b.line_end ≤ b.end = omega arith in
     let within : b.end ≤ length bs = omega arith in
-    let read : n ≤ b.end - b.line_end = omega (arith, fits, rest) in
+    let read : n ≤ b.end - b.line_end = omega (arith, fits, length-slice bs b.line_end b.end (omega arith)) in
     let last = slice bs (b.end - n) b.end in
     let front = slice bs b.line_end (b.end - n) in
     let split = split-rest b.start b.line_end b.end n bs low high within read in
@@ -101,42 +95,26 @@ returns-in-Some-replace_bytes g c =
     ap (λ l. put_mid (b.end - n) (b.end - (b.end - n)) l c.replace_bytes.new.bytes) c.deref_mut.ensures.value in
     let bytes : c.replace_bytes.new.bytes ≡ detected (Convert c.in-Convert.byte) b.terminator last =
     rw c.deref_mut.ensures.value at c.replace_bytes.ensures.bytes in
-    let made : c.replace_bytes.new.bytes ≡ detected b.detection b.terminator last =
-    subst (λ D. c.replace_bytes.new.bytes ≡ detected D b.terminator last) (sym c.in-Convert.is) bytes in
+    let made : c.replace_bytes.new.bytes ≡ detected b.detection b.terminator last = rw c.in-Convert.is bytes in
     let many : length c.replace_bytes.new.bytes ≡ n =
     ap (λ l. length l) bytes ∙ length-map last (λ x. if x == c.in-Convert.byte then b.terminator else x) ∙ counted in
-    let size : length now ≡ length bs = ap (λ l. length l) moved ∙ length-changed b.start b.line_end b.end n bs low high within read c.replace_bytes.new.bytes many in
-    let whole : length now ≡ b.bytes.len = omega (arith, size) in
-    let kept : take (b.end - n) now ≡ take (b.end - n) bs =
-    ap (take (b.end - n)) moved ∙ changed-front b.start b.line_end b.end n bs low high within read c.replace_bytes.new.bytes many in
-    let changed : slice now b.line_end b.end ≡ front ++ c.replace_bytes.new.bytes =
-    ap (λ l. slice l b.line_end b.end) moved ∙ changed-rest b.start b.line_end b.end n bs low high within read c.replace_bytes.new.bytes many in
-    let same : slice now b.start b.line_end ≡ slice bs b.start b.line_end = slice-kept bs now b.start b.line_end (b.end - n) kept (omega arith) in
+    let after = is-changed b.start b.line_end b.end n bs low high within read c.replace_bytes.new.bytes many now moved in
+    let whole : length now ≡ b.bytes.len = omega (arith, after.size) in
     let all = length-held b.start b.line_end b.end n bs low high within read in
     let shown = slice bs b.start b.line_end in
-    let sum : (length bs - b.end) + length (shown ++ (front ++ c.replace_bytes.new.bytes)) ≡ (length bs - b.end) + length (shown ++ slice bs b.line_end b.end) =
-    omega (
-      arith,
-      all,
-      length-append shown (front ++ c.replace_bytes.new.bytes),
-      length-append front c.replace_bytes.new.bytes,
-      length-slice bs b.start b.line_end (omega arith),
-      length-slice bs b.line_end (b.end - n) (omega arith),
-      many,
-    )
-    in
     let at = c.in-Some-replace_bytes.at in
-    let there : found_in (Convert c.in-Convert.byte) b.terminator last ≡ Some at =
-    sym (rw c.deref_mut.ensures.value at c.in-Some-replace_bytes.ensures.first) in
     let found : found_in b.detection b.terminator last ≡ Some at =
-    subst (λ D. found_in D b.terminator last ≡ Some at) (sym c.in-Convert.is) there in
+    rw c.in-Convert.is (sym (rw c.deref_mut.ensures.value at c.in-Some-replace_bytes.ensures.first)) in
     let before = option_map byte_offset b.binary in
-    let place : b.offset + ((b.end - n) - b.start + at) ≡ b.offset + (length (shown ++ slice bs b.line_end b.end) - n) + at = omega (arith, all) in
+    let place : b.offset + ((b.end - n) - b.start + at) ≡ b.offset + (length (shown ++ slice bs b.line_end b.end) - n) + at =
+    omega (arith, all) in
     record {
       detects = rw (← c.self.view_is) (Detects-made n _ _ front last c.replace_bytes.new.bytes (length bs - b.end)
           (first_of before (Some (b.offset + ((b.end - n) - b.start + at)))) split counted made
-          (c.note.ensures ∙ (rw (with_items_is b.bytes now whole) (window-same _ _ _ _ _ _ _ _ _ _ _ _ _ _ same changed size (ap (λ k. k - b.end) size))))
-          (ap (first_of before) (ap Some place ∙ sym (ap (option_map (λ i. b.offset + (length (shown ++ slice bs b.line_end b.end) - n) + i)) found))) sum);
+          (c.note.ensures ∙ (rw (with_items_is b.bytes now whole) (window-same _ _ _ _ _ _ _ _ _ _ _ _ _ _
+          after.shown after.rest after.size (ap (λ k. k - b.end) after.size))))
+          (ap (first_of before) (ap Some place
+          ∙ sym (ap (option_map (λ i. b.offset + (length (shown ++ slice bs b.line_end b.end) - n) + i)) found))) after.sum);
     }
 
 pub returns-in_default-replace_bytes : goal.returns-in_default-replace_bytes
@@ -144,13 +122,11 @@ returns-in_default-replace_bytes g c =
     let b = c.self.inside in
     let bs = b.bytes.items in
     let n = c.args.count in
-    let P : BufferState → Type 0 = λ w. n ≤ length w.rest in
-    let fits = subst P (sym c.self.view_is) c.requires.count in
-    let rest = length-slice bs b.line_end b.end (omega arith) in
+    let fits = rw (← c.self.view_is) at c.requires.count in
     let low : b.start ≤ b.line_end = omega arith in
     let high : b.line_end ≤ b.end = omega arith in
     let within : b.end ≤ length bs = omega arith in
-    let read : n ≤ b.end - b.line_end = omega (arith, fits, rest) in
+    let read : n ≤ b.end - b.line_end = omega (arith, fits, length-slice bs b.line_end b.end (omega arith)) in
     let last = slice bs (b.end - n) b.end in
     let front = slice bs b.line_end (b.end - n) in
     let split = split-rest b.start b.line_end b.end n bs low high within read in
@@ -160,36 +136,16 @@ returns-in_default-replace_bytes g c =
     ap (λ l. put_mid (b.end - n) (b.end - (b.end - n)) l c.replace_bytes.new.bytes) c.deref_mut.ensures.value in
     let bytes : c.replace_bytes.new.bytes ≡ detected (Convert c.in-Convert.byte) b.terminator last =
     rw c.deref_mut.ensures.value at c.replace_bytes.ensures.bytes in
-    let made : c.replace_bytes.new.bytes ≡ detected b.detection b.terminator last =
-    subst (λ D. c.replace_bytes.new.bytes ≡ detected D b.terminator last) (sym c.in-Convert.is) bytes in
+    let made : c.replace_bytes.new.bytes ≡ detected b.detection b.terminator last = rw c.in-Convert.is bytes in
     let many : length c.replace_bytes.new.bytes ≡ n =
     ap (λ l. length l) bytes ∙ length-map last (λ x. if x == c.in-Convert.byte then b.terminator else x) ∙ counted in
-    let size : length now ≡ length bs = ap (λ l. length l) moved ∙ length-changed b.start b.line_end b.end n bs low high within read c.replace_bytes.new.bytes many in
-    let whole : length now ≡ b.bytes.len = omega (arith, size) in
-    let kept : take (b.end - n) now ≡ take (b.end - n) bs =
-    ap (take (b.end - n)) moved ∙ changed-front b.start b.line_end b.end n bs low high within read c.replace_bytes.new.bytes many in
-    let changed : slice now b.line_end b.end ≡ front ++ c.replace_bytes.new.bytes =
-    ap (λ l. slice l b.line_end b.end) moved ∙ changed-rest b.start b.line_end b.end n bs low high within read c.replace_bytes.new.bytes many in
-    let same : slice now b.start b.line_end ≡ slice bs b.start b.line_end = slice-kept bs now b.start b.line_end (b.end - n) kept (omega arith) in
-    let all = length-held b.start b.line_end b.end n bs low high within read in
-    let shown = slice bs b.start b.line_end in
-    let sum : (length bs - b.end) + length (shown ++ (front ++ c.replace_bytes.new.bytes)) ≡ (length bs - b.end) + length (shown ++ slice bs b.line_end b.end) =
-    omega (
-      arith,
-      all,
-      length-append shown (front ++ c.replace_bytes.new.bytes),
-      length-append front c.replace_bytes.new.bytes,
-      length-slice bs b.start b.line_end (omega arith),
-      length-slice bs b.line_end (b.end - n) (omega arith),
-      many,
-    )
-    in
-    let missing : found_in (Convert c.in-Convert.byte) b.terminator last ≡ None =
-    sym (rw c.deref_mut.ensures.value at c.in_default-replace_bytes.ensures.first) in
+    let after = is-changed b.start b.line_end b.end n bs low high within read c.replace_bytes.new.bytes many now moved in
+    let whole : length now ≡ b.bytes.len = omega (arith, after.size) in
     let none : found_in b.detection b.terminator last ≡ None =
-    subst (λ D. found_in D b.terminator last ≡ None) (sym c.in-Convert.is) missing in
+    rw c.in-Convert.is (sym (rw c.deref_mut.ensures.value at c.in_default-replace_bytes.ensures.first)) in
     record {
-      detects = rw (← c.self.view_is) (rw (with_items_is b.bytes now whole) (Detects-made n _ _ front last c.replace_bytes.new.bytes (length bs - b.end)
-          (option_map byte_offset b.binary) split counted made
-          (window-same _ _ _ _ _ _ _ _ _ _ _ _ _ _ same changed size (ap (λ k. k - b.end) size)) (nothing-found _ _ _ none) sum));
+      detects = rw (← c.self.view_is) (rw (with_items_is b.bytes now whole) (Detects-made n _ _ front last c.replace_bytes.new.bytes
+          (length bs - b.end) (option_map byte_offset b.binary) split counted made
+          (window-same _ _ _ _ _ _ _ _ _ _ _ _ _ _ after.shown after.rest after.size (ap (λ k. k - b.end) after.size))
+          (nothing-found _ _ _ none) after.sum));
     }

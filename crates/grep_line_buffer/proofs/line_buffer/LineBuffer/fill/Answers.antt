@@ -15,7 +15,8 @@ pub returns-then-has_ended : goal.returns-then-has_ended
 returns-then-has_ended g c =
     let was : c.args.self.now.has_ended ≡ true = sym c.has_ended.ensures.value ∙ c.if-has_ended.true in
     let shown = c.has_ended.ensures.shown c.if-has_ended.true in
-    let out = Outcome-none g.R.Source.remaining g.R.Source.step c.args.self.now _ _ (c.reads_continue.ensures.none _ _) c.has_ended.ensures.within in
+    let out = Outcome-none g.R.Source.remaining g.R.Source.step c.args.self.now _ _ (c.reads_continue.ensures.none _ _)
+    c.has_ended.ensures.within in
     let filled = filled-before c.args.self.now was shown.0 shown.1 in
     record {
       same = out.same;
@@ -48,8 +49,15 @@ pub returns-then-not-has_offsets : goal.returns-then-not-has_offsets
 returns-then-not-has_offsets g c =
     let was : c.args.self.now.has_ended ≡ false = sym c.has_ended.ensures.value ∙ c.if-has_ended.false in
     let past = c.if-not-has_offsets.ensures in
-    let error : PassesOffsets c.args.self.now c.args.self.now = record { past = past; shown = λ fits. absurd (omega (arith, past, fits)); same = λ passed. refl; unended = was } in
-    let out = Outcome-none g.R.Source.remaining g.R.Source.step c.args.self.now _ _ (c.reads_continue.ensures.none _ _) c.has_ended.ensures.within in
+    let error : PassesOffsets c.args.self.now c.args.self.now = record {
+      past = past;
+      shown = λ fits. absurd (omega (arith, past, fits));
+      same = λ passed. refl;
+      unended = was;
+    }
+    in
+    let out = Outcome-none g.R.Source.remaining g.R.Source.step c.args.self.now _ _ (c.reads_continue.ensures.none _ _)
+    c.has_ended.ensures.within in
     record {
       same = out.same;
       within = out.within;
@@ -115,12 +123,10 @@ returns-in-Err g c =
 pub returns-in-Err-read : goal.returns-in-Err-read
 returns-in-Err-read g c =
     let was : c.args.self.now.has_ended ≡ false = sym c.has_ended.ensures.value ∙ c.if-has_ended.false in
-    let rem = g.R.Source.remaining in
-    let step = g.R.Source.step in
     let made = c.make_room.ensures in
-    let room = HasNone-room rem step _ _ _ _ _ _ _ _ _ c.reads.invariant made.same made.free made.within made.grows in
+    let room = HasNone-room _ _ _ _ _ _ _ _ _ _ _ c.reads.invariant made.same made.free made.within made.grows in
     let failed = c.in-Err-read.ensures.failed in
-    let out = HasNone-fault rem step _ _ _ _ _ _ _ _ _ c.in-Err-read.e c.reads_continue.ensures.more room failed c.in_default.ensures.ok
+    let out = HasNone-fault _ _ _ _ _ _ _ _ _ _ _ c.in-Err-read.e c.reads_continue.ensures.more room failed c.in_default.ensures.ok
     c.read.ensures.capacity c.in-Err-read.ensures.same in
     let error : HasNoLine c.args.self.now c.read.new.self × (length (held c.read.new.self) < c.read.new.self.size) = (out.line, out.room) in
     record {
@@ -153,15 +159,14 @@ returns-in-Err-read g c =
 pub returns-then-count-eq0 : goal.returns-then-count-eq0
 returns-then-count-eq0 g c =
     let was : c.args.self.now.has_ended ≡ false = sym c.has_ended.ensures.value ∙ c.if-has_ended.false in
-    let rem = g.R.Source.remaining in
-    let step = g.R.Source.step in
     let made = c.make_room.ensures in
-    let room = HasNone-room rem step _ _ _ _ _ _ _ _ _ c.reads.invariant made.same made.free made.within made.grows in
+    let room = HasNone-room _ _ _ _ _ _ _ _ _ _ _ c.reads.invariant made.same made.free made.within made.grows in
     let came = c.in-Ok.ensures.reads in
-    let next = IsFilling-none rem step _ _ _ _ _ _ _ _ _ _ c.reads_continue.ensures.more room came c.if-count-eq0.true c.read.ensures.capacity in
+    let next = IsFilling-none _ _ _ _ _ _ _ _ _ _ _ _ c.reads_continue.ensures.more room came c.if-count-eq0.true c.read.ensures.capacity in
     let none = nil_from_length came.given (came.counted ∙ c.if-count-eq0.true) in
-    let out = IsFilling-ended rem step _ _ _ _ _ _ _ next c.end-then-count-eq0.ensures.same in
-    let filled = HasNone-end rem step _ _ _ _ _ _ _ _ _ _ _ room came c.if-count-eq0.true c.in_default.ensures.ok c.end-then-count-eq0.ensures.same in
+    let out = IsFilling-ended _ _ _ _ _ _ _ _ _ next c.end-then-count-eq0.ensures.same in
+    let filled = HasNone-end _ _ _ _ _ _ _ _ _ _ _ _ _ room came c.if-count-eq0.true c.in_default.ensures.ok
+    c.end-then-count-eq0.ensures.same in
     record {
       same = out.same;
       within = out.within;
@@ -192,15 +197,13 @@ returns-then-count-eq0 g c =
 pub returns-then-not-has_offsets-2 : goal.returns-then-not-has_offsets-2
 returns-then-not-has_offsets-2 g c =
     let was : c.args.self.now.has_ended ≡ false = sym c.has_ended.ensures.value ∙ c.if-has_ended.false in
-    let rem = g.R.Source.remaining in
-    let step = g.R.Source.step in
     let made = c.make_room.ensures in
-    let room = HasNone-room rem step _ _ _ _ _ _ _ _ _ c.reads.invariant made.same made.free made.within made.grows in
+    let room = HasNone-room _ _ _ _ _ _ _ _ _ _ _ c.reads.invariant made.same made.free made.within made.grows in
     let came = c.in-Ok.ensures.reads in
-    let comes = Comes-detected rem step _ _ _ _ _ _ _ _ came c.detect.ensures.detects in
-    let next = IsFilling-more rem step _ _ _ _ _ _ _ _ _ _ _ c.reads_continue.ensures.more room came comes c.read.ensures.capacity in
-    let out = IsFilling-stopped rem step _ _ _ _ _ _ _ next refl in
-    let error = IsFilling-past rem step _ _ _ _ _ _ _ _ _ room next c.if-not-has_offsets-2.ensures in
+    let comes = Comes-detected _ _ _ _ _ _ _ _ _ _ came c.detect.ensures.detects in
+    let next = IsFilling-more _ _ _ _ _ _ _ _ _ _ _ _ _ c.reads_continue.ensures.more room came comes c.read.ensures.capacity in
+    let out = IsFilling-stopped _ _ _ _ _ _ _ _ _ next refl in
+    let error = IsFilling-past _ _ _ _ _ _ _ _ _ _ _ room next c.if-not-has_offsets-2.ensures in
     record {
       same = out.same;
       within = out.within;
@@ -231,18 +234,16 @@ returns-then-not-has_offsets-2 g c =
 pub returns-then-show_lines : goal.returns-then-show_lines
 returns-then-show_lines g c =
     let was : c.args.self.now.has_ended ≡ false = sym c.has_ended.ensures.value ∙ c.if-has_ended.false in
-    let rem = g.R.Source.remaining in
-    let step = g.R.Source.step in
     let made = c.make_room.ensures in
-    let room = HasNone-room rem step _ _ _ _ _ _ _ _ _ c.reads.invariant made.same made.free made.within made.grows in
+    let room = HasNone-room _ _ _ _ _ _ _ _ _ _ _ c.reads.invariant made.same made.free made.within made.grows in
     let came = c.in-Ok.ensures.reads in
-    let comes = Comes-detected rem step _ _ _ _ _ _ _ _ came c.detect.ensures.detects in
-    let next = IsFilling-more rem step _ _ _ _ _ _ _ _ _ _ _ c.reads_continue.ensures.more room came comes c.read.ensures.capacity in
+    let comes = Comes-detected _ _ _ _ _ _ _ _ _ _ came c.detect.ensures.detects in
+    let next = IsFilling-more _ _ _ _ _ _ _ _ _ _ _ _ _ c.reads_continue.ensures.more room came comes c.read.ensures.capacity in
     let going = sym c.is_cut-in-reads.ensures.value ∙ c.if-is_cut-2.false in
     let shows = c.if-show_lines.ensures in
-    let out = IsFilling-shown rem step _ _ _ _ _ _ _ _ next shows in
+    let out = IsFilling-shown _ _ _ _ _ _ _ _ _ _ next shows in
     let unended = ap ended_of shows.others ∙ next.unended in
-    let filled = IsFilling-line rem step _ _ _ _ _ _ _ _ _ _ _ _ room comes came.counted going next shows in
+    let filled = IsFilling-line _ _ _ _ _ _ _ _ _ _ _ _ _ _ room comes came.counted going next shows in
     record {
       same = out.same;
       within = out.within;
@@ -278,31 +279,28 @@ reads-init g c = HasNone-first g.R.Source.remaining g.R.Source.step _ _ _ _ _ (c
 
 pub reads-preserved : goal.reads-preserved
 reads-preserved g c =
-    let rem = g.R.Source.remaining in
-    let step = g.R.Source.step in
     let made = c.make_room.ensures in
-    let room = HasNone-room rem step _ _ _ _ _ _ _ _ _ c.reads.invariant made.same made.free made.within made.grows in
+    let room = HasNone-room _ _ _ _ _ _ _ _ _ _ _ c.reads.invariant made.same made.free made.within made.grows in
     let came = c.in-Ok.ensures.reads in
-    let comes = Comes-detected rem step _ _ _ _ _ _ _ _ came c.detect.ensures.detects in
-    let next = IsFilling-more rem step _ _ _ _ _ _ _ _ _ _ _ c.reads_continue.ensures.more room came comes c.read.ensures.capacity in
+    let comes = Comes-detected _ _ _ _ _ _ _ _ _ _ came c.detect.ensures.detects in
+    let next = IsFilling-more _ _ _ _ _ _ _ _ _ _ _ _ _ c.reads_continue.ensures.more room came comes c.read.ensures.capacity in
     let going = sym c.is_cut-in-reads.ensures.value ∙ c.if-is_cut-2.false in
     let shows = c.if-show_lines.ensures in
-    HasNone-more rem step _ _ _ _ _ _ _ _ _ _ _ _ room comes came.counted going next shows.1 c.if-not-has_offsets-2.ensures shows.0
+    HasNone-more _ _ _ _ _ _ _ _ _ _ _ _ _ _ room comes came.counted going next shows.1 c.if-not-has_offsets-2.ensures shows.0
 
 pub returns-then-is_cut-2 : goal.returns-then-is_cut-2
 returns-then-is_cut-2 g c =
     let was : c.args.self.now.has_ended ≡ false = sym c.has_ended.ensures.value ∙ c.if-has_ended.false in
-    let rem = g.R.Source.remaining in
-    let step = g.R.Source.step in
     let made = c.make_room.ensures in
-    let room = HasNone-room rem step _ _ _ _ _ _ _ _ _ c.reads.invariant made.same made.free made.within made.grows in
+    let room = HasNone-room _ _ _ _ _ _ _ _ _ _ _ c.reads.invariant made.same made.free made.within made.grows in
     let came = c.in-Ok.ensures.reads in
-    let comes = Comes-detected rem step _ _ _ _ _ _ _ _ came c.detect.ensures.detects in
-    let next = IsFilling-more rem step _ _ _ _ _ _ _ _ _ _ _ c.reads_continue.ensures.more room came comes c.read.ensures.capacity in
+    let comes = Comes-detected _ _ _ _ _ _ _ _ _ _ came c.detect.ensures.detects in
+    let next = IsFilling-more _ _ _ _ _ _ _ _ _ _ _ _ _ c.reads_continue.ensures.more room came comes c.read.ensures.capacity in
     let cut = sym c.is_cut-in-reads.ensures.value ∙ c.if-is_cut-2.true in
     let still = ap is_cut c.end-then-is_cut-2.ensures.same ∙ cut in
-    let out = IsFilling-ended rem step _ _ _ _ _ _ _ next c.end-then-is_cut-2.ensures.same in
-    let filled = IsFilling-byte rem step _ _ _ _ _ _ _ next cut (c.is_cut-in-reads.ensures.room c.if-is_cut-2.true) c.end-then-is_cut-2.ensures.same in
+    let out = IsFilling-ended _ _ _ _ _ _ _ _ _ next c.end-then-is_cut-2.ensures.same in
+    let filled = IsFilling-byte _ _ _ _ _ _ _ _ _ next cut (c.is_cut-in-reads.ensures.room c.if-is_cut-2.true)
+    c.end-then-is_cut-2.ensures.same in
     record {
       same = out.same;
       within = out.within;
@@ -332,4 +330,5 @@ returns-then-is_cut-2 g c =
 
 pub returns-then-is_cut-clause-reads : goal.returns-then-is_cut-clause-reads
 returns-then-is_cut-clause-reads g c =
-    Fills-none g.R.Source.remaining g.R.Source.step c.args.self.now _ _ _ _ _ (c.reads_continue.ensures.none _ _) c.roll.ensures.same c.end.ensures.same
+    Fills-none g.R.Source.remaining g.R.Source.step c.args.self.now _ _ _ _ _ (c.reads_continue.ensures.none _ _)
+    c.roll.ensures.same c.end.ensures.same

@@ -1,6 +1,6 @@
-use Rattle.std.proofs.Common.{◌+◌, ◌-◌, ◌<◌, ◌≤◌, ℕ, length, drop, length-append, subst, sym, refl, arith}
+use Rattle.std.proofs.Common.{◌+◌, ◌-◌, ◌<◌, ◌≤◌, ℕ, length, drop, length-append, subst, refl, arith}
 use Rattle.grep_lines.specs.Positions.{slice}
-use Rattle.grep_line_buffer.specs.BufferStates.{BufferState, Lacks}
+use Rattle.grep_line_buffer.specs.BufferStates.{Lacks}
 use Rattle.grep_line_buffer.proofs.SliceLemmas.{length-slice}
 use Rattle.grep_line_buffer.proofs.BufferStateLemmas.{last_read, length-last_read, drop-last_read, held-same, EndsWith-shown, Lacks-rest}
 use Rattle.grep_line_buffer.proofs.line_buffer.LineBuffer.show_lines.Goals as goal
@@ -11,13 +11,15 @@ returns-then-length-eq0 g c =
     let bs = b.bytes.items in
     let n = c.args.count in
     let r = c.lines_length-length.result in
-    let P : BufferState → Type 0 = λ w. n ≤ length w.rest in
-    let fits = subst P (sym c.self.view_is) c.requires.count in
+    let fits = rw (← c.self.view_is) at c.requires.count in
     let rest = length-slice bs b.line_end b.end (omega arith) in
     let read : n ≤ b.end - b.line_end = omega (arith, fits, rest) in
-    let Q : ℕ → Type 0 = λ k. Lacks b.terminator (drop k (last_read b.start b.line_end b.end n r b.terminator bs (omega arith) (omega arith) (omega arith) read)) in
+    let low : b.start ≤ b.line_end = omega arith in
+    let high : b.line_end ≤ b.end = omega arith in
+    let within : b.end ≤ length bs = omega arith in
+    let Q : ℕ → Type 0 = λ k. Lacks b.terminator (drop k (last_read b.start b.line_end b.end n r b.terminator bs low high within read)) in
     let none = subst Q c.if-length-eq0.true (rw c.deref.ensures.value at c.lines_length-length.ensures.none) in
-    (refl, rw (← c.self.view_is, rest, drop-last_read b.start b.line_end b.end n r b.terminator bs (omega arith) (omega arith) (omega arith) read) none)
+    (refl, rw (← c.self.view_is, rest, drop-last_read b.start b.line_end b.end n r b.terminator bs low high within read) none)
 
 pub returns : goal.returns
 returns g c =
@@ -25,8 +27,7 @@ returns g c =
     let bs = b.bytes.items in
     let n = c.args.count in
     let r = c.lines_length-length.result in
-    let P : BufferState → Type 0 = λ w. n ≤ length w.rest in
-    let fits = subst P (sym c.self.view_is) c.requires.count in
+    let fits = rw (← c.self.view_is) at c.requires.count in
     let rest = length-slice bs b.line_end b.end (omega arith) in
     let low : b.start ≤ b.line_end = omega arith in
     let high : b.line_end ≤ b.end = omega arith in
@@ -42,8 +43,10 @@ returns g c =
     let all = length-append (slice bs b.start b.line_end) (slice bs b.line_end b.end) in
     rw (← c.self.view_is) (record {
       whole = held-same b.start b.line_end b.end n r b.terminator bs low high within read part;
-      ends = EndsWith-shown b.start b.line_end b.end n r b.terminator bs low high within read some part ((rw c.deref.ensures.value at c.lines_length-length.ensures.last) some);
-      none = Lacks-rest b.start b.line_end b.end n r b.terminator bs low high within read part (rw c.deref.ensures.value at c.lines_length-length.ensures.none);
+      ends = EndsWith-shown b.start b.line_end b.end n r b.terminator bs low high within read some part
+          ((rw c.deref.ensures.value at c.lines_length-length.ensures.last) some);
+      none = Lacks-rest b.start b.line_end b.end n r b.terminator bs low high within read part
+          (rw c.deref.ensures.value at c.lines_length-length.ensures.none);
       reached = rw (all, before, rest, shown) (omega arith);
       others = refl;
     })

@@ -1,15 +1,15 @@
-use Rattle.std.proofs.Common.{rules, subst, false, inl, None, ap, arith, length, refl, sym, ◌∙◌, ◌≡◌, ◌++◌, Some, true}
+use Rattle.std.proofs.Common.{rules, subst, false, inl, ap, arith, length, refl, sym, ◌∙◌, ◌≡◌, ◌++◌, Some, true}
 use Rattle.std.proofs.lemmas.Result.{err_from_is_err_and}
 use Rattle.grep_matcher.specs.Terminators.{byte_of}
-use Rattle.grep_definitions.specs.Searches.{ErrorMakers, MatcherFacts}
+use Rattle.grep_definitions.specs.Searches.{errors_by, facts_by}
 use Rattle.grep_searcher.proofs.CutLemmas as cuts
 use Rattle.grep_searcher.proofs.HeldLemmas as holding
 use Rattle.grep_searcher.proofs.RollingLemmas as rolling
 use Rattle.grep_searcher.proofs.NotedLemmas as noting
 use Rattle.grep_searcher.proofs.StreamEndLemmas as ends
-use Rattle.grep_searcher.specs.NotedCalls.{FailsAtBinary, Notes, PassesBinary, noted_of}
-use Rattle.grep_searcher.specs.Rolls.{HasCounted, IsRolling}
-use Rattle.grep_definitions.specs.NotedSinks.{noted}
+use Rattle.grep_searcher.proofs.UnreadLemmas as unread
+use Rattle.grep_searcher.specs.NotedCalls.{FailsAtBinary, Notes, PassesBinary}
+use Rattle.grep_searcher.specs.Rolls.{IsRolling}
 use Rattle.grep_searcher.proofs.searcher.Searcher.read_by_line.Goals as goal
 
 pub fills-init : goal.fills-init
@@ -50,21 +50,19 @@ returns-in-Err-clause-fault g c = λ lawful first begun has_buffers.
     let k = c.args.self.now.settings in
     let meaning = g.M.Matcher.meaning c.args.matcher.now in
     let ends_at = c.fills.invariant.fitting.terminator in
-    let errors : ErrorMakers g.row.S-Error.Denot =
-    record { is_message = g.S.Error.SinkError.is_message; is_io = g.S.Error.SinkError.is_io; is_config = g.S.Error.SinkError.is_config } in
-    let facts : MatcherFacts g.row.M-Error.Denot =
-    record {
-      meaning = meaning;
-      fails = g.M.Matcher.fails c.args.matcher.now;
-      is_lawful = g.M.Matcher.is_lawful c.args.matcher.now;
-      text_of = g.M.Error.Display.output;
-    }
-    in
+    let read_to = unread.filled-to g.R.Source.remaining g.R.Source.step c.fills.lines c.fill.new.self c.fills.decoder
+    c.fill.new.decoder c.fills.reader c.fill.new.reader c.in-Err.error fill.reads fill.read in
+    let errors = errors_by g.S.Error.SinkError.is_message g.S.Error.SinkError.is_io g.S.Error.SinkError.is_config in
+    let facts = facts_by g.M.Matcher.meaning g.M.Matcher.fails g.M.Matcher.is_lawful g.M.Error.Display.output c.args.matcher.now in
     cuts.fault-unread g.R.Source.remaining g.R.Source.step c.lines_join.ensures c.lines_append.ensures g.S.Sink.step k meaning
     c.args.decoder.now.capacity c.args.reader.now c.args.decoder.now c.requires.started c.done_gives_nothing.ensures
     first c.args.sink.now c.fills.lines c.fills.decoder c.fills.reader c.fills.walk c.fills.sink so_far ends_at
-    c.fills.invariant.called (c.fills.invariant.noted lawful) errors facts has_buffers c.error_io.result c.io_error.result c.fill.new.reader
-    (rolling.unread-filled g.R.Source.remaining g.R.Source.step c.lines_join.ensures c.lines_append.ensures
+    c.fill.new.self c.fill.new.decoder read_to.0 c.fill.new.reader
+    (holding.held-next g.R.Source.remaining g.R.Source.step c.fills_continue.ensures.fills c.fills.lines
+    c.fill.new.self c.args.decoder.now c.fills.decoder c.fill.new.decoder c.args.reader.now c.fills.reader read_to.0 so_far.gone
+    so_far.given so_far.between.offset so_far.uncut so_far.holds read_to.1) read_to.2
+    c.fills.invariant.called (c.fills.invariant.noted lawful) errors facts has_buffers c.error_io.result c.io_error.result
+    (unread.unread-filled g.R.Source.remaining g.R.Source.step c.lines_join.ensures c.lines_append.ensures
     (Notes g.S.Sink.step) k meaning
     c.args.decoder.now.capacity c.args.reader.now c.args.decoder.now c.requires.started _ c.fills.lines c.fill.new.self
     c.fills.decoder c.fill.new.decoder c.fills.reader c.fill.new.reader c.fills.walk c.fills.sink so_far c.fills.invariant.fitting
@@ -83,7 +81,7 @@ returns-in-Err-clause-succeeds g c = λ _ _ lawful first begun has_buffers.
     let fill = c.in-Err.ensures in (
       Some (so_far.gone ++ c.fills.lines.shown),
       c.io_error.result,
-      rolling.unread-filled g.R.Source.remaining g.R.Source.step c.lines_join.ensures c.lines_append.ensures
+      unread.unread-filled g.R.Source.remaining g.R.Source.step c.lines_join.ensures c.lines_append.ensures
           (Notes g.S.Sink.step) c.args.self.now.settings (g.M.Matcher.meaning c.args.matcher.now)
           c.args.decoder.now.capacity c.args.reader.now c.args.decoder.now c.requires.started _ c.fills.lines c.fill.new.self
           c.fills.decoder c.fill.new.decoder c.fills.reader c.fill.new.reader c.fills.walk c.fills.sink so_far c.fills.invariant.fitting
@@ -109,21 +107,15 @@ returns-in_err-passes_binary-clause-fault g c =
     let held_now = holding.held-next g.R.Source.remaining g.R.Source.step c.fills_continue.ensures.fills c.fills.lines c.fill.new.self
     c.args.decoder.now c.fills.decoder c.fill.new.decoder c.args.reader.now c.fills.reader c.fill.new.reader so_far.gone
     so_far.given so_far.between.offset so_far.uncut so_far.holds fill.reads in
-    let errors : ErrorMakers g.row.S-Error.Denot =
-    record { is_message = g.S.Error.SinkError.is_message; is_io = g.S.Error.SinkError.is_io; is_config = g.S.Error.SinkError.is_config } in
-    let facts : MatcherFacts g.row.M-Error.Denot =
-    record {
-      meaning = meaning;
-      fails = g.M.Matcher.fails c.args.matcher.now;
-      is_lawful = g.M.Matcher.is_lawful c.args.matcher.now;
-      text_of = g.M.Error.Display.output;
-    }
-    in
+    let errors = errors_by g.S.Error.SinkError.is_message g.S.Error.SinkError.is_io g.S.Error.SinkError.is_config in
+    let facts = facts_by g.M.Matcher.meaning g.M.Matcher.fails g.M.Matcher.is_lawful g.M.Error.Display.output c.args.matcher.now in
     cuts.fault-cut g.R.Source.remaining g.R.Source.step c.lines_join.ensures c.lines_append.ensures g.S.Sink.step k meaning
     c.args.decoder.now.capacity c.args.reader.now c.args.decoder.now c.requires.started c.done_gives_nothing.ensures
     first c.args.sink.now c.fills.lines c.fills.decoder c.fills.reader c.fills.walk c.fills.sink so_far
     c.fills.invariant.fitting.terminator c.fill.new.self c.fill.new.decoder c.fill.new.reader same fill.reads held_now
-    c.fills.invariant.fitting c.binary_byte_offset.ensures.room c.fill.ensures.within (c.fills.invariant.noted lawful)
+    c.fills.invariant.fitting c.binary_byte_offset.ensures.room c.binary_byte_offset.ensures.cut c.fill.ensures.within
+    refl c.unchanged_is_searched.ensures.input (fill.settled so_far.between.unended so_far.uncut)
+    (fill.passing so_far.between.unended so_far.uncut) (c.fills.invariant.noted lawful)
     errors facts has_buffers c.in_err-passes_binary.field-0.0 c.passes_binary.new.sink
     (subst (λ b. FailsAtBinary g.S.Sink.step k b c.fills.sink c.in_err-passes_binary.field-0.0 c.passes_binary.new.sink) exact
     c.in_err-passes_binary.ensures.fails))
@@ -143,7 +135,9 @@ returns-then-not-branch-clause-counted g c = λ lawful first begun.
     c.args.decoder.now.capacity c.args.reader.now c.args.decoder.now c.requires.started c.done_gives_nothing.ensures
     first c.args.sink.now c.fills.lines c.fills.decoder c.fills.reader c.fills.walk c.fills.sink so_far
     c.fills.invariant.fitting.terminator c.fill.new.self c.fill.new.decoder c.fill.new.reader same fill.reads held_now
-    c.fills.invariant.fitting c.binary_byte_offset.ensures.room c.fill.ensures.within (c.fills.invariant.noted lawful)
+    c.fills.invariant.fitting c.binary_byte_offset.ensures.room c.binary_byte_offset.ensures.cut c.fill.ensures.within
+    refl c.unchanged_is_searched.ensures.input (fill.settled so_far.between.unended so_far.uncut)
+    (fill.passing so_far.between.unended so_far.uncut) (c.fills.invariant.noted lawful)
     c.passes_binary.new.sink
     (subst (λ b. PassesBinary g.S.Sink.step k b c.fills.sink false c.passes_binary.new.sink) exact
     (subst (λ x. PassesBinary g.S.Sink.step k c.binary_byte_offset.result c.fills.sink x c.passes_binary.new.sink)
@@ -158,51 +152,24 @@ returns-in_err-search_shown-clause-fault g c =
     let k = c.args.self.now.settings in
     let meaning = g.M.Matcher.meaning c.args.matcher.now in
     let same = c.fill.ensures.same in
-    let exact = c.binary_byte_offset.ensures.exact fill.fits in
-    let held_now = holding.held-next g.R.Source.remaining g.R.Source.step c.fills_continue.ensures.fills c.fills.lines c.fill.new.self
-    c.args.decoder.now c.fills.decoder c.fill.new.decoder c.args.reader.now c.fills.reader c.fill.new.reader so_far.gone
-    so_far.given so_far.between.offset so_far.uncut so_far.holds fill.reads in
-    let goes : c.in_ok-passes_binary.field-0 ≡ true = search rules in
-    let passes : PassesBinary g.S.Sink.step k c.fill.new.self.binary c.fills.sink true c.passes_binary.new.sink =
-    subst (λ b. PassesBinary g.S.Sink.step k b c.fills.sink true c.passes_binary.new.sink) exact
-    (subst (λ x. PassesBinary g.S.Sink.step k c.binary_byte_offset.result c.fills.sink x c.passes_binary.new.sink) goes
-    c.in_ok-passes_binary.ensures.passes) in
-    let uncut = ends.uncut-passed g.S.Sink.step k c.fills.lines c.fill.new.self c.fills.sink c.passes_binary.new.sink
-    so_far.uncut same.detection so_far.detects (c.fills.invariant.noted lawful) passes in
-    let on = cuts.passes-on g.R.Source.remaining g.R.Source.step c.lines_join.ensures c.lines_append.ensures g.S.Sink.step k meaning
+    let there = cuts.goes-on g.R.Source.remaining g.R.Source.step c.lines_join.ensures c.lines_append.ensures g.S.Sink.step k meaning
     c.args.decoder.now.capacity c.args.reader.now c.args.decoder.now c.requires.started c.done_gives_nothing.ensures
-    first c.args.sink.now c.fills.lines c.fills.decoder c.fills.reader c.fills.walk c.fills.sink so_far
-    c.fills.invariant.fitting.terminator c.fill.new.self c.fill.new.decoder c.fill.new.reader same fill.reads held_now
-    (c.fills.invariant.noted lawful) c.passes_binary.new.sink passes c.passes_binary.ensures.same_sink in
-    let held_on = holding.held-next g.R.Source.remaining g.R.Source.step c.fills_continue.ensures.fills c.fills.lines c.fill.new.self
-    c.args.decoder.now c.fills.decoder c.fill.new.decoder c.args.reader.now c.fills.reader c.fill.new.reader on.gone
-    on.given on.between.offset on.uncut on.holds fill.reads in
-    let noted_there = ends.noted-passed g.S.Sink.step k c.fills.lines.binary c.fill.new.self.binary _ c.fills.sink c.passes_binary.new.sink
-    fill.reads.found (c.fills.invariant.noted lawful) passes in
+    c.fills_continue.ensures.fills first c.args.sink.now c.fills.lines c.fill.new.self c.fills.decoder c.fill.new.decoder c.fills.reader
+    c.fill.new.reader c.fills.walk c.passes_binary.new.sink c.fills.sink so_far c.fills.invariant.fitting.terminator same fill.reads
+    (c.fills.invariant.noted lawful) c.fills.invariant.called c.binary_byte_offset.result
+    (c.binary_byte_offset.ensures.exact fill.fits) c.in_ok-passes_binary.field-0 (search rules) c.in_ok-passes_binary.ensures.passes
+    c.passes_binary.ensures.same_sink in
     let busy = sym c.is_idle.ensures ∙ c.if-is_idle.false in
     let kept = noting.binary-kept g.S.Sink.step k c.passes_binary.new.sink c.search_shown.new.sink c.search_shown.ensures.same_sink in
-    let errors : ErrorMakers g.row.S-Error.Denot =
-    record { is_message = g.S.Error.SinkError.is_message; is_io = g.S.Error.SinkError.is_io; is_config = g.S.Error.SinkError.is_config } in
-    let facts : MatcherFacts g.row.M-Error.Denot =
-    record {
-      meaning = meaning;
-      fails = g.M.Matcher.fails c.args.matcher.now;
-      is_lawful = g.M.Matcher.is_lawful c.args.matcher.now;
-      text_of = g.M.Error.Display.output;
-    }
-    in
+    let errors = errors_by g.S.Error.SinkError.is_message g.S.Error.SinkError.is_io g.S.Error.SinkError.is_config in
+    let facts = facts_by g.M.Matcher.meaning g.M.Matcher.fails g.M.Matcher.is_lawful g.M.Error.Display.output c.args.matcher.now in
     cuts.fault-shown g.R.Source.remaining g.R.Source.step c.lines_join.ensures c.lines_append.ensures g.S.Sink.step k meaning
     c.args.decoder.now.capacity c.args.reader.now c.args.decoder.now c.requires.started c.done_gives_nothing.ensures
-    first c.args.sink.now c.fills.lines c.fills.decoder c.fills.reader c.fills.walk c.fills.sink so_far
-    c.fills.invariant.fitting.terminator c.fill.new.self c.fill.new.decoder c.fill.new.reader same fill.reads held_now
-    uncut c.search_shown.new.sink c.search_shown.ensures.may_call.1 (kept ∙ noted_there) errors facts has_buffers
-    c.in_err-search_shown.field-0.0 c.passes_binary.new.sink.binary
-    (rolling.faulted-filled g.R.Source.remaining g.R.Source.step c.lines_join.ensures c.lines_append.ensures
-    (Notes g.S.Sink.step) k meaning busy c.args.decoder.now.capacity c.args.reader.now
-    c.args.decoder.now c.requires.started _ c.fills.lines c.fill.new.self c.fills.decoder c.fill.new.decoder
-    c.fills.reader c.fill.new.reader c.fills.walk c.passes_binary.new.sink on c.fills.invariant.fitting same fill.reads held_on
-    uncut fill.filled c.search_shown.ensures.room c.fill.ensures.within c.done_gives_nothing.ensures c.fill.ensures.done
-    errors facts has_buffers c.in_err-search_shown.field-0.0 c.search_shown.new.sink (c.in_err-search_shown.ensures.fault lawful)))
+    first c.args.sink.now c.fills.lines c.fills.decoder c.fills.reader c.fills.walk c.passes_binary.new.sink there.rolling
+    c.fills.invariant.fitting.terminator c.fill.new.self c.fill.new.decoder c.fill.new.reader same fill.reads there.held_now
+    busy c.fills.invariant.fitting there.uncut fill.filled c.search_shown.ensures.room c.fill.ensures.within c.fill.ensures.done
+    errors facts c.in_err-search_shown.field-0.0 c.search_shown.new.sink (c.in_err-search_shown.ensures.fault lawful)
+    c.search_shown.ensures.may_call.1 (kept ∙ there.known) has_buffers)
 
 pub returns-then-is_idle-clause-counted : goal.returns-then-is_idle-clause-counted
 returns-then-is_idle-clause-counted g c = λ lawful first begun.
@@ -211,34 +178,20 @@ returns-then-is_idle-clause-counted g c = λ lawful first begun.
     let k = c.args.self.now.settings in
     let meaning = g.M.Matcher.meaning c.args.matcher.now in
     let same = c.fill.ensures.same in
-    let exact = c.binary_byte_offset.ensures.exact fill.fits in
-    let held_now = holding.held-next g.R.Source.remaining g.R.Source.step c.fills_continue.ensures.fills c.fills.lines c.fill.new.self
-    c.args.decoder.now c.fills.decoder c.fill.new.decoder c.args.reader.now c.fills.reader c.fill.new.reader so_far.gone
-    so_far.given so_far.between.offset so_far.uncut so_far.holds fill.reads in
-    let goes : c.in_ok-passes_binary.field-0 ≡ true = search rules in
-    let passes : PassesBinary g.S.Sink.step k c.fill.new.self.binary c.fills.sink true c.passes_binary.new.sink =
-    subst (λ b. PassesBinary g.S.Sink.step k b c.fills.sink true c.passes_binary.new.sink) exact
-    (subst (λ x. PassesBinary g.S.Sink.step k c.binary_byte_offset.result c.fills.sink x c.passes_binary.new.sink) goes
-    c.in_ok-passes_binary.ensures.passes) in
-    let uncut = ends.uncut-passed g.S.Sink.step k c.fills.lines c.fill.new.self c.fills.sink c.passes_binary.new.sink
-    so_far.uncut same.detection so_far.detects (c.fills.invariant.noted lawful) passes in
-    let on = cuts.passes-on g.R.Source.remaining g.R.Source.step c.lines_join.ensures c.lines_append.ensures g.S.Sink.step k meaning
+    let there = cuts.goes-on g.R.Source.remaining g.R.Source.step c.lines_join.ensures c.lines_append.ensures g.S.Sink.step k meaning
     c.args.decoder.now.capacity c.args.reader.now c.args.decoder.now c.requires.started c.done_gives_nothing.ensures
-    first c.args.sink.now c.fills.lines c.fills.decoder c.fills.reader c.fills.walk c.fills.sink so_far
-    c.fills.invariant.fitting.terminator c.fill.new.self c.fill.new.decoder c.fill.new.reader same fill.reads held_now
-    (c.fills.invariant.noted lawful) c.passes_binary.new.sink passes c.passes_binary.ensures.same_sink in
-    let noted_there = ends.noted-passed g.S.Sink.step k c.fills.lines.binary c.fill.new.self.binary _ c.fills.sink c.passes_binary.new.sink
-    fill.reads.found (c.fills.invariant.noted lawful) passes in
+    c.fills_continue.ensures.fills first c.args.sink.now c.fills.lines c.fill.new.self c.fills.decoder c.fill.new.decoder c.fills.reader
+    c.fill.new.reader c.fills.walk c.passes_binary.new.sink c.fills.sink so_far c.fills.invariant.fitting.terminator same fill.reads
+    (c.fills.invariant.noted lawful) c.fills.invariant.called c.binary_byte_offset.result
+    (c.binary_byte_offset.ensures.exact fill.fits) c.in_ok-passes_binary.field-0 (search rules) c.in_ok-passes_binary.ensures.passes
+    c.passes_binary.ensures.same_sink in
     inl (cuts.counted-idle g.R.Source.remaining g.R.Source.step c.lines_join.ensures c.lines_append.ensures g.S.Sink.step k meaning
     c.args.decoder.now.capacity c.args.reader.now c.args.decoder.now c.requires.started c.done_gives_nothing.ensures
-    first c.args.sink.now c.fills.lines c.fills.decoder c.fills.reader c.fills.walk c.fills.sink so_far
-    c.fills.invariant.fitting.terminator c.fill.new.self c.fill.new.decoder c.fill.new.reader same fill.reads held_now
-    (c.fills.invariant.noted lawful) (sym c.is_idle.ensures ∙ c.if-is_idle.true) uncut c.binary_byte_offset.ensures.room
-    c.fill.ensures.within c.fills.invariant.fitting c.passes_binary.new.sink
-    (ends.has_noted-passed g.S.Sink.step k c.fill.new.self.binary c.fills.sink c.passes_binary.new.sink c.fills.invariant.called passes)
-    noted_there on
-    c.unchanged_is_searched.ensures.input (fill.settled so_far.between.unended so_far.uncut)
-    (fill.passing so_far.between.unended so_far.uncut))
+    first c.args.sink.now c.fills.lines c.fills.decoder c.fills.reader c.fills.walk c.passes_binary.new.sink there.rolling
+    c.fills.invariant.fitting.terminator c.fill.new.self c.fill.new.decoder c.fill.new.reader same fill.reads there.held_now
+    (sym c.is_idle.ensures ∙ c.if-is_idle.true) there.uncut c.binary_byte_offset.ensures.room c.fill.ensures.within
+    c.fills.invariant.fitting there.called there.known c.unchanged_is_searched.ensures.input
+    (fill.settled so_far.between.unended so_far.uncut) (fill.passing so_far.between.unended so_far.uncut))
 
 pub returns-then-not-branch-2-clause-counted : goal.returns-then-not-branch-2-clause-counted
 returns-then-not-branch-2-clause-counted g c = λ lawful first begun.
@@ -247,44 +200,23 @@ returns-then-not-branch-2-clause-counted g c = λ lawful first begun.
     let k = c.args.self.now.settings in
     let meaning = g.M.Matcher.meaning c.args.matcher.now in
     let same = c.fill.ensures.same in
-    let exact = c.binary_byte_offset.ensures.exact fill.fits in
-    let held_now = holding.held-next g.R.Source.remaining g.R.Source.step c.fills_continue.ensures.fills c.fills.lines c.fill.new.self
-    c.args.decoder.now c.fills.decoder c.fill.new.decoder c.args.reader.now c.fills.reader c.fill.new.reader so_far.gone
-    so_far.given so_far.between.offset so_far.uncut so_far.holds fill.reads in
-    let goes : c.in_ok-passes_binary.field-0 ≡ true = search rules in
-    let passes : PassesBinary g.S.Sink.step k c.fill.new.self.binary c.fills.sink true c.passes_binary.new.sink =
-    subst (λ b. PassesBinary g.S.Sink.step k b c.fills.sink true c.passes_binary.new.sink) exact
-    (subst (λ x. PassesBinary g.S.Sink.step k c.binary_byte_offset.result c.fills.sink x c.passes_binary.new.sink) goes
-    c.in_ok-passes_binary.ensures.passes) in
-    let uncut = ends.uncut-passed g.S.Sink.step k c.fills.lines c.fill.new.self c.fills.sink c.passes_binary.new.sink
-    so_far.uncut same.detection so_far.detects (c.fills.invariant.noted lawful) passes in
-    let on = cuts.passes-on g.R.Source.remaining g.R.Source.step c.lines_join.ensures c.lines_append.ensures g.S.Sink.step k meaning
+    let there = cuts.goes-on g.R.Source.remaining g.R.Source.step c.lines_join.ensures c.lines_append.ensures g.S.Sink.step k meaning
     c.args.decoder.now.capacity c.args.reader.now c.args.decoder.now c.requires.started c.done_gives_nothing.ensures
-    first c.args.sink.now c.fills.lines c.fills.decoder c.fills.reader c.fills.walk c.fills.sink so_far
-    c.fills.invariant.fitting.terminator c.fill.new.self c.fill.new.decoder c.fill.new.reader same fill.reads held_now
-    (c.fills.invariant.noted lawful) c.passes_binary.new.sink passes c.passes_binary.ensures.same_sink in
-    let held_on = holding.held-next g.R.Source.remaining g.R.Source.step c.fills_continue.ensures.fills c.fills.lines c.fill.new.self
-    c.args.decoder.now c.fills.decoder c.fill.new.decoder c.args.reader.now c.fills.reader c.fill.new.reader on.gone
-    on.given on.between.offset on.uncut on.holds fill.reads in
-    let noted_there = ends.noted-passed g.S.Sink.step k c.fills.lines.binary c.fill.new.self.binary _ c.fills.sink c.passes_binary.new.sink
-    fill.reads.found (c.fills.invariant.noted lawful) passes in
+    c.fills_continue.ensures.fills first c.args.sink.now c.fills.lines c.fill.new.self c.fills.decoder c.fill.new.decoder c.fills.reader
+    c.fill.new.reader c.fills.walk c.passes_binary.new.sink c.fills.sink so_far c.fills.invariant.fitting.terminator same fill.reads
+    (c.fills.invariant.noted lawful) c.fills.invariant.called c.binary_byte_offset.result
+    (c.binary_byte_offset.ensures.exact fill.fits) c.in_ok-passes_binary.field-0 (search rules) c.in_ok-passes_binary.ensures.passes
+    c.passes_binary.ensures.same_sink in
     let busy = sym c.is_idle.ensures ∙ c.if-is_idle.false in
     let kept = noting.binary-kept g.S.Sink.step k c.passes_binary.new.sink c.search_shown.new.sink c.search_shown.ensures.same_sink in
-    let counted = rolling.counted-filled g.R.Source.remaining g.R.Source.step c.lines_join.ensures c.lines_append.ensures
-    (Notes g.S.Sink.step) k meaning busy c.args.decoder.now.capacity c.args.reader.now
-    c.args.decoder.now c.requires.started _ c.fills.lines c.fill.new.self c.fills.decoder c.fill.new.decoder
-    c.fills.reader c.fill.new.reader c.fills.walk c.passes_binary.new.sink on c.fills.invariant.fitting same fill.reads held_on
-    uncut fill.filled c.search_shown.ensures.room c.fill.ensures.within c.done_gives_nothing.ensures c.fill.ensures.done
-    c.search_shown.new.walk c.search_shown.new.sink (c.in_ok-search_shown.ensures.ends lawful c.if-not-branch-2.true)
-    c.unchanged_is_searched.ensures.input (fill.settled so_far.between.unended so_far.uncut) (fill.passing so_far.between.unended so_far.uncut) in
-    let seen = ends.has_counted-seen g.S.Sink.step k meaning g.R.Source.remaining g.R.Source.step
-    c.args.reader.now _ c.search_shown.new.walk.offset c.fill.new.self.binary c.fill.new.reader c.search_shown.new.sink counted in
-    inl (subst (λ found. HasCounted (noted g.S.Sink.step) k meaning g.R.Source.remaining
-    g.R.Source.step c.args.reader.now (first, None) c.search_shown.new.walk.offset c.search_shown.new.sink.binary c.fill.new.reader
-    (c.search_shown.new.sink.sink.now, found)) (noting.called-known c.search_shown.new.sink c.search_shown.ensures.may_call.1)
-    (subst (λ found. HasCounted (noted g.S.Sink.step) k meaning g.R.Source.remaining
-    g.R.Source.step c.args.reader.now (first, None) c.search_shown.new.walk.offset found c.fill.new.reader
-    (noted_of c.search_shown.new.sink)) (sym noted_there ∙ sym kept) seen))
+    inl (cuts.counted-shown g.R.Source.remaining g.R.Source.step c.lines_join.ensures c.lines_append.ensures g.S.Sink.step k meaning
+    c.args.decoder.now.capacity c.args.reader.now c.args.decoder.now c.requires.started c.done_gives_nothing.ensures
+    first c.args.sink.now c.fills.lines c.fills.decoder c.fills.reader c.fills.walk c.passes_binary.new.sink there.rolling
+    c.fills.invariant.fitting.terminator c.fill.new.self c.fill.new.decoder c.fill.new.reader same fill.reads there.held_now
+    busy c.fills.invariant.fitting there.uncut fill.filled c.search_shown.ensures.room c.fill.ensures.within c.fill.ensures.done
+    c.search_shown.new.walk c.search_shown.new.sink c.search_shown.ensures.may_call.1 (kept ∙ there.known)
+    (c.in_ok-search_shown.ensures.ends lawful c.if-not-branch-2.true) c.unchanged_is_searched.ensures.input
+    (fill.settled so_far.between.unended so_far.uncut) (fill.passing so_far.between.unended so_far.uncut))
 
 pub fills-preserved : goal.fills-preserved
 fills-preserved g c =
@@ -316,41 +248,24 @@ fills-preserved g c =
           ∙ sym (ap (λ b. b.binary) (c.in_ok-search_shown.ensures.goes_on lawful moves).moved));
       rolling = λ lawful first begun.
           let so_far = c.fills.invariant.rolling lawful first begun in
-          let fill = c.in_default.ensures in
-          let k = c.args.self.now.settings in
           let meaning = g.M.Matcher.meaning c.args.matcher.now in
-          let same = c.fill.ensures.same in
-          let exact = c.binary_byte_offset.ensures.exact fill.fits in
-          let held_now = holding.held-next g.R.Source.remaining g.R.Source.step c.fills_continue.ensures.fills c.fills.lines c.fill.new.self
-          c.args.decoder.now c.fills.decoder c.fill.new.decoder c.args.reader.now c.fills.reader c.fill.new.reader so_far.gone
-          so_far.given so_far.between.offset so_far.uncut so_far.holds fill.reads in
-          let goes : c.in_ok-passes_binary.field-0 ≡ true = search rules in
-          let passes : PassesBinary g.S.Sink.step k c.fill.new.self.binary c.fills.sink true c.passes_binary.new.sink =
-          subst (λ b. PassesBinary g.S.Sink.step k b c.fills.sink true c.passes_binary.new.sink) exact
-          (subst (λ x. PassesBinary g.S.Sink.step k c.binary_byte_offset.result c.fills.sink x c.passes_binary.new.sink) goes
-          c.in_ok-passes_binary.ensures.passes) in
-          let uncut = ends.uncut-passed g.S.Sink.step k c.fills.lines c.fill.new.self c.fills.sink c.passes_binary.new.sink
-          so_far.uncut same.detection so_far.detects (c.fills.invariant.noted lawful) passes in
-          let on = cuts.passes-on g.R.Source.remaining g.R.Source.step c.lines_join.ensures c.lines_append.ensures g.S.Sink.step k meaning
+          let there = cuts.goes-on g.R.Source.remaining g.R.Source.step c.lines_join.ensures c.lines_append.ensures g.S.Sink.step k meaning
           c.args.decoder.now.capacity c.args.reader.now c.args.decoder.now c.requires.started c.done_gives_nothing.ensures
-          first c.args.sink.now c.fills.lines c.fills.decoder c.fills.reader c.fills.walk c.fills.sink so_far
-          c.fills.invariant.fitting.terminator c.fill.new.self c.fill.new.decoder c.fill.new.reader same fill.reads held_now
-          (c.fills.invariant.noted lawful) c.passes_binary.new.sink passes c.passes_binary.ensures.same_sink in
-          let held_on = holding.held-next g.R.Source.remaining g.R.Source.step c.fills_continue.ensures.fills c.fills.lines c.fill.new.self
-          c.args.decoder.now c.fills.decoder c.fill.new.decoder c.args.reader.now c.fills.reader c.fill.new.reader on.gone
-          on.given on.between.offset on.uncut on.holds fill.reads in
-          let noted_there = ends.noted-passed g.S.Sink.step k c.fills.lines.binary c.fill.new.self.binary _ c.fills.sink c.passes_binary.new.sink
-          fill.reads.found (c.fills.invariant.noted lawful) passes in
+          c.fills_continue.ensures.fills first c.args.sink.now c.fills.lines c.fill.new.self c.fills.decoder c.fill.new.decoder
+          c.fills.reader c.fill.new.reader c.fills.walk c.passes_binary.new.sink c.fills.sink so_far c.fills.invariant.fitting.terminator same fill.reads
+          (c.fills.invariant.noted lawful) c.fills.invariant.called c.binary_byte_offset.result
+          (c.binary_byte_offset.ensures.exact fill.fits) c.in_ok-passes_binary.field-0 (search rules) c.in_ok-passes_binary.ensures.passes
+          c.passes_binary.ensures.same_sink in
           let busy = sym c.is_idle.ensures ∙ c.if-is_idle.false in
-          let kept = noting.binary-kept g.S.Sink.step k c.passes_binary.new.sink c.search_shown.new.sink c.search_shown.ensures.same_sink in
           let next = rolling.rolling-next g.R.Source.remaining g.R.Source.step c.lines_join.ensures c.lines_append.ensures
           (Notes g.S.Sink.step) k meaning busy c.args.decoder.now.capacity c.args.reader.now
           c.args.decoder.now c.requires.started _ c.fills.lines c.fill.new.self c.fills.decoder c.fill.new.decoder
-          c.fills.reader c.fill.new.reader c.fills.walk c.passes_binary.new.sink on c.fills.invariant.fitting same fill.reads held_on
-          uncut fill.filled c.search_shown.ensures.room c.fill.ensures.within c.done_gives_nothing.ensures c.fill.ensures.done
+          c.fills.reader c.fill.new.reader c.fills.walk c.passes_binary.new.sink there.rolling c.fills.invariant.fitting same
+          fill.reads there.held_now there.uncut fill.filled c.search_shown.ensures.room c.fill.ensures.within
+          c.done_gives_nothing.ensures c.fill.ensures.done
           c.search_shown.new.walk c.search_shown.new.lines c.search_shown.new.sink
           (c.in_ok-search_shown.ensures.goes_on lawful moves)
-          (c.fills_continue.ensures.consumed c.fill.new.self on.gone) (fill.settled so_far.between.unended so_far.uncut) in
+          (c.fills_continue.ensures.consumed c.fill.new.self there.rolling.gone) (fill.settled so_far.between.unended so_far.uncut) in
           subst (λ binary. IsRolling (Notes g.S.Sink.step) k meaning g.R.Source.remaining g.R.Source.step
           c.args.decoder.now c.args.reader.now
           (record { sink = record c.args.sink.now.sink { now = first }; binary = binary; has_called = false })

@@ -33,6 +33,23 @@ returns-in_err-unit-clause-fault g c =
     c.lines.sink c.lines.invariant.walk (c.lines.invariant.reported first begun)
     fault.0 fault.1 _ fault.2 fault.3 fault.4)
 
+pub returns-then-next-bytes-clause-reported : goal.returns-then-next-bytes-clause-reported
+returns-then-next-bytes-clause-reported g c = λ first begun.
+    let k = c.args.self.now.settings in
+    let meaning = g.M.Matcher.meaning c.args.matcher.now in
+    let at = subst (λ o. IsLineStart (byte_of k.line_terminator) c.args.bytes.now o c.lines.walk.line) c.lines.invariant.same
+    c.lines.invariant.walk.placed.at in
+    let next = subst (units.IsNext k meaning c.args.bytes.now c.lines.walk c.lines.start) (sym c.next_chosen-next.ensures)
+    (units.next-is k meaning c.args.bytes.now c.lines.start c.lines.walk c.in_ok-unit.unit c.unit_at.new.blocks c.lines.invariant.walk
+    at c.in_ok-unit.ensures.ready c.lines-test.true c.in_ok-unit.ensures.ahead) in
+    let shut : c.self.inside.config.passthru ≡ false = search rules in
+    let plain = sym (ap (λ (s : SearcherState). s.settings.passthru) c.self.view_is) ∙ shut in (
+      all_true,
+      ends.counted-past k meaning c.args.bytes.now g.S.Sink.step first c.lines.walk c.lines.start c.next_chosen-next.result
+          c.lines.invariant.same c.lines.invariant.walk next c.if-next-bytes.true plain c.if-walk-eq0.true c.lines.sink
+          (c.lines.invariant.reported first begun),
+    )
+
 pub lines-preserved-then-walk-eq0 : goal.lines-preserved-then-walk-eq0
 lines-preserved-then-walk-eq0 g c =
     let k = c.args.self.now.settings in

@@ -1,15 +1,12 @@
 use Rattle.std.proofs.Common.{rules, ◌≡◌, ◌∙◌, ℕ, length, refl, ap, sym, subst, arith, true, false, length-take, length-drop, ◌-◌, drop}
 use Rattle.std.proofs.lemmas.Bool.{false≢true}
 use Rattle.std.proofs.lemmas.Result.{err_from_is_err_and}
-use Rattle.std.specs.Prelude.{IfSome}
-use Rattle.grep_lines.specs.Positions.{slice, IsLine, IsLineStart}
+use Rattle.grep_lines.specs.Positions.{slice, IsLineStart}
 use Rattle.grep_matcher.specs.Lines.{lines}
 use Rattle.grep_matcher.specs.Terminators.{byte_of}
-use Rattle.grep_definitions.specs.LineTurns.{matches_line}
 use Rattle.grep_definitions.specs.Searches.{ErrorMakers, MatcherFacts}
 use Rattle.grep_definitions.specs.Settings.{SearcherState, Settings}
 use Rattle.grep_definitions.specs.SinkRuns.{all_true, stopped}
-use Rattle.grep_searcher.specs.LookAheads.{IsExact}
 use Rattle.grep_searcher.specs.Walks.{is_over, line_end}
 use Rattle.grep_searcher.proofs.SkipLemmas as skips
 use Rattle.grep_searcher.proofs.WindowSearchLemmas as search
@@ -63,18 +60,14 @@ returns-in_err-ahead-clause-fault g c =
 
 pub returns-in_default-clause-goes_on : goal.returns-in_default-clause-goes_on
 returns-in_default-clause-goes_on g c = λ lawful goes gone input first so_far.
-    let bare = subst (λ (s : SearcherState). Bare s.settings)
-    c.self.view_is c.self.invariant.0 in
+    let bare = subst (λ (s : SearcherState). Bare s.settings) c.self.view_is c.self.invariant.0 in
     let now = c.lines.invariant.searched lawful gone input first so_far in
     let known = c.in_ok-ahead.ensures.known lawful _ now.inside.line.begins (c.lines.invariant.known lawful gone input first so_far) in
-    let here = skips.searched-on c.lines_join.ensures c.lines_append.ensures g.S.Sink.step (errors g) (facts g c.args.matcher.now)
-    c.args.self.now.settings gone c.args.window.now input first c.lines.sink bare c.lines.walk c.lines.start
-    c.in_ok-ahead.ahead now (omega (arith, c.in_ok-ahead.ensures.bounded.ordered, c.in_ok-ahead.ensures.bounded.within)) known
-    c.skip-start.result c.skip-start.new.walk c.skip-start.ensures.position c.skip-start.ensures.walk in
-    let terminator : c.as_byte-terminator.result ≡ byte_of c.args.self.now.settings.line_terminator = c.as_byte-terminator.ensures
-    ∙ ap (λ (s : SearcherState). byte_of s.settings.line_terminator) c.self.view_is in
-    search.passed-all g.S.Sink.step c.args.self.now.settings (g.M.Matcher.meaning c.args.matcher.now) gone c.args.window.now input first
-    c.skip-start.result c.skip-start.new.walk c.lines.sink here c.in_default.ensures.end
+    let here = skips.searched-on c.lines_join.ensures c.lines_append.ensures _ (errors g) (facts g c.args.matcher.now) _ _ _ _ _ _ bare
+    _ _ c.in_ok-ahead.ahead now (omega (arith, c.in_ok-ahead.ensures.bounded.ordered, c.in_ok-ahead.ensures.bounded.within)) known _ _
+    c.skip-start.ensures.position c.skip-start.ensures.walk in
+    let terminator = c.as_byte-terminator.ensures ∙ ap (λ (s : SearcherState). byte_of s.settings.line_terminator) c.self.view_is in
+    search.passed-all _ _ _ _ _ _ _ _ _ _ here c.in_default.ensures.end
     (subst (λ b. (i : ℕ) → IsLineStart b c.args.window.now c.skip-start.result i → i ≡ length (lines b c.args.window.now)) terminator
     c.in_default.ensures.last)
 
@@ -83,53 +76,30 @@ returns-in_err-chosen-clause-fault g c =
     let p = err_from_is_err_and c.from_residual-in_err-chosen.result c.from_residual-in_err-chosen.ensures.1 in
     let fault = c.in_err-chosen.ensures.fault in
     rw (p.1, p.2) (λ lawful gone input first so_far.
-    let bare = subst (λ (s : SearcherState). Bare s.settings)
-    c.self.view_is c.self.invariant.0 in
+    let bare = subst (λ (s : SearcherState). Bare s.settings) c.self.view_is c.self.invariant.0 in
     let now = c.lines.invariant.searched lawful gone input first so_far in
     let known = c.in_ok-ahead.ensures.known lawful _ now.inside.line.begins (c.lines.invariant.known lawful gone input first so_far) in
-    let here = skips.searched-on c.lines_join.ensures c.lines_append.ensures g.S.Sink.step (errors g) (facts g c.args.matcher.now)
-    c.args.self.now.settings gone c.args.window.now input first c.lines.sink bare c.lines.walk c.lines.start
-    c.in_ok-ahead.ahead now (omega (arith, c.in_ok-ahead.ensures.bounded.ordered, c.in_ok-ahead.ensures.bounded.within)) known
-    c.skip-start.result c.skip-start.new.walk c.skip-start.ensures.position c.skip-start.ensures.walk in
-    let terminator : c.as_byte-terminator.result ≡ byte_of c.args.self.now.settings.line_terminator = c.as_byte-terminator.ensures
-    ∙ ap (λ (s : SearcherState). byte_of s.settings.line_terminator) c.self.view_is in
-    let line = subst (λ b. (i : ℕ) → IsLineStart b c.args.window.now c.skip-start.result i
-    → IsLine b c.args.window.now i c.skip-start.result c.in-Some.end) terminator (c.in-Some.ensures.line
-    (subst (λ b. IsExact b c.args.window.now c.in_ok-ahead.ahead) (sym terminator) known.exact)) in
-    search.failed-matcher g.S.Sink.step (errors g) (facts g c.args.matcher.now) c.args.self.now.settings gone c.args.window.now input
-    first bare c.skip-start.result c.in-Some.end c.skip-start.new.walk c.lines.sink here c.in-Some.ensures.within.0
-    c.in-Some.ensures.within.1 line c.in_err-chosen.ensures.open _ fault.0 _
-    (search.asked-line g.S.Sink.step (errors g) (facts g c.args.matcher.now) c.args.self.now.settings gone c.args.window.now input
-    first bare c.skip-start.result c.in-Some.end c.skip-start.new.walk c.lines.sink here c.in-Some.ensures.within.0
-    c.in-Some.ensures.within.1 line) fault.1 fault.2)
+    let terminator = c.as_byte-terminator.ensures ∙ ap (λ (s : SearcherState). byte_of s.settings.line_terminator) c.self.view_is in
+    let turn = skips.line-reached c.lines_join.ensures c.lines_append.ensures _ (errors g) (facts g c.args.matcher.now) _ _ _ _ _ _ bare
+    _ _ _ now c.in_ok-ahead.ensures.bounded known _ _ c.skip-start.ensures.low c.skip-start.ensures.position c.skip-start.ensures.walk _ _ terminator c.in-Some.ensures.line _ c.at-known.ensures in
+    search.failed-matcher _ (errors g) (facts g c.args.matcher.now) _ _ _ _ _ bare _ _ _ _ turn.here c.in-Some.ensures.within.0
+    c.in-Some.ensures.within.1 turn.line c.in_err-chosen.ensures.open _ fault.0 _
+    (search.asked-line _ (errors g) (facts g c.args.matcher.now) _ _ _ _ _ bare _ _ _ _ turn.here c.in-Some.ensures.within.0
+    c.in-Some.ensures.within.1 turn.line) fault.1 fault.2)
 
 pub returns-in_err-sink_line-clause-fault : goal.returns-in_err-sink_line-clause-fault
 returns-in_err-sink_line-clause-fault g c =
     let p = err_from_is_err_and c.from_residual-in_err-sink_line.result c.from_residual-in_err-sink_line.ensures.1 in
     rw (p.1, p.2) (λ lawful gone input first so_far.
-    let bare = subst (λ (s : SearcherState). Bare s.settings)
-    c.self.view_is c.self.invariant.0 in
+    let bare = subst (λ (s : SearcherState). Bare s.settings) c.self.view_is c.self.invariant.0 in
     let now = c.lines.invariant.searched lawful gone input first so_far in
     let known = c.in_ok-ahead.ensures.known lawful _ now.inside.line.begins (c.lines.invariant.known lawful gone input first so_far) in
-    let here = skips.searched-on c.lines_join.ensures c.lines_append.ensures g.S.Sink.step (errors g) (facts g c.args.matcher.now)
-    c.args.self.now.settings gone c.args.window.now input first c.lines.sink bare c.lines.walk c.lines.start
-    c.in_ok-ahead.ahead now (omega (arith, c.in_ok-ahead.ensures.bounded.ordered, c.in_ok-ahead.ensures.bounded.within)) known
-    c.skip-start.result c.skip-start.new.walk c.skip-start.ensures.position c.skip-start.ensures.walk in
-    let terminator : c.as_byte-terminator.result ≡ byte_of c.args.self.now.settings.line_terminator = c.as_byte-terminator.ensures
-    ∙ ap (λ (s : SearcherState). byte_of s.settings.line_terminator) c.self.view_is in
-    let line = subst (λ b. (i : ℕ) → IsLineStart b c.args.window.now c.skip-start.result i
-    → IsLine b c.args.window.now i c.skip-start.result c.in-Some.end) terminator (c.in-Some.ensures.line
-    (subst (λ b. IsExact b c.args.window.now c.in_ok-ahead.ahead) (sym terminator) known.exact)) in
-    let value = c.in_ok-chosen.ensures.value (subst (λ o. IfSome o (λ m. m ≡ matches_line c.args.self.now.settings
-    (g.M.Matcher.meaning c.args.matcher.now) (slice c.args.window.now c.skip-start.result c.in-Some.end))) (sym c.at-known.ensures)
-    (skips.known-line c.args.self.now.settings (g.M.Matcher.meaning c.args.matcher.now) c.args.window.now c.in_ok-ahead.ahead _
-    c.skip-start.result c.in-Some.end (skips.known-later c.args.self.now.settings (g.M.Matcher.meaning c.args.matcher.now)
-    c.args.window.now c.lines.start c.skip-start.result c.in_ok-ahead.ahead c.skip-start.ensures.low known)
-    (line _ here.inside.line.begins))) in
-    search.failed-line g.S.Sink.step (errors g) (facts g c.args.matcher.now) c.args.self.now.settings gone c.args.window.now input
-    first bare c.skip-start.result c.in-Some.end c.skip-start.new.walk c.lines.sink here c.in-Some.ensures.within.0
-    c.in-Some.ensures.within.1 line c.in_ok-chosen.chosen value _ _
-    (c.in_err-sink_line.ensures.reported gone input here.inside))
+    let terminator = c.as_byte-terminator.ensures ∙ ap (λ (s : SearcherState). byte_of s.settings.line_terminator) c.self.view_is in
+    let turn = skips.line-reached c.lines_join.ensures c.lines_append.ensures _ (errors g) (facts g c.args.matcher.now) _ _ _ _ _ _ bare
+    _ _ _ now c.in_ok-ahead.ensures.bounded known _ _ c.skip-start.ensures.low c.skip-start.ensures.position c.skip-start.ensures.walk _ _ terminator c.in-Some.ensures.line _ c.at-known.ensures in
+    search.failed-line _ (errors g) (facts g c.args.matcher.now) _ _ _ _ _ bare _ _ _ _ turn.here c.in-Some.ensures.within.0
+    c.in-Some.ensures.within.1 turn.line c.in_ok-chosen.chosen (c.in_ok-chosen.ensures.value turn.agrees) _ _
+    (c.in_err-sink_line.ensures.reported gone input turn.here.inside))
 
 pub returns-then-not-branch-clause-ends : goal.returns-then-not-branch-clause-ends
 returns-then-not-branch-clause-ends g c = λ lawful ends.
@@ -137,29 +107,17 @@ returns-then-not-branch-clause-ends g c = λ lawful ends.
     let reported = rw stops at c.in_ok-sink_line.ensures.reported in (
       stopped (line_end c.skip-start.new.walk (slice c.args.window.now c.skip-start.result c.in-Some.end)),
       λ gone input first so_far.
-          let bare = subst (λ (s : SearcherState). Bare s.settings)
-          c.self.view_is c.self.invariant.0 in
+          let bare = subst (λ (s : SearcherState). Bare s.settings) c.self.view_is c.self.invariant.0 in
           let now = c.lines.invariant.searched lawful gone input first so_far in
-          let known = c.in_ok-ahead.ensures.known lawful _ now.inside.line.begins (c.lines.invariant.known lawful gone input first so_far) in
-          let here = skips.searched-on c.lines_join.ensures c.lines_append.ensures g.S.Sink.step (errors g) (facts g c.args.matcher.now)
-          c.args.self.now.settings gone c.args.window.now input first c.lines.sink bare c.lines.walk c.lines.start
-          c.in_ok-ahead.ahead now (omega (arith, c.in_ok-ahead.ensures.bounded.ordered, c.in_ok-ahead.ensures.bounded.within)) known
-          c.skip-start.result c.skip-start.new.walk c.skip-start.ensures.position c.skip-start.ensures.walk in
-          let terminator : c.as_byte-terminator.result ≡ byte_of c.args.self.now.settings.line_terminator = c.as_byte-terminator.ensures
-          ∙ ap (λ (s : SearcherState). byte_of s.settings.line_terminator) c.self.view_is in
-          let line = subst (λ b. (i : ℕ) → IsLineStart b c.args.window.now c.skip-start.result i
-          → IsLine b c.args.window.now i c.skip-start.result c.in-Some.end) terminator (c.in-Some.ensures.line
-          (subst (λ b. IsExact b c.args.window.now c.in_ok-ahead.ahead) (sym terminator) known.exact)) in
-          let value = c.in_ok-chosen.ensures.value (subst (λ o. IfSome o (λ m. m ≡ matches_line c.args.self.now.settings
-          (g.M.Matcher.meaning c.args.matcher.now) (slice c.args.window.now c.skip-start.result c.in-Some.end))) (sym c.at-known.ensures)
-          (skips.known-line c.args.self.now.settings (g.M.Matcher.meaning c.args.matcher.now) c.args.window.now c.in_ok-ahead.ahead _
-          c.skip-start.result c.in-Some.end (skips.known-later c.args.self.now.settings (g.M.Matcher.meaning c.args.matcher.now)
-          c.args.window.now c.lines.start c.skip-start.result c.in_ok-ahead.ahead c.skip-start.ensures.low known)
-          (line _ here.inside.line.begins))) in
-          search.counted-stopped g.S.Sink.step (errors g) (facts g c.args.matcher.now) c.args.self.now.settings gone c.args.window.now
-          input first bare c.skip-start.result c.in-Some.end c.skip-start.new.walk c.lines.sink here
-          c.in-Some.ensures.within.0 c.in-Some.ensures.within.1 line c.in_ok-chosen.chosen value _
-          (reported gone input here.inside),
+          let known = c.in_ok-ahead.ensures.known lawful _ now.inside.line.begins
+          (c.lines.invariant.known lawful gone input first so_far) in
+          let terminator = c.as_byte-terminator.ensures ∙ ap (λ (s : SearcherState). byte_of s.settings.line_terminator) c.self.view_is in
+          let turn = skips.line-reached c.lines_join.ensures c.lines_append.ensures _ (errors g) (facts g c.args.matcher.now) _ _ _ _ _ _
+          bare _ _ _ now c.in_ok-ahead.ensures.bounded known _ _ c.skip-start.ensures.low c.skip-start.ensures.position
+          c.skip-start.ensures.walk _ _ terminator c.in-Some.ensures.line _ c.at-known.ensures in
+          search.counted-stopped _ (errors g) (facts g c.args.matcher.now) _ _ _ _ _ bare _ _ _ _ turn.here c.in-Some.ensures.within.0
+          c.in-Some.ensures.within.1 turn.line c.in_ok-chosen.chosen (c.in_ok-chosen.ensures.value turn.agrees) _
+          (reported gone input turn.here.inside),
     )
 
 pub returns-then-is_over-clause-ends : goal.returns-then-is_over-clause-ends
@@ -171,29 +129,17 @@ returns-then-is_over-clause-ends g c = λ lawful ends.
     rw c.advance.ensures (
       all_true,
       λ gone input first so_far.
-          let bare = subst (λ (s : SearcherState). Bare s.settings)
-          c.self.view_is c.self.invariant.0 in
+          let bare = subst (λ (s : SearcherState). Bare s.settings) c.self.view_is c.self.invariant.0 in
           let now = c.lines.invariant.searched lawful gone input first so_far in
-          let known = c.in_ok-ahead.ensures.known lawful _ now.inside.line.begins (c.lines.invariant.known lawful gone input first so_far) in
-          let here = skips.searched-on c.lines_join.ensures c.lines_append.ensures g.S.Sink.step (errors g) (facts g c.args.matcher.now)
-          c.args.self.now.settings gone c.args.window.now input first c.lines.sink bare c.lines.walk c.lines.start
-          c.in_ok-ahead.ahead now (omega (arith, c.in_ok-ahead.ensures.bounded.ordered, c.in_ok-ahead.ensures.bounded.within)) known
-          c.skip-start.result c.skip-start.new.walk c.skip-start.ensures.position c.skip-start.ensures.walk in
-          let terminator : c.as_byte-terminator.result ≡ byte_of c.args.self.now.settings.line_terminator = c.as_byte-terminator.ensures
-          ∙ ap (λ (s : SearcherState). byte_of s.settings.line_terminator) c.self.view_is in
-          let line = subst (λ b. (i : ℕ) → IsLineStart b c.args.window.now c.skip-start.result i
-          → IsLine b c.args.window.now i c.skip-start.result c.in-Some.end) terminator (c.in-Some.ensures.line
-          (subst (λ b. IsExact b c.args.window.now c.in_ok-ahead.ahead) (sym terminator) known.exact)) in
-          let value = c.in_ok-chosen.ensures.value (subst (λ o. IfSome o (λ m. m ≡ matches_line c.args.self.now.settings
-          (g.M.Matcher.meaning c.args.matcher.now) (slice c.args.window.now c.skip-start.result c.in-Some.end))) (sym c.at-known.ensures)
-          (skips.known-line c.args.self.now.settings (g.M.Matcher.meaning c.args.matcher.now) c.args.window.now c.in_ok-ahead.ahead _
-          c.skip-start.result c.in-Some.end (skips.known-later c.args.self.now.settings (g.M.Matcher.meaning c.args.matcher.now)
-          c.args.window.now c.lines.start c.skip-start.result c.in_ok-ahead.ahead c.skip-start.ensures.low known)
-          (line _ here.inside.line.begins))) in
-          search.counted-over g.S.Sink.step (errors g) (facts g c.args.matcher.now) c.args.self.now.settings gone c.args.window.now
-          input first bare c.skip-start.result c.in-Some.end c.skip-start.new.walk c.lines.sink here
-          c.in-Some.ensures.within.0 c.in-Some.ensures.within.1 line c.in_ok-chosen.chosen value _
-          (reported gone input here.inside) over,
+          let known = c.in_ok-ahead.ensures.known lawful _ now.inside.line.begins
+          (c.lines.invariant.known lawful gone input first so_far) in
+          let terminator = c.as_byte-terminator.ensures ∙ ap (λ (s : SearcherState). byte_of s.settings.line_terminator) c.self.view_is in
+          let turn = skips.line-reached c.lines_join.ensures c.lines_append.ensures _ (errors g) (facts g c.args.matcher.now) _ _ _ _ _ _
+          bare _ _ _ now c.in_ok-ahead.ensures.bounded known _ _ c.skip-start.ensures.low c.skip-start.ensures.position
+          c.skip-start.ensures.walk _ _ terminator c.in-Some.ensures.line _ c.at-known.ensures in
+          search.counted-over _ (errors g) (facts g c.args.matcher.now) _ _ _ _ _ bare _ _ _ _ turn.here c.in-Some.ensures.within.0
+          c.in-Some.ensures.within.1 turn.line c.in_ok-chosen.chosen (c.in_ok-chosen.ensures.value turn.agrees) _
+          (reported gone input turn.here.inside) over,
     )
 
 pub lines-preserved : goal.lines-preserved
@@ -219,36 +165,22 @@ lines-preserved g c =
           c.in_ok-chosen.chosen c.in-Some.ensures.within.0 c.in-Some.ensures.within.1 c.skip-start.ensures.ordered;
       bounded = c.in_ok-ahead.ensures.bounded;
       known = λ lawful gone input first so_far.
-          let bare = subst (λ (s : SearcherState). Bare s.settings)
-          c.self.view_is c.self.invariant.0 in
           let now = c.lines.invariant.searched lawful gone input first so_far in
           skips.known-later c.args.self.now.settings (g.M.Matcher.meaning c.args.matcher.now) c.args.window.now c.lines.start
           c.in-Some.end c.in_ok-ahead.ahead (omega (arith, c.skip-start.ensures.low, c.in-Some.ensures.within.0))
           (c.in_ok-ahead.ensures.known lawful _ now.inside.line.begins (c.lines.invariant.known lawful gone input first so_far));
       searched = λ lawful gone input first so_far.
-          let bare = subst (λ (s : SearcherState). Bare s.settings)
-          c.self.view_is c.self.invariant.0 in
+          let bare = subst (λ (s : SearcherState). Bare s.settings) c.self.view_is c.self.invariant.0 in
           let now = c.lines.invariant.searched lawful gone input first so_far in
-          let known = c.in_ok-ahead.ensures.known lawful _ now.inside.line.begins (c.lines.invariant.known lawful gone input first so_far) in
-          let here = skips.searched-on c.lines_join.ensures c.lines_append.ensures g.S.Sink.step (errors g) (facts g c.args.matcher.now)
-          c.args.self.now.settings gone c.args.window.now input first c.lines.sink bare c.lines.walk c.lines.start
-          c.in_ok-ahead.ahead now (omega (arith, c.in_ok-ahead.ensures.bounded.ordered, c.in_ok-ahead.ensures.bounded.within)) known
-          c.skip-start.result c.skip-start.new.walk c.skip-start.ensures.position c.skip-start.ensures.walk in
-          let terminator : c.as_byte-terminator.result ≡ byte_of c.args.self.now.settings.line_terminator = c.as_byte-terminator.ensures
-          ∙ ap (λ (s : SearcherState). byte_of s.settings.line_terminator) c.self.view_is in
-          let line = subst (λ b. (i : ℕ) → IsLineStart b c.args.window.now c.skip-start.result i
-          → IsLine b c.args.window.now i c.skip-start.result c.in-Some.end) terminator (c.in-Some.ensures.line
-          (subst (λ b. IsExact b c.args.window.now c.in_ok-ahead.ahead) (sym terminator) known.exact)) in
-          let value = c.in_ok-chosen.ensures.value (subst (λ o. IfSome o (λ m. m ≡ matches_line c.args.self.now.settings
-          (g.M.Matcher.meaning c.args.matcher.now) (slice c.args.window.now c.skip-start.result c.in-Some.end))) (sym c.at-known.ensures)
-          (skips.known-line c.args.self.now.settings (g.M.Matcher.meaning c.args.matcher.now) c.args.window.now c.in_ok-ahead.ahead _
-          c.skip-start.result c.in-Some.end (skips.known-later c.args.self.now.settings (g.M.Matcher.meaning c.args.matcher.now)
-          c.args.window.now c.lines.start c.skip-start.result c.in_ok-ahead.ahead c.skip-start.ensures.low known)
-          (line _ here.inside.line.begins))) in
-          search.searched-next g.S.Sink.step (errors g) (facts g c.args.matcher.now) c.args.self.now.settings gone c.args.window.now
-          input first bare c.skip-start.result c.in-Some.end c.skip-start.new.walk c.lines.sink here
-          c.in-Some.ensures.within.0 c.in-Some.ensures.within.1 line c.in_ok-chosen.chosen value _
-          (reported gone input here.inside) on;
+          let known = c.in_ok-ahead.ensures.known lawful _ now.inside.line.begins
+          (c.lines.invariant.known lawful gone input first so_far) in
+          let terminator = c.as_byte-terminator.ensures ∙ ap (λ (s : SearcherState). byte_of s.settings.line_terminator) c.self.view_is in
+          let turn = skips.line-reached c.lines_join.ensures c.lines_append.ensures _ (errors g) (facts g c.args.matcher.now) _ _ _ _ _ _
+          bare _ _ _ now c.in_ok-ahead.ensures.bounded known _ _ c.skip-start.ensures.low c.skip-start.ensures.position
+          c.skip-start.ensures.walk _ _ terminator c.in-Some.ensures.line _ c.at-known.ensures in
+          search.searched-next _ (errors g) (facts g c.args.matcher.now) _ _ _ _ _ bare _ _ _ _ turn.here c.in-Some.ensures.within.0
+          c.in-Some.ensures.within.1 turn.line c.in_ok-chosen.chosen (c.in_ok-chosen.ensures.value turn.agrees) _
+          (reported gone input turn.here.inside) on;
       kept = λ name each. c.in_ok-sink_line.ensures.kept name each ∙ c.lines.invariant.kept name each;
       may_call = c.in_ok-sink_line.ensures.may_call;
     })
