@@ -16,8 +16,8 @@ use Rattle.grep_definitions.specs.SinkRuns.{Steps, Outcome, all_true, AreReporte
 abbrev pub stream_calls : Settings → Meaning → SearchCalls
 stream_calls settings meaning = record (calls_by_line settings meaning) { view = view_of settings }
 
--- a search that goes on past a binary byte called `binary_data` with the offset of the first one. One that ends there
--- doesn't
+-- a search that goes on past a binary byte called `binary_data` with the offset of the first one. Under `Quit` none goes
+-- on
 pub record IsNotedFor (settings : Settings) (bytes : List ℕ) (found : Option ℕ) : Type 0 where
   pub first : (offset : ℕ) → found ≡ Some offset → binary_of settings bytes ≡ Some offset
   pub goes_on : (b : ℕ) → settings.binary_detection ≡ Quit b → found ≡ None
@@ -38,7 +38,7 @@ pub record IsCutAt (settings : Settings) (meaning : Meaning) (bytes seen : List 
 module _ {S E : Type 0} (step : Steps S E) (settings : Settings) (meaning : Meaning) where
   -- the search ended at the first binary byte of its input, whichever of these that is: after the calls for the lines
   -- that were seen came `binary_data`, and `finish` with the length of these lines as the count. If `binary_data`
-  -- returned true, the search is one that ends there
+  -- returned true, the detection is `Quit`
   pub record IsCutRun (IsOne : List ℕ → Type 0) (old : S) (result : Result (Unit {0}) E)
       (new : S) : Type 0 where
     pub seen : List ℕ

@@ -180,7 +180,7 @@ pub fn quit_reports_are_clear()
     ensures { QuitReportsAreClear }
 {}
 
-/// By line, if a byte isn't among the first bytes, no report whose turn ends among them holds it.
+/// By line, if a byte isn't among the first `count` bytes, no report whose turn ends within them holds it.
 /// Nor does a report over lines at the front of an input, if the byte that ends the search isn't
 /// among these.
 pub fn counted_reports_are_clear()

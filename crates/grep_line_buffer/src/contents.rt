@@ -23,8 +23,8 @@ const FIRST_SIZE: usize = 65_536;
 ///
 /// The contents have to be shorter than `limit`, if there is one: once `limit` bytes have come, the error is
 /// `FillError::HeapLimit`, and nothing more is read. There is room for 65,536 bytes at first, and then for twice as
-/// many whenever it is used up, but never for more than the limit. Each read asks for as many bytes as there is room
-/// for, at most 65,536, and once a read has returned none, no other is made.
+/// many whenever it is used up, but never for more than the limit. Of that, at most 65,536 bytes at a time are set to
+/// zero, and each read asks for what is left of these. Once a read has returned none, no other is made.
 ///
 /// `FillError::Read` is the reader's own error, also one of kind `Interrupted`, and `Memory` means that the room was
 /// used up, might grow, and there was no memory. `Offset` isn't returned. After each error `contents` has the bytes

@@ -1,8 +1,7 @@
 //! Whether files are mapped into memory.
 ghost use Rattle.std.specs.Prelude.{◌≡◌};
 
-/// Whether a search of a file maps it into memory. Here it never does: the file is read. No search
-/// of a file is offered yet.
+/// Whether a search of a file maps it into memory. Here it never does: the file is read.
 #[derive(Clone, Copy, Debug, PartialEq, Eq)]
 pub enum MmapChoice {
     /// A file is read.

@@ -52,7 +52,6 @@ impl SinkFinish {
     }
 
     /// The offset of the first binary byte in the whole input, in bytes, if the search found one.
-    /// No search looks for one yet.
     #[inline]
     pub fn binary_byte_offset(&self) -> Option<u64>
         ensures { result ≡ self.now.binary_byte_offset }

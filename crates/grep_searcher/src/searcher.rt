@@ -198,7 +198,7 @@ impl<A: Allocator + Copy> Searcher<A> {
     /// Under binary detection a search by line calls `binary_data` with the offset of the first binary byte once the
     /// buffer has it, before the lines that were read with it are searched. `BinaryDetection::Quit` ends the search
     /// there, and so does a false; `BinaryDetection::Convert` goes on, and each binary byte is searched as the line
-    /// terminator's byte. `finish` has that offset then. A byte that ends lines isn't converted, nor reported so. Such a
+    /// terminator's byte. `finish` has that offset then. A byte that ends lines isn't converted, nor reported as binary. Such a
     /// search reads even if no line may have a turn.
     ///
     /// A search across lines (`multi_line_with_matcher`) first reads the reader to its end, and keeps all decoded bytes

@@ -9,7 +9,7 @@ use grep_report::{SinkContext, SinkFinish, SinkMatch};
 use std::alloc::Allocator;
 
 // Passes each call on to a sink, and keeps the offset of the first binary byte once it is known, and whether
-// `binary_data` was called with it. From then on `finish` has the offset.
+// `binary_data` was called with it and didn't fail. From then on `finish` has the offset.
 #[derive(Drop)]
 pub(crate) struct Noted<'s, S> {
     pub(crate) sink: &'s mut S,
