@@ -25,8 +25,8 @@ UnlessRead (Err HeapLimit) P = P
 UnlessRead (Err Offset) P = P
 UnlessRead (Err Memory) P = P
 
--- The offset after the bytes that are held is above 2^64 - 1. If the offset after the bytes that were held before isn't,
--- these are shown; else nothing changed.
+-- The offset after the bytes that are held is above 2^64 - 1. If the offset after the bytes that were held before
+-- isn't, these are shown; else nothing changed.
 pub record PassesOffsets (old new : BufferState) : Type 0 where
   pub past : 2 ^ 64 ≤ new.offset + length (held new)
   pub shown : old.offset + length (held old) < 2 ^ 64 → new.shown ≡ held old
@@ -65,7 +65,8 @@ module _ {R : Type 0} (remaining : R → Option (List ℕ)) (step : R → ReadRe
     pub fits : 0 < length given → length (held old) + length given ≤ new.size
     pub decodes : Decodes remaining step decoder reader given decoder' reader'
 
-  -- The same, and then one more call of the reader returned this error. The decoder has still to give all that it had then.
+  -- The same, and then one more call of the reader returned this error. The decoder has still to give all that it had
+  -- then.
   pub record FailsToFill (error : Error) (old : BufferState) (decoder : DecoderState) (reader : R)
       (new : BufferState)
       (decoder' : DecoderState) (reader' : R) : Type 0 where

@@ -144,8 +144,8 @@ impl<A: Allocator> LineBuffer<A> {
         self.offset
     }
 
-    /// The offset of the first binary byte that was read, from the start of the decoded input. An offset above 2^64 - 1,
-    /// which comes only with `FillError::Offset`, is returned as that number.
+    /// The offset of the first binary byte that was read, from the start of the decoded input. An offset above
+    /// 2^64 - 1, which comes only with `FillError::Offset`, is returned as that number.
     pub fn binary_byte_offset(&self) -> Option<u64>
         ensures exact { self.now.offset + length (held self.now) < 2 ^ 64
             → result ≡ self.now.binary }
@@ -177,8 +177,8 @@ impl<A: Allocator> LineBuffer<A> {
     /// end was seen, nothing is read. Each read asks for as many bytes as are free. A full buffer grows to twice its
     /// size, or up to its limit.
     ///
-    /// `Detection::Quit` ends the input at its byte, as if nothing were left, and `Detection::Convert` makes each of its
-    /// bytes the terminator as it is read.
+    /// `Detection::Quit` ends the input at its byte, as if nothing were left, and `Detection::Convert` makes each of
+    /// its bytes the terminator as it is read.
     ///
     /// The decoder and the reader are those of the earlier fills since `new` or `clear`: if they are others, the
     /// bytes of both follow one another.
@@ -365,8 +365,8 @@ impl<A: Allocator> LineBuffer<A> {
         }
     }
 
-    // Looks for binary bytes in the last `count` bytes that are held, and replaces them, or drops the first one that ends
-    // the input and what follows it.
+    // Looks for binary bytes in the last `count` bytes that are held, and replaces them, or drops the first one that
+    // ends the input and what follows it.
     fn detect(&mut self, count: usize)
         requires ended { self.old.has_ended ≡ false }
         requires count { count ≤ length self.old.rest }

@@ -137,11 +137,11 @@ impl<A: Allocator + Copy> Searcher<A> {
     /// slice is searched as it is: that takes no memory, the heap limit is none for it, and it fails in no other
     /// way. The settings stay as they were, and a searcher that has its buffers has them afterwards.
     ///
-    /// Under `BinaryDetection::Quit` a slice that is searched as it is ends at a binary byte: after `begin` it is looked
-    /// for in the first 65,536 bytes, and then in what each report would show. If it is found, no other report is made, nor
-    /// the break before it: `binary_data` is called with its offset, and then `finish` with that offset. The byte count is
-    /// 0 if it was among the first bytes, and its offset if it was in a report. A byte in other lines isn't looked for.
-    /// `BinaryDetection::Convert` changes nothing of such a search.
+    /// Under `BinaryDetection::Quit` a slice that is searched as it is ends at a binary byte: after `begin` it is
+    /// looked for in the first 65,536 bytes, and then in what each report would show. If it is found, no other report
+    /// is made, nor the break before it: `binary_data` is called with its offset, and then `finish` with that offset.
+    /// The byte count is 0 if it was among the first bytes, and its offset if it was in a report. A byte in other
+    /// lines isn't looked for. `BinaryDetection::Convert` changes nothing of such a search.
     pub fn search_slice<M: Matcher, S: Sink>(
         &mut self,
         matcher: M,
@@ -180,10 +180,10 @@ impl<A: Allocator + Copy> Searcher<A> {
     /// Searches the decoded bytes of a reader, line by line as they come, in bounded memory, and reports to the sink
     /// what it finds, as `search_slice` does. The caller ensures that the sink may be called.
     ///
-    /// By line `begin` comes before any read. The reader is read no further than the search needs: a false, the limit or
-    /// a stop ends it without another read, and so does an unterminated last line. A buffer shows whole lines; between
-    /// two reads it keeps at most as many of them as are reported before a match. It has 65,536 bytes at first, or
-    /// the heap limit if that is lower, and grows to the heap limit.
+    /// By line `begin` comes before any read. The reader is read no further than the search needs: a false, the limit
+    /// or a stop ends it without another read, and so does an unterminated last line. A buffer shows whole lines;
+    /// between two reads it keeps at most as many of them as are reported before a match. It has 65,536 bytes at
+    /// first, or the heap limit if that is lower, and grows to the heap limit.
     ///
     /// A search that is refused reads nothing and makes no call. An error of reading comes after the reports
     /// of the lines before it, and nothing follows. It is made of
@@ -198,13 +198,13 @@ impl<A: Allocator + Copy> Searcher<A> {
     /// Under binary detection a search by line calls `binary_data` with the offset of the first binary byte once the
     /// buffer has it, before the lines that were read with it are searched. `BinaryDetection::Quit` ends the search
     /// there, and so does a false; `BinaryDetection::Convert` goes on, and each binary byte is searched as the line
-    /// terminator's byte. `finish` has that offset then. A byte that ends lines isn't converted, nor reported as binary. Such a
-    /// search reads even if no line may have a turn.
+    /// terminator's byte. `finish` has that offset then. A byte that ends lines isn't converted, nor reported as
+    /// binary. Such a search reads even if no line may have a turn.
     ///
     /// A search across lines (`multi_line_with_matcher`) first reads the reader to its end, and keeps all decoded bytes
-    /// in memory. If an error of reading comes then, the sink has no call: the reader's error; one of kind `Other`, once
-    /// as many decoded bytes have come as the heap limit; or one of kind `OutOfMemory`. Binary detection is that of a slice
-    /// that is searched as it is.
+    /// in memory. If an error of reading comes then, the sink has no call: the reader's error; one of kind `Other`,
+    /// once as many decoded bytes have come as the heap limit; or one of kind `OutOfMemory`. Binary detection is that
+    /// of a slice that is searched as it is.
     ///
     /// The settings stay as they were, and a searcher that has its buffers has them afterwards, whatever comes.
     pub fn search_reader<M: Matcher, R: Source, S: Sink>(

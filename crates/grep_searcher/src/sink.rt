@@ -14,7 +14,8 @@ use grep_report::{SinkContext, SinkFinish, SinkMatch};
 use std::alloc::Allocator;
 
 /// What a search reports to: `begin`, then the matches, the lines near them and the breaks between, in the order of
-/// lines, and at most once that the input is binary, then `finish`. Each call gets the searcher, whose queries give the settings.
+/// lines, and at most once that the input is binary, then `finish`. Each call gets the searcher, whose queries give
+/// the settings.
 ///
 /// A sink that returns false ends the search: `finish` alone follows. An error ends it at once, and nothing follows.
 pub trait Sink {
@@ -74,11 +75,11 @@ pub trait Sink {
         ensures step { step self.old searcher.now.settings breaks result self.new }
         ensures may_call { may_call self.new };
 
-    /// The input is binary: `binary_byte_offset` is the offset, in bytes, of its first binary byte, counted from 0 at the
-    /// start of the decoded input. Returns whether the search goes on; an error is the sink's own.
+    /// The input is binary: `binary_byte_offset` is the offset, in bytes, of its first binary byte, counted from 0 at
+    /// the start of the decoded input. Returns whether the search goes on; an error is the sink's own.
     ///
-    /// A search calls it once at most, before `finish`. If the binary byte ends the search (`BinaryDetection::Quit`), it
-    /// does so whatever this returns.
+    /// A search calls it once at most, before `finish`. If the binary byte ends the search (`BinaryDetection::Quit`),
+    /// it does so whatever this returns.
     fn binary_data<A: Allocator + Copy>(
         &mut self,
         searcher: &Searcher<A>,

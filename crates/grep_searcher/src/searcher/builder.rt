@@ -159,8 +159,9 @@ impl SearcherBuilder {
     }
 
     /// How many decoded bytes of a reader, or of a slice that needs decoding, a search holds at most; no limit by
-    /// default. A line that doesn't fit ends the search in an error, as `Searcher::search_reader` says; across lines all
-    /// decoded bytes have to be fewer. A limit of 0 refuses each search. The bytes of any other slice don't count, nor do the 8,192 of the decoder.
+    /// default. A line that doesn't fit ends the search in an error, as `Searcher::search_reader` says; across lines
+    /// all decoded bytes have to be fewer. A limit of 0 refuses each search. The bytes of any other slice don't
+    /// count, nor do the 8,192 of the decoder.
     pub fn heap_limit(&mut self, bytes: Option<usize>) -> &mut SearcherBuilder
         ensures reference { result.ghost_name ≡ self.entry.ghost_name }
         ensures set { result.now ≡ record self.old { heap_limit = bytes } }
