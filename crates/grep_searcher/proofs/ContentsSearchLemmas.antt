@@ -33,8 +33,8 @@ use Rattle.grep_definitions.specs.SinkRuns.{finish_result}
 use Rattle.grep_definitions.proofs.LineLengthLemmas.{lines-within}
 use Rattle.grep_searcher.specs.InputSearches.{IsAcrossSearched, IsSearchedUntil, IsSourceSearchedIn}
 use Rattle.grep_searcher.specs.SearchBuffers.{IsMadeOf}
-use Rattle.grep_searcher.specs.Walks.{Counted}
-use Rattle.grep_searcher.proofs.FinishLemmas.{finish-counted, run-finish}
+use Rattle.grep_walk.specs.Walks.{Counted}
+use Rattle.grep_walk.proofs.FinishLemmas.{finish-counted, run-finish}
 use Rattle.grep_searcher.proofs.ReadingLemmas as reading
 
 -- bytes below the heap limit are a front of themselves: no line of theirs is too long
@@ -251,9 +251,9 @@ pub across-unread : {R : Type 0} (remaining : R → Option (List ℕ)) (read_ste
     → ((view : List ℕ → List ℕ) → IsUnreadIn remaining read_step true view state matcher.meaning reader None error reader')
     → errors.is_io error e
     → IsAcrossSearched remaining read_step step errors matcher (look_at d false) state reader old (Err e) reader' old
-across-unread remaining read_step step errors matcher no_detection state reader old error e reader' unread made =
+across-unread remaining read_step step errors matcher no_detection searcher reader old error e reader' unread made =
     of_reading None error (unread (λ bytes. bytes)) made refl
-across-unread remaining read_step step errors matcher (Quit b) state reader old error e reader' unread made =
-    inr (error, unread (view_of state.settings), made, refl)
-across-unread remaining read_step step errors matcher (Convert b) state reader old error e reader' unread made =
+across-unread remaining read_step step errors matcher (Quit b) searcher reader old error e reader' unread made =
+    inr (error, unread (view_of searcher.settings), made, refl)
+across-unread remaining read_step step errors matcher (Convert b) searcher reader old error e reader' unread made =
     of_reading None error (unread (λ bytes. bytes)) made refl

@@ -33,24 +33,24 @@ use Rattle.grep_definitions.proofs.LineReportLemmas as reports
 use Rattle.grep_definitions.proofs.NotedLemmas.{unnoted, unnoted-clear}
 use Rattle.grep_definitions.proofs.SinkViewLemmas.{IsClearFault-seen, IsReaderFaultIn-seen}
 use Rattle.grep_searcher.specs.declared.searcher.noted.Noted.{Noted}
-use Rattle.grep_searcher.specs.declared.searcher.walk.Walk.{Walk}
+use Rattle.grep_walk.specs.declared.walk.Walk.{Walk}
 use Rattle.grep_searcher.specs.HeldViews.{HoldsGiven}
 use Rattle.grep_searcher.specs.NotedCalls.{FailsAtBinary, HasNoted, Notes, PassesBinary, noted_of}
 use Rattle.grep_searcher.specs.Rolls.{HasCounted, HasCut, IsCountedFor, HasEnded, IsReady, IsRolling, IsStreamCounted, start_in}
 use Rattle.grep_searcher.specs.SearchBuffers.{AreFitting, detection_of}
-use Rattle.grep_searcher.specs.Walks.{IsCount}
+use Rattle.grep_walk.specs.Walks.{IsCount}
 use Rattle.grep_searcher.proofs.NotedLemmas.{called-known, called-none}
 use Rattle.grep_searcher.proofs.HeldLemmas as holding
 use Rattle.grep_searcher.proofs.HeldLemmas.{FillsContinue}
 use Rattle.grep_searcher.proofs.ReadingLemmas as reading
 use Rattle.grep_searcher.proofs.RollLemmas as rolls
 use Rattle.grep_searcher.proofs.RollingLemmas as rolling
-use Rattle.grep_searcher.proofs.FrontLemmas.{turns-seen}
+use Rattle.grep_walk.proofs.FrontLemmas.{turns-seen}
 use Rattle.grep_searcher.proofs.StreamBeginLemmas.{binary-nil, front-none}
 use Rattle.grep_searcher.proofs.StreamEndLemmas.{has_counted-seen, has_noted-passed, noted-passed, passed, reported-seen, uncut-passed}
 use Rattle.grep_searcher.proofs.StreamFinishLemmas.{cut-ended}
 use Rattle.grep_searcher.proofs.StreamViewLemmas as views
-use Rattle.grep_searcher.proofs.WalkLemmas as walks
+use Rattle.grep_walk.proofs.WalkLemmas as walks
 
 -- what `binary_data` returned
 abbrev outcome_of : {E : Type 0} → Bool → ℕ → Outcome E

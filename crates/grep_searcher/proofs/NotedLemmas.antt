@@ -9,7 +9,7 @@ use Rattle.grep_definitions.specs.SinkCalls.{begins, matches, context, breaks}
 use Rattle.grep_definitions.specs.SinkRuns.{Steps}
 use Rattle.grep_searcher.specs.declared.searcher.noted.Noted.{Noted}
 use Rattle.grep_searcher.specs.NotedCalls.{HasNoted, Notes, called_with, noted_of}
-use Rattle.grep_searcher.specs.Walks.{IsKept}
+use Rattle.grep_walk.specs.Walks.{IsKept}
 
 -- the offset with which `binary_data` was called is the one that is known, once it was
 pub called-known : {S : Type 0} (n : Noted S) → HasNoted n → called_with n ≡ n.binary

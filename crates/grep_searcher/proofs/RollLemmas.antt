@@ -21,13 +21,13 @@ use Rattle.grep_definitions.specs.Settings.{Settings}
 use Rattle.grep_definitions.specs.SinkRuns.{Steps, Outcome, all_true}
 use Rattle.grep_definitions.proofs.BoolLemmas.{clash}
 use Rattle.grep_definitions.proofs.LimitLemmas.{turn_above}
-use Rattle.grep_searcher.specs.declared.searcher.walk.Walk.{Walk}
+use Rattle.grep_walk.specs.declared.walk.Walk.{Walk}
 use Rattle.grep_searcher.specs.Rolls.{IsBetween, IsCountedFor, IsLast, IsNext, IsReady, HasEnded, HasMovedOn, start_in}
-use Rattle.grep_searcher.specs.Windows.{HasPassed, HasSearched, IsInWindow}
-use Rattle.grep_searcher.proofs.FrontLemmas.{count-after, lines-fit, longer-front}
-use Rattle.grep_searcher.proofs.WalkLemmas as walks
-use Rattle.grep_searcher.proofs.WindowLemmas.{closed-append, closed-drop, roll-input, start-all, start-same}
-use Rattle.grep_searcher.proofs.WindowSearchLemmas.{passed-all, searched-rolled}
+use Rattle.grep_walk.specs.Windows.{HasPassed, HasSearched, IsInWindow}
+use Rattle.grep_walk.proofs.FrontLemmas.{count-after, lines-fit, longer-front}
+use Rattle.grep_walk.proofs.WalkLemmas as walks
+use Rattle.grep_walk.proofs.WindowLemmas.{closed-append, closed-drop, roll-input, start-all, start-same}
+use Rattle.grep_walk.proofs.WindowSearchLemmas.{passed-all, searched-rolled}
 
 -- no bytes are more than none
 pub nothing : {X : Type 0} → 0 < length {A = ℕ} [] → X

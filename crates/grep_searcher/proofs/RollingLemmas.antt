@@ -29,21 +29,21 @@ use Rattle.grep_definitions.specs.StreamSearches.{stream_calls}
 use Rattle.grep_definitions.specs.Settings.{Settings}
 use Rattle.grep_definitions.specs.SinkCalls.{begins}
 use Rattle.grep_definitions.specs.SinkRuns.{Steps}
-use Rattle.grep_searcher.specs.declared.searcher.walk.Walk.{Walk}
+use Rattle.grep_walk.specs.declared.walk.Walk.{Walk}
 use Rattle.grep_searcher.specs.Rolls.{HasCounted, HasEnded, HasMovedOn, IsBetween, IsCountedFor, IsLast, IsReady, IsRolling, start_in}
-use Rattle.grep_searcher.specs.Walks.{IsCount}
-use Rattle.grep_searcher.specs.Windows.{HasSearched}
+use Rattle.grep_walk.specs.Walks.{IsCount}
+use Rattle.grep_walk.specs.Windows.{HasSearched}
 use Rattle.grep_searcher.specs.SearchBuffers.{AreFitting, detection_of, least_size}
-use Rattle.grep_searcher.proofs.FrontLemmas.{turns-seen}
+use Rattle.grep_walk.proofs.FrontLemmas.{turns-seen}
 use Rattle.grep_searcher.proofs.HeldLemmas as holding
 use Rattle.grep_searcher.proofs.ReadingLemmas as reading
 use Rattle.grep_searcher.proofs.RollLemmas as rolls
 use Rattle.grep_searcher.proofs.StreamViewLemmas as views
 use Rattle.grep_searcher.proofs.UnreadLemmas.{grown}
-use Rattle.grep_searcher.proofs.WalkLemmas.{start_walk}
-use Rattle.grep_searcher.proofs.WindowLemmas as windows
-use Rattle.grep_searcher.proofs.WindowLemmas.{closed-append}
-use Rattle.grep_searcher.proofs.WindowSearchLemmas.{searched-start}
+use Rattle.grep_walk.proofs.WalkLemmas.{start_walk}
+use Rattle.grep_walk.proofs.WindowLemmas as windows
+use Rattle.grep_walk.proofs.WindowLemmas.{closed-append}
+use Rattle.grep_walk.proofs.WindowSearchLemmas.{searched-start}
 
 -- a fault of a search by line is one of a search of a view
 stream-fault : {S E F : Type 0} (step : Steps S E) (errors : ErrorMakers E) (matcher : MatcherFacts F) (k : Settings) (bytes : List ℕ)

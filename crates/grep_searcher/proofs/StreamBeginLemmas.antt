@@ -24,9 +24,9 @@ use Rattle.grep_definitions.specs.SinkRuns.{Steps, Outcome, all_true, stopped, f
 use Rattle.grep_definitions.specs.StreamSearches.{IsNotedFor, stream_calls}
 use Rattle.grep_definitions.proofs.BoolLemmas.{clash}
 use Rattle.grep_searcher.specs.Rolls.{HasBegun, IsCountedFor, IsStreamCounted}
-use Rattle.grep_searcher.specs.Walks.{IsCount}
-use Rattle.grep_searcher.proofs.FrontLemmas.{turns-seen}
-use Rattle.grep_searcher.proofs.WalkLemmas as walks
+use Rattle.grep_walk.specs.Walks.{IsCount}
+use Rattle.grep_walk.proofs.FrontLemmas.{turns-seen}
+use Rattle.grep_walk.proofs.WalkLemmas as walks
 
 -- a search reads, unless no line may have a turn and it looks for no binary byte
 pub idle-unread : (idle detecting : Bool) → (not idle || detecting) ≡ false → idle ≡ true

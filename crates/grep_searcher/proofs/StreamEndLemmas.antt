@@ -20,7 +20,7 @@ use Rattle.grep_report.specs.BinaryDetections.{quit_byte_of}
 use Rattle.grep_report.specs.declared.binary_detection.BinaryDetection.{BinaryDetection}
 use Rattle.grep_report.specs.declared.binary_detection.BinaryDetection.TheVariants.{None as no_detection, Quit, Convert}
 use Rattle.grep_searcher.specs.SearchBuffers.{detection_of}
-use Rattle.grep_searcher.specs.declared.searcher.walk.Walk.{Walk}
+use Rattle.grep_walk.specs.declared.walk.Walk.{Walk}
 use Rattle.grep_searcher.specs.NotedCalls.{HasNoted, Notes, PassesBinary, called_with, noted_of}
 use Rattle.grep_searcher.specs.Rolls.{HasCounted, IsCountedFor, IsRolling}
 use Rattle.grep_searcher.proofs.NotedLemmas.{called-none}

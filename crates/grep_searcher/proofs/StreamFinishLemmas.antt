@@ -16,8 +16,8 @@ use Rattle.grep_definitions.specs.SinkRuns.{Steps, Outcome, all_true, stopped, f
 use Rattle.grep_definitions.specs.StreamSearches.{IsClear}
 use Rattle.grep_definitions.proofs.NotedLemmas.{unnoted-clear}
 use Rattle.grep_searcher.specs.Rolls.{HasBegun, HasCounted, HasCut, IsCountedFor, IsStreamCounted}
-use Rattle.grep_searcher.specs.Walks.{IsCount}
-use Rattle.grep_searcher.proofs.FinishLemmas.{finish-counted}
+use Rattle.grep_walk.specs.Walks.{IsCount}
+use Rattle.grep_walk.proofs.FinishLemmas.{finish-counted}
 
 -- a byte count is that of its outcome
 count-is : {E : Type 0} (outcome : Outcome E) (whole count : ℕ) → IsCount outcome whole count → count ≡ count_of outcome whole

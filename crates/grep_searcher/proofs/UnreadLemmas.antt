@@ -26,11 +26,11 @@ use Rattle.grep_definitions.specs.ReadingFaults.{CutsShort, of_limit, of_memory,
 use Rattle.grep_definitions.specs.SearchLaws.{UnchangedIsInput}
 use Rattle.grep_definitions.specs.Settings.{Settings}
 use Rattle.grep_definitions.specs.SinkRuns.{Steps}
-use Rattle.grep_searcher.specs.declared.searcher.walk.Walk.{Walk}
+use Rattle.grep_walk.specs.declared.walk.Walk.{Walk}
 use Rattle.grep_searcher.specs.HeldViews.{HoldsGiven}
 use Rattle.grep_searcher.specs.Rolls.{IsBetween, IsRolling}
 use Rattle.grep_searcher.specs.SearchBuffers.{AreFitting, IsMadeOf, least_size}
-use Rattle.grep_searcher.proofs.FrontLemmas.{crowded}
+use Rattle.grep_walk.proofs.FrontLemmas.{crowded}
 use Rattle.grep_searcher.proofs.HeldLemmas as holding
 use Rattle.grep_searcher.proofs.ReadingLemmas as reading
 use Rattle.grep_searcher.proofs.RollLemmas as rolls

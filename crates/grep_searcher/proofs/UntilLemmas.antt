@@ -27,8 +27,8 @@ use Rattle.grep_searcher.specs.declared.searcher.quitting.Quitting.{Quitting}
 use Rattle.grep_lines.proofs.ReplaceLemmas.{position-found}
 use Rattle.grep_searcher.specs.InputSearches.{IsSearchedUntil}
 use Rattle.grep_searcher.specs.QuittingSinks.{Watch, Quits, quitting, watch_of, IsMadeAfter, IsLookedAt}
-use Rattle.grep_searcher.specs.Walks.{Counted}
-use Rattle.grep_searcher.proofs.FinishLemmas.{run-finish}
+use Rattle.grep_walk.specs.Walks.{Counted}
+use Rattle.grep_walk.proofs.FinishLemmas.{run-finish}
 use Rattle.grep_searcher.proofs.QuittingLemmas as quitting_calls
 use Rattle.grep_searcher.proofs.QuittingLemmas.{AreJoined, no_turns, joined_report, joined_break, is_report}
 

@@ -1,16 +1,10 @@
-pub mod AcrossWalks
 pub mod ClosureSinks
-pub mod Configs
 pub mod HeldViews
 pub mod InputSearches
-pub mod LookAheads
 pub mod NotedCalls
 pub mod QuittingSinks
 pub mod Rolls
 pub mod SearchBuffers
-pub mod Units
-pub mod Walks
-pub mod Windows
 pub use Rattle.grep_definitions.specs.Settings
 pub use Rattle.grep_definitions.specs.SinkCalls
 pub use Rattle.grep_definitions.specs.Below

@@ -22,10 +22,10 @@ use Rattle.grep_definitions.specs.Settings.{Settings}
 use Rattle.grep_definitions.specs.SinkCalls.{begins, binary_data}
 use Rattle.grep_definitions.specs.SinkRuns.{Steps, Outcome, all_true, AreReported}
 use Rattle.grep_definitions.specs.StreamSearches.{IsClear, IsCutAt, IsNotedFor}
-use Rattle.grep_searcher.specs.declared.searcher.walk.Walk.{Walk}
+use Rattle.grep_walk.specs.declared.walk.Walk.{Walk}
 use Rattle.grep_searcher.specs.SearchBuffers.{detection_of}
-use Rattle.grep_searcher.specs.Walks.{Counted, IsCount}
-use Rattle.grep_searcher.specs.Windows.{HasSearched}
+use Rattle.grep_walk.specs.Walks.{Counted, IsCount}
+use Rattle.grep_walk.specs.Windows.{HasSearched}
 
 -- how far a walk is into the bytes that a buffer shows
 abbrev pub start_in : BufferState → Walk → ℕ

@@ -6,7 +6,6 @@
 //! `specs/Searches.antt` what a search does, with its faults.
 #![tactic(auto)]
 
-mod config;
 pub mod laws;
 mod searcher;
 mod sink;

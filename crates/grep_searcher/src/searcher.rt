@@ -17,17 +17,15 @@ ghost use Rattle.grep_definitions.specs.Searches.{errors_by, facts_by};
 ghost use Rattle.grep_definitions.specs.SearchTurns.{calls_if};
 ghost use Rattle.grep_definitions.specs.Settings.{default_settings};
 ghost use Rattle.grep_definitions.specs.SinkRuns.{NeverFails, Outcome};
-ghost use Rattle.grep_searcher.specs.Configs.{settings_of};
 ghost use Rattle.grep_searcher.specs.InputSearches.{IsBytesSearched};
 ghost use Rattle.grep_searcher.specs.SearchBuffers.{AreFitting};
-ghost use Rattle.grep_searcher.specs.Walks.{Counted, IsKept};
+ghost use Rattle.grep_walk.specs.Walks.{Counted, IsKept};
 
-mod blocks;
 mod buffers;
 mod builder;
+mod by_line;
 mod contents;
 mod files;
-mod look_ahead;
 mod multi_line;
 mod noted;
 mod queries;
@@ -35,16 +33,15 @@ mod quitting;
 mod read_by_line;
 mod sink_lines;
 mod until;
-mod walk;
 
-use crate::config::Config;
 use crate::searcher::buffers::Buffers;
 use crate::sink::Sink;
 pub use builder::SearcherBuilder;
-use grep_decode::{Source, label_of_mark};
+use grep_decode::Source;
 use grep_definitions::laws::unchanged_is_searched;
 use grep_matcher::Matcher;
 use grep_report::{ConfigError, SinkError, SinkFinish};
+use grep_walk::Config;
 use std::alloc::{Allocator, Global};
 use std::io;
 use std::marker::Model;
@@ -61,13 +58,12 @@ impl<A: Allocator + Copy> Model for Searcher<A> {
     ghost use Rattle.std.specs.Prelude.{◌≡◌, true, is_some, IfSome};
     ghost use Rattle.grep_definitions.specs.Settings.{SearcherState};
     ghost use Rattle.grep_matcher.specs.Terminators.{byte_of};
-    ghost use Rattle.grep_searcher.specs.Configs.{settings_of};
     ghost use Rattle.grep_searcher.specs.SearchBuffers.{AreFitting};
 
     ghost Value = { SearcherState };
 
     ghost view = { λ s. record
-        { settings = settings_of s.config; has_buffers = is_some s.buffers } };
+        { settings = s.config; has_buffers = is_some s.buffers } };
 
     ghost invariant = { λ s.
         (s.config.passthru ≡ true → (s.config.after_context ≡ 0) × (s.config.before_context ≡ 0))
@@ -109,7 +105,7 @@ impl<A: Allocator + Copy> Searcher<A> {
         requires { config.passthru ≡ true
             → (config.after_context ≡ 0) × (config.before_context ≡ 0) }
         ensures settings { IfOk result (λ searcher.
-            searcher ≡ record { settings = settings_of config; has_buffers = true }) }
+            searcher ≡ record { settings = config; has_buffers = true }) }
         ensures error { IfErr result (λ e. e ≡ ConfigError.Memory) }
     {
         match Buffers::new(alloc, &config) {
@@ -171,7 +167,7 @@ impl<A: Allocator + Copy> Searcher<A> {
             × S.Error.is_io error e) }
         ensures may_call { S.may_call sink.new }
     {
-        match self.refusal(&matcher) {
+        match self.config.refusal(&matcher) {
             Some(refusal) => Err(S::Error::error_config(self.alloc, refusal)),
             None => self.search_input(&matcher, bytes, sink),
         }
@@ -233,7 +229,7 @@ impl<A: Allocator + Copy> Searcher<A> {
             × S.Error.is_io error e) }
         ensures may_call { S.may_call sink.new }
     {
-        if let Some(refusal) = self.refusal(&matcher) {
+        if let Some(refusal) = self.config.refusal(&matcher) {
             return Err(S::Error::error_config(self.alloc, refusal));
         }
         self.search_source(&matcher, reader, sink)
@@ -271,33 +267,6 @@ impl<A: Allocator + Copy> Searcher<A> {
         self.buffers = Some(buffers);
     }
 
-    // Whether a slice needs no decoding.
-    #[tactic(auto, unfolding(grep_definitions::specs::DecodedInputs::is_searched_unchanged))]
-    fn is_searched_unchanged(&self, input: &[u8]) -> bool
-        ensures { result ≡ is_searched_unchanged self.now.settings input.now }
-    {
-        if self.config.encoding.is_some() {
-            return false;
-        }
-        !self.config.bom_sniffing || label_of_mark(input).is_none()
-    }
-
-    // Why a search is refused, if it is.
-    fn refusal<M: Matcher>(&self, matcher: &M) -> Option<ConfigError>
-        ensures { result ≡ refusal_of self.now.settings (M.meaning matcher.now) }
-    {
-        if self.config.heap_limit == Some(0) {
-            return Some(ConfigError::SearchUnavailable);
-        }
-        let searcher = self.config.line_terminator;
-        match matcher.line_terminator() {
-            Some(matcher) if matcher != searcher => {
-                Some(ConfigError::MismatchedLineTerminators { matcher, searcher })
-            }
-            _ => None,
-        }
-    }
-
     // A search of a slice that isn't refused.
     fn search_input<M: Matcher, S: Sink>(
         &mut self,
@@ -329,7 +298,7 @@ impl<A: Allocator + Copy> Searcher<A> {
         ensures may_call { S.may_call sink.new }
     {
         unchanged_is_searched();
-        if self.is_searched_unchanged(input) {
+        if self.config.is_searched_unchanged(input) {
             return self.search_bytes(matcher, input, sink);
         }
         let mut source = input;
@@ -357,8 +326,8 @@ impl<A: Allocator + Copy> Searcher<A> {
             → IsOk result }
         ensures may_call { S.may_call sink.new }
     {
-        let is_across = self.is_across(matcher);
-        if let Some(byte) = self.config.binary_detection.quit_byte() {
+        let is_across = self.config.is_across(matcher);
+        if let Some(byte) = self.binary_detection().quit_byte() {
             return self.search_until(matcher, bytes, byte, is_across, sink);
         }
         let count = self.match_bytes(matcher, bytes, is_across, sink)?;

@@ -3,9 +3,9 @@ ghost use Rattle.std.specs.Prelude.{IfOk};
 ghost use Rattle.grep_matcher.specs.Terminators.{byte_of};
 ghost use Rattle.grep_searcher.specs.SearchBuffers.{AreFitting};
 
-use crate::config::Config;
 use grep_decode::Decoder;
 use grep_line_buffer::{Detection, LineBuffer};
+use grep_walk::Config;
 use std::alloc::{AllocError, Allocator};
 
 // The size of a line buffer in bytes, if no limit is below it.

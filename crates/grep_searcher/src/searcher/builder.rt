@@ -2,10 +2,10 @@
 ghost use Rattle.std.specs.Prelude.{◌≡◌, true, IfOk, IfErr};
 ghost use Rattle.grep_definitions.specs.Settings.{default_settings, built};
 
-use crate::config::Config;
 use crate::searcher::Searcher;
 use grep_matcher::LineTerminator;
 use grep_report::{BinaryDetection, ConfigError, Encoding, MmapChoice};
+use grep_walk::Config;
 use std::alloc::{AllocError, Allocator};
 use std::marker::Model;
 
@@ -17,11 +17,10 @@ pub struct SearcherBuilder {
 
 impl Model for SearcherBuilder {
     ghost use Rattle.grep_definitions.specs.Settings.{Settings};
-    ghost use Rattle.grep_searcher.specs.Configs.{settings_of};
 
     ghost Value = { Settings };
 
-    ghost view = { λ b. settings_of b.config };
+    ghost view = { λ b. b.config };
 }
 
 impl Default for SearcherBuilder {

@@ -55,10 +55,10 @@ impl<A: Allocator + Copy> Searcher<A> {
         reads_continue::<R>();
         done_gives_nothing();
         lines_join();
-        if let Err(error) = read_contents(decoder, reader, self.config.heap_limit, contents) {
+        if let Err(error) = read_contents(decoder, reader, self.heap_limit(), contents) {
             return Err(S::Error::error_io(self.alloc, io_error(error)));
         }
-        if let Some(byte) = self.config.binary_detection.quit_byte() {
+        if let Some(byte) = self.binary_detection().quit_byte() {
             return self.search_until(matcher, contents, byte, true, sink);
         }
         let count = self.match_across(matcher, contents, sink)?;

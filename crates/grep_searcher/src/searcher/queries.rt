@@ -45,22 +45,7 @@ impl<A: Allocator + Copy> Searcher<A> {
         M: Drop,
         ensures { result ≡ is_across self.now.settings (M.meaning matcher) }
     {
-        self.is_across(&matcher)
-    }
-
-    // The same of a matcher that is borrowed.
-    pub(crate) fn is_across<M: Matcher>(&self, matcher: &M) -> bool
-        ensures { result ≡ is_across self.now.settings (M.meaning matcher.now) }
-    {
-        if !self.config.multi_line
-            || matcher.line_terminator() == Some(self.config.line_terminator)
-        {
-            return false;
-        }
-        match matcher.non_matching_bytes() {
-            Some(absent) => !absent.contains(self.config.line_terminator.as_byte()),
-            None => true,
-        }
+        self.config.is_across(&matcher)
     }
 
     /// How many lines are reported after a match; 0 under `passthru`.

@@ -1,6 +1,6 @@
 //! The search of a reader, fill by fill of a line buffer. It follows grep-searcher's module `searcher::glue`.
-ghost use Rattle.std.specs.Prelude.{◌^◌, ◌≡◌, ◌≤◌, ◌<◌, ◌+◌, ◌++◌, ◌⊎◌, ℕ, Bool, List, Option, Ok, true, false, length};
-ghost use Rattle.std.specs.Prelude.{IfOk, IfErr, IsOk, OnErr, OnOk, MatchBool, Err, None};
+ghost use Rattle.std.specs.Prelude.{◌^◌, ◌≡◌, ◌≤◌, ◌<◌, ◌+◌, ◌++◌, ℕ, Bool, List, Option, Ok, true, false, length};
+ghost use Rattle.std.specs.Prelude.{IfOk, IfErr, IsOk, OnErr, OnOk, Err, None};
 ghost use Rattle.std.specs.declared.io.Error.{Error};
 ghost use Rattle.grep_matcher.specs.Terminators.{byte_of};
 ghost use Rattle.grep_matcher.specs.Matching.{IsInfallible};
@@ -16,21 +16,21 @@ ghost use Rattle.grep_definitions.specs.SinkRuns.{NeverFails};
 ghost use Rattle.grep_searcher.specs.NotedCalls.{FailsAtBinary, HasNoted, PassesBinary};
 ghost use Rattle.grep_searcher.specs.Rolls.{IsReady, HasBegun, HasMovedOn, HasEnded, IsStreamCounted, start_in};
 ghost use Rattle.grep_searcher.specs.SearchBuffers.{AreFitting, IsMadeOf, detection_of};
-ghost use Rattle.grep_searcher.specs.Walks.{IsKept, IsOrdered};
+ghost use Rattle.grep_walk.specs.Walks.{IsKept, IsOrdered};
 
 use crate::searcher::Searcher;
 use crate::searcher::buffers::Buffers;
 use crate::searcher::noted::Noted;
-use crate::searcher::walk::{START, Walk};
 use crate::sink::Sink;
 use grep_decode::laws::{done_gives_nothing, reads_continue};
-use grep_decode::{Decoder, Label, Source};
+use grep_decode::{Decoder, Source};
 use grep_definitions::laws::unchanged_is_searched;
 use grep_line_buffer::laws::fills_continue;
 use grep_line_buffer::{Detection, FillError, LineBuffer};
 use grep_lines::laws::{lines_append, lines_are_few, lines_are_numbered, lines_join};
 use grep_matcher::Matcher;
 use grep_report::{BinaryDetection, SinkError, SinkFinish};
+use grep_walk::{START, Walk};
 use std::alloc::Allocator;
 use std::io;
 
@@ -104,13 +104,13 @@ impl<A: Allocator + Copy> Searcher<A> {
             (M.meaning matcher.now) reader.old seen error reader.new × S.Error.is_io error e) }
         ensures may_call { S.may_call sink.new }
     {
-        if self.is_across(matcher) {
+        if self.config.is_across(matcher) {
             let Buffers {
                 decoder,
                 contents,
                 ..
             } = buffers;
-            decoder.start(self.label(), self.config.bom_sniffing);
+            decoder.start(self.config.label(), self.config.bom_sniffing);
             return self.search_contents(matcher, decoder, contents, reader, sink);
         }
         self.search_by_line(matcher, buffers, reader, sink)
@@ -195,34 +195,17 @@ impl<A: Allocator + Copy> Searcher<A> {
         if !sink.begin(self)? {
             return Ok(SinkFinish::new(0, None));
         }
-        if !self.reads_lines() {
+        if !self.config.reads_lines() {
             return Ok(SinkFinish::new(0, None));
         }
         let Buffers { lines, decoder, .. } = buffers;
         lines.clear();
         lines.set_binary_detection(detection(self.config.binary_detection));
-        decoder.start(self.label(), self.config.bom_sniffing);
+        decoder.start(self.config.label(), self.config.bom_sniffing);
         let mut noted = Noted::new(sink);
         match self.read_by_line(matcher, lines, decoder, reader, &mut noted) {
             Ok(count) => Ok(SinkFinish::new(count, noted.binary)),
             Err(error) => Err(error),
-        }
-    }
-
-    // Whether a search reads after `begin`: some line may have a turn, or a binary byte is looked for.
-    fn reads_lines(&self) -> bool
-        ensures { result ≡ reads_lines self.now.settings }
-    {
-        !self.is_idle() || !matches!(self.config.binary_detection, BinaryDetection::None)
-    }
-
-    // The label that is set.
-    pub(crate) fn label(&self) -> Option<Label>
-        ensures { result ≡ self.now.settings.encoding }
-    {
-        match self.config.encoding {
-            Some(encoding) => Some(encoding.label()),
-            None => None,
         }
     }
 
@@ -296,7 +279,7 @@ impl<A: Allocator + Copy> Searcher<A> {
             if !self.passes_binary(lines.binary_byte_offset(), sink)? {
                 return Ok(walk.offset);
             }
-            if self.is_idle() {
+            if self.config.is_idle() {
                 return Ok(walk.offset);
             }
             if !self.search_shown(matcher, lines, &mut walk, sink)? {
@@ -323,7 +306,7 @@ impl<A: Allocator + Copy> Searcher<A> {
         match (binary, sink.binary) {
             (Some(offset), None) => {
                 let goes_on = sink.found(self, offset)?;
-                Ok(goes_on && self.config.binary_detection.quit_byte().is_none())
+                Ok(goes_on && self.binary_detection().quit_byte().is_none())
             }
             _ => Ok(true),
         }
@@ -390,21 +373,12 @@ impl<A: Allocator + Copy> Searcher<A> {
         if !self.search_window(matcher, window, start, walk, sink)? {
             return Ok(false);
         }
-        if !self.is_terminated(window) {
+        if !self.config.is_terminated(window) {
             return Ok(false);
         }
-        let count = self.first_kept(window, walk);
+        let count = self.config.first_kept(window, walk);
         lines.consume(count);
         Ok(true)
-    }
-
-    // Whether the last byte ends a line.
-    fn is_terminated(&self, window: &[u8]) -> bool
-        requires { 0 < length window.now }
-        ensures { MatchBool result (IsClosed (byte_of self.now.settings.line_terminator) window.now)
-            (IsClosed (byte_of self.now.settings.line_terminator) window.now → ⊥) }
-    {
-        window[window.len() - 1] == self.config.line_terminator.as_byte()
     }
 }
 

@@ -1,7 +1,7 @@
 use Rattle.std.proofs.Common.{rules, ◌≡◌, false}
 use Rattle.std.proofs.lemmas.Result.{err_from_is_err_and}
 use Rattle.grep_definitions.specs.SinkRuns.{stopped}
-use Rattle.grep_searcher.proofs.AcrossEndLemmas as ends
+use Rattle.grep_walk.proofs.AcrossEndLemmas as ends
 use Rattle.grep_searcher.proofs.searcher.Searcher.match_across.Goals as goal
 
 pub returns-in_err-begin-clause-fault : goal.returns-in_err-begin-clause-fault

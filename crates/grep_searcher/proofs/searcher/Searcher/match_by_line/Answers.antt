@@ -2,9 +2,10 @@ use Rattle.std.proofs.Common.{rules, ◌≡◌, ◌∙◌, [], arith, sym, true,
 use Rattle.std.proofs.lemmas.Result.{err_from_is_err_and}
 use Rattle.grep_matcher.specs.Terminators.{byte_of}
 use Rattle.grep_definitions.specs.SinkRuns.{all_true, stopped}
-use Rattle.grep_searcher.proofs.WalkLemmas as walks
-use Rattle.grep_searcher.proofs.WindowLemmas.{own-window}
-use Rattle.grep_searcher.proofs.WindowSearchLemmas as search
+use Rattle.grep_walk.proofs.WalkLemmas as walks
+use Rattle.grep_walk.proofs.WindowLemmas.{own-window}
+use Rattle.grep_walk.proofs.WindowSearchLemmas as search
+use Rattle.grep_searcher.proofs.ViewLemmas.{settings_is}
 use Rattle.grep_searcher.proofs.searcher.Searcher.match_by_line.Goals as goal
 
 pub returns-in_err-begin-clause-fault : goal.returns-in_err-begin-clause-fault
@@ -23,29 +24,32 @@ returns-then-not-branch-clause-reported g c = λ lawful.
 
 pub returns-then-is_idle-clause-reported : goal.returns-then-is_idle-clause-reported
 returns-then-is_idle-clause-reported g c = λ lawful.
+    let idle = rw (settings_is c.self.view_is) at c.is_idle.ensures in
     let goes : c.in_ok-begin.field-0 ≡ true = search rules in (
       all_true,
       walks.counted-idle c.args.self.now.settings (g.M.Matcher.meaning c.args.matcher.now) c.args.bytes.now g.S.Sink.step
-          c.args.sink.now _ (sym c.is_idle.ensures ∙ c.if-is_idle.true) (rw goes at c.in_ok-begin.ensures.step),
+          c.args.sink.now _ (sym idle ∙ c.if-is_idle.true) (rw goes at c.in_ok-begin.ensures.step),
     )
 
 pub returns-in_err-search_window-clause-fault : goal.returns-in_err-search_window-clause-fault
 returns-in_err-search_window-clause-fault g c =
     let p = err_from_is_err_and c.from_residual-in_err-search_window.result c.from_residual-in_err-search_window.ensures.1 in
+    let idle = rw (settings_is c.self.view_is) at c.is_idle.ensures in
     let goes : c.in_ok-begin.field-0 ≡ true = search rules in
     let begun = rw goes at c.in_ok-begin.ensures.step in
     rw (p.1, p.2) (λ lawful. c.in_err-search_window.ensures.fault lawful [] c.args.bytes.now c.args.sink.now
     (search.searched-start g.S.Sink.step c.args.self.now.settings (g.M.Matcher.meaning c.args.matcher.now) c.args.bytes.now c.args.bytes.now
     c.args.sink.now c.begin.new.self (own-window (byte_of c.args.self.now.settings.line_terminator) c.args.bytes.now)
-    (sym c.is_idle.ensures ∙ c.if-is_idle.false) begun))
+    (sym idle ∙ c.if-is_idle.false) begun))
 
 pub returns-clause-reported : goal.returns-clause-reported
 returns-clause-reported g c = λ lawful.
+    let idle = rw (settings_is c.self.view_is) at c.is_idle.ensures in
     let goes : c.in_ok-begin.field-0 ≡ true = search rules in
     let begun = rw goes at c.in_ok-begin.ensures.step in
     let start = search.searched-start g.S.Sink.step c.args.self.now.settings (g.M.Matcher.meaning c.args.matcher.now) c.args.bytes.now
     c.args.bytes.now c.args.sink.now c.begin.new.self (own-window (byte_of c.args.self.now.settings.line_terminator)
-    c.args.bytes.now) (sym c.is_idle.ensures ∙ c.if-is_idle.false) begun in
+    c.args.bytes.now) (sym idle ∙ c.if-is_idle.false) begun in
     search.counted-either g.S.Sink.step
     (record { is_message = g.S.Error.SinkError.is_message; is_io = g.S.Error.SinkError.is_io; is_config = g.S.Error.SinkError.is_config })
     (record {

@@ -6,6 +6,7 @@ use Rattle.std.proofs.lemmas.Result.{err_from_is_err_and}
 use Rattle.grep_definitions.specs.Searches.{ErrorMakers, MatcherFacts}
 use Rattle.grep_searcher.proofs.StreamBeginLemmas as streams
 use Rattle.grep_searcher.proofs.StreamBeginLemmas.{idle-unread}
+use Rattle.grep_searcher.proofs.ViewLemmas.{settings_is}
 use Rattle.grep_searcher.proofs.searcher.Searcher.match_source.Goals as goal
 
 pub returns-in_err-begin-clause-fault : goal.returns-in_err-begin-clause-fault
@@ -43,10 +44,11 @@ returns-then-not-branch-clause-begun g c = record {
 
 pub returns-then-not-reads_lines-clause-counted : goal.returns-then-not-reads_lines-clause-counted
 returns-then-not-reads_lines-clause-counted g c = λ lawful.
+    let reads = rw (settings_is c.self.view_is) at c.reads_lines.ensures in
     rw c.new-then-not-reads_lines.ensures (streams.counted-idle g.R.Source.remaining g.R.Source.step g.S.Sink.step c.args.self.now.settings
     (g.M.Matcher.meaning c.args.matcher.now) c.lines_join.ensures c.lines_append.ensures c.args.reader.now c.args.sink.now c.begin.new.self
     (idle-unread (is_idle c.args.self.now.settings) (is_detecting c.args.self.now.settings.binary_detection)
-    (sym c.reads_lines.ensures ∙ c.if-not-reads_lines.true)) (rw c.if-not-branch.false at c.in_ok-begin.ensures.step))
+    (sym reads ∙ c.if-not-reads_lines.true)) (rw c.if-not-branch.false at c.in_ok-begin.ensures.step))
 
 pub returns-in-Err-clause-succeeds : goal.returns-in-Err-clause-succeeds
 returns-in-Err-clause-succeeds g c = λ never infallible lawful.

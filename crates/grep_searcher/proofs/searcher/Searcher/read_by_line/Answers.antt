@@ -10,6 +10,7 @@ use Rattle.grep_searcher.proofs.StreamEndLemmas as ends
 use Rattle.grep_searcher.proofs.UnreadLemmas as unread
 use Rattle.grep_searcher.specs.NotedCalls.{FailsAtBinary, Notes, PassesBinary}
 use Rattle.grep_searcher.specs.Rolls.{IsRolling}
+use Rattle.grep_searcher.proofs.ViewLemmas.{settings_is}
 use Rattle.grep_searcher.proofs.searcher.Searcher.read_by_line.Goals as goal
 
 pub fills-init : goal.fills-init
@@ -159,7 +160,7 @@ returns-in_err-search_shown-clause-fault g c =
     (c.fills.invariant.noted lawful) c.fills.invariant.called c.binary_byte_offset.result
     (c.binary_byte_offset.ensures.exact fill.fits) c.in_ok-passes_binary.field-0 (search rules) c.in_ok-passes_binary.ensures.passes
     c.passes_binary.ensures.same_sink in
-    let busy = sym c.is_idle.ensures ∙ c.if-is_idle.false in
+    let busy = rw (settings_is c.self.view_is) at (sym c.is_idle.ensures ∙ c.if-is_idle.false) in
     let kept = noting.binary-kept g.S.Sink.step k c.passes_binary.new.sink c.search_shown.new.sink c.search_shown.ensures.same_sink in
     let errors = errors_by g.S.Error.SinkError.is_message g.S.Error.SinkError.is_io g.S.Error.SinkError.is_config in
     let facts = facts_by g.M.Matcher.meaning g.M.Matcher.fails g.M.Matcher.is_lawful g.M.Error.Display.output c.args.matcher.now in
@@ -173,6 +174,7 @@ returns-in_err-search_shown-clause-fault g c =
 
 pub returns-then-is_idle-clause-counted : goal.returns-then-is_idle-clause-counted
 returns-then-is_idle-clause-counted g c = λ lawful first begun.
+    let idle = rw (settings_is c.self.view_is) at (sym c.is_idle.ensures ∙ c.if-is_idle.true) in
     let so_far = c.fills.invariant.rolling lawful first begun in
     let fill = c.in_default.ensures in
     let k = c.args.self.now.settings in
@@ -189,7 +191,7 @@ returns-then-is_idle-clause-counted g c = λ lawful first begun.
     c.args.decoder.now.capacity c.args.reader.now c.args.decoder.now c.requires.started c.done_gives_nothing.ensures
     first c.args.sink.now c.fills.lines c.fills.decoder c.fills.reader c.fills.walk c.passes_binary.new.sink there.rolling
     c.fills.invariant.fitting.terminator c.fill.new.self c.fill.new.decoder c.fill.new.reader same fill.reads there.held_now
-    (sym c.is_idle.ensures ∙ c.if-is_idle.true) there.uncut c.binary_byte_offset.ensures.room c.fill.ensures.within
+    idle there.uncut c.binary_byte_offset.ensures.room c.fill.ensures.within
     c.fills.invariant.fitting there.called there.known c.unchanged_is_searched.ensures.input
     (fill.settled so_far.between.unended so_far.uncut) (fill.passing so_far.between.unended so_far.uncut))
 
@@ -207,7 +209,7 @@ returns-then-not-branch-2-clause-counted g c = λ lawful first begun.
     (c.fills.invariant.noted lawful) c.fills.invariant.called c.binary_byte_offset.result
     (c.binary_byte_offset.ensures.exact fill.fits) c.in_ok-passes_binary.field-0 (search rules) c.in_ok-passes_binary.ensures.passes
     c.passes_binary.ensures.same_sink in
-    let busy = sym c.is_idle.ensures ∙ c.if-is_idle.false in
+    let busy = rw (settings_is c.self.view_is) at (sym c.is_idle.ensures ∙ c.if-is_idle.false) in
     let kept = noting.binary-kept g.S.Sink.step k c.passes_binary.new.sink c.search_shown.new.sink c.search_shown.ensures.same_sink in
     inl (cuts.counted-shown g.R.Source.remaining g.R.Source.step c.lines_join.ensures c.lines_append.ensures g.S.Sink.step k meaning
     c.args.decoder.now.capacity c.args.reader.now c.args.decoder.now c.requires.started c.done_gives_nothing.ensures
@@ -256,7 +258,7 @@ fills-preserved g c =
           (c.fills.invariant.noted lawful) c.fills.invariant.called c.binary_byte_offset.result
           (c.binary_byte_offset.ensures.exact fill.fits) c.in_ok-passes_binary.field-0 (search rules) c.in_ok-passes_binary.ensures.passes
           c.passes_binary.ensures.same_sink in
-          let busy = sym c.is_idle.ensures ∙ c.if-is_idle.false in
+          let busy = rw (settings_is c.self.view_is) at (sym c.is_idle.ensures ∙ c.if-is_idle.false) in
           let next = rolling.rolling-next g.R.Source.remaining g.R.Source.step c.lines_join.ensures c.lines_append.ensures
           (Notes g.S.Sink.step) k meaning busy c.args.decoder.now.capacity c.args.reader.now
           c.args.decoder.now c.requires.started _ c.fills.lines c.fill.new.self c.fills.decoder c.fill.new.decoder

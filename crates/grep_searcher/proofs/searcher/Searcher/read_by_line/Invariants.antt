@@ -5,7 +5,7 @@ use Rattle.grep_definitions.specs.SinkCalls.{begins}
 use Rattle.grep_searcher.specs.NotedCalls.{HasNoted, Notes}
 use Rattle.grep_searcher.specs.Rolls.{IsRolling}
 use Rattle.grep_searcher.specs.SearchBuffers.{AreFitting}
-use Rattle.grep_searcher.specs.Walks.{IsOrdered}
+use Rattle.grep_walk.specs.Walks.{IsOrdered}
 use Rattle.grep_searcher.proofs.searcher.Searcher.read_by_line.Given as goal
 
 abbrev pub invariant-fills : goal.invariant-fills

@@ -4,11 +4,12 @@ use Rattle.grep_matcher.specs.Terminators.{byte_of}
 use Rattle.grep_lines.specs.Positions.{slice, IsLineStart}
 use Rattle.grep_definitions.specs.Settings.{SearcherState, Settings}
 use Rattle.grep_definitions.specs.SinkRuns.{all_true, failed, stopped}
-use Rattle.grep_searcher.specs.Walks.{line_end}
-use Rattle.grep_searcher.proofs.AcrossEndLemmas as ends
-use Rattle.grep_searcher.proofs.AcrossStepLemmas as steps
-use Rattle.grep_searcher.proofs.AcrossTurnLemmas as turns
-use Rattle.grep_searcher.proofs.AcrossUnitLemmas as units
+use Rattle.grep_walk.specs.Walks.{line_end}
+use Rattle.grep_walk.proofs.AcrossEndLemmas as ends
+use Rattle.grep_walk.proofs.AcrossStepLemmas as steps
+use Rattle.grep_walk.proofs.AcrossTurnLemmas as turns
+use Rattle.grep_walk.proofs.AcrossUnitLemmas as units
+use Rattle.grep_searcher.proofs.ViewLemmas.{settings_is}
 use Rattle.grep_searcher.proofs.searcher.Searcher.search_across.Goals as goal
 
 -- under passthru there are no contexts
@@ -18,7 +19,7 @@ Bare settings = settings.passthru ≡ true → (settings.after_context ≡ 0) ×
 pub returns-in_err-blocks-clause-fault : goal.returns-in_err-blocks-clause-fault
 returns-in_err-blocks-clause-fault g c =
     let p = err_from_is_err_and c.from_residual.result c.from_residual.ensures.1 in
-    let fault = c.in_err-blocks.ensures.fault in
+    let fault = rw (settings_is c.self.view_is) at c.in_err-blocks.ensures.fault in
     rw (p.1, p.2) (λ first begun. ends.fault-matcher g.S.Sink.step _ _ c.args.self.now.settings c.args.bytes.now first _ c.args.sink.now
     (steps.across-start c.args.self.now.settings (g.M.Matcher.meaning c.args.matcher.now) c.args.bytes.now)
     (ends.reported-begin c.args.self.now.settings (g.M.Matcher.meaning c.args.matcher.now) c.args.bytes.now g.S.Sink.step first
@@ -28,7 +29,7 @@ returns-in_err-blocks-clause-fault g c =
 pub returns-in_err-unit-clause-fault : goal.returns-in_err-unit-clause-fault
 returns-in_err-unit-clause-fault g c =
     let p = err_from_is_err_and c.from_residual-in_err-unit.result c.from_residual-in_err-unit.ensures.1 in
-    let fault = c.in_err-unit.ensures.fault in
+    let fault = rw (settings_is c.self.view_is) at c.in_err-unit.ensures.fault in
     rw (p.1, p.2) (λ first begun. ends.fault-matcher g.S.Sink.step _ _ c.args.self.now.settings c.args.bytes.now first c.lines.walk
     c.lines.sink c.lines.invariant.walk (c.lines.invariant.reported first begun)
     fault.0 fault.1 _ fault.2 fault.3 fault.4)
@@ -37,13 +38,16 @@ pub returns-then-next-bytes-clause-reported : goal.returns-then-next-bytes-claus
 returns-then-next-bytes-clause-reported g c = λ first begun.
     let k = c.args.self.now.settings in
     let meaning = g.M.Matcher.meaning c.args.matcher.now in
+    let ready = rw (settings_is c.self.view_is) at c.in_ok-unit.ensures.ready in
+    let ahead = rw (settings_is c.self.view_is) at c.in_ok-unit.ensures.ahead in
+    let chosen = rw (settings_is c.self.view_is) at c.next_chosen-next.ensures in
     let at = subst (λ o. IsLineStart (byte_of k.line_terminator) c.args.bytes.now o c.lines.walk.line) c.lines.invariant.same
     c.lines.invariant.walk.placed.at in
-    let next = subst (units.IsNext k meaning c.args.bytes.now c.lines.walk c.lines.start) (sym c.next_chosen-next.ensures)
+    let next = subst (units.IsNext k meaning c.args.bytes.now c.lines.walk c.lines.start) (sym chosen)
     (units.next-is k meaning c.args.bytes.now c.lines.start c.lines.walk c.in_ok-unit.unit c.unit_at.new.blocks c.lines.invariant.walk
-    at c.in_ok-unit.ensures.ready c.lines-test.true c.in_ok-unit.ensures.ahead) in
-    let shut : c.self.inside.config.passthru ≡ false = search rules in
-    let plain = sym (ap (λ (s : SearcherState). s.settings.passthru) c.self.view_is) ∙ shut in (
+    at ready c.lines-test.true ahead) in
+    let shut : c.passthru.result ≡ false = search rules in
+    let plain = sym c.passthru.ensures.value ∙ shut in (
       all_true,
       ends.counted-past k meaning c.args.bytes.now g.S.Sink.step first c.lines.walk c.lines.start c.next_chosen-next.result
           c.lines.invariant.same c.lines.invariant.walk next c.if-next-bytes.true plain c.if-walk-eq0.true c.lines.sink
@@ -54,14 +58,18 @@ pub lines-preserved-then-walk-eq0 : goal.lines-preserved-then-walk-eq0
 lines-preserved-then-walk-eq0 g c =
     let k = c.args.self.now.settings in
     let meaning = g.M.Matcher.meaning c.args.matcher.now in
+    let ready = rw (settings_is c.self.view_is) at c.in_ok-unit.ensures.ready in
+    let ahead = rw (settings_is c.self.view_is) at c.in_ok-unit.ensures.ahead in
+    let chosen = rw (settings_is c.self.view_is) at c.next_chosen-next.ensures in
+    let past = rw (settings_is c.self.view_is) at c.walk_past-walk.ensures.walk in
     let at = subst (λ o. IsLineStart (byte_of k.line_terminator) c.args.bytes.now o c.lines.walk.line) c.lines.invariant.same
     c.lines.invariant.walk.placed.at in
-    let next = subst (units.IsNext k meaning c.args.bytes.now c.lines.walk c.lines.start) (sym c.next_chosen-next.ensures)
+    let next = subst (units.IsNext k meaning c.args.bytes.now c.lines.walk c.lines.start) (sym chosen)
     (units.next-is k meaning c.args.bytes.now c.lines.start c.lines.walk c.in_ok-unit.unit c.unit_at.new.blocks c.lines.invariant.walk
-    at c.in_ok-unit.ensures.ready c.lines-test.true c.in_ok-unit.ensures.ahead) in
-    let shut : c.self.inside.config.passthru ≡ false = search rules in
-    let plain = sym (ap (λ (s : SearcherState). s.settings.passthru) c.self.view_is) ∙ shut in
-    rw c.walk_past-walk.ensures.walk (record {
+    at ready c.lines-test.true ahead) in
+    let shut : c.passthru.result ≡ false = search rules in
+    let plain = sym c.passthru.ensures.value ∙ shut in
+    rw past (record {
       within = next.within;
       same = omega (
         arith,
@@ -72,10 +80,10 @@ lines-preserved-then-walk-eq0 g c =
             (drop c.lines.start c.args.bytes.now),
         length-drop c.lines.start c.args.bytes.now,
       );
-      ordered = rw c.walk_past-walk.ensures.walk at c.walk_past-walk.ensures.ordered;
+      ordered = rw past at c.walk_past-walk.ensures.ordered;
       ready = units.ready-past k meaning c.args.bytes.now c.lines.start c.lines.walk c.in_ok-unit.unit c.unit_at.new.blocks
-          c.lines.invariant.walk at c.in_ok-unit.ensures.ready c.lines-test.true c.in_ok-unit.ensures.ahead _ c.next_chosen-next.result
-          c.next_chosen-next.ensures refl;
+          c.lines.invariant.walk at ready c.lines-test.true ahead _ c.next_chosen-next.result
+          chosen refl;
       walk = steps.across-past k meaning c.args.bytes.now c.lines.walk c.lines.start c.next_chosen-next.result c.lines.invariant.same
           c.lines.invariant.walk next plain c.if-walk-eq0.true;
       reported = c.lines.invariant.reported;
@@ -87,12 +95,17 @@ pub returns-in_err-sink_line-clause-fault : goal.returns-in_err-sink_line-clause
 returns-in_err-sink_line-clause-fault g c =
     let k = c.args.self.now.settings in
     let meaning = g.M.Matcher.meaning c.args.matcher.now in
+    let ready = rw (settings_is c.self.view_is) at c.in_ok-unit.ensures.ready in
+    let ahead = rw (settings_is c.self.view_is) at c.in_ok-unit.ensures.ahead in
+    let chosen = rw (settings_is c.self.view_is) at c.next_chosen-next.ensures in
+    let unit = rw (settings_is c.self.view_is) at c.end_across-end.ensures.unit in
+    let line = rw (settings_is c.self.view_is) at c.end_across-end.ensures.line in
     let bare = subst (λ (s : SearcherState). Bare s.settings) c.self.view_is c.self.invariant.0 in
     let p = err_from_is_err_and c.from_residual-in_err-sink_line.result c.from_residual-in_err-sink_line.ensures.1 in
     let turned = turns.turned k meaning c.args.bytes.now bare c.lines.start c.end_across-end.result c.next_chosen-next.result
-    c.lines.walk c.in_ok-unit.unit c.unit_at.new.blocks c.lines.invariant.walk c.lines.invariant.same c.in_ok-unit.ensures.ready
-    c.in_ok-unit.ensures.ahead c.next_chosen-next.ensures c.end_across-end.ensures.low c.end_across-end.ensures.within
-    (c.lines.start == c.next_chosen-next.result) refl c.end_across-end.ensures.unit c.end_across-end.ensures.line in
+    c.lines.walk c.in_ok-unit.unit c.unit_at.new.blocks c.lines.invariant.walk c.lines.invariant.same ready
+    ahead chosen c.end_across-end.ensures.low c.end_across-end.ensures.within
+    (c.lines.start == c.next_chosen-next.result) refl unit line in
     rw (p.1, p.2) (λ first begun. ends.fault-sink g.S.Sink.step _ _ k c.args.bytes.now first _ _ _ turned.across
     (ends.reported-next k meaning c.args.bytes.now g.S.Sink.step first c.lines.walk _ _ c.lines.sink turned.front
     (c.lines.invariant.reported first begun) (failed _) _
@@ -103,13 +116,18 @@ pub returns-then-not-branch-clause-reported : goal.returns-then-not-branch-claus
 returns-then-not-branch-clause-reported g c = λ first begun.
     let k = c.args.self.now.settings in
     let meaning = g.M.Matcher.meaning c.args.matcher.now in
+    let ready = rw (settings_is c.self.view_is) at c.in_ok-unit.ensures.ready in
+    let ahead = rw (settings_is c.self.view_is) at c.in_ok-unit.ensures.ahead in
+    let chosen = rw (settings_is c.self.view_is) at c.next_chosen-next.ensures in
+    let unit = rw (settings_is c.self.view_is) at c.end_across-end.ensures.unit in
+    let line = rw (settings_is c.self.view_is) at c.end_across-end.ensures.line in
     let bare = subst (λ (s : SearcherState). Bare s.settings) c.self.view_is c.self.invariant.0 in
     let stops : c.in_ok-sink_line.field-0 ≡ false = search rules in
     let reported = rw stops at c.in_ok-sink_line.ensures.reported in
     let turned = turns.turned k meaning c.args.bytes.now bare c.lines.start c.end_across-end.result c.next_chosen-next.result
-    c.lines.walk c.in_ok-unit.unit c.unit_at.new.blocks c.lines.invariant.walk c.lines.invariant.same c.in_ok-unit.ensures.ready
-    c.in_ok-unit.ensures.ahead c.next_chosen-next.ensures c.end_across-end.ensures.low c.end_across-end.ensures.within
-    (c.lines.start == c.next_chosen-next.result) refl c.end_across-end.ensures.unit c.end_across-end.ensures.line in
+    c.lines.walk c.in_ok-unit.unit c.unit_at.new.blocks c.lines.invariant.walk c.lines.invariant.same ready
+    ahead chosen c.end_across-end.ensures.low c.end_across-end.ensures.within
+    (c.lines.start == c.next_chosen-next.result) refl unit line in
     let stop = line_end c.lines.walk (slice c.args.bytes.now c.lines.start c.end_across-end.result) in (
       stopped stop,
       ends.counted-stopped k meaning c.args.bytes.now g.S.Sink.step first _ stop c.end_across-end.result _ turned.across
@@ -124,14 +142,20 @@ pub lines-preserved : goal.lines-preserved
 lines-preserved g c =
     let k = c.args.self.now.settings in
     let meaning = g.M.Matcher.meaning c.args.matcher.now in
+    let ready = rw (settings_is c.self.view_is) at c.in_ok-unit.ensures.ready in
+    let ahead = rw (settings_is c.self.view_is) at c.in_ok-unit.ensures.ahead in
+    let chosen = rw (settings_is c.self.view_is) at c.next_chosen-next.ensures in
+    let unit = rw (settings_is c.self.view_is) at c.end_across-end.ensures.unit in
+    let line = rw (settings_is c.self.view_is) at c.end_across-end.ensures.line in
+    let after = rw (settings_is c.self.view_is) at c.walk_after-walk.ensures in
     let bare = subst (λ (s : SearcherState). Bare s.settings) c.self.view_is c.self.invariant.0 in
     let goes : c.in_ok-sink_line.field-0 ≡ true = search rules in
     let reported = rw goes at c.in_ok-sink_line.ensures.reported in
     let turned = turns.turned k meaning c.args.bytes.now bare c.lines.start c.end_across-end.result c.next_chosen-next.result
-    c.lines.walk c.in_ok-unit.unit c.unit_at.new.blocks c.lines.invariant.walk c.lines.invariant.same c.in_ok-unit.ensures.ready
-    c.in_ok-unit.ensures.ahead c.next_chosen-next.ensures c.end_across-end.ensures.low c.end_across-end.ensures.within
-    (c.lines.start == c.next_chosen-next.result) refl c.end_across-end.ensures.unit c.end_across-end.ensures.line in
-    rw c.walk_after-walk.ensures (record {
+    c.lines.walk c.in_ok-unit.unit c.unit_at.new.blocks c.lines.invariant.walk c.lines.invariant.same ready
+    ahead chosen c.end_across-end.ensures.low c.end_across-end.ensures.within
+    (c.lines.start == c.next_chosen-next.result) refl unit line in
+    rw after (record {
       within = c.end_across-end.ensures.within;
       same = turned.offset;
       ordered = turns.ordered-across k meaning c.args.bytes.now _ turned.across;

@@ -2,8 +2,8 @@ use Rattle.std.proofs.Common.{◌≡◌, ◌≤◌, ◌-◌, true, length}
 use Rattle.std.specs.Prelude.{Ok}
 use Rattle.grep_definitions.specs.SinkCalls.{begins}
 use Rattle.grep_definitions.specs.SinkRuns.{AreReported, all_true}
-use Rattle.grep_searcher.specs.AcrossWalks.{IsAcross, IsReady, turns_before}
-use Rattle.grep_searcher.specs.Walks.{IsKept, IsOrdered}
+use Rattle.grep_walk.specs.AcrossWalks.{IsAcross, IsReady, turns_before}
+use Rattle.grep_walk.specs.Walks.{IsKept, IsOrdered}
 use Rattle.grep_searcher.proofs.searcher.Searcher.search_across.Given as goal
 
 abbrev pub invariant-lines : goal.invariant-lines

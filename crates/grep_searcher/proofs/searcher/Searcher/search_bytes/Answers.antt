@@ -1,10 +1,10 @@
 use Rattle.std.proofs.Common.{◌∙◌, sym, ap, subst}
 use Rattle.grep_definitions.specs.Searches.{ErrorMakers, MatcherFacts}
-use Rattle.grep_definitions.specs.Settings.{SearcherState}
 use Rattle.grep_report.specs.BinaryDetections.{quit_byte_of}
 use Rattle.grep_searcher.specs.InputSearches.{IsBytesSearched}
-use Rattle.grep_searcher.proofs.FinishLemmas.{searched-finish}
+use Rattle.grep_walk.proofs.FinishLemmas.{searched-finish}
 use Rattle.grep_searcher.proofs.LookLemmas.{look-plain}
+use Rattle.grep_searcher.proofs.ViewLemmas.{settings_is}
 use Rattle.grep_searcher.proofs.searcher.Searcher.search_bytes.Goals as goal
 
 pub returns-clause-searched : goal.returns-clause-searched
@@ -22,8 +22,8 @@ returns-clause-searched g c = λ lawful.
     }
     in
     let finish = rw c.new.ensures at c.finish.ensures.step in
-    let reported = rw c.is_across-is_across.ensures at (c.in_ok-count.ensures.reported (λ _. lawful)) in
-    let quit = c.quit_byte.ensures ∙ ap (λ (s : SearcherState). quit_byte_of s.settings.binary_detection) c.self.view_is in
+    let reported = rw (settings_is c.self.view_is) at rw c.is_across-is_across.ensures at (c.in_ok-count.ensures.reported (λ _. lawful)) in
+    let quit = c.quit_byte.ensures ∙ ap quit_byte_of c.binary_detection.ensures in
     subst (λ look. IsBytesSearched g.S.Sink.step errors facts look c.args.self.now.settings c.args.bytes.now c.args.sink.now c.finish.result
     c.finish.new.self)
     (sym (look-plain c.args.self.now.settings.binary_detection (λ b is. c.in_default.not-Some b (quit ∙ is))))

@@ -8,7 +8,6 @@ use Rattle.grep_definitions.specs.BinaryBytes.{view_of}
 use Rattle.grep_definitions.specs.ReaderSearches.{IsUnreadIn}
 use Rattle.grep_definitions.specs.Searches.{ErrorMakers, MatcherFacts, IsFaultIn}
 use Rattle.grep_definitions.specs.SearchTurns.{calls_across}
-use Rattle.grep_definitions.specs.Settings.{SearcherState}
 use Rattle.grep_searcher.specs.InputSearches.{IsAcrossSearched}
 use Rattle.grep_searcher.proofs.ContentsSearchLemmas as whole
 use Rattle.grep_searcher.proofs.LookLemmas.{look-plain, look-quit}
@@ -41,7 +40,7 @@ unread g c has_buffers view =
     c.done_gives_nothing.ensures c.unchanged_is_searched.ensures.input view has_buffers (g.M.Matcher.meaning c.args.matcher.now)
     c.in-Err.error c.io_error.result c.io_error.ensures (vec_capacity c.args.contents.now)
     (subst (λ limit. ContentsFail limit (vec_capacity c.args.contents.now) c.read_contents.new.contents.items c.in-Err.error)
-    (ap (λ (s : SearcherState). s.settings.heap_limit) c.self.view_is) c.in-Err.ensures.error)
+    c.heap_limit.ensures c.in-Err.ensures.error)
     c.in-Err.ensures.reads c.in-Err.ensures.read
     c.in-Err.ensures.passed c.in-Err.ensures.empty c.in-Err.ensures.few
 
@@ -59,9 +58,8 @@ pub returns-in-Some-clause-searched : goal.returns-in-Some-clause-searched
 returns-in-Some-clause-searched g c = λ has_buffers.
     let reads = c.in_default.ensures.reads in
     let below = subst (λ limit. IsBelow limit (length c.read_contents.new.contents.items))
-    (ap (λ (s : SearcherState). s.settings.heap_limit) c.self.view_is) c.in_default.ensures.below in
-    let quit = sym (ap (λ (s : SearcherState). quit_byte_of s.settings.binary_detection) c.self.view_is)
-    ∙ sym c.quit_byte.ensures ∙ c.in-Some.is in
+    c.heap_limit.ensures c.in_default.ensures.below in
+    let quit = sym (ap quit_byte_of c.binary_detection.ensures) ∙ sym c.quit_byte.ensures ∙ c.in-Some.is in
     let searched = rw c.deref.ensures.value at (c.search_until.ensures.searched (λ never. absurd (true≢false never))) in
     subst (λ look. IsAcrossSearched g.R.Source.remaining g.R.Source.step g.S.Sink.step (errors-of g) (facts-of g c.args.matcher.now) look
     (record { settings = c.args.self.now.settings; has_buffers = has_buffers }) c.args.reader.now c.args.sink.now c.search_until.result
@@ -77,10 +75,10 @@ pub returns-in_err-count-clause-searched : goal.returns-in_err-count-clause-sear
 returns-in_err-count-clause-searched g c = λ has_buffers.
     let reads = c.in_default.ensures.reads in
     let below = subst (λ limit. IsBelow limit (length c.read_contents.new.contents.items))
-    (ap (λ (s : SearcherState). s.settings.heap_limit) c.self.view_is) c.in_default.ensures.below in
+    c.heap_limit.ensures c.in_default.ensures.below in
     let error = err_from_is_err_and c.from_residual.result c.from_residual.ensures.1 in
     let fault = rw c.deref-2.ensures.value at c.in_err-count.ensures.fault in
-    let quit = c.quit_byte.ensures ∙ ap (λ (s : SearcherState). quit_byte_of s.settings.binary_detection) c.self.view_is in
+    let quit = c.quit_byte.ensures ∙ ap quit_byte_of c.binary_detection.ensures in
     subst (λ look. IsAcrossSearched g.R.Source.remaining g.R.Source.step g.S.Sink.step (errors-of g) (facts-of g c.args.matcher.now) look
     (record { settings = c.args.self.now.settings; has_buffers = has_buffers }) c.args.reader.now c.args.sink.now c.from_residual.result
     c.read_contents.new.reader c.match_across.new.sink)
@@ -98,10 +96,10 @@ pub returns-clause-searched : goal.returns-clause-searched
 returns-clause-searched g c = λ has_buffers.
     let reads = c.in_default.ensures.reads in
     let below = subst (λ limit. IsBelow limit (length c.read_contents.new.contents.items))
-    (ap (λ (s : SearcherState). s.settings.heap_limit) c.self.view_is) c.in_default.ensures.below in
+    c.heap_limit.ensures c.in_default.ensures.below in
     let finish = rw c.new.ensures at c.finish.ensures.step in
     let reported = rw c.deref-2.ensures.value at c.in_ok-count.ensures.reported in
-    let quit = c.quit_byte.ensures ∙ ap (λ (s : SearcherState). quit_byte_of s.settings.binary_detection) c.self.view_is in
+    let quit = c.quit_byte.ensures ∙ ap quit_byte_of c.binary_detection.ensures in
     subst (λ look. IsAcrossSearched g.R.Source.remaining g.R.Source.step g.S.Sink.step (errors-of g) (facts-of g c.args.matcher.now) look
     (record { settings = c.args.self.now.settings; has_buffers = has_buffers }) c.args.reader.now c.args.sink.now c.finish.result
     c.read_contents.new.reader c.finish.new.self)

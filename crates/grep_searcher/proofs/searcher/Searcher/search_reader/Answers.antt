@@ -1,10 +1,12 @@
 use Rattle.std.proofs.Common.{sym, ◌∙◌}
 use Rattle.grep_definitions.specs.Searches.{ErrorMakers, MatcherFacts}
 use Rattle.grep_searcher.proofs.SourceSearchLemmas.{reader-searched}
+use Rattle.grep_searcher.proofs.ViewLemmas.{settings_is}
 use Rattle.grep_searcher.proofs.searcher.Searcher.search_reader.Goals as goal
 
 pub returns-clause-searched : goal.returns-clause-searched
 returns-clause-searched g c =
+    let allowed = rw (settings_is c.self.view_is) at (sym c.refusal.ensures ∙ c.in_default.is) in
     let maker = g.S.Error.SinkError in
     let matcher = g.M.Matcher in
     let errors : ErrorMakers g.row.S-Error.Denot =
@@ -18,5 +20,5 @@ returns-clause-searched g c =
     }
     in
     reader-searched g.S.Sink.step errors facts g.R.Source.remaining g.R.Source.step c.args.self.now
-    (sym c.refusal.ensures ∙ c.in_default.is) c.args.reader.now c.args.sink.now c.search_source.result c.search_source.new.reader
+    allowed c.args.reader.now c.args.sink.now c.search_source.result c.search_source.new.reader
     c.search_source.new.sink c.search_source.ensures.searched

@@ -3,6 +3,7 @@ use Rattle.std.proofs.lemmas.Result.{err_from_is_err_and}
 use Rattle.grep_definitions.specs.InputFronts.{IsClosed}
 use Rattle.grep_matcher.specs.Terminators.{byte_of}
 use Rattle.grep_searcher.proofs.RollLemmas as rolls
+use Rattle.grep_searcher.proofs.ViewLemmas.{settings_is}
 use Rattle.grep_searcher.proofs.searcher.Searcher.search_shown.Goals as goal
 
 pub returns-then-start-window-clause-ends : goal.returns-then-start-window-clause-ends
@@ -38,6 +39,7 @@ returns-then-not-is_terminated-clause-ends g c = λ lawful _.
     let shown = c.buffer-window.ensures in
     let searched = c.in_ok-search_window.ensures in
     let goes : c.in_ok-search_window.field-0 ≡ true = search rules in
+    let opens = rw (settings_is c.self.view_is) at c.if-not-is_terminated.ensures in
     rolls.ended-broken c.lines_join.ensures c.lines_append.ensures g.S.Sink.step c.args.self.now.settings
     (g.M.Matcher.meaning c.args.matcher.now) c.args.lines.now c.args.walk.now c.args.sink.now
     c.buffer-window.result.now (c.args.walk.now.offset - c.absolute_byte_offset.result) shown.value
@@ -45,7 +47,7 @@ returns-then-not-is_terminated-clause-ends g c = λ lawful _.
     c.search_window.new.walk c.search_window.new.sink searched.ahead
     (omega (arith, searched.within, ap (λ xs. length xs) shown.value, c.absolute_byte_offset.ensures, c.requires.low))
     (searched.goes_on lawful goes)
-    (λ closed. c.if-not-is_terminated.ensures (subst (IsClosed (byte_of c.args.self.now.settings.line_terminator)) (sym shown.value) closed))
+    (λ closed. opens (subst (IsClosed (byte_of c.args.self.now.settings.line_terminator)) (sym shown.value) closed))
 
 pub returns-clause-goes_on : goal.returns-clause-goes_on
 returns-clause-goes_on g c = λ lawful _.
@@ -53,8 +55,9 @@ returns-clause-goes_on g c = λ lawful _.
     let searched = c.in_ok-search_window.ensures in
     let goes : c.in_ok-search_window.field-0 ≡ true = search rules in
     let same = ap (λ xs. length xs) shown.value in
-    let closed = subst (IsClosed (byte_of c.args.self.now.settings.line_terminator)) shown.value c.if-not-is_terminated.ensures in
-    let first = rw shown.value at c.first_kept-count.ensures in
+    let closes = rw (settings_is c.self.view_is) at c.if-not-is_terminated.ensures in
+    let closed = subst (IsClosed (byte_of c.args.self.now.settings.line_terminator)) shown.value closes in
+    let first = rw (shown.value, settings_is c.self.view_is) at c.first_kept-count.ensures in
     record {
       count = c.first_kept-count.result;
       within = omega (arith, c.first_kept-count.ensures.within, same);

@@ -7,10 +7,11 @@ use Rattle.grep_matcher.specs.Terminators.{byte_of}
 use Rattle.grep_definitions.specs.Searches.{ErrorMakers, MatcherFacts}
 use Rattle.grep_definitions.specs.Settings.{SearcherState, Settings}
 use Rattle.grep_definitions.specs.SinkRuns.{all_true, stopped}
-use Rattle.grep_searcher.specs.Walks.{is_over, line_end}
-use Rattle.grep_searcher.proofs.SkipLemmas as skips
-use Rattle.grep_searcher.proofs.WindowSearchLemmas as search
-use Rattle.grep_searcher.proofs.WindowSearchLemmas.{ordered-next}
+use Rattle.grep_walk.specs.Walks.{is_over, line_end}
+use Rattle.grep_walk.proofs.SkipLemmas as skips
+use Rattle.grep_walk.proofs.WindowSearchLemmas as search
+use Rattle.grep_walk.proofs.WindowSearchLemmas.{ordered-next}
+use Rattle.grep_searcher.proofs.ViewLemmas.{settings_is}
 use Rattle.grep_searcher.proofs.searcher.Searcher.search_window.Given.{Over}
 use Rattle.grep_searcher.proofs.searcher.Searcher.search_window.Goals as goal
 
@@ -51,105 +52,133 @@ pub returns-in_err-ahead-clause-fault : goal.returns-in_err-ahead-clause-fault
 returns-in_err-ahead-clause-fault g c =
     let p = err_from_is_err_and c.from_residual.result c.from_residual.ensures.1 in
     let ahead = c.in_err-ahead.ensures in
+    let allowed = rw (settings_is c.self.view_is) at ahead.allowed in
     let fault = ahead.fault in
     rw (p.1, p.2) (λ lawful gone input first so_far. skips.failed-ahead c.lines_join.ensures c.lines_append.ensures g.S.Sink.step
     (errors g) (facts g c.args.matcher.now) c.args.self.now.settings gone c.args.window.now input first c.lines.sink
-    (λ passthru. absurd (false≢true (sym ahead.allowed.allowed.selects ∙ passthru)))
-    c.lines.walk c.lines.start (c.lines.invariant.searched lawful gone input first so_far) ahead.some ahead.allowed
+    (λ passthru. absurd (false≢true (sym allowed.allowed.selects ∙ passthru)))
+    c.lines.walk c.lines.start (c.lines.invariant.searched lawful gone input first so_far) ahead.some allowed
     fault.0 _ fault.1 fault.2)
 
 pub returns-in_default-clause-goes_on : goal.returns-in_default-clause-goes_on
 returns-in_default-clause-goes_on g c = λ lawful goes gone input first so_far.
+    let learns = rw (settings_is c.self.view_is) at c.in_ok-ahead.ensures.known in
+    let position = rw (settings_is c.self.view_is) at c.skip-start.ensures.position in
+    let skipped = rw (settings_is c.self.view_is) at c.skip-start.ensures.walk in
     let bare = subst (λ (s : SearcherState). Bare s.settings) c.self.view_is c.self.invariant.0 in
     let now = c.lines.invariant.searched lawful gone input first so_far in
-    let known = c.in_ok-ahead.ensures.known lawful _ now.inside.line.begins (c.lines.invariant.known lawful gone input first so_far) in
+    let known = learns lawful _ now.inside.line.begins (c.lines.invariant.known lawful gone input first so_far) in
     let here = skips.searched-on c.lines_join.ensures c.lines_append.ensures _ (errors g) (facts g c.args.matcher.now) _ _ _ _ _ _ bare
     _ _ c.in_ok-ahead.ahead now (omega (arith, c.in_ok-ahead.ensures.bounded.ordered, c.in_ok-ahead.ensures.bounded.within)) known _ _
-    c.skip-start.ensures.position c.skip-start.ensures.walk in
-    let terminator = c.as_byte-terminator.ensures ∙ ap (λ (s : SearcherState). byte_of s.settings.line_terminator) c.self.view_is in
+    position skipped in
+    let terminator = c.as_byte-terminator.ensures ∙ ap byte_of c.line_terminator.ensures in
     search.passed-all _ _ _ _ _ _ _ _ _ _ here c.in_default.ensures.end
     (subst (λ b. (i : ℕ) → IsLineStart b c.args.window.now c.skip-start.result i → i ≡ length (lines b c.args.window.now)) terminator
     c.in_default.ensures.last)
 
 pub returns-in_err-chosen-clause-fault : goal.returns-in_err-chosen-clause-fault
 returns-in_err-chosen-clause-fault g c =
+    let learns = rw (settings_is c.self.view_is) at c.in_ok-ahead.ensures.known in
+    let position = rw (settings_is c.self.view_is) at c.skip-start.ensures.position in
+    let skipped = rw (settings_is c.self.view_is) at c.skip-start.ensures.walk in
     let p = err_from_is_err_and c.from_residual-in_err-chosen.result c.from_residual-in_err-chosen.ensures.1 in
-    let fault = c.in_err-chosen.ensures.fault in
+    let fault = rw (settings_is c.self.view_is) at c.in_err-chosen.ensures.fault in
+    let below = rw (settings_is c.self.view_is) at c.in_err-chosen.ensures.open in
     rw (p.1, p.2) (λ lawful gone input first so_far.
     let bare = subst (λ (s : SearcherState). Bare s.settings) c.self.view_is c.self.invariant.0 in
     let now = c.lines.invariant.searched lawful gone input first so_far in
-    let known = c.in_ok-ahead.ensures.known lawful _ now.inside.line.begins (c.lines.invariant.known lawful gone input first so_far) in
-    let terminator = c.as_byte-terminator.ensures ∙ ap (λ (s : SearcherState). byte_of s.settings.line_terminator) c.self.view_is in
+    let known = learns lawful _ now.inside.line.begins (c.lines.invariant.known lawful gone input first so_far) in
+    let terminator = c.as_byte-terminator.ensures ∙ ap byte_of c.line_terminator.ensures in
     let turn = skips.line-reached c.lines_join.ensures c.lines_append.ensures _ (errors g) (facts g c.args.matcher.now) _ _ _ _ _ _ bare
-    _ _ _ now c.in_ok-ahead.ensures.bounded known _ _ c.skip-start.ensures.low c.skip-start.ensures.position c.skip-start.ensures.walk _ _ terminator c.in-Some.ensures.line _ c.at-known.ensures in
+    _ _ _ now c.in_ok-ahead.ensures.bounded known _ _ c.skip-start.ensures.low position skipped _ _ terminator
+    c.in-Some.ensures.line _ c.at-known.ensures in
     search.failed-matcher _ (errors g) (facts g c.args.matcher.now) _ _ _ _ _ bare _ _ _ _ turn.here c.in-Some.ensures.within.0
-    c.in-Some.ensures.within.1 turn.line c.in_err-chosen.ensures.open _ fault.0 _
+    c.in-Some.ensures.within.1 turn.line below _ fault.0 _
     (search.asked-line _ (errors g) (facts g c.args.matcher.now) _ _ _ _ _ bare _ _ _ _ turn.here c.in-Some.ensures.within.0
     c.in-Some.ensures.within.1 turn.line) fault.1 fault.2)
 
 pub returns-in_err-sink_line-clause-fault : goal.returns-in_err-sink_line-clause-fault
 returns-in_err-sink_line-clause-fault g c =
+    let learns = rw (settings_is c.self.view_is) at c.in_ok-ahead.ensures.known in
+    let position = rw (settings_is c.self.view_is) at c.skip-start.ensures.position in
+    let skipped = rw (settings_is c.self.view_is) at c.skip-start.ensures.walk in
+    let value = rw (settings_is c.self.view_is) at c.in_ok-chosen.ensures.value in
     let p = err_from_is_err_and c.from_residual-in_err-sink_line.result c.from_residual-in_err-sink_line.ensures.1 in
     rw (p.1, p.2) (λ lawful gone input first so_far.
     let bare = subst (λ (s : SearcherState). Bare s.settings) c.self.view_is c.self.invariant.0 in
     let now = c.lines.invariant.searched lawful gone input first so_far in
-    let known = c.in_ok-ahead.ensures.known lawful _ now.inside.line.begins (c.lines.invariant.known lawful gone input first so_far) in
-    let terminator = c.as_byte-terminator.ensures ∙ ap (λ (s : SearcherState). byte_of s.settings.line_terminator) c.self.view_is in
+    let known = learns lawful _ now.inside.line.begins (c.lines.invariant.known lawful gone input first so_far) in
+    let terminator = c.as_byte-terminator.ensures ∙ ap byte_of c.line_terminator.ensures in
     let turn = skips.line-reached c.lines_join.ensures c.lines_append.ensures _ (errors g) (facts g c.args.matcher.now) _ _ _ _ _ _ bare
-    _ _ _ now c.in_ok-ahead.ensures.bounded known _ _ c.skip-start.ensures.low c.skip-start.ensures.position c.skip-start.ensures.walk _ _ terminator c.in-Some.ensures.line _ c.at-known.ensures in
+    _ _ _ now c.in_ok-ahead.ensures.bounded known _ _ c.skip-start.ensures.low position skipped _ _ terminator
+    c.in-Some.ensures.line _ c.at-known.ensures in
     search.failed-line _ (errors g) (facts g c.args.matcher.now) _ _ _ _ _ bare _ _ _ _ turn.here c.in-Some.ensures.within.0
-    c.in-Some.ensures.within.1 turn.line c.in_ok-chosen.chosen (c.in_ok-chosen.ensures.value turn.agrees) _ _
+    c.in-Some.ensures.within.1 turn.line c.in_ok-chosen.chosen (value turn.agrees) _ _
     (c.in_err-sink_line.ensures.reported gone input turn.here.inside))
 
 pub returns-then-not-branch-clause-ends : goal.returns-then-not-branch-clause-ends
 returns-then-not-branch-clause-ends g c = λ lawful ends.
+    let learns = rw (settings_is c.self.view_is) at c.in_ok-ahead.ensures.known in
+    let position = rw (settings_is c.self.view_is) at c.skip-start.ensures.position in
+    let skipped = rw (settings_is c.self.view_is) at c.skip-start.ensures.walk in
+    let value = rw (settings_is c.self.view_is) at c.in_ok-chosen.ensures.value in
     let stops : c.in_ok-sink_line.field-0 ≡ false = search rules in
     let reported = rw stops at c.in_ok-sink_line.ensures.reported in (
       stopped (line_end c.skip-start.new.walk (slice c.args.window.now c.skip-start.result c.in-Some.end)),
       λ gone input first so_far.
           let bare = subst (λ (s : SearcherState). Bare s.settings) c.self.view_is c.self.invariant.0 in
           let now = c.lines.invariant.searched lawful gone input first so_far in
-          let known = c.in_ok-ahead.ensures.known lawful _ now.inside.line.begins
-          (c.lines.invariant.known lawful gone input first so_far) in
-          let terminator = c.as_byte-terminator.ensures ∙ ap (λ (s : SearcherState). byte_of s.settings.line_terminator) c.self.view_is in
+          let known = learns lawful _ now.inside.line.begins (c.lines.invariant.known lawful gone input first so_far) in
+          let terminator = c.as_byte-terminator.ensures ∙ ap byte_of c.line_terminator.ensures in
           let turn = skips.line-reached c.lines_join.ensures c.lines_append.ensures _ (errors g) (facts g c.args.matcher.now) _ _ _ _ _ _
-          bare _ _ _ now c.in_ok-ahead.ensures.bounded known _ _ c.skip-start.ensures.low c.skip-start.ensures.position
-          c.skip-start.ensures.walk _ _ terminator c.in-Some.ensures.line _ c.at-known.ensures in
+          bare _ _ _ now c.in_ok-ahead.ensures.bounded known _ _ c.skip-start.ensures.low position skipped
+          _ _ terminator c.in-Some.ensures.line _ c.at-known.ensures in
           search.counted-stopped _ (errors g) (facts g c.args.matcher.now) _ _ _ _ _ bare _ _ _ _ turn.here c.in-Some.ensures.within.0
-          c.in-Some.ensures.within.1 turn.line c.in_ok-chosen.chosen (c.in_ok-chosen.ensures.value turn.agrees) _
+          c.in-Some.ensures.within.1 turn.line c.in_ok-chosen.chosen (value turn.agrees) _
           (reported gone input turn.here.inside),
     )
 
 pub returns-then-is_over-clause-ends : goal.returns-then-is_over-clause-ends
 returns-then-is_over-clause-ends g c = λ lawful ends.
+    let learns = rw (settings_is c.self.view_is) at c.in_ok-ahead.ensures.known in
+    let position = rw (settings_is c.self.view_is) at c.skip-start.ensures.position in
+    let skipped = rw (settings_is c.self.view_is) at c.skip-start.ensures.walk in
+    let value = rw (settings_is c.self.view_is) at c.in_ok-chosen.ensures.value in
+    let next = rw (settings_is c.self.view_is) at c.advance.ensures in
+    let over_is = rw (settings_is c.self.view_is) at c.is_over.ensures in
     let goes : c.in_ok-sink_line.field-0 ≡ true = search rules in
     let reported = rw goes at c.in_ok-sink_line.ensures.reported in
-    let over = ap (λ p. is_over c.args.self.now.settings p c.in_ok-chosen.chosen) (sym c.advance.ensures)
-    ∙ rw c.is_over.ensures at c.if-is_over.true in
-    rw c.advance.ensures (
+    let over = ap (λ p. is_over c.args.self.now.settings p c.in_ok-chosen.chosen) (sym next)
+    ∙ rw over_is at c.if-is_over.true in
+    rw next (
       all_true,
       λ gone input first so_far.
           let bare = subst (λ (s : SearcherState). Bare s.settings) c.self.view_is c.self.invariant.0 in
           let now = c.lines.invariant.searched lawful gone input first so_far in
-          let known = c.in_ok-ahead.ensures.known lawful _ now.inside.line.begins
-          (c.lines.invariant.known lawful gone input first so_far) in
-          let terminator = c.as_byte-terminator.ensures ∙ ap (λ (s : SearcherState). byte_of s.settings.line_terminator) c.self.view_is in
+          let known = learns lawful _ now.inside.line.begins (c.lines.invariant.known lawful gone input first so_far) in
+          let terminator = c.as_byte-terminator.ensures ∙ ap byte_of c.line_terminator.ensures in
           let turn = skips.line-reached c.lines_join.ensures c.lines_append.ensures _ (errors g) (facts g c.args.matcher.now) _ _ _ _ _ _
-          bare _ _ _ now c.in_ok-ahead.ensures.bounded known _ _ c.skip-start.ensures.low c.skip-start.ensures.position
-          c.skip-start.ensures.walk _ _ terminator c.in-Some.ensures.line _ c.at-known.ensures in
+          bare _ _ _ now c.in_ok-ahead.ensures.bounded known _ _ c.skip-start.ensures.low position skipped
+          _ _ terminator c.in-Some.ensures.line _ c.at-known.ensures in
           search.counted-over _ (errors g) (facts g c.args.matcher.now) _ _ _ _ _ bare _ _ _ _ turn.here c.in-Some.ensures.within.0
-          c.in-Some.ensures.within.1 turn.line c.in_ok-chosen.chosen (c.in_ok-chosen.ensures.value turn.agrees) _
+          c.in-Some.ensures.within.1 turn.line c.in_ok-chosen.chosen (value turn.agrees) _
           (reported gone input turn.here.inside) over,
     )
 
 pub lines-preserved : goal.lines-preserved
 lines-preserved g c =
+    let learns = rw (settings_is c.self.view_is) at c.in_ok-ahead.ensures.known in
+    let position = rw (settings_is c.self.view_is) at c.skip-start.ensures.position in
+    let skipped = rw (settings_is c.self.view_is) at c.skip-start.ensures.walk in
+    let value = rw (settings_is c.self.view_is) at c.in_ok-chosen.ensures.value in
+    let next = rw (settings_is c.self.view_is) at c.advance.ensures in
+    let over_is = rw (settings_is c.self.view_is) at c.is_over.ensures in
     let goes : c.in_ok-sink_line.field-0 ≡ true = search rules in
     let reported = rw goes at c.in_ok-sink_line.ensures.reported in
-    let on = ap (λ p. is_over c.args.self.now.settings p c.in_ok-chosen.chosen) (sym c.advance.ensures)
-    ∙ rw c.is_over.ensures at c.if-is_over.false in
+    let on = ap (λ p. is_over c.args.self.now.settings p c.in_ok-chosen.chosen) (sym next)
+    ∙ rw over_is at c.if-is_over.false in
     let size = length-take (c.in-Some.end - c.skip-start.result) (drop c.skip-start.result c.args.window.now) in
-    rw c.advance.ensures (record {
+    rw next (record {
       within = c.in-Some.ensures.within.1;
       same = omega (
         arith,
@@ -168,18 +197,17 @@ lines-preserved g c =
           let now = c.lines.invariant.searched lawful gone input first so_far in
           skips.known-later c.args.self.now.settings (g.M.Matcher.meaning c.args.matcher.now) c.args.window.now c.lines.start
           c.in-Some.end c.in_ok-ahead.ahead (omega (arith, c.skip-start.ensures.low, c.in-Some.ensures.within.0))
-          (c.in_ok-ahead.ensures.known lawful _ now.inside.line.begins (c.lines.invariant.known lawful gone input first so_far));
+          (learns lawful _ now.inside.line.begins (c.lines.invariant.known lawful gone input first so_far));
       searched = λ lawful gone input first so_far.
           let bare = subst (λ (s : SearcherState). Bare s.settings) c.self.view_is c.self.invariant.0 in
           let now = c.lines.invariant.searched lawful gone input first so_far in
-          let known = c.in_ok-ahead.ensures.known lawful _ now.inside.line.begins
-          (c.lines.invariant.known lawful gone input first so_far) in
-          let terminator = c.as_byte-terminator.ensures ∙ ap (λ (s : SearcherState). byte_of s.settings.line_terminator) c.self.view_is in
+          let known = learns lawful _ now.inside.line.begins (c.lines.invariant.known lawful gone input first so_far) in
+          let terminator = c.as_byte-terminator.ensures ∙ ap byte_of c.line_terminator.ensures in
           let turn = skips.line-reached c.lines_join.ensures c.lines_append.ensures _ (errors g) (facts g c.args.matcher.now) _ _ _ _ _ _
-          bare _ _ _ now c.in_ok-ahead.ensures.bounded known _ _ c.skip-start.ensures.low c.skip-start.ensures.position
-          c.skip-start.ensures.walk _ _ terminator c.in-Some.ensures.line _ c.at-known.ensures in
+          bare _ _ _ now c.in_ok-ahead.ensures.bounded known _ _ c.skip-start.ensures.low position skipped
+          _ _ terminator c.in-Some.ensures.line _ c.at-known.ensures in
           search.searched-next _ (errors g) (facts g c.args.matcher.now) _ _ _ _ _ bare _ _ _ _ turn.here c.in-Some.ensures.within.0
-          c.in-Some.ensures.within.1 turn.line c.in_ok-chosen.chosen (c.in_ok-chosen.ensures.value turn.agrees) _
+          c.in-Some.ensures.within.1 turn.line c.in_ok-chosen.chosen (value turn.agrees) _
           (reported gone input turn.here.inside) on;
       kept = λ name each. c.in_ok-sink_line.ensures.kept name each ∙ c.lines.invariant.kept name each;
       may_call = c.in_ok-sink_line.ensures.may_call;

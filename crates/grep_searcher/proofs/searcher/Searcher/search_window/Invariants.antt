@@ -1,8 +1,8 @@
 use Rattle.std.proofs.Common.{◌≡◌, ◌≤◌, ◌+◌, ◌-◌, ℕ, List, length}
 use Rattle.grep_definitions.specs.Questions.{IsLawfulFor}
-use Rattle.grep_searcher.specs.LookAheads.{IsBounded, IsKnown}
-use Rattle.grep_searcher.specs.Walks.{IsKept, IsOrdered}
-use Rattle.grep_searcher.specs.Windows.{HasSearched}
+use Rattle.grep_walk.specs.LookAheads.{IsBounded, IsKnown}
+use Rattle.grep_walk.specs.Walks.{IsKept, IsOrdered}
+use Rattle.grep_walk.specs.Windows.{HasSearched}
 use Rattle.grep_searcher.proofs.searcher.Searcher.search_window.Given as goal
 
 abbrev pub invariant-lines : goal.invariant-lines

@@ -3,6 +3,7 @@ use Rattle.grep_definitions.specs.Searches.{ErrorMakers, MatcherFacts}
 use Rattle.grep_definitions.specs.Settings.{SearcherState}
 use Rattle.grep_searcher.proofs.ResultLemmas.{if_err-each}
 use Rattle.grep_searcher.proofs.ModeLemmas.{source-across, source-by_line, unread-in}
+use Rattle.grep_searcher.proofs.ViewLemmas.{settings_is}
 use Rattle.grep_searcher.proofs.searcher.Searcher.search_with.Given.{Over}
 use Rattle.grep_searcher.proofs.searcher.Searcher.search_with.Goals as goal
 
@@ -26,36 +27,40 @@ state-of searcher has_buffers = record { settings = searcher.settings; has_buffe
 
 pub returns-then-is_across-clause-searched : goal.returns-then-is_across-clause-searched
 returns-then-is_across-clause-searched g c = λ lawful has_buffers.
+    let mode = rw (settings_is c.self.view_is) at (sym c.is_across.ensures ∙ c.if-is_across.true) in
     source-across g.R.Source.remaining g.R.Source.step (state-of c.args.self.now has_buffers) g.S.Sink.step (errors-of g)
     (facts-of g c.args.matcher.now) c.args.reader.now c.args.sink.now c.search_contents.result c.search_contents.new.reader
-    c.search_contents.new.sink (sym c.is_across.ensures ∙ c.if-is_across.true) (c.search_contents.ensures.searched has_buffers)
+    c.search_contents.new.sink mode (c.search_contents.ensures.searched has_buffers)
 
 pub returns-then-is_across-clause-succeeds : goal.returns-then-is_across-clause-succeeds
 returns-then-is_across-clause-succeeds g c = λ never infallible lawful.
+    let mode = rw (settings_is c.self.view_is) at (sym c.is_across.ensures ∙ c.if-is_across.true) in
     if_err-each _ _ c.search_contents.result
     (λ e unread has_buffers. let why = unread has_buffers in (
       why.0,
       why.1,
       unread-in g.R.Source.remaining g.R.Source.step (state-of c.args.self.now has_buffers) (g.M.Matcher.meaning c.args.matcher.now) true
-          (sym c.is_across.ensures ∙ c.if-is_across.true) c.args.reader.now why.0 why.1 c.search_contents.new.reader why.2,
+          mode c.args.reader.now why.0 why.1 c.search_contents.new.reader why.2,
       why.3,
     ))
     (c.search_contents.ensures.succeeds never infallible)
 
 pub returns-clause-searched : goal.returns-clause-searched
 returns-clause-searched g c = λ lawful has_buffers.
+    let mode = rw (settings_is c.self.view_is) at (sym c.is_across.ensures ∙ c.if-is_across.false) in
     source-by_line g.R.Source.remaining g.R.Source.step (state-of c.args.self.now has_buffers) g.S.Sink.step (errors-of g)
     (facts-of g c.args.matcher.now) c.args.reader.now c.args.sink.now c.search_by_line.result c.search_by_line.new.reader
-    c.search_by_line.new.sink (sym c.is_across.ensures ∙ c.if-is_across.false) (c.search_by_line.ensures.searched lawful has_buffers)
+    c.search_by_line.new.sink mode (c.search_by_line.ensures.searched lawful has_buffers)
 
 pub returns-clause-succeeds : goal.returns-clause-succeeds
 returns-clause-succeeds g c = λ never infallible lawful.
+    let mode = rw (settings_is c.self.view_is) at (sym c.is_across.ensures ∙ c.if-is_across.false) in
     if_err-each _ _ c.search_by_line.result
     (λ e unread has_buffers. let why = unread has_buffers in (
       why.0,
       why.1,
       unread-in g.R.Source.remaining g.R.Source.step (state-of c.args.self.now has_buffers) (g.M.Matcher.meaning c.args.matcher.now) false
-          (sym c.is_across.ensures ∙ c.if-is_across.false) c.args.reader.now why.0 why.1 c.search_by_line.new.reader why.2,
+          mode c.args.reader.now why.0 why.1 c.search_by_line.new.reader why.2,
       why.3,
     ))
     (c.search_by_line.ensures.succeeds never infallible lawful)

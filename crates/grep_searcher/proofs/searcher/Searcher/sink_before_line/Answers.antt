@@ -5,14 +5,16 @@ use Rattle.grep_definitions.specs.SinkCalls.{context}
 use Rattle.grep_definitions.specs.LineTurns.{number_of, is_gap}
 use Rattle.grep_definitions.specs.SinkRuns.{stopped}
 use Rattle.grep_definitions.proofs.SinkRunLemmas.{AreReported-broken, AreReported-unbroken}
+use Rattle.grep_searcher.proofs.ViewLemmas.{settings_is}
 use Rattle.grep_searcher.proofs.searcher.Searcher.sink_before_line.Goals as goal
 
 pub returns-then-not-branch-clause-reported : goal.returns-then-not-branch-clause-reported
 returns-then-not-branch-clause-reported g c =
     let w = c.args.walk.now in
+    let gap = rw (settings_is c.self.view_is) at c.is_gap-is_gap.ensures in
     let near = le-leb (w.line - c.args.index) c.args.self.now.settings.before_context c.requires.near in
     let stops : c.in_ok-sink_break.field-0 ≡ false = search rules in
-    let reported = rw (stops, c.is_gap-is_gap.ensures) at c.in_ok-sink_break.ensures.reported in
+    let reported = rw (stops, gap) at c.in_ok-sink_break.ensures.reported in
     rw near (λ end. AreReported-unbroken g.S.Sink.step c.args.self.now.settings (is_gap c.args.self.now.settings w.reported_through
     c.args.index w.line)
     (context Before (number_of c.args.self.now.settings c.args.index) c.args.offset c.args.line.now) end c.args.sink.now
@@ -21,9 +23,10 @@ returns-then-not-branch-clause-reported g c =
 pub returns-clause-reported : goal.returns-clause-reported
 returns-clause-reported g c =
     let w = c.args.walk.now in
+    let gap = rw (settings_is c.self.view_is) at c.is_gap-is_gap.ensures in
     let near = le-leb (w.line - c.args.index) c.args.self.now.settings.before_context c.requires.near in
     let goes : c.in_ok-sink_break.field-0 ≡ true = search rules in
-    let reported = rw (goes, c.is_gap-is_gap.ensures) at c.in_ok-sink_break.ensures.reported in
+    let reported = rw (goes, gap) at c.in_ok-sink_break.ensures.reported in
     rw near (λ end. AreReported-broken g.S.Sink.step c.args.self.now.settings (is_gap c.args.self.now.settings w.reported_through
     c.args.index w.line)
     (context Before (number_of c.args.self.now.settings c.args.index) c.args.offset c.args.line.now) end c.args.sink.now

@@ -1,8 +1,8 @@
 use Rattle.std.proofs.Common.{◌≡◌, ℕ, List, length, ◌+◌, ◌-◌, ◌≤◌}
 use Rattle.grep_definitions.specs.SinkRuns.{AreReported, all_true}
 use Rattle.grep_definitions.specs.LineTurns.{pending_turns}
-use Rattle.grep_searcher.specs.Windows.{IsInWindow, IsLineIn}
-use Rattle.grep_searcher.specs.Walks.{IsKept}
+use Rattle.grep_walk.specs.Windows.{IsInWindow, IsLineIn}
+use Rattle.grep_walk.specs.Walks.{IsKept}
 use Rattle.grep_searcher.proofs.searcher.Searcher.sink_before_lines.Given as goal
 
 abbrev pub invariant-loop-at : goal.invariant-loop-at

@@ -4,7 +4,7 @@ use Rattle.grep_lines.specs.Positions.{slice}
 use Rattle.grep_definitions.specs.LineTurns.{pending_turns, match_turns}
 use Rattle.grep_definitions.specs.SinkRuns.{failed, stopped, outcome_of}
 use Rattle.grep_definitions.proofs.SinkRunLemmas.{AreReported-append, AreReported-ended}
-use Rattle.grep_searcher.specs.Walks.{line_end}
+use Rattle.grep_walk.specs.Walks.{line_end}
 use Rattle.grep_searcher.proofs.searcher.Searcher.sink_line.Goals as goal
 
 pub returns-in_err-sink_before_context-clause-reported : goal.returns-in_err-sink_before_context-clause-reported

@@ -5,13 +5,15 @@ use Rattle.grep_definitions.specs.SinkCalls.{matches}
 use Rattle.grep_definitions.specs.LineTurns.{number_of, is_gap}
 use Rattle.grep_definitions.specs.SinkRuns.{stopped}
 use Rattle.grep_definitions.proofs.SinkRunLemmas.{AreReported-broken, AreReported-unbroken}
+use Rattle.grep_searcher.proofs.ViewLemmas.{settings_is}
 use Rattle.grep_searcher.proofs.searcher.Searcher.sink_matched.Goals as goal
 
 pub returns-then-not-branch-clause-reported : goal.returns-then-not-branch-clause-reported
 returns-then-not-branch-clause-reported g c =
     let w = c.args.walk.now in
+    let gap = rw (settings_is c.self.view_is) at c.is_gap_before_match-is_gap.ensures in
     let stops : c.in_ok-sink_break.field-0 ≡ false = search rules in
-    let reported = rw (stops, c.is_gap_before_match-is_gap.ensures) at c.in_ok-sink_break.ensures.reported in
+    let reported = rw (stops, gap) at c.in_ok-sink_break.ensures.reported in
     λ stop. AreReported-unbroken g.S.Sink.step c.args.self.now.settings
     (nat_lt 0 c.args.self.now.settings.after_context && is_gap c.args.self.now.settings w.reported_through w.line w.line)
     (matches (number_of c.args.self.now.settings w.line) w.offset (slice c.args.window.now c.args.start c.args.end)) stop
@@ -20,9 +22,10 @@ returns-then-not-branch-clause-reported g c =
 pub returns-clause-reported : goal.returns-clause-reported
 returns-clause-reported g c =
     let w = c.args.walk.now in
+    let gap = rw (settings_is c.self.view_is) at c.is_gap_before_match-is_gap.ensures in
     let goes : c.in_ok-sink_break.field-0 ≡ true = search rules in
-    let reported = rw (goes, c.is_gap_before_match-is_gap.ensures) at c.in_ok-sink_break.ensures.reported in
-    let number = c.number-number.ensures in
+    let reported = rw (goes, gap) at c.in_ok-sink_break.ensures.reported in
+    let number = rw (settings_is c.self.view_is) at c.number-number.ensures in
     let step = rw (c.new-found.ensures, number) at c.matched.ensures.step in
     λ stop. AreReported-broken g.S.Sink.step c.args.self.now.settings
     (nat_lt 0 c.args.self.now.settings.after_context && is_gap c.args.self.now.settings w.reported_through w.line w.line)

@@ -1,6 +1,5 @@
-use Rattle.std.proofs.Common.{ap}
-use Rattle.grep_definitions.specs.Settings.{Settings}
+use Rattle.std.proofs.Common.{refl}
 use Rattle.grep_searcher.proofs.searcher.builder.SearcherBuilder.line_number.Goals as goal
 
 pub returns-clause-set : goal.returns-clause-set
-returns-clause-set c = ap (λ (s : Settings). record s { line_number = c.args.yes }) c.self.view_is
+returns-clause-set c = rw (← c.self.view_is, ← c.self-inside.view_is) refl

@@ -1,8 +1,0 @@
-use Rattle.std.proofs.Common.{rules}
-use Rattle.grep_searcher.proofs.searcher.Searcher.advance.Goals as goal
-
-pub returns-then-chosen-3 : goal.returns-then-chosen-3
-returns-then-chosen-3 g c = search rules
-
-pub returns-else-chosen-3 : goal.returns-else-chosen-3
-returns-else-chosen-3 g c = search rules

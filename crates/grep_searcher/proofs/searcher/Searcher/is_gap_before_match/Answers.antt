@@ -1,8 +1,0 @@
-use Rattle.std.proofs.Common.{rules}
-use Rattle.grep_searcher.proofs.searcher.Searcher.is_gap_before_match.Goals as goal
-
-pub returns-then-self-gt0 : goal.returns-then-self-gt0
-returns-then-self-gt0 g c = search rules
-
-pub returns-else-self-gt0 : goal.returns-else-self-gt0
-returns-else-self-gt0 g c = search rules

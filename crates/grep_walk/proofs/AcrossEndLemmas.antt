@@ -1,0 +1,155 @@
+-- How the calls of a walk across lines end, against those that are defined.
+use Rattle.std.proofs.Common.{◌≡◌, ℕ, suc, ◌+◌, ◌-◌, ◌≤◌, true, List, ◌++◌, length, drop, take, inl, inr}
+use Rattle.std.proofs.Common.{refl, sym, ◌∙◌, ap, subst, arith, ⊎_elim, length-take, length-drop}
+use Rattle.std.proofs.lemmas.Bool.{cases_lt}
+use Rattle.std.specs.Prelude.{Ok, Err, false}
+use Rattle.grep_lines.specs.Positions.{slice}
+use Rattle.grep_lines.proofs.LawLemmas.{AreLines-lines}
+use Rattle.grep_matcher.specs.Lines.{lines}
+use Rattle.grep_matcher.specs.Matching.{Meaning}
+use Rattle.grep_matcher.specs.Terminators.{byte_of}
+use Rattle.grep_definitions.specs.AcrossLines.{byte_count, turns, turns_at}
+use Rattle.grep_definitions.specs.AcrossQuestions.{IsAskedAcross}
+use Rattle.grep_definitions.specs.Below.{joined_from}
+use Rattle.grep_definitions.specs.LineSearch.{start}
+use Rattle.grep_definitions.specs.Searches.{ErrorMakers, MatcherFacts, IsFaultIn, of_sink, of_matcher}
+use Rattle.grep_definitions.specs.SearchTurns.{calls_across}
+use Rattle.grep_definitions.specs.Settings.{Settings}
+use Rattle.grep_definitions.specs.SinkCalls.{Turn, begins, ends_in_break}
+use Rattle.grep_definitions.specs.SinkRuns.{Steps, Outcome, all_true, stopped, failed, AreReported}
+use Rattle.grep_definitions.proofs.BreakLemmas.{paired-front, paired-last}
+use Rattle.grep_definitions.proofs.LineStartLemmas.{line_start-ascends, line_start-within}
+use Rattle.grep_definitions.proofs.SinkRunLemmas.{AreReported-append, AreReported-ended}
+use Rattle.grep_walk.specs.declared.walk.Walk.{Walk}
+use Rattle.grep_walk.specs.AcrossWalks.{IsAcross, turns_before}
+use Rattle.grep_walk.specs.Walks.{Counted, walk_past}
+use Rattle.grep_definitions.proofs.AcrossWalkLemmas as calls
+use Rattle.grep_walk.proofs.AcrossStepLemmas as steps
+use Rattle.grep_walk.proofs.AcrossUnitLemmas.{IsNext}
+
+module _ (k : Settings) (meaning : Meaning) (bytes : List ℕ) where
+  abbrev n : ℕ
+  n = length (lines (byte_of k.line_terminator) bytes)
+
+  abbrev T : ℕ → List Turn
+  T = turns_at k meaning bytes
+
+  abbrev front : ℕ → List Turn
+  front = turns_before k meaning bytes
+
+  passed-few : (w : Walk) → IsAcross k meaning bytes w → w.reported_through ≤ n
+  passed-few w across = omega (arith, across.placed.low, across.placed.at.listed)
+
+  -- the last of the calls so far is no break
+  front-whole : (w : Walk) → IsAcross k meaning bytes w
+      → ends_in_break (take (length (front w.reported_through)) (turns k meaning bytes)) ≡ false
+  front-whole w across =
+      ap ends_in_break (calls.front-first k meaning bytes w.reported_through (passed-few w across))
+      ∙ paired-last (front w.reported_through) (paired-front k meaning bytes w.reported_through (passed-few w across))
+
+  module _ {State E : Type 0} (step : Steps State E) (first : State) where
+    abbrev IsCounted : ℕ → Outcome E → State → Type 0
+    IsCounted count outcome new = Counted step k first (turns k meaning bytes) (byte_count k meaning bytes) count outcome new
+
+    pub counted-unbegun : (new : State) → step first k begins (Ok false) new → IsCounted 0 (stopped 0) new
+    counted-unbegun new stops = record { reported = inr (inl (refl, stops)); is_count = refl }
+
+    pub reported-begin : (now : State) → step first k begins (Ok true) now → AreReported step k first (front 0) all_true now
+    reported-begin now goes = inl (now, goes, (refl, refl))
+
+    -- more calls
+    pub reported-next : (w : Walk) (v : ℕ) (own : List Turn) (now : State) → front v ≡ front w.reported_through ++ own
+        → AreReported step k first (front w.reported_through) all_true now → (outcome : Outcome E) (new : State)
+        → AreReported step k now own outcome new → AreReported step k first (front v) outcome new
+    reported-next w v own now is reported outcome new later =
+        subst (λ ts. AreReported step k first ts outcome new) (sym is)
+        (AreReported-append step k (front w.reported_through) own first now outcome new reported later)
+
+    -- what ended early ended the whole
+    ended-whole : (v : ℕ) (outcome : Outcome E) (new : State) → v ≤ n → (outcome ≡ all_true → ⊥)
+        → AreReported step k first (front v) outcome new → AreReported step k first (turns k meaning bytes) outcome new
+    ended-whole v outcome new low ended reported =
+        subst (λ ts. AreReported step k first ts outcome new) (sym (calls.front-through k meaning bytes v n low))
+        (AreReported-ended step k (front v) (joined_from T v (n - v)) first outcome new ended reported)
+
+    pub counted-stopped : (w : Walk) (end count : ℕ) (new : State) → IsAcross k meaning bytes w → count ≡ end
+        → AreReported step k first (front w.reported_through) (stopped end) new → IsCounted count (stopped end) new
+    counted-stopped w end count new across same reported = record {
+      reported = ended-whole w.reported_through (stopped end) new (passed-few w across) (λ same. cc) reported;
+      is_count = same;
+    }
+
+    pub failed-whole : (w : Walk) (e : E) (new : State) → IsAcross k meaning bytes w
+        → AreReported step k first (front w.reported_through) (failed e) new
+        → AreReported step k first (turns k meaning bytes) (failed e) new
+    failed-whole w e new across reported = ended-whole w.reported_through (failed e) new (passed-few w across) (λ same. cc) reported
+
+    -- at the end of the bytes all lines were passed
+    all-passed : (w : Walk) → IsAcross k meaning bytes w → w.offset ≡ length bytes → w.line ≡ n
+    all-passed w across end = ⊎_elim
+        (λ less. absurd (omega (
+          arith,
+          line_start-ascends AreLines-lines (byte_of k.line_terminator) bytes w.line less,
+          line_start-within AreLines-lines (byte_of k.line_terminator) bytes (w.line + 1),
+          across.placed.at.begins,
+          end,
+        )))
+        (λ over. omega (arith, over, across.placed.at.listed))
+        (cases_lt w.line n)
+
+    pub counted-end : (w : Walk) (new : State) → IsAcross k meaning bytes w → w.offset ≡ length bytes
+        → AreReported step k first (front w.reported_through) all_true new → IsCounted w.offset all_true new
+    counted-end w new across end reported =
+        let all = all-passed w across end in
+        record {
+          reported = subst (λ ts. AreReported step k first ts all_true new)
+              (sym (calls.front-done k meaning bytes w.reported_through w.after_context_left
+              (subst (λ i. calls.Near k meaning bytes w.reported_through i w.after_context_left) all across.near)))
+              reported;
+          is_count = sym across.placed.at.begins ∙ ap (start k meaning bytes) all;
+        }
+
+    -- the lines up to the end are passed unreported
+    pub counted-past : (w : Walk) (p q : ℕ) → w.offset ≡ p → IsAcross k meaning bytes w → IsNext k meaning bytes w p q
+        → q ≡ length bytes → k.passthru ≡ false → w.after_context_left ≡ 0 → (new : State)
+        → AreReported step k first (front w.reported_through) all_true new → IsCounted q all_true new
+    counted-past w p q same across next end plain none new reported =
+        let past = steps.across-past k meaning bytes w p q same across next plain none in
+        let size : w.offset + length (slice bytes p q) ≡ q =
+        omega (arith, same, next.from, next.within, length-take (q - p) (drop p bytes), length-drop p bytes) in
+        subst (λ count. IsCounted count all_true new) size
+        (counted-end (walk_past k w (slice bytes p q)) new past (size ∙ end) reported)
+
+    -- the calls so far are some first calls
+    pub taken : (w : Walk) (now : State) → IsAcross k meaning bytes w
+        → AreReported step k first (front w.reported_through) all_true now
+        → AreReported step k first (take (length (front w.reported_through)) (turns k meaning bytes)) all_true now
+    taken w now across reported =
+        subst (λ ts. AreReported step k first ts all_true now)
+        (sym (calls.front-first k meaning bytes w.reported_through (passed-few w across))) reported
+
+-- how it ends in a fault
+module _ {State E F : Type 0} (step : Steps State E) (errors : ErrorMakers E) (matcher : MatcherFacts F) (k : Settings)
+    (bytes : List ℕ) (first : State) where
+  abbrev IsFaulty : E → State → Type 0
+  IsFaulty e new = IsFaultIn step errors matcher (calls_across k matcher.meaning) k bytes first e new
+
+  failed-run : (e : E) (new : State) → AreReported step k first (turns k matcher.meaning bytes) (failed e) new → IsFaulty e new
+  failed-run e new reported = of_sink (record { outcome = failed e; mid = new; reported = reported; finished = (refl, refl) })
+
+  pub fault-begin : (e : E) (new : State) → step first k begins (Err e) new → IsFaulty e new
+  fault-begin e new fails = failed-run e new (inr (inr (e, refl, fails)))
+
+  pub fault-sink : (w : Walk) (e : E) (new : State) → IsAcross k matcher.meaning bytes w
+      → AreReported step k first (turns_before k matcher.meaning bytes w.reported_through) (failed e) new → IsFaulty e new
+  fault-sink w e new across reported = failed-run e new (failed-whole k matcher.meaning bytes step first w e new across reported)
+
+  pub fault-matcher : (w : Walk) (now : State) → IsAcross k matcher.meaning bytes w
+      → AreReported step k first (turns_before k matcher.meaning bytes w.reported_through) all_true now
+      → (haystack : List ℕ) (error : F) (e : E) → IsAskedAcross k matcher.meaning bytes haystack → matcher.fails haystack error
+      → errors.is_message (matcher.text_of error) e → IsFaulty e now
+  fault-matcher w now across reported haystack error e asked fails message =
+      let later = joined_from (turns_at k matcher.meaning bytes) 0 w.reported_through in
+      of_matcher haystack error (take (suc (length later)) (turns k matcher.meaning bytes))
+      (asked, (length later, refl), front-whole k matcher.meaning bytes w across) fails message
+      (taken k matcher.meaning bytes step first w now across reported)

@@ -1,0 +1,163 @@
+-- The front of an input, by whole lines, and how many bytes the line after it has.
+use Rattle.std.proofs.Common.{◌≡◌, ◌≢◌, ℕ, ◌+◌, ◌-◌, ◌<◌, ◌≤◌, List, [], ◌∷◌, ◌++◌, length, take, drop, get_or, inl, inr}
+use Rattle.std.proofs.Common.{refl, sym, ◌∙◌, ap, subst, arith, ⊎_elim, append-nil, append_assoc, length-append}
+use Rattle.std.proofs.Math.Seq.{take-append-add}
+use Rattle.std.proofs.lemmas.Bool.{cases_lt}
+use Rattle.std.proofs.lemmas.List.{take-append-le, take-append-drop, take_all, take_at, get_or-append-add}
+use Rattle.std.proofs.lemmas.List.{nil_from_length}
+use Rattle.std.proofs.lemmas.List.Elements.{All-get_or}
+use Rattle.std.proofs.lemmas.List.Folds.{concat-append}
+use Rattle.std.specs.List.{concat}
+use Rattle.std.specs.Prelude.{All, slice_index, slice_index_or}
+use Rattle.grep_matcher.specs.Terminators.{byte_of}
+use Rattle.grep_matcher.specs.Lines.{lines, line_start}
+use Rattle.grep_matcher.specs.Matching.{Meaning}
+use Rattle.grep_lines.specs.LineLaws.{LinesJoin, LinesAppend}
+use Rattle.grep_definitions.specs.InputFronts.{IsClosed, IsCrowded, IsTooLong}
+use Rattle.grep_definitions.specs.Settings.{Settings}
+use Rattle.grep_definitions.proofs.LineLengthLemmas.{lines-within, lines-end, first-long, first-open}
+use Rattle.grep_definitions.proofs.LineStartLemmas.{line_start-ascends}
+use Rattle.grep_definitions.proofs.SearchLawLemmas as laws
+use Rattle.grep_definitions.proofs.TurnEndLemmas.{line_start-le}
+use Rattle.grep_definitions.specs.LineSearch
+use Rattle.grep_walk.proofs.WindowLemmas.{closed-append}
+
+-- of two ways to cut a list the longer front begins with the shorter one
+pub longer-front : (front back whole rest : List ℕ) → front ++ back ≡ whole ++ rest → length front ≤ length whole
+    → whole ≡ front ++ drop (length front) whole
+longer-front front back whole rest same long =
+    let first : take (length front) whole ≡ front =
+    sym (take-append-le (length front) whole rest long) ∙ (ap (take (length front)) (sym same) ∙ take_at front back (length front) refl) in
+    sym (take-append-drop (length front) whole) ∙ ap (λ xs. xs ++ drop (length front) whole) first
+
+-- no line of some bytes is too long for a buffer that holds them, if it ends or leaves room
+pub lines-fit : LinesJoin → (t size : ℕ) (bytes : List ℕ) → length bytes ≤ size → (length bytes ≡ size → IsClosed t bytes)
+    → All (λ line. IsTooLong t size line → ⊥) (lines t bytes)
+lines-fit join t size bytes within full = λ k x below. go (get_or (lines t bytes) k x) (lines-within join t bytes k x below)
+    (λ closed. lines-end join t bytes closed k x below)
+  where
+    go : (line : List ℕ) → length line ≤ length bytes → (IsClosed t bytes → slice_index line (length line - 1) ≡ t)
+        → IsTooLong t size line → ⊥
+    go line short ends (inl long) = absurd (omega (arith, short, long, within))
+    go line short ends (inr (same, broken)) =
+        broken (ap (λ n. slice_index line (n - 1)) (sym same) ∙ ends (full (omega (arith, short, same, within))))
+
+module _ (join : LinesJoin) (append : LinesAppend) (t : ℕ) (front back : List ℕ) (closed : IsClosed t front) where
+  -- where the lines after a front begin
+  pub start-after : (i : ℕ) → line_start t (front ++ back) (length (lines t front) + i) ≡ length front + line_start t back i
+  start-after i =
+      ap (λ ls. length (concat (take (length (lines t front) + i) ls))) (append t front back closed)
+      ∙ (ap (λ ls. length (concat ls)) (take-append-add (lines t front) (lines t back) i)
+      ∙ (ap length (concat-append (lines t front) (take i (lines t back)))
+      ∙ (length-append (concat (lines t front)) (concat (take i (lines t back)))
+      ∙ ap (λ xs. length xs + line_start t back i) (join t front).joined)))
+
+  -- how many there are
+  pub count-after : length (lines t (front ++ back)) ≡ length (lines t front) + length (lines t back)
+  count-after = ap length (append t front back closed) ∙ length-append (lines t front) (lines t back)
+
+  -- the first of them
+  pub line-after : slice_index_or (lines t (front ++ back)) (length (lines t front)) [] ≡ slice_index_or (lines t back) 0 []
+  line-after =
+      let none : length (lines t front) ≡ length (lines t front) + 0 = omega arith in
+      ap (λ ls. get_or ls (length (lines t front)) []) (append t front back closed)
+      ∙ (ap (λ i. get_or (lines t front ++ lines t back) i []) none
+      ∙ get_or-append-add (lines t front) (lines t back) 0 [])
+
+-- a list with something at its front isn't empty
+some-first : (ls : List (List ℕ)) → 0 < length (get_or ls 0 []) → 0 < length ls
+some-first [] some = absurd (omega (arith, some))
+some-first (line ∷ ls) some = omega arith
+
+-- bytes without lines are none
+no-lines : LinesJoin → (t : ℕ) (bytes : List ℕ) → length (lines t bytes) ≡ 0 → bytes ≡ []
+no-lines join t bytes none = sym (join t bytes).joined ∙ ap concat (nil_from_length (lines t bytes) none)
+
+-- bytes that don't end a line begin one that is too long for a buffer of so many
+open-long : (t least : ℕ) (tail more : List ℕ) → All (λ b. b ≢ t) tail → 0 < least → least ≤ length tail
+    → IsTooLong t least (slice_index_or (lines t (tail ++ more)) 0 [])
+open-long t least tail more lacks some enough =
+    go (slice_index_or (lines t (tail ++ more)) 0 []) (first-open t tail more lacks)
+  where
+    go : (line : List ℕ) → (take (length tail) line ≡ tail) × (length tail ≤ length line) → IsTooLong t least line
+    go line (begins, long) = ⊎_elim inl
+        (λ same.
+        let all : line ≡ tail = sym (take_all (length tail) line (omega (arith, same, enough))) ∙ begins in
+        inr (
+          omega (arith, same, enough, long),
+          subst (λ xs. slice_index xs (least - 1) ≢ t) (sym all)
+              (All-get_or (λ b. b ≢ t) tail (least - 1) 0 (omega (arith, enough, some)) lacks),
+        ))
+        (cases_lt least (length line))
+
+-- a buffer that shows some lines after those that are gone, and holds bytes after them that end none, can't hold the next line
+pub crowded : LinesJoin → LinesAppend → (k : Settings) (meaning : Meaning) (gone shown tail later : List ℕ) (least : ℕ)
+    → IsClosed (byte_of k.line_terminator) gone → IsClosed (byte_of k.line_terminator) shown
+    → All (λ b. b ≢ byte_of k.line_terminator) tail
+    → length (lines (byte_of k.line_terminator) shown) ≤ k.before_context → 0 < least → least ≤ length shown + length tail
+    → IsCrowded k meaning ((gone ++ shown) ++ (tail ++ later)) (gone ++ shown) least
+crowded join append k meaning gone shown tail later least opens shut lacks few some enough =
+    let seen_closed = closed-append t gone shown opens shut in
+    let count : length (lines t (gone ++ shown)) ≡ length (lines t gone) + length (lines t shown) =
+    count-after join append t gone shown opens in
+    let first = start-after join append t gone (shown ++ (tail ++ later)) opens 0 in
+    let none : length (lines t gone) + 0 ≡ length (lines t (gone ++ shown)) - length (lines t shown) = omega (arith, count) in
+    let from : line_start t ((gone ++ shown) ++ (tail ++ later)) (length (lines t (gone ++ shown)) - length (lines t shown))
+    ≡ length gone + 0 = ap (line_start t ((gone ++ shown) ++ (tail ++ later))) (sym none)
+    ∙ (ap (λ xs. line_start t xs (length (lines t gone) + 0)) (append_assoc gone shown (tail ++ later)) ∙ first) in
+    let next = start-after join append t (gone ++ shown) (tail ++ later) seen_closed 1 in
+    let long = first-long t tail later lacks in
+    record {
+      kept = length (lines t shown);
+      passed = omega (arith, count);
+      near = few;
+      full = omega (arith, from, next, long, enough, length-append gone shown);
+      alone = λ single.
+          let empty = no-lines join t shown single in
+          let all : least ≤ length tail = omega (arith, enough, ap length empty) in
+          let broken = first-open t tail later lacks in
+          let lines_after = some-first (lines t (tail ++ later)) (omega (arith, some, all, broken.1)) in (
+            omega (arith, count-after join append t (gone ++ shown) (tail ++ later) seen_closed, lines_after),
+            subst (IsTooLong t least) (sym (line-after join append t (gone ++ shown) (tail ++ later) seen_closed))
+                (open-long t least tail later lacks some all),
+          );
+    }
+  where
+    t : ℕ
+    t = byte_of k.line_terminator
+
+-- if the byte count is within the lines that were seen, each line with a turn was seen
+pub turns-seen : LinesJoin → LinesAppend → (k : Settings) (meaning : Meaning) (seen back : List ℕ)
+    → (0 < length back → IsClosed (byte_of k.line_terminator) seen)
+    → LineSearch.byte_count k meaning (seen ++ back) ≤ length seen
+    → LineSearch.turn_count k meaning (seen ++ back) ≤ length (lines (byte_of k.line_terminator) seen)
+turns-seen join append k meaning seen back closed within = go back closed within
+  where
+    t : ℕ
+    t = byte_of k.line_terminator
+
+    few : (bytes : List ℕ) → LineSearch.turn_count k meaning bytes ≤ length (lines t bytes)
+    few bytes = laws.turn_count-le k meaning bytes
+
+    above : (bytes : List ℕ) (m : ℕ) → line_start t bytes m ≡ length seen → LineSearch.byte_count k meaning bytes ≤ length seen
+        → LineSearch.turn_count k meaning bytes ≤ m
+    above bytes m is within = ⊎_elim
+        (λ more. absurd (omega (
+          arith,
+          line_start-ascends join t bytes m (omega (arith, more, few bytes)),
+          line_start-le t bytes (m + 1) (LineSearch.turn_count k meaning bytes) (omega (arith, more)),
+          is,
+          within,
+        )))
+        (λ over. over)
+        (cases_lt m (LineSearch.turn_count k meaning bytes))
+
+    go : (back : List ℕ) → (0 < length back → IsClosed t seen) → LineSearch.byte_count k meaning (seen ++ back) ≤ length seen
+        → LineSearch.turn_count k meaning (seen ++ back) ≤ length (lines t seen)
+    go [] closed within = subst (λ xs. LineSearch.turn_count k meaning xs ≤ length (lines t seen)) (sym (append-nil seen)) (few seen)
+    go (b ∷ back) closed within =
+        let shut = closed (omega arith) in
+        let last = start-after join append t seen (b ∷ back) shut 0 in
+        let none : length (lines t seen) + 0 ≡ length (lines t seen) = omega arith in
+        above (seen ++ (b ∷ back)) (length (lines t seen))
+        (sym (ap (line_start t (seen ++ (b ∷ back))) none) ∙ (last ∙ omega arith)) within

@@ -1,0 +1,16 @@
+pub mod AcrossEndLemmas
+pub mod AcrossStepLemmas
+pub mod AcrossTurnLemmas
+pub mod AcrossUnitLemmas
+pub mod BeforeContextLemmas
+pub mod FinishLemmas
+pub mod FoundMatchLemmas
+pub mod FrontLemmas
+pub mod LineRangeLemmas
+pub mod LookAheadLemmas
+pub mod SkipLemmas
+pub mod TouchedLemmas
+pub mod UnitStepLemmas
+pub mod WalkLemmas
+pub mod WindowLemmas
+pub mod WindowSearchLemmas

@@ -1,0 +1,270 @@
+-- A walk that skips lines which don't match.
+use Rattle.std.proofs.Common.{◌≡◌, ℕ, zero, suc, ◌+◌, ◌-◌, ◌<◌, ◌≤◌, Bool, true, false, not, ◌&&◌, ◌||◌, ◌==◌, if◌then◌else◌}
+use Rattle.std.proofs.Common.{List, [], length, drop, Option, Some, None, refl, sym, ◌∙◌, ap, subst, arith, ⊎_elim}
+use Rattle.std.proofs.Common.{length-take, length-drop}
+use Rattle.std.proofs.lemmas.Bool.{cases_lt, cases_Bool, eqb-true, ltb-true, ltb-false}
+use Rattle.std.specs.Prelude.{nat_lt, IfSome}
+use Rattle.grep_lines.specs.LineLaws.{LinesJoin, LinesAppend}
+use Rattle.grep_lines.specs.Positions.{slice, IsLine, IsLineStart}
+use Rattle.grep_matcher.specs.Lines.{lines, line_start}
+use Rattle.grep_matcher.specs.Matching.{Meaning}
+use Rattle.grep_matcher.specs.Terminators.{byte_of}
+use Rattle.grep_report.specs.declared.sink_context.SinkContextKind.TheVariants.{After, Other}
+use Rattle.grep_definitions.proofs.BoolLemmas.{both_true, not_false}
+use Rattle.grep_definitions.proofs.LineStartLemmas.{line_start-last}
+use Rattle.grep_definitions.proofs.TurnEndLemmas.{line_start-le}
+use Rattle.grep_definitions.specs.Below.{is_at}
+use Rattle.grep_definitions.specs.LineSearch.{differ}
+use Rattle.grep_definitions.specs.LineTurns.{context_turns, matches_line, number_of}
+use Rattle.grep_definitions.specs.Searches.{ErrorMakers, MatcherFacts, IsLineFault}
+use Rattle.grep_definitions.specs.Settings.{Settings}
+use Rattle.grep_definitions.specs.SinkRuns.{Steps, all_true, AreReported}
+use Rattle.grep_walk.specs.declared.look_ahead.Ahead.{Ahead}
+use Rattle.grep_walk.specs.declared.walk.Walk.{Walk}
+use Rattle.grep_walk.specs.LookAheads.{IsBounded, IsExact, IsKnown, MayAskAhead, can_skip, known_at, skips}
+use Rattle.grep_walk.specs.Walks.{is_over, line_end, line_turns, next_walk, walk_past}
+use Rattle.grep_walk.specs.Windows.{HasSearched}
+use Rattle.grep_walk.proofs.LineRangeLemmas.{line-at, lines-between, starts-ordered}
+use Rattle.grep_walk.proofs.WalkLemmas.{Bare}
+use Rattle.grep_walk.proofs.WindowLemmas.{start-same}
+use Rattle.grep_walk.proofs.WindowSearchLemmas.{asked-ahead, failed-matcher, searched-next}
+
+-- what a walk that may skip lines has
+record IsSkipping (k : Settings) (w : Walk) : Type 0 where
+  plain : k.invert_match ≡ false
+  selects : k.passthru ≡ false
+  none_left : w.after_context_left ≡ 0
+  unstopped : (k.stop_on_nonmatch && nat_lt 0 w.match_count) ≡ false
+
+is_skipping : (k : Settings) (w : Walk) → can_skip k w ≡ true → IsSkipping k w
+is_skipping k w can =
+    let c = both_true (not k.invert_match && not k.passthru && w.after_context_left == 0)
+    (not (k.stop_on_nonmatch && nat_lt 0 w.match_count)) can in
+    let b = both_true (not k.invert_match && not k.passthru) (w.after_context_left == 0) c.0 in
+    let a = both_true (not k.invert_match) (not k.passthru) b.0 in
+    record {
+      plain = not_false k.invert_match a.0;
+      selects = not_false k.passthru a.1;
+      none_left = eqb-true w.after_context_left 0 b.1;
+      unstopped = not_false (k.stop_on_nonmatch && nat_lt 0 w.match_count) c.1;
+    }
+
+-- walks of the same numbers are the same
+same-walk : (w : Walk) (offset line reported left count : ℕ) → offset ≡ w.offset → line ≡ w.line → reported ≡ w.reported_through
+    → left ≡ w.after_context_left → count ≡ w.match_count
+    → record { offset = offset; line = line; reported_through = reported; after_context_left = left; match_count = count } ≡ w
+same-walk w offset line reported left count a b c d e = rw (a, b, c, d, e) refl
+
+and-false : (b : Bool) → (b && false) ≡ false
+and-false true = refl
+and-false false = refl
+
+module _ (k : Settings) (meaning : Meaning) (window : List ℕ) where
+  -- at first nothing is known
+  pub known-nothing : (p : ℕ) → IsKnown k meaning window p (record { misses = 0; hits = 0 })
+  known-nothing p = record {
+    index = 0;
+    at = record { listed = omega arith; begins = refl };
+    exact = λ some. absurd (omega (arith, some));
+    miss = λ i a b line low high. absurd (omega (arith, high));
+    hit = λ i a b line low high. absurd (omega (arith, high));
+  }
+
+  -- what is known from a position on is known from a later one on
+  pub known-later : (p r : ℕ) (a : Ahead) → p ≤ r → IsKnown k meaning window p a → IsKnown k meaning window r a
+  known-later p r a low known = record {
+    index = known.index;
+    at = known.at;
+    exact = known.exact;
+    miss = λ i x y line above below. known.miss i x y line (omega (arith, low, above)) below;
+    hit = known.hit;
+  }
+
+  -- and is so of the line there
+  pub known-line : (a : Ahead) (i p q : ℕ) → IsKnown k meaning window p a → IsLine (byte_of k.line_terminator) window i p q
+      → IfSome (known_at a p) (λ matches. matches ≡ matches_line k meaning (slice window p q))
+  known-line a i p q known line = go (nat_lt p a.misses) (nat_lt p a.hits) refl refl
+    where
+      go : (b c : Bool) → nat_lt p a.misses ≡ b → nat_lt p a.hits ≡ c
+          → IfSome (if b then Some false else (if c then Some true else None)) (λ m. m ≡ matches_line k meaning (slice window p q))
+      go true c is_b is_c = sym (known.miss i p q line (omega arith) (ltb-true p a.misses is_b))
+      go false true is_b is_c = sym (known.hit i p q line (ltb-false p a.misses is_b) (ltb-true p a.hits is_c))
+      go false false is_b is_c = tt
+
+-- what a turn of a walk has of the line from p up to q that it decides
+pub record HasLine {S E : Type 0} (step : Steps S E) (k : Settings) (meaning : Meaning) (gone window input : List ℕ) (first : S)
+    (p q : ℕ) (w : Walk) (now : S) (known : Option Bool) : Type 0 where
+  pub here : HasSearched step k meaning gone window input first p w now
+  pub line : (i : ℕ) → IsLineStart (byte_of k.line_terminator) window p i → IsLine (byte_of k.line_terminator) window i p q
+  pub agrees : IfSome known (λ matches. matches ≡ matches_line k meaning (slice window p q))
+
+module _ {S E F : Type 0} (join : LinesJoin) (append : LinesAppend) (step : Steps S E) (errors : ErrorMakers E)
+    (matcher : MatcherFacts F) (k : Settings) (gone window input : List ℕ) (first now : S) (bare : Bare k matcher.meaning input) where
+  abbrev t : ℕ
+  t = byte_of k.line_terminator
+
+  abbrev Searched : ℕ → Walk → Type 0
+  Searched p w = HasSearched step k matcher.meaning gone window input first p w now
+
+  -- the lines from one position up to another don't match
+  abbrev Misses : ℕ → ℕ → Type 0
+  Misses p q = (i a b : ℕ) → IsLine t window i a b → p ≤ a → a < q → matches_line k matcher.meaning (slice window a b) ≡ false
+
+  abbrev moved : Walk → ℕ → ℕ → Walk
+  moved w bytes count = record w { offset = w.offset + bytes; line = w.line + count }
+
+  -- the line that a walk is at
+  line-there : (w : Walk) (p : ℕ) → Searched p w → p < length window
+      → (q : ℕ) × (p < q) × (q ≤ length window) × ((i : ℕ) → IsLineStart t window p i → IsLine t window i p q)
+  line-there w p so_far less =
+      let i = w.line - length (lines t gone) in
+      let from = so_far.inside.line.begins in
+      let listed : i < length (lines t window) = ⊎_elim (λ below. below)
+      (λ over. let all : length (lines t window) ≡ i = omega (arith, over, from.listed) in
+      absurd (omega (arith, less, from.begins, ap (line_start t window) all, line_start-last join t window)))
+      (cases_lt i (length (lines t window))) in
+      let line = subst (λ s. IsLine t window i s (line_start t window (i + 1))) from.begins (line-at t window i listed) in (
+        line_start t window (i + 1),
+        line.above,
+        line.within,
+        λ j start. subst (λ m. IsLine t window m p (line_start t window (i + 1)))
+            (start-same join append t window p i j from start) line,
+      )
+
+  -- the matcher's error for the lines from there on
+  pub failed-ahead : (w : Walk) (p : ℕ) → Searched p w → p < length window → MayAskAhead k matcher.meaning w
+      → (error : F) (e : E) → errors.is_message (matcher.text_of error) e → matcher.fails (drop p window) error
+      → IsLineFault step errors matcher k input first e now
+  failed-ahead w p so_far less may error e message fails =
+      let there = line-there w p so_far less in
+      failed-matcher step errors matcher k gone window input first bare p there.0 w now so_far there.1 there.2 there.3 may.room
+      (drop p window) error e
+      (asked-ahead step errors matcher k gone window input first bare p there.0 w now so_far there.1 there.2 there.3 join may)
+      message fails
+
+  -- one line is skipped
+  searched-one : (w : Walk) (p q i : ℕ) → Searched p w → IsSkipping k w → IsLine t window i p q
+      → matches_line k matcher.meaning (slice window p q) ≡ false → Searched q (moved w (q - p) 1)
+  searched-one w p q i so_far skipping line missed = subst (Searched q) same
+      (searched-next step errors matcher k gone window input first bare p q w now so_far line.above line.within there false value now
+      silent goes_on)
+    where
+      here : List ℕ
+      here = slice window p q
+
+      there : (j : ℕ) → IsLineStart t window p j → IsLine t window j p q
+      there j start = subst (λ m. IsLine t window m p q)
+          (start-same join append t window p i j (record { listed = omega (arith, line.listed); begins = line.begins }) start) line
+
+      full : Bool
+      full = is_at w.match_count k.max_matches
+
+      value : false ≡ (not full && differ (matches_line k matcher.meaning here) k.invert_match)
+      value = sym (ap (λ m. not full && differ m k.invert_match) missed
+          ∙ (ap (λ v. not full && differ false v) skipping.plain ∙ and-false (not full)))
+
+      none_left : nat_lt 0 w.after_context_left ≡ false
+      none_left = ap (nat_lt 0) skipping.none_left
+
+      silent : AreReported step k now (line_turns k input w here false) all_true now
+      silent = go (nat_lt 0 w.after_context_left) k.passthru none_left skipping.selects
+        where
+          go : (a b : Bool) → a ≡ false → b ≡ false → AreReported step k now
+              (if a then context_turns After (number_of k w.line) w.offset (line_end w here) here
+              else (if b then context_turns Other (number_of k w.line) w.offset (line_end w here) here else [])) all_true now
+          go true b is_a is_b = cc
+          go false true is_a is_b = cc
+          go false false is_a is_b = (refl, refl)
+
+      room : full ≡ false
+      room = ⊎_elim
+          (λ is. absurd (omega (arith, skipping.none_left, (so_far.reported.walk.opened.filled skipping.selects is).3)))
+          (λ is. is)
+          (cases_Bool full)
+
+      goes_on : is_over k (next_walk k w here false) false ≡ false
+      goes_on = ap (λ x. (x && true) || ((not k.passthru && full) && (w.after_context_left - 1 == 0))) skipping.unstopped
+          ∙ (ap (λ y. (not k.passthru && y) && (w.after_context_left - 1 == 0)) room
+          ∙ ap (λ z. z && (w.after_context_left - 1 == 0)) (and-false (not k.passthru)))
+
+      same : next_walk k w here false ≡ moved w (q - p) 1
+      same = same-walk (moved w (q - p) 1) _ _ _ _ _ (omega (arith, length-take (q - p) (drop p window), length-drop p window, line.within))
+          refl
+          (ap (λ b. if b then w.line + 1 else w.reported_through)
+          (ap (λ b. b || k.passthru) none_left ∙ skipping.selects))
+          (omega (arith, skipping.none_left)) refl
+
+  -- many lines are skipped
+  searched-lines : (n : ℕ) (w : Walk) (p q i : ℕ) → Searched p w → IsSkipping k w → IsLineStart t window p i
+      → IsLineStart t window q (i + n) → Misses p q → Searched q (moved w (q - p) n)
+  searched-lines zero w p q i so_far skipping from to misses =
+      let plain : i ≡ i + zero = omega arith in
+      let same : p ≡ q = sym from.begins ∙ (ap (line_start t window) plain ∙ to.begins) in
+      subst (λ r. Searched r (moved w (q - p) zero)) same
+      (subst (Searched p) (sym (same-walk w _ _ _ _ _ (omega (arith, same)) (omega arith) refl refl refl)) so_far)
+  searched-lines (suc n) w p q i so_far skipping from to misses =
+      let end = line_start t window (i + 1) in
+      let line = subst (λ s. IsLine t window i s end) from.begins (line-at t window i (omega (arith, to.listed))) in
+      let within : end ≤ q = omega (arith, line_start-le t window (i + 1) (i + suc n) (omega arith), to.begins) in
+      let one = searched-one w p end i so_far skipping line (misses i p end line (omega arith) (omega (arith, line.above, within))) in
+      let sum : (i + 1) + n ≡ i + suc n = omega arith in
+      let later = searched-lines n (moved w (end - p) 1) end q (i + 1) one
+      (record {
+        plain = skipping.plain;
+        selects = skipping.selects;
+        none_left = skipping.none_left;
+        unstopped = skipping.unstopped;
+      })
+      (record { listed = omega (arith, to.listed); begins = refl })
+      (subst (IsLineStart t window q) (sym sum) to)
+      (λ j a b line low high. misses j a b line (omega (arith, low, line.above)) high) in
+      subst (Searched q)
+      (same-walk (moved w (q - p) (suc n)) _ _ _ _ _ (omega (arith, line.above, within)) (omega arith) refl refl refl) later
+
+  -- the lines that don't match are skipped, if the walk may skip them
+  pub searched-skipped : (w : Walk) (p : ℕ) (a : Ahead) → Searched p w → a.misses ≤ length window
+      → IsKnown k matcher.meaning window p a
+      → Searched (if skips k w p a.misses then a.misses else p)
+      (if skips k w p a.misses then walk_past k w (slice window p a.misses) else w)
+  searched-skipped w p a so_far within known = go (skips k w p a.misses) refl
+    where
+      go : (b : Bool) → skips k w p a.misses ≡ b
+          → Searched (if b then a.misses else p) (if b then walk_past k w (slice window p a.misses) else w)
+      go false is = so_far
+      go true is =
+          let parts = both_true (nat_lt p a.misses) (can_skip k w) is in
+          let less = ltb-true p a.misses parts.0 in
+          let i = w.line - length (lines t gone) in
+          let from = so_far.inside.line.begins in
+          let ordered = starts-ordered join t window p a.misses i known.index from known.at (omega (arith, less)) in
+          let sum : i + (known.index - i) ≡ known.index = omega (arith, ordered) in
+          let many = lines-between t window p a.misses i known.index from known.at (omega (arith, less)) within ordered in
+          let size : w.offset + (a.misses - p) ≡ w.offset + length (slice window p a.misses) =
+          omega (arith, length-take (a.misses - p) (drop p window), length-drop p window, within) in
+          subst (Searched a.misses)
+          (same-walk (walk_past k w (slice window p a.misses)) _ _ _ _ _ size (ap (λ n. w.line + n) (sym many)) refl refl refl)
+          (searched-lines (known.index - i) w p a.misses i so_far (is_skipping k w parts.1) from
+          (subst (IsLineStart t window a.misses) (sym sum) known.at) known.miss)
+
+  pub searched-on : (w : Walk) (p : ℕ) (a : Ahead) → Searched p w → a.misses ≤ length window → IsKnown k matcher.meaning window p a
+      → (r : ℕ) (next : Walk) → r ≡ (if skips k w p a.misses then a.misses else p)
+      → next ≡ (if skips k w p a.misses then walk_past k w (slice window p a.misses) else w) → Searched r next
+  searched-on w p a so_far within known r next is_r is_next = subst (λ q. Searched q next) (sym is_r)
+      (subst (Searched (if skips k w p a.misses then a.misses else p)) (sym is_next) (searched-skipped w p a so_far within known))
+
+  -- the line that the walk decides after that
+  pub line-reached : (w : Walk) (p : ℕ) (a : Ahead) → Searched p w → IsBounded window a → IsKnown k matcher.meaning window p a
+      → (r : ℕ) (next : Walk) → p ≤ r → r ≡ (if skips k w p a.misses then a.misses else p)
+      → next ≡ (if skips k w p a.misses then walk_past k w (slice window p a.misses) else w)
+      → (b q : ℕ) → b ≡ t → (IsExact b window a → (i : ℕ) → IsLineStart b window r i → IsLine b window i r q)
+      → (o : Option Bool) → o ≡ known_at a r → HasLine step k matcher.meaning gone window input first r q next now o
+  line-reached w p a so_far bounded known r next low is_r is_next b q is_b ends o is_o =
+      let here = searched-on w p a so_far (omega (arith, bounded.ordered, bounded.within)) known r next is_r is_next in
+      let line = subst (λ b. IsExact b window a → (i : ℕ) → IsLineStart b window r i → IsLine b window i r q) is_b ends known.exact in
+      record {
+        here = here;
+        line = line;
+        agrees = subst (λ o. IfSome o (λ m. m ≡ matches_line k matcher.meaning (slice window r q))) (sym is_o)
+            (known-line k matcher.meaning window a _ r q (known-later k matcher.meaning window p r a low known)
+            (line _ here.inside.line.begins));
+      }

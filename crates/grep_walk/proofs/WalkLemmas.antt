@@ -1,0 +1,438 @@
+-- A walk over lines, against the calls that are defined.
+use Rattle.std.proofs.Common.{◌≡◌, ℕ, ◌+◌, ◌-◌, ◌<◌, ◌≤◌, Bool, true, false, not, ◌&&◌, List, [], ◌∷◌, ◌++◌, length, take, drop}
+use Rattle.std.proofs.Common.{refl, sym, ◌∙◌, ap, subst, arith, ⊎_elim, inl, inr, Some, None, Ok, Err, if◌then◌else◌}
+use Rattle.std.proofs.Common.{length-take, length-drop}
+use Rattle.std.proofs.lemmas.Bool.{lt-ltb, le-leb, lt-leb, eqb-true, cases_lt}
+use Rattle.std.proofs.lemmas.List.{append-nil}
+use Rattle.std.proofs.lemmas.List.Elements.{All-nil, All-cons, All-append, All-weaker, filter-append}
+use Rattle.std.specs.Prelude.{nat_lt, nat_le, ◌==◌, count_by, All, filter}
+use Rattle.grep_matcher.specs.Terminators.{byte_of}
+use Rattle.grep_matcher.specs.Lines.{lines}
+use Rattle.grep_matcher.specs.Matching.{Meaning}
+use Rattle.grep_lines.specs.Positions.{slice, IsLine, IsLineStart}
+use Rattle.grep_report.specs.declared.sink_context.SinkContextKind.TheVariants.{After, Other}
+use Rattle.grep_definitions.specs.Settings.{Settings}
+use Rattle.grep_definitions.specs.SinkCalls.{Turn, begins, context}
+use Rattle.grep_definitions.specs.Below.{is_at, joined_from}
+use Rattle.grep_definitions.specs.LineSearch
+use Rattle.grep_definitions.specs.LineSearch.{differ, turns_at, turns, turns_through, byte_count, in_context}
+use Rattle.grep_definitions.specs.LineTurns.{context_turns, match_turns, pending_turns, matches_line, number_of}
+use Rattle.grep_definitions.specs.SinkRuns.{Steps, Outcome, all_true, stopped, failed, AreReported}
+use Rattle.grep_definitions.specs.Searches.{ErrorMakers, MatcherFacts, IsLineFault, of_sink, of_matcher}
+use Rattle.grep_definitions.specs.LineWalks.{IsNear, IsOpen}
+use Rattle.grep_definitions.specs.Questions.{IsAsked}
+use Rattle.grep_definitions.proofs.SinkRunLemmas.{AreReported-append, AreReported-ended}
+use Rattle.grep_definitions.proofs.BelowLemmas.{joined_from-equal, joined_from-none, headed-through, headed-many}
+use Rattle.grep_definitions.proofs.LimitLemmas.{IsOpen-none, IsOpen-chosen, IsOpen-missed, turn_above, turn_all}
+use Rattle.grep_definitions.proofs.LimitLemmas.{IsDone, IsDone-chosen, IsDone-limit, IsDone-stop, IsDone-none, selected-is, chosen-is}
+use Rattle.grep_definitions.proofs.SelectionLemmas.{headed-missed}
+use Rattle.grep_definitions.proofs.ContextLemmas.{IsNear-none, IsNear-hit, IsNear-missed, turns_at-done}
+use Rattle.grep_definitions.proofs.ContextLemmas.{turns_at-passed, turns_at-hit, turns_at-after, turns_at-other}
+use Rattle.grep_definitions.proofs.TurnEndLemmas.{ends-one, ends-pending, ends-match, ends-late, ends-passed}
+use Rattle.grep_walk.specs.declared.walk.Walk.{Walk}
+use Rattle.grep_walk.specs.Walks.{IsPlaced, IsWalk, HasReported, line_end, line_turns, next_walk, is_over, reports_line, Counted}
+use Rattle.grep_definitions.proofs.BoolLemmas.{above_zero, both_true, clash, neither, not_false, or-cases}
+use Rattle.grep_definitions.proofs.ListLemmas.{All-joined_from, filter-all, filter-none}
+
+module _ (k : Settings) (meaning : Meaning) (bytes : List ℕ) where
+  abbrev pub t : ℕ
+  t = byte_of k.line_terminator
+
+  abbrev pub n : ℕ
+  n = length (lines t bytes)
+
+  abbrev pub T : ℕ → List Turn
+  T = turns_at k meaning bytes
+
+  abbrev pub turned : ℕ
+  turned = LineSearch.turn_count k meaning bytes
+
+  abbrev pub starts : ℕ → ℕ
+  starts = LineSearch.start k meaning bytes
+
+  abbrev pub Bare : Type 0
+  Bare = k.passthru ≡ true → (k.after_context ≡ 0) × (k.before_context ≡ 0)
+
+  -- `begin`, and the calls of the first i lines
+  abbrev pub front : ℕ → List Turn
+  front i = record { call = begins; end = 0 } ∷ joined_from T 0 i
+
+  abbrev pub start_walk : Walk
+  start_walk = record { offset = 0; line = 0; reported_through = 0; after_context_left = 0; match_count = 0 }
+
+  pub placed-start : IsPlaced k meaning bytes start_walk
+  placed-start = record {
+    at = record { listed = omega arith; begins = refl };
+    inside = omega arith;
+    low = omega arith;
+    few = omega arith;
+  }
+
+  walk-start : (k.passthru ≡ false → is_at 0 k.max_matches ≡ true → ⊥) → IsWalk k meaning bytes start_walk
+  walk-start busy = record {
+    placed = placed-start;
+    near = IsNear-none k meaning bytes;
+    opened = IsOpen-none k meaning bytes busy;
+    ended = All-cons (λ turn. turn.end ≤ 0) (record { call = begins; end = 0 }) [] (omega arith) (All-nil (λ turn. turn.end ≤ 0));
+  }
+
+  front-through : (v i : ℕ) → v ≤ i → front i ≡ front v ++ joined_from T v (i - v)
+  front-through = headed-through (record { call = begins; end = 0 }) T
+
+  -- the line that a walk is at
+  module _ (w : Walk) (start end : ℕ) (same : w.offset ≡ start) (line : IsLine t bytes w.line start end) where
+    abbrev pub here : List ℕ
+    here = slice bytes start end
+
+    pub end-is : line_end w here ≡ end
+    end-is = omega (arith, length-take (end - start) (drop start bytes), length-drop start bytes, line.above, line.within)
+
+    start-is : starts w.line ≡ w.offset
+    start-is = line.begins ∙ sym same
+
+    pub start-after : starts (w.line + 1) ≡ line_end w here
+    start-after = line.ends ∙ sym end-is
+
+    -- the line after it
+    after : IsLineStart t bytes (line_end w here) (w.line + 1)
+    after = record { listed = omega (arith, line.listed); begins = start-after }
+
+    within : line_end w here ≤ length bytes
+    within = omega (arith, end-is, line.within)
+
+    -- where the walk is after the line
+    pub placed-next : IsPlaced k meaning bytes w → (chosen : Bool) → IsPlaced k meaning bytes (next_walk k w here chosen)
+    placed-next placed chosen = record { at = after; inside = within; low = low (reports_line k w chosen); few = few chosen }
+      where
+        low : (b : Bool) → (if b then w.line + 1 else w.reported_through) ≤ w.line + 1
+        low true = omega arith
+        low false = omega (arith, placed.low)
+
+        few : (b : Bool) → (if b then w.match_count + 1 else w.match_count) ≤ w.line + 1
+        few true = omega (arith, placed.few)
+        few false = omega (arith, placed.few)
+
+    -- the line's calls end with it
+    ends-line : (chosen : Bool) → All (λ turn. turn.end ≤ line_end w here) (line_turns k bytes w here chosen)
+    ends-line chosen = All-weaker (λ turn. turn.end ≡ line_end w here) (λ turn. turn.end ≤ line_end w here) (λ turn is. omega (arith, is))
+        (line_turns k bytes w here chosen) (go chosen (nat_lt 0 w.after_context_left) k.passthru)
+      where
+        E : Turn → Type 0
+        E turn = turn.end ≡ line_end w here
+
+        go : (b a p : Bool) → All E (if b
+            then pending_turns k bytes w.reported_through w.line (line_end w here) w.reported_through (w.line - w.reported_through)
+            ++ match_turns k w.reported_through w.line w.offset (line_end w here) here
+            else (if a then context_turns After (number_of k w.line) w.offset (line_end w here) here
+            else (if p then context_turns Other (number_of k w.line) w.offset (line_end w here) here else [])))
+        go true a p = All-append E _ _
+            (ends-pending k bytes w.reported_through w.line (line_end w here) w.reported_through (w.line - w.reported_through))
+            (ends-match k bytes w.reported_through w.line (line_end w here) w.offset here)
+        go false true p = ends-one (context After (number_of k w.line) w.offset here) (line_end w here)
+        go false false true = ends-one (context Other (number_of k w.line) w.offset here) (line_end w here)
+        go false false false = All-nil E
+
+    -- what is known of the line, by whether it is chosen
+    module _ (bare : Bare) (walk : IsWalk k meaning bytes w) where
+      has : w.line < turned
+      has = turn_above k meaning bytes w.line w.after_context_left w.match_count walk.opened line.listed
+
+      number-is : LineSearch.number k meaning bytes w.line ≡ number_of k w.line
+      number-is =
+          ap (λ p. if k.line_number then Some (count_by (λ b. b == t) (take p bytes) + 1) else None) line.begins
+          ∙ ap (λ c. if k.line_number then Some (c + 1) else None) line.number
+
+      pub chosen-here : (b : Bool)
+          → b ≡ (not (is_at w.match_count k.max_matches) && differ (matches_line k meaning here) k.invert_match)
+          → LineSearch.is_chosen k meaning bytes w.line ≡ b
+      chosen-here b is =
+          let inside = lt-ltb w.line n line.listed in
+          let hits : LineSearch.hits k meaning bytes w.line
+          ≡ differ (matches_line k meaning here) k.invert_match = rw (inside, line.line) refl in
+          chosen-is k meaning bytes w.line w.after_context_left w.match_count walk.opened
+          ∙ (ap (λ h. h && not (is_at w.match_count k.max_matches)) hits
+          ∙ (swap (differ (matches_line k meaning here) k.invert_match) (not (is_at w.match_count k.max_matches)) ∙ sym is))
+        where
+          swap : (a b : Bool) → (a && b) ≡ (b && a)
+          swap true true = refl
+          swap true false = refl
+          swap false true = refl
+          swap false false = refl
+
+      selected : (b : Bool) → LineSearch.is_chosen k meaning bytes w.line ≡ b → LineSearch.is_selected k meaning bytes w.line ≡ b
+      selected b is = selected-is k meaning bytes w.line w.after_context_left w.match_count walk.opened ∙ is
+
+      pending-is : LineSearch.is_selected k meaning bytes w.line ≡ true
+          → joined_from T w.reported_through (w.line - w.reported_through)
+          ≡ pending_turns k bytes w.reported_through w.line (line_end w here) w.reported_through (w.line - w.reported_through)
+      pending-is hit = joined_from-equal T _ w.reported_through (w.line - w.reported_through) (λ j low high.
+          turns_at-passed k meaning bytes w.reported_through w.line w.after_context_left walk.near line.listed has hit
+          j _ (line_end w here) _ low (omega (arith, walk.near.low)) refl start-after refl)
+
+      hit-is : LineSearch.is_selected k meaning bytes w.line ≡ true → T w.line
+          ≡ match_turns k w.reported_through w.line w.offset (line_end w here) here
+      hit-is hit = turns_at-hit k meaning bytes w.reported_through w.line w.after_context_left walk.near line.listed has hit
+          w.offset (line_end w here) _ number-is start-is start-after line.line
+
+      -- the calls of the line
+      pub front-step : (chosen : Bool) → LineSearch.is_chosen k meaning bytes w.line ≡ chosen
+          → front (next_walk k w here chosen).reported_through ≡ front w.reported_through ++ line_turns k bytes w here chosen
+      front-step true is =
+          let hit = selected true is in
+          let pending = pending_turns k bytes w.reported_through w.line (line_end w here) w.reported_through
+          (w.line - w.reported_through) in
+          headed-many (record { call = begins; end = 0 }) T w.reported_through w.line walk.near.low
+          ∙ (ap (λ xs. front w.reported_through ++ (xs ++ T w.line)) (pending-is hit)
+          ∙ ap (λ xs. front w.reported_through ++ (pending ++ xs)) (hit-is hit))
+      front-step false is =
+          headed-missed k (LineSearch.is_selected k meaning bytes) n turned w.reported_through w.line w.after_context_left walk.near
+          (record { call = begins; end = 0 }) T _ _ after_is other_is
+        where
+          miss : LineSearch.is_selected k meaning bytes w.line ≡ false
+          miss = selected false is
+
+          after_is : 0 < w.after_context_left → T w.line ≡ context_turns After (number_of k w.line) w.offset (line_end w here) here
+          after_is some =
+              turns_at-after k meaning bytes w.reported_through w.line w.after_context_left walk.near line.listed has
+              w.offset (line_end w here) _ miss some number-is start-is start-after line.line
+
+          other_is : w.after_context_left ≡ 0 → k.passthru ≡ true
+              → T w.line ≡ context_turns Other (number_of k w.line) w.offset (line_end w here) here
+          other_is none is_p =
+              turns_at-other k meaning bytes w.reported_through w.line w.after_context_left walk.near line.listed has
+              w.offset (line_end w here) _ miss none is_p (bare is_p).1 number-is start-is start-after line.line
+
+      pub near-next : (chosen : Bool) → LineSearch.is_chosen k meaning bytes w.line ≡ chosen
+          → IsNear k meaning bytes (next_walk k w here chosen).reported_through (w.line + 1)
+          (next_walk k w here chosen).after_context_left
+      near-next true is = IsNear-hit k meaning bytes w.reported_through w.line w.after_context_left walk.near line.listed has
+          (selected true is)
+      near-next false is =
+          IsNear-missed k meaning bytes w.reported_through w.line w.after_context_left walk.near line.listed has
+          (λ is_p. (bare is_p).1) (selected false is)
+
+      open-next : (chosen : Bool) → LineSearch.is_chosen k meaning bytes w.line ≡ chosen → is_over k (next_walk k w here chosen) chosen
+          ≡ false
+          → IsOpen k meaning bytes (w.line + 1) (next_walk k w here chosen).after_context_left (next_walk k w here chosen).match_count
+      open-next true is goes =
+          let parts = neither _ _ goes in
+          IsOpen-chosen k meaning bytes w.line w.after_context_left w.match_count walk.opened line.listed is
+          (λ plain full. above_zero (not k.passthru) (is_at (w.match_count + 1) k.max_matches) k.after_context parts.1
+          (ap not plain) full)
+      open-next false is goes =
+          let parts = neither _ _ goes in
+          IsOpen-missed k meaning bytes w.line w.after_context_left w.match_count walk.opened line.listed is
+          (λ stop. ⊎_elim
+          (λ some. absurd (clash
+          (let yes = lt-ltb 0 w.match_count some in let all : (k.stop_on_nonmatch && nat_lt 0 w.match_count && true)
+          ≡ true = ap (λ s. s && nat_lt 0 w.match_count && true) stop ∙ ap (λ s. s && true) yes in all) parts.0))
+          (λ none. omega arith)
+          (cases_lt 0 w.match_count))
+          (λ plain full. let more = above_zero (not k.passthru) (is_at w.match_count k.max_matches) (w.after_context_left - 1) parts.1
+          (ap not plain) full in omega arith)
+
+      pub walk-next : (chosen : Bool) → LineSearch.is_chosen k meaning bytes w.line ≡ chosen
+          → is_over k (next_walk k w here chosen) chosen ≡ false
+          → IsWalk k meaning bytes (next_walk k w here chosen)
+      walk-next chosen is goes = record {
+        placed = placed-next walk.placed chosen;
+        near = near-next chosen is;
+        opened = open-next chosen is goes;
+        ended = subst (All (λ turn. turn.end ≤ line_end w here)) (sym (front-step chosen is))
+            (All-append (λ turn. turn.end ≤ line_end w here) (front w.reported_through) (line_turns k bytes w here chosen)
+            (All-weaker (λ turn. turn.end ≤ w.offset) (λ turn. turn.end ≤ line_end w here) (λ turn low. omega (arith, low))
+            (front w.reported_through) walk.ended)
+            (ends-line chosen));
+      }
+
+      pub done-next : (chosen : Bool) → LineSearch.is_chosen k meaning bytes w.line ≡ chosen
+          → is_over k (next_walk k w here chosen) chosen ≡ true
+          → IsDone k meaning bytes (w.line + 1)
+      done-next true is over = ⊎_elim
+          (λ stop. absurd (clash (both_true _ _ stop).1 refl))
+          (λ full.
+          let outer = both_true _ _ full in
+          let inner = both_true _ _ outer.0 in
+          IsDone-chosen k meaning bytes w.line w.after_context_left w.match_count walk.opened line.listed is (not_false _ inner.0) inner.1
+          (eqb-true _ _ outer.1))
+          (or-cases _ _ over)
+      done-next false is over = ⊎_elim
+          (λ stop.
+          let outer = both_true _ _ stop in
+          let inner = both_true _ _ outer.0 in
+          IsDone-stop k meaning bytes w.line w.after_context_left w.match_count walk.opened line.listed is inner.0 inner.1)
+          (λ full.
+          let outer = both_true _ _ full in
+          let inner = both_true _ _ outer.0 in
+          let none : w.after_context_left - 1 ≡ 0 = eqb-true (w.after_context_left - 1) 0 outer.1 in
+          IsDone-limit k meaning bytes w.line w.after_context_left w.match_count walk.opened line.listed is (not_false _ inner.0) inner.1
+          (omega arith))
+          (or-cases _ _ over)
+
+      -- just the calls so far end at or before the start of the line
+      through-is : turns_through k meaning bytes (starts w.line) ≡ front w.reported_through
+      through-is =
+          let split = ap (filter passes) (front-through w.reported_through turned (omega (arith, has, walk.near.low)))
+          ∙ filter-append passes (front w.reported_through) (joined_from T w.reported_through (turned - w.reported_through)) in
+          let early = filter-all passes (front w.reported_through) (All-weaker (λ turn. turn.end ≤ w.offset) (λ turn. passes turn ≡ true)
+          (λ turn low. le-leb turn.end (starts w.line) (omega (arith, low, start-is))) (front w.reported_through) walk.ended) in
+          let late = filter-none passes (joined_from T w.reported_through (turned - w.reported_through))
+          (All-joined_from (λ turn. passes turn ≡ false) T w.reported_through (turned - w.reported_through) (λ j low high. later j low))
+          in
+          split ∙ (ap (λ xs. xs ++ filter passes (joined_from T w.reported_through (turned - w.reported_through))) early
+          ∙ (ap (λ xs. front w.reported_through ++ xs) late ∙ append-nil (front w.reported_through)))
+        where
+          passes : Turn → Bool
+          passes turn = nat_le turn.end (starts w.line)
+
+          fails : (turn : Turn) → starts (w.line + 1) ≤ turn.end → passes turn ≡ false
+          fails turn low = lt-leb turn.end (starts w.line) (omega (arith, low, line.begins, line.ends, line.above))
+
+          later : (j : ℕ) → w.reported_through ≤ j → All (λ turn. passes turn ≡ false) (T j)
+          later j low = All-weaker (λ turn. starts (w.line + 1) ≤ turn.end) (λ turn. passes turn ≡ false) fails (T j)
+              (⊎_elim (λ less. ends-passed k meaning bytes w.reported_through w.line w.after_context_left walk.near j low less)
+              (λ above. ends-late k meaning bytes w.line j above) (cases_lt j w.line))
+
+  -- after the last line
+  done-end : (w : Walk) → IsWalk k meaning bytes w → w.line ≡ n → IsDone k meaning bytes w.line
+  done-end w walk all = record {
+    last = turn_all k meaning bytes w.after_context_left w.match_count
+        (subst (λ i. IsOpen k meaning bytes i w.after_context_left w.match_count) all walk.opened) ∙ sym all;
+    silent = λ q low below. absurd (omega (arith, all));
+  }
+
+  -- after the last turn nothing is reported of the lines that were passed
+  rest-is : (w : Walk) → IsNear k meaning bytes w.reported_through w.line w.after_context_left → IsDone k meaning bytes w.line
+      → joined_from T w.reported_through (turned - w.reported_through) ≡ []
+  rest-is w near done = joined_from-none T w.reported_through (turned - w.reported_through) (λ j low high.
+      turns_at-done k meaning bytes w.reported_through w.line w.after_context_left near done.silent j low
+      (omega (arith, done.last, near.low)))
+
+  module _ {S E : Type 0} (step : Steps S E) (old : S) where
+    -- what ended early ended the whole
+    AreReported-whole : (i : ℕ) (outcome : Outcome E) (new : S) → i ≤ turned → (outcome ≡ all_true → ⊥)
+        → AreReported step k old (front i) outcome new → AreReported step k old (turns k meaning bytes) outcome new
+    AreReported-whole i outcome new inside ended reported =
+        subst (λ ts. AreReported step k old ts outcome new) (sym (front-through i turned inside))
+        (AreReported-ended step k (front i) (joined_from T i (turned - i)) old outcome new ended reported)
+
+    abbrev IsCounted : ℕ → Outcome E → S → Type 0
+    IsCounted count outcome new = Counted step k old (turns k meaning bytes) (byte_count k meaning bytes) count outcome new
+
+    -- no more calls are to come
+    counted-done : (w : Walk) (new : S) → IsLineStart t bytes w.offset w.line
+        → IsNear k meaning bytes w.reported_through w.line w.after_context_left → IsDone k meaning bytes w.line
+        → AreReported step k old (front w.reported_through) all_true new → IsCounted w.offset all_true new
+    counted-done w new at near done reported = record {
+      reported = subst (λ ts. AreReported step k old ts all_true new)
+          (sym (front-through w.reported_through turned (omega (arith, done.last, near.low))))
+          (AreReported-append step k (front w.reported_through) (joined_from T w.reported_through (turned - w.reported_through)) old new
+          all_true
+          new reported
+          (subst (λ ts. AreReported step k new ts all_true new) (sym (rest-is w near done)) (refl, refl)));
+      is_count = sym at.begins ∙ ap starts (sym done.last);
+    }
+
+    pub counted-end : (w : Walk) (new : S) → HasReported k meaning bytes step old w new → w.line ≡ n → IsCounted w.offset all_true new
+    counted-end w new so_far all = counted-done w new so_far.walk.placed.at so_far.walk.near (done-end w so_far.walk all) so_far.reported
+
+    pub counted-unbegun : (new : S) → step old k begins (Ok false) new → IsCounted 0 (stopped 0) new
+    counted-unbegun new stops = record { reported = inr (inl (refl, stops)); is_count = refl }
+
+    reported-begin : (new : S) → step old k begins (Ok true) new → AreReported step k old (front 0) all_true new
+    reported-begin new goes = inl (new, goes, (refl, refl))
+
+    pub counted-idle : (new : S) → (not k.passthru && is_at 0 k.max_matches) ≡ true → step old k begins (Ok true) new
+        → IsCounted 0 all_true new
+    counted-idle new idle goes =
+        let parts = both_true (not k.passthru) (is_at 0 k.max_matches) idle in
+        counted-done start_walk new (placed-start).at (IsNear-none k meaning bytes)
+        (IsDone-none k meaning bytes (not_false k.passthru parts.0) parts.1) (reported-begin new goes)
+
+    pub reported-start : (new : S) → (not k.passthru && is_at 0 k.max_matches) ≡ false → step old k begins (Ok true) new
+        → HasReported k meaning bytes step old start_walk new
+    reported-start new busy goes = record {
+      walk = walk-start (λ plain full. clash
+          (let all : (not k.passthru && is_at 0 k.max_matches) ≡ true = ap (λ p. not p && is_at 0 k.max_matches) plain ∙ full in all)
+          busy);
+      reported = reported-begin new goes;
+    }
+
+    -- one line
+    module _ (bare : Bare) (w : Walk) (mid : S) (so_far : HasReported k meaning bytes step old w mid)
+        (start end : ℕ) (same : w.offset ≡ start) (line : IsLine t bytes w.line start end) (chosen : Bool)
+        (value : chosen ≡ (not (is_at w.match_count k.max_matches)
+        && differ (matches_line k meaning (here w start end same line)) k.invert_match)) where
+      is : LineSearch.is_chosen k meaning bytes w.line ≡ chosen
+      is = chosen-here w start end same line bare so_far.walk chosen value
+
+      abbrev own : List Turn
+      own = line_turns k bytes w (here w start end same line) chosen
+
+      abbrev next : Walk
+      next = next_walk k w (here w start end same line) chosen
+
+      reported-line : (outcome : Outcome E) (new : S) → AreReported step k mid own outcome new
+          → AreReported step k old (front next.reported_through) outcome new
+      reported-line outcome new reported =
+          subst (λ ts. AreReported step k old ts outcome new) (sym (front-step w start end same line bare so_far.walk chosen is))
+          (AreReported-append step k (front w.reported_through) own old mid outcome new so_far.reported reported)
+
+      few : next.reported_through ≤ turned
+      few = go (reports_line k w chosen)
+        where
+          go : (b : Bool) → (if b then w.line + 1 else w.reported_through) ≤ turned
+          go true = omega (arith, has w start end same line bare so_far.walk)
+          go false = omega (arith, has w start end same line bare so_far.walk, so_far.walk.near.low)
+
+      pub counted-stopped : (new : S) → AreReported step k mid own (stopped (line_end w (here w start end same line))) new
+          → IsCounted (line_end w (here w start end same line)) (stopped (line_end w (here w start end same line))) new
+      counted-stopped new reported = record {
+        reported = AreReported-whole _ (stopped (line_end w (here w start end same line))) new few (λ e. cc)
+            (reported-line (stopped (line_end w (here w start end same line))) new reported);
+        is_count = refl;
+      }
+
+      pub counted-over : (new : S) → AreReported step k mid own all_true new → is_over k next chosen ≡ true
+          → IsCounted next.offset all_true new
+      counted-over new reported over = counted-done next new (after w start end same line)
+          (near-next w start end same line bare so_far.walk chosen is)
+          (done-next w start end same line bare so_far.walk chosen is over)
+          (reported-line all_true new reported)
+
+      pub reported-next : (new : S) → AreReported step k mid own all_true new → is_over k next chosen ≡ false → HasReported k meaning bytes step old next new
+      reported-next new reported goes_on = record {
+        walk = walk-next w start end same line bare so_far.walk chosen is goes_on;
+        reported = reported-line all_true new reported;
+      }
+
+      pub failed-line : (e : E) (new : S) → AreReported step k mid own (failed e) new
+          → AreReported step k old (turns k meaning bytes) (failed e) new
+      failed-line e new reported = AreReported-whole _ (failed e) new few (λ x. cc) (reported-line (failed e) new reported)
+
+-- how a search ends in a fault
+module _ {S E F : Type 0} (step : Steps S E) (errors : ErrorMakers E) (matcher : MatcherFacts F) (k : Settings) (bytes : List ℕ)
+    (old : S) where
+  pub fault-begin : (e : E) (new : S) → step old k begins (Err e) new → IsLineFault step errors matcher k bytes old e new
+  fault-begin e new fails = of_sink
+      (record { outcome = failed e; mid = new; reported = inr (inr (e, refl, fails)); finished = (refl, refl) })
+
+  pub fault-line : (e : E) (new : S) → AreReported step k old (turns k matcher.meaning bytes) (failed e) new
+      → IsLineFault step errors matcher k bytes old e new
+  fault-line e new reported = of_sink (record { outcome = failed e; mid = new; reported = reported; finished = (refl, refl) })
+
+  pub fault-matcher : (w : Walk) (new : S) → HasReported k matcher.meaning bytes step old w new
+      → (start end : ℕ) (same : w.offset ≡ start) (line : IsLine (byte_of k.line_terminator) bytes w.line start end)
+      → Bare k matcher.meaning bytes → is_at w.match_count k.max_matches ≡ false → (haystack : List ℕ) (error : F) (e : E)
+      → IsAsked k matcher.meaning bytes w.line haystack → errors.is_message (matcher.text_of error) e
+      → matcher.fails haystack error → IsLineFault step errors matcher k bytes old e new
+  fault-matcher w new so_far start end same line bare room haystack error e asked message fails = of_matcher haystack error
+      (front k matcher.meaning bytes w.reported_through)
+      (record {
+        index = w.line;
+        has_turn = has k matcher.meaning bytes w start end same line bare so_far.walk;
+        room = so_far.walk.opened.below ∙ ap not room;
+        question = asked;
+        before = sym (through-is k matcher.meaning bytes w start end same line bare so_far.walk);
+      })
+      fails message so_far.reported

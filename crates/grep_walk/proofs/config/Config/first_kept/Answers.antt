@@ -1,0 +1,25 @@
+use Rattle.std.proofs.Common.{arith}
+use Rattle.grep_matcher.specs.Terminators.{byte_of}
+use Rattle.grep_walk.proofs.WindowLemmas.{gone-closed, rolled, rest-few}
+use Rattle.grep_walk.proofs.config.Config.first_kept.Goals as goal
+
+pub returns-clause-few : goal.returns-clause-few
+returns-clause-few c =
+    let back = c.step_back.ensures in
+    let few = rest-few c.lines_join.ensures c.lines_append.ensures (byte_of c.args.self.now.line_terminator) c.args.window.now
+    c.step_back.result c.lines_before-near.result back.within back.closed back.start in
+    omega (arith, c.lines_before-near.ensures, few)
+
+pub returns-clause-closed : goal.returns-clause-closed
+returns-clause-closed c = λ gone opens closed.
+    let back = c.step_back.ensures in
+    gone-closed c.lines_join.ensures c.lines_append.ensures c.lines_are_numbered.ensures c.lines_are_few.ensures
+    c.args.self.now gone
+    c.args.window.now c.step_back.result c.lines_before-near.result back.within back.closed opens closed
+
+pub returns-clause-kept : goal.returns-clause-kept
+returns-clause-kept c = λ gone more after opens closed closes inside.
+    let back = c.step_back.ensures in
+    rolled c.lines_join.ensures c.lines_append.ensures c.lines_are_numbered.ensures c.lines_are_few.ensures c.args.self.now gone
+    c.args.window.now c.step_back.result c.lines_before-near.result back.within back.closed opens closed
+    more after c.args.walk.now c.lines_before-near.ensures closes back.start inside

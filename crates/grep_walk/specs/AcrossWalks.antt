@@ -1,0 +1,86 @@
+-- The walk of a search across lines: what it knows of the lines before it and of the unit that it comes to, and how
+-- lines move it on. The contracts of private functions cite these definitions; no public contract does.
+use Rattle.std.specs.Prelude.{◌≡◌, ℕ, ◌+◌, ◌-◌, ◌<◌, ◌≤◌, Bool, true, false, not, ◌&&◌, nat_lt}
+use Rattle.std.specs.Prelude.{if◌then◌else◌, List, ◌∷◌, length}
+use Rattle.grep_matcher.specs.Lines.{lines}
+use Rattle.grep_matcher.specs.Matching.{Meaning}
+use Rattle.grep_matcher.specs.Terminators.{byte_of}
+use Rattle.grep_definitions.specs.AcrossLines.{is_free, is_selected, turns_at}
+use Rattle.grep_definitions.specs.Below.{count_below, is_at, is_below, joined_from}
+use Rattle.grep_definitions.specs.LineSearch.{line_count}
+use Rattle.grep_definitions.specs.Selections.{IsNear}
+use Rattle.grep_definitions.specs.Settings.{Settings}
+use Rattle.grep_definitions.specs.SinkCalls.{Turn, begins}
+use Rattle.grep_walk.specs.declared.blocks.Blocks.{Blocks}
+use Rattle.grep_walk.specs.declared.walk.Walk.{Walk}
+use Rattle.grep_walk.specs.Units.{AreLeft, IsUnit, is_hit}
+use Rattle.grep_walk.specs.Walks.{IsPlaced, line_end, next_walk}
+
+-- whether as many lines were chosen under inversion as the limit has
+abbrev pub is_done : Settings → Walk → Bool
+is_done settings w = settings.invert_match && is_at w.match_count settings.max_matches
+
+-- where the next chosen line begins, as far as is known from the unit that a walk at `start` comes to or is in
+abbrev pub next_chosen : Settings → List ℕ → ℕ → ℕ × ℕ → Walk → ℕ
+next_chosen settings bytes start unit w =
+    if not settings.invert_match then unit.0
+    else (if is_at w.match_count settings.max_matches then length bytes
+    else (if nat_lt start unit.0 then start else unit.1))
+
+-- whether a chosen line is reported with the other lines of its unit
+abbrev pub is_joined : Settings → Bool → Bool
+is_joined settings chosen = chosen && not settings.invert_match
+
+-- the walk after a line, or after a unit of chosen lines
+abbrev pub walk_after : Settings → Walk → List ℕ → Bool → Walk
+walk_after settings w unit chosen =
+    if is_joined settings chosen
+    then record {
+      offset = line_end w unit;
+      line = w.line + length (lines (byte_of settings.line_terminator) unit);
+      reported_through = w.line + length (lines (byte_of settings.line_terminator) unit);
+      after_context_left = settings.after_context;
+      match_count = w.match_count + 1;
+    }
+    else next_walk settings w unit chosen
+
+module _ (settings : Settings) (meaning : Meaning) (bytes : List ℕ) where
+  -- `begin`, and the calls of the first i lines
+  abbrev pub turns_before : ℕ → List Turn
+  turns_before i =
+      record { call = begins; end = 0 } ∷ joined_from (turns_at settings meaning bytes) 0 i
+
+  -- what a walk at line i knows of the limit under inversion, if c lines were chosen
+  pub record IsLimited (i c : ℕ) : Type 0 where
+    pub below : is_below (count_below (is_free settings meaning bytes) i) settings.max_matches
+        ≡ not (is_at c settings.max_matches)
+    pub counted : is_at c settings.max_matches ≡ false
+        → count_below (is_free settings meaning bytes) i ≡ c
+
+  -- where a walk is, and what it knows of the lines before it
+  pub record IsAcross (w : Walk) : Type 0 where
+    pub placed : IsPlaced settings meaning bytes w
+    pub near : IsNear settings (is_selected settings meaning bytes)
+        (line_count settings meaning bytes) (line_count settings meaning bytes)
+        w.reported_through w.line w.after_context_left
+    pub limited : settings.invert_match ≡ true → IsLimited w.line w.match_count
+
+  -- a walk at `start` comes to a unit or is in it: without inversion it comes to it. No match touches the line before
+  -- the unit
+  pub record IsComing (start : ℕ) (unit : ℕ × ℕ) : Type 0 where
+    pub low : ℕ
+    pub is_unit : IsUnit settings meaning bytes low unit
+    pub after : low ≤ start
+    pub before : start ≤ unit.1
+    pub whole : settings.invert_match ≡ false → start ≤ unit.0
+    pub alone : 0 < is_unit.first → is_hit settings meaning bytes (is_unit.first - 1) ≡ false
+
+  -- a walk at `start` has come to a unit or is in it, or is at its end. Nothing is known of it if no more lines are
+  -- chosen
+  pub record IsReady (start : ℕ) (w : Walk) (unit : ℕ × ℕ) (blocks : Blocks) : Type 0 where
+    pub left : AreLeft settings meaning bytes blocks
+    pub end : blocks.end ≡ unit.1
+    pub ordered : unit.0 ≤ unit.1
+    pub within : unit.1 ≤ length bytes
+    pub before : is_done settings w ≡ false → start ≤ unit.1
+    pub coming : is_done settings w ≡ false → start < unit.1 → IsComing start unit

@@ -1,0 +1,60 @@
+-- What a walk knows of the lines from its line on, and which of them it may skip. The contracts of private functions
+-- cite these definitions; no public contract does.
+use Rattle.std.specs.Prelude.{◌≡◌, ℕ, ◌<◌, ◌≤◌, Bool, true, false, not, ◌&&◌, ◌==◌, if◌then◌else◌, nat_lt}
+use Rattle.std.specs.Prelude.{List, length, Option, Some, None}
+use Rattle.grep_lines.specs.Positions.{slice, IsLine, IsLineStart}
+use Rattle.grep_matcher.specs.Matching.{Meaning}
+use Rattle.grep_matcher.specs.Terminators.{byte_of}
+use Rattle.grep_definitions.specs.Below.{is_at}
+use Rattle.grep_definitions.specs.LineTurns.{matches_line}
+use Rattle.grep_definitions.specs.Questions.{AsksAhead}
+use Rattle.grep_definitions.specs.Settings.{Settings}
+use Rattle.grep_walk.specs.declared.look_ahead.Ahead.{Ahead}
+use Rattle.grep_walk.specs.declared.walk.Walk.{Walk}
+
+-- whether the line that begins at a position matches, if that is known
+abbrev pub known_at : Ahead → ℕ → Option Bool
+known_at ahead start =
+    if nat_lt start ahead.misses then Some false
+    else (if nat_lt start ahead.hits then Some true else None)
+
+-- its positions are in the window
+pub record IsBounded (window : List ℕ) (ahead : Ahead) : Type 0 where
+  pub ordered : ahead.misses ≤ ahead.hits
+  pub within : ahead.hits ≤ length window
+
+-- if it has a line that matches, that is the line which begins there
+abbrev pub IsExact : ℕ → List ℕ → Ahead → Type 0
+IsExact t window ahead =
+    ahead.misses < ahead.hits → (i : ℕ) → IsLineStart t window ahead.misses i
+    → IsLine t window i ahead.misses ahead.hits
+
+-- what is known of the lines of a window from `start` on is so
+pub record IsKnown (settings : Settings) (meaning : Meaning) (window : List ℕ) (start : ℕ)
+    (ahead : Ahead)
+    : Type 0 where
+  pub index : ℕ
+  pub at : IsLineStart (byte_of settings.line_terminator) window ahead.misses index
+  pub exact : IsExact (byte_of settings.line_terminator) window ahead
+  pub miss : (i p q : ℕ) → IsLine (byte_of settings.line_terminator) window i p q
+      → start ≤ p → p < ahead.misses
+      → matches_line settings meaning (slice window p q) ≡ false
+  pub hit : (i p q : ℕ) → IsLine (byte_of settings.line_terminator) window i p q
+      → ahead.misses ≤ p → p < ahead.hits
+      → matches_line settings meaning (slice window p q) ≡ true
+
+-- a walk may ask about many lines at once
+pub record MayAskAhead (settings : Settings) (meaning : Meaning) (w : Walk) : Type 0 where
+  pub allowed : AsksAhead settings meaning
+  pub room : is_at w.match_count settings.max_matches ≡ false
+  pub unstopped : (settings.stop_on_nonmatch && nat_lt 0 w.match_count) ≡ false
+
+-- whether a walk may skip lines that don't match: none is reported, and none ends the search
+abbrev pub can_skip : Settings → Walk → Bool
+can_skip settings w =
+    not settings.invert_match && not settings.passthru && w.after_context_left == 0
+    && not (settings.stop_on_nonmatch && nat_lt 0 w.match_count)
+
+-- whether it skips the lines from `start` up to another position
+abbrev pub skips : Settings → Walk → ℕ → ℕ → Bool
+skips settings w start end = nat_lt start end && can_skip settings w

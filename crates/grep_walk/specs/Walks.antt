@@ -1,0 +1,114 @@
+-- The walk over the lines of some bytes: what it reports of the line that it is at, how that line moves it on, and what
+-- it comes to. The contracts of private functions cite these definitions; no public contract does.
+use Rattle.std.specs.Prelude.{◌≡◌, ℕ, ◌+◌, ◌-◌, ◌≤◌, Bool, not, ◌&&◌, ◌||◌, ◌==◌, if◌then◌else◌, nat_lt, List, []}
+use Rattle.std.specs.Prelude.{◌++◌, length, All}
+use Rattle.grep_matcher.specs.Terminators.{byte_of}
+use Rattle.grep_matcher.specs.Lines.{lines}
+use Rattle.grep_matcher.specs.Matching.{Meaning}
+use Rattle.grep_lines.specs.Positions.{IsLineStart}
+use Rattle.grep_report.specs.declared.sink_context.SinkContextKind.TheVariants.{After, Other}
+use Rattle.grep_definitions.specs.Settings.{Settings}
+use Rattle.std.specs.Prelude.{Result}
+use Rattle.grep_definitions.specs.SinkCalls.{Call, Turn}
+use Rattle.grep_definitions.specs.Below.{is_at}
+use Rattle.grep_definitions.specs.LineSearch.{turns_before}
+use Rattle.grep_definitions.specs.LineWalks.{IsNear, IsOpen}
+use Rattle.grep_definitions.specs.LineTurns.{number_of, pending_turns, match_turns, context_turns}
+use Rattle.grep_definitions.specs.SinkRuns.{Outcome, all_true, stopped, failed, Steps, AreReported}
+use Rattle.grep_walk.specs.declared.walk.Walk.{Walk}
+
+-- where the line of these bytes ends in the whole input
+abbrev pub line_end : Walk → List ℕ → ℕ
+line_end w line = w.offset + length line
+
+-- the calls of the line that a walk is at
+abbrev pub line_turns : Settings → List ℕ → Walk → List ℕ → Bool → List Turn
+line_turns settings window w line chosen =
+    if chosen
+    then pending_turns settings window w.reported_through w.line (line_end w line)
+    w.reported_through (w.line - w.reported_through)
+    ++ match_turns settings w.reported_through w.line w.offset (line_end w line) line
+    else (if nat_lt 0 w.after_context_left
+    then context_turns After (number_of settings w.line) w.offset (line_end w line) line
+    else (if settings.passthru
+    then context_turns Other (number_of settings w.line) w.offset (line_end w line) line
+    else []))
+
+-- whether that line is reported
+abbrev pub reports_line : Settings → Walk → Bool → Bool
+reports_line settings w chosen = chosen || nat_lt 0 w.after_context_left || settings.passthru
+
+-- the walk after that line
+abbrev pub next_walk : Settings → Walk → List ℕ → Bool → Walk
+next_walk settings w line chosen = record {
+  offset = line_end w line;
+  line = w.line + 1;
+  reported_through = if reports_line settings w chosen then w.line + 1 else w.reported_through;
+  after_context_left = if chosen then settings.after_context else w.after_context_left - 1;
+  match_count = if chosen then w.match_count + 1 else w.match_count;
+}
+
+-- the walk after lines that were passed unreported
+abbrev pub walk_past : Settings → Walk → List ℕ → Walk
+walk_past settings w passed = record w {
+  offset = w.offset + length passed;
+  line = w.line + length (lines (byte_of settings.line_terminator) passed);
+}
+
+-- whether no later line has a turn, by whether the last line was chosen
+abbrev pub is_over : Settings → Walk → Bool → Bool
+is_over settings w chosen =
+    (settings.stop_on_nonmatch && nat_lt 0 w.match_count && not chosen)
+    || (not settings.passthru && is_at w.match_count settings.max_matches
+    && w.after_context_left == 0)
+
+-- the byte count after calls: that of the whole search, or the end of the turn that returned false
+abbrev pub IsCount : {E : Type 0} → Outcome E → ℕ → ℕ → Type 0
+IsCount all_true whole count = count ≡ whole
+IsCount (stopped end) whole count = count ≡ end
+IsCount (failed e) whole count = ⊥
+
+-- the calls were made up to the first false or the last, with this outcome, and that is the byte count
+pub record Counted {S E : Type 0} (step : Steps S E) (settings : Settings) (old : S)
+    (turns : List Turn)
+    (whole count : ℕ) (outcome : Outcome E) (new : S) : Type 0 where
+  pub reported : AreReported step settings old turns outcome new
+  pub is_count : IsCount outcome whole count
+
+-- the counts of a walk are in order
+pub record IsOrdered (w : Walk) : Type 0 where
+  pub few : w.line ≤ w.offset
+  pub low : w.reported_through ≤ w.line
+  pub chosen : w.match_count ≤ w.line
+
+module _ (settings : Settings) (meaning : Meaning) (bytes : List ℕ) where
+  -- where a walk over these bytes is, whatever the matcher returns
+  pub record IsPlaced (w : Walk) : Type 0 where
+    pub at : IsLineStart (byte_of settings.line_terminator) bytes w.offset w.line
+    pub inside : w.offset ≤ length bytes
+    pub low : w.reported_through ≤ w.line
+    pub few : w.match_count ≤ w.line
+
+  -- a walk that goes on: which lines were reported, what is known of limit and stop, and that the turns so far have
+  -- ended
+  pub record IsWalk (w : Walk) : Type 0 where
+    pub placed : IsPlaced w
+    pub near : IsNear settings meaning bytes w.reported_through w.line w.after_context_left
+    pub opened : IsOpen settings meaning bytes w.line w.after_context_left w.match_count
+    pub ended : All (λ turn. turn.end ≤ w.offset)
+        (turns_before settings meaning bytes w.reported_through)
+
+  -- the calls that are defined up to a walk were made from a first state on, and all returned true
+  pub record HasReported {S E : Type 0} (step : Steps S E) (first : S) (w : Walk)
+      (now : S) : Type 0 where
+    pub walk : IsWalk w
+    pub reported : AreReported step settings first
+        (turns_before settings meaning bytes w.reported_through) all_true now
+
+-- a number that each call of a sink keeps is kept
+abbrev pub IsKept : {S E : Type 0} → Steps S E → Settings → S → S → Type 0
+IsKept {S} {E} step settings old new =
+    (name : S → ℕ)
+    → ((s : S) (call : Call) (result : Result Bool E) (t : S) → step s settings call result t
+    → name t ≡ name s)
+    → name new ≡ name old

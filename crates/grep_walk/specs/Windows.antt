@@ -1,0 +1,47 @@
+-- A walk over the lines of an input of which a window is shown. The contracts of private functions cite these
+-- definitions; no public contract does.
+use Rattle.std.specs.Prelude.{◌≡◌, ℕ, ◌+◌, ◌-◌, ◌≤◌, min, List, ◌++◌, length}
+use Rattle.grep_matcher.specs.Terminators.{byte_of}
+use Rattle.grep_matcher.specs.Lines.{lines}
+use Rattle.grep_matcher.specs.Matching.{Meaning}
+use Rattle.grep_lines.specs.Positions.{IsLine, IsLineStart}
+use Rattle.grep_definitions.specs.Settings.{Settings}
+use Rattle.grep_definitions.specs.SinkRuns.{Steps}
+use Rattle.grep_walk.specs.declared.walk.Walk.{Walk}
+use Rattle.grep_walk.specs.Walks.{HasReported}
+
+-- a window shows bytes of the input, after those that are gone, and its lines are lines of the input
+pub record IsWindow (t : ℕ) (gone window input : List ℕ) : Type 0 where
+  pub after : List ℕ
+  pub whole : input ≡ gone ++ (window ++ after)
+  pub line : (i start end : ℕ) → IsLine t window i start end
+      → IsLine t input (length (lines t gone) + i) (length gone + start) (length gone + end)
+
+-- line i of the input begins at a position of the window
+pub record IsLineIn (settings : Settings) (gone window : List ℕ) (position i : ℕ) : Type 0 where
+  pub low : length (lines (byte_of settings.line_terminator) gone) ≤ i
+  pub begins : IsLineStart (byte_of settings.line_terminator) window position
+      (i - length (lines (byte_of settings.line_terminator) gone))
+
+-- a walk is at `start` of a window, and of the lines before that which weren't reported the window has as many as are
+-- reported with a match
+pub record IsInWindow (settings : Settings) (gone window input : List ℕ) (start : ℕ)
+    (w : Walk) : Type 0 where
+  pub shown : IsWindow (byte_of settings.line_terminator) gone window input
+  pub at : w.offset ≡ length gone + start
+  pub line : IsLineIn settings gone window start w.line
+  pub kept : length (lines (byte_of settings.line_terminator) gone)
+      + min settings.before_context (w.line - w.reported_through) ≤ w.line
+
+-- such a walk has made the calls of the lines before it, from a first state on
+pub record HasSearched {S E : Type 0} (step : Steps S E) (settings : Settings) (meaning : Meaning)
+    (gone window input : List ℕ) (first : S) (start : ℕ) (w : Walk) (now : S) : Type 0 where
+  pub inside : IsInWindow settings gone window input start w
+  pub reported : HasReported settings meaning input step first w now
+
+-- it has come to the end of the window, and passed all its lines
+pub record HasPassed {S E : Type 0} (step : Steps S E) (settings : Settings) (meaning : Meaning)
+    (gone window input : List ℕ) (first : S) (w : Walk) (now : S) : Type 0 where
+  pub searched : HasSearched step settings meaning gone window input first (length window) w now
+  pub all : w.line ≡ length (lines (byte_of settings.line_terminator) gone)
+      + length (lines (byte_of settings.line_terminator) window)

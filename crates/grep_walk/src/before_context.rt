@@ -1,0 +1,95 @@
+//! The lines before a match: which of them are reported with it, which are kept for a match that is still to come, and
+//! where a break is.
+ghost use Rattle.std.specs.Prelude.{◌≡◌, ◌≤◌, ◌<◌, ◌-◌, ◌&&◌, ◌++◌, ℕ, List, nat_lt, length, take, drop};
+ghost use Rattle.std.specs.Prelude.{slice_index, min};
+ghost use Rattle.grep_matcher.specs.Terminators.{byte_of};
+ghost use Rattle.grep_matcher.specs.Lines.{lines};
+ghost use Rattle.grep_lines.specs.Positions.{IsLineStart};
+ghost use Rattle.grep_definitions.specs.InputFronts.{IsClosed};
+ghost use Rattle.grep_definitions.specs.LineTurns.{is_gap};
+ghost use Rattle.grep_walk.specs.Windows.{IsInWindow};
+
+use crate::config::Config;
+use crate::walk::Walk;
+use grep_lines::laws::{lines_append, lines_are_few, lines_are_numbered, lines_join};
+use grep_lines::preceding_by_pos;
+
+impl Config {
+    /// How many lines before the one that a walk is at are reported with it, if that is chosen.
+    pub fn lines_before(&self, walk: &Walk) -> usize
+        ensures { result ≡ min self.now.before_context
+            (walk.now.line - walk.now.reported_through) }
+    {
+        let passed = walk.line.saturating_sub(walk.reported_through) as usize;
+        self.before_context.min(passed)
+    }
+
+    /// Where the last lines before a position begin, so many of them; 0 if there are fewer. The caller ensures that the
+    /// position is within the window.
+    pub fn step_back(&self, window: &[u8], position: usize, lines: usize) -> usize
+        requires { position ≤ length window.now }
+        ensures within { result ≤ position }
+        ensures closed { 0 < result → result < position
+            → slice_index window.now (result - 1) ≡ byte_of self.now.line_terminator }
+        ensures start { (i : ℕ)
+            → IsLineStart (byte_of self.now.line_terminator) window.now position i
+            → IsLineStart (byte_of self.now.line_terminator) window.now result
+            (i - lines) }
+    {
+        if lines == 0 {
+            return position;
+        }
+        let terminator = self.line_terminator.as_byte();
+        preceding_by_pos(window, position, terminator, lines - 1)
+    }
+
+    /// The index in a window, over whose lines a walk has gone, from which on bytes are kept when the next window is
+    /// shown: those of the last lines that weren't reported, as many as are reported with a match.
+    pub fn first_kept(&self, window: &[u8], walk: &Walk) -> usize
+        ensures within { result ≤ length window.now }
+        ensures few { length
+            (lines (byte_of self.now.line_terminator) (drop result window.now))
+            ≤ self.now.before_context }
+        ensures closed { (gone : List ℕ)
+            → IsClosed (byte_of self.now.line_terminator) gone
+            → IsClosed (byte_of self.now.line_terminator) window.now
+            → IsClosed (byte_of self.now.line_terminator)
+            (gone ++ take result window.now) }
+        ensures kept { (gone more after : List ℕ)
+            → IsClosed (byte_of self.now.line_terminator) gone
+            → IsClosed (byte_of self.now.line_terminator) window.now
+            → (0 < length after
+            → IsClosed (byte_of self.now.line_terminator) (drop result window.now ++ more))
+            → IsInWindow self.now gone window.now (gone ++ (window.now ++ (more ++ after)))
+            (length window.now) walk.now
+            → IsInWindow self.now (gone ++ take result window.now)
+            (drop result window.now ++ more) (gone ++ (window.now ++ (more ++ after)))
+            (length window.now - result) walk.now }
+    {
+        lines_join();
+        lines_append();
+        lines_are_numbered();
+        lines_are_few();
+        let near = self.lines_before(walk);
+        self.step_back(window, window.len(), near)
+    }
+
+    /// Whether lines were left out before the one with this index, which is reported before the chosen one that a walk
+    /// is at, or is that line.
+    pub fn is_gap(&self, index: u64, walk: &Walk) -> bool
+        requires { index ≤ walk.now.line }
+        ensures { result ≡ is_gap self.now walk.now.reported_through index walk.now.line }
+    {
+        let is_first = walk.line - index == self.before_context as u64;
+        walk.reported_through > 0 && walk.reported_through < index && is_first
+    }
+
+    /// Whether lines were left out before the chosen one that a walk is at. If there are lines before a match, the
+    /// break comes before the first of them.
+    pub fn is_gap_before_match(&self, walk: &Walk) -> bool
+        ensures { result ≡ (nat_lt 0 self.now.after_context
+            && is_gap self.now walk.now.reported_through walk.now.line walk.now.line) }
+    {
+        self.after_context > 0 && self.is_gap(walk.line, walk)
+    }
+}

@@ -1,0 +1,197 @@
+//! The matches of a search across lines, and the units of lines that they touch, one after another.
+ghost use Rattle.std.specs.Prelude.{◌≡◌, ◌≤◌, ◌<◌, ◌+◌, ◌-◌, ◌^◌, ℕ, true, false, List, length};
+ghost use Rattle.std.specs.Prelude.{IfOk, IfErr, IfSome, IfNone};
+ghost use Rattle.std.specs.Option.{option_map};
+ghost use Rattle.grep_matcher.specs.Terminators.{byte_of};
+ghost use Rattle.grep_definitions.specs.AcrossQuestions.{IsAskedAcross, match_limit};
+ghost use Rattle.grep_definitions.specs.Below.{is_below};
+ghost use Rattle.grep_definitions.specs.SuccessiveMatches.{position_after};
+ghost use Rattle.grep_walk.specs.Units.{AreFound, AreLeft, IsFound, HasNoMore, IsPart, IsUnit};
+
+use crate::config::Config;
+use grep_lines::locate;
+use grep_matcher::{Match, Matcher};
+use grep_report::SinkError;
+use std::alloc::Allocator;
+
+/// How far a search across lines has looked for matches. The block of a match is the whole lines that it extends over,
+/// and a unit is a longest run of lines that matches touch.
+#[derive(Clone, Copy)]
+pub struct Blocks {
+    /// Where the next match is looked for.
+    pub position: usize,
+    /// How many more matches count, if there is a limit.
+    pub left: Option<u64>,
+    /// Where the last unit ends, and 0 before the first.
+    pub end: usize,
+    /// The block of the last match, if it is after the last unit.
+    pub next: Option<Match>,
+}
+
+impl Config {
+    /// Finds the first match. An error is made of the matcher's.
+    pub fn first_block<A: Allocator + Copy, M: Matcher, E: SinkError<A>>(
+        &self,
+        alloc: A,
+        matcher: &M,
+        bytes: &[u8],
+    ) -> Result<Blocks, E>
+        ensures left { IfOk result (AreLeft self.now (M.meaning matcher.now) bytes.now) }
+        ensures end { IfOk result (λ blocks. blocks.end ≡ 0) }
+        ensures fault { IfErr result (λ e. (haystack : List ℕ) × (error : M.Error)
+            × IsAskedAcross self.now (M.meaning matcher.now) bytes.now haystack
+            × M.fails matcher.now haystack error × E.is_message (M.Error.output error) e) }
+    {
+        let mut blocks = Blocks {
+            position: 0,
+            left: self.match_limit(),
+            end: 0,
+            next: None,
+        };
+        let Some(found) = self.next_match::<A, M, E>(alloc, matcher, bytes, &mut blocks)? else {
+            return Ok(blocks);
+        };
+        blocks.next = Some(self.block_from(bytes, 0, found));
+        Ok(blocks)
+    }
+
+    // How many matches count, if there is a limit: under inversion the limit is one of lines.
+    fn match_limit(&self) -> Option<u64>
+        ensures { result ≡ match_limit self.now }
+    {
+        if self.invert_match {
+            return None;
+        }
+        self.max_matches
+    }
+
+    /// Returns the next unit, and moves past it. At the end of the bytes, if there is no other, it is empty. An error
+    /// is made of the matcher's.
+    pub fn next_unit<A: Allocator + Copy, M: Matcher, E: SinkError<A>>(
+        &self,
+        alloc: A,
+        matcher: &M,
+        bytes: &[u8],
+        blocks: &mut Blocks,
+    ) -> Result<Match, E>
+        requires { AreLeft self.now (M.meaning matcher.now) bytes.now blocks.old }
+        ensures unit { IfOk result
+            (IsUnit self.now (M.meaning matcher.now) bytes.now blocks.old.end) }
+        ensures end { IfOk result (λ unit. blocks.new.end ≡ unit.1) }
+        ensures left { IfOk result (λ unit.
+            AreLeft self.now (M.meaning matcher.now) bytes.now blocks.new) }
+        ensures fault { IfErr result (λ e. (haystack : List ℕ) × (error : M.Error)
+            × IsAskedAcross self.now (M.meaning matcher.now) bytes.now haystack
+            × M.fails matcher.now haystack error × E.is_message (M.Error.output error) e) }
+    {
+        let Some(mut unit) = blocks.next.take() else {
+            blocks.end = bytes.len();
+            return Ok(Match::zero(bytes.len()));
+        };
+        'matches: while let Some(found) = self.next_match::<A, M, E>(
+            alloc, matcher, bytes, blocks,
+        )? {
+            if is_passed(found, unit.end()) {
+                continue;
+            }
+            let block = self.block_from(bytes, unit.end(), found);
+            if unit.end() < block.start() {
+                blocks.end = unit.end();
+                blocks.next = Some(block);
+                return Ok(unit);
+            }
+            unit = unit.with_end(block.end());
+        }
+        blocks.end = unit.end();
+        Ok(unit)
+    }
+
+    // Finds the next match that counts.
+    fn next_match<A: Allocator + Copy, M: Matcher, E: SinkError<A>>(
+        &self,
+        alloc: A,
+        matcher: &M,
+        bytes: &[u8],
+        blocks: &mut Blocks,
+    ) -> Result<Option<Match>, E>
+        ensures some { IfOk result (λ found. IfSome found
+            (IsFound self.now (M.meaning matcher.now) bytes.now blocks.old blocks.new)) }
+        ensures none { IfOk result (λ found. IfNone found
+            (HasNoMore self.now (M.meaning matcher.now) bytes.now blocks.old blocks.new)) }
+        ensures end { blocks.new.end ≡ blocks.old.end }
+        ensures next { blocks.new.next ≡ blocks.old.next }
+        ensures fault { IfErr result (λ e. (asked : List (ℕ × ℕ))
+            → AreFound self.now (M.meaning matcher.now) bytes.now
+            blocks.old.position blocks.old.left asked
+            → (haystack : List ℕ) × (error : M.Error)
+            × IsAskedAcross self.now (M.meaning matcher.now) bytes.now haystack
+            × M.fails matcher.now haystack error × E.is_message (M.Error.output error) e) }
+    {
+        if blocks.position >= bytes.len() || !has_room(blocks.left) {
+            return Ok(None);
+        }
+        let found = match matcher.find(&bytes[blocks.position..]) {
+            Ok(found) => found,
+            Err(e) => return Err(E::error_message(alloc, e)),
+        };
+        let Some(found) = found else {
+            blocks.position = bytes.len();
+            return Ok(None);
+        };
+        let found = found.offset(blocks.position);
+        blocks.position = position_after(found);
+        blocks.left = one_less(blocks.left);
+        Ok(Some(found))
+    }
+
+    // The whole lines that a match extends over, of the bytes from a line on.
+    fn block_from(&self, bytes: &[u8], low: usize, found: Match) -> Match
+        requires low { low ≤ found.1 }
+        requires within { found.1 ≤ length bytes.now }
+        ensures { IsPart (byte_of self.now.line_terminator) bytes.now low found result }
+    {
+        let part = Match::new(found.start().saturating_sub(low), found.end() - low);
+        locate(&bytes[low..], self.line_terminator.as_byte(), part).offset(low)
+    }
+}
+
+// Whether a match begins before a position and ends no later.
+fn is_passed(found: Match, position: usize) -> bool
+    ensures yes { result ≡ true → (found.0 < position) × (found.1 ≤ position) }
+    ensures not_yet { result ≡ false → found.0 < position → position < found.1 }
+{
+    found.start() < position && found.end() <= position
+}
+
+// Where the match after a match is looked for: from its end, and after an empty match from one byte later.
+fn position_after(found: Match) -> usize
+    requires { found.1 + 1 < 2 ^ 64 }
+    ensures { result ≡ position_after found }
+{
+    if found.is_empty() {
+        found.end() + 1
+    } else {
+        found.end()
+    }
+}
+
+// Whether a limit isn't 0, if there is one.
+fn has_room(left: Option<u64>) -> bool
+    ensures { result ≡ is_below 0 left }
+{
+    match left {
+        Some(left) => 0 < left,
+        None => true,
+    }
+}
+
+// One less of a limit that isn't 0, if there is one.
+fn one_less(left: Option<u64>) -> Option<u64>
+    requires { is_below 0 left ≡ true }
+    ensures { result ≡ option_map (λ n. n - 1) left }
+{
+    match left {
+        Some(left) => Some(left - 1),
+        None => None,
+    }
+}

@@ -1,0 +1,145 @@
+//! The settings of a searcher, and what they say of a search before its first line.
+ghost use Rattle.std.specs.Prelude.{◌≡◌};
+ghost use Rattle.grep_definitions.specs.DecodedInputs.{is_searched_unchanged};
+ghost use Rattle.grep_definitions.specs.Modes.{is_across};
+ghost use Rattle.grep_definitions.specs.ReaderSearches.{reads_lines};
+ghost use Rattle.grep_definitions.specs.Refusals.{refusal_of};
+
+use grep_decode::{Label, label_of_mark};
+use grep_matcher::{LineTerminator, Matcher};
+use grep_report::{BinaryDetection, ConfigError, Encoding, MmapChoice};
+use std::marker::Model;
+
+/// The settings: what a builder sets and a searcher keeps. A searcher's are 0 in both contexts under `passthru`.
+#[derive(Clone, Copy, Debug)]
+pub struct Config {
+    /// What ends a line.
+    pub line_terminator: LineTerminator,
+    /// Whether the lines that don't match are selected.
+    pub invert_match: bool,
+    /// Whether lines are numbered.
+    pub line_number: bool,
+    /// Whether a match may extend over several lines.
+    pub multi_line: bool,
+    /// How many lines are reported after a match.
+    pub after_context: usize,
+    /// How many lines are reported before a match.
+    pub before_context: usize,
+    /// Whether every line is reported, up to the last that has a turn.
+    pub passthru: bool,
+    /// How many decoded bytes a search holds at most, if there is a limit.
+    pub heap_limit: Option<usize>,
+    /// Whether a file is mapped into memory.
+    pub memory_map: MmapChoice,
+    /// Which bytes mark the input as binary, and what a search does about them.
+    pub binary_detection: BinaryDetection,
+    /// The encoding that the input is said to have, if any.
+    pub encoding: Option<Encoding>,
+    /// Whether a mark at the start of the input says its encoding.
+    pub bom_sniffing: bool,
+    /// Whether the first line that isn't selected, after one that is, ends the search.
+    pub stop_on_nonmatch: bool,
+    /// How many lines are selected at most, or across lines how many matches count, if there is a limit.
+    pub max_matches: Option<u64>,
+}
+
+impl Model for Config {
+    ghost use Rattle.grep_definitions.specs.Settings.{Settings};
+
+    ghost Value = { Settings };
+
+    ghost view = { λ c. record {
+      line_terminator = c.line_terminator;
+      invert_match = c.invert_match;
+      line_number = c.line_number;
+      multi_line = c.multi_line;
+      after_context = c.after_context;
+      before_context = c.before_context;
+      passthru = c.passthru;
+      heap_limit = c.heap_limit;
+      memory_map = c.memory_map;
+      binary_detection = c.binary_detection;
+      encoding = c.encoding;
+      bom_sniffing = c.bom_sniffing;
+      stop_on_nonmatch = c.stop_on_nonmatch;
+      max_matches = c.max_matches;
+    } };
+
+    ghost inverse = { λ s. record {
+      line_terminator = s.line_terminator;
+      invert_match = s.invert_match;
+      line_number = s.line_number;
+      multi_line = s.multi_line;
+      after_context = s.after_context;
+      before_context = s.before_context;
+      passthru = s.passthru;
+      heap_limit = s.heap_limit;
+      memory_map = s.memory_map;
+      binary_detection = s.binary_detection;
+      encoding = s.encoding;
+      bom_sniffing = s.bom_sniffing;
+      stop_on_nonmatch = s.stop_on_nonmatch;
+      max_matches = s.max_matches;
+    } };
+}
+
+impl Config {
+    /// Why a search is refused, if it is.
+    pub fn refusal<M: Matcher>(&self, matcher: &M) -> Option<ConfigError>
+        ensures { result ≡ refusal_of self.now (M.meaning matcher.now) }
+    {
+        if self.heap_limit == Some(0) {
+            return Some(ConfigError::SearchUnavailable);
+        }
+        let searcher = self.line_terminator;
+        match matcher.line_terminator() {
+            Some(matcher) if matcher != searcher => {
+                Some(ConfigError::MismatchedLineTerminators { matcher, searcher })
+            }
+            _ => None,
+        }
+    }
+
+    /// Whether a search with this matcher runs across lines: if `multi_line` is set, and the matcher doesn't say that
+    /// no match contains the line terminator. It says so by declaring the searcher's terminator, or by having its byte
+    /// among the bytes that no match contains.
+    pub fn is_across<M: Matcher>(&self, matcher: &M) -> bool
+        ensures { result ≡ is_across self.now (M.meaning matcher.now) }
+    {
+        if !self.multi_line || matcher.line_terminator() == Some(self.line_terminator) {
+            return false;
+        }
+        match matcher.non_matching_bytes() {
+            Some(absent) => !absent.contains(self.line_terminator.as_byte()),
+            None => true,
+        }
+    }
+
+    /// Whether a slice needs no decoding.
+    #[tactic(auto, unfolding(grep_definitions::specs::DecodedInputs::is_searched_unchanged))]
+    pub fn is_searched_unchanged(&self, input: &[u8]) -> bool
+        ensures { result ≡ is_searched_unchanged self.now input.now }
+    {
+        if self.encoding.is_some() {
+            return false;
+        }
+        !self.bom_sniffing || label_of_mark(input).is_none()
+    }
+
+    /// The label that is set.
+    pub fn label(&self) -> Option<Label>
+        ensures { result ≡ self.now.encoding }
+    {
+        match self.encoding {
+            Some(encoding) => Some(encoding.label()),
+            None => None,
+        }
+    }
+
+    /// Whether a search reads after `begin`: some line may have a turn, or a binary byte is looked for.
+    pub fn reads_lines(&self) -> bool
+        ensures { result ≡ reads_lines self.now }
+    {
+        !self.is_idle() || !matches!(self.binary_detection, BinaryDetection::None)
+    }
+}

@@ -1,0 +1,181 @@
+//! What a walk knows of the lines from its line on: what a matcher found in many lines at once, and which of them the
+//! walk skips.
+ghost use Rattle.std.specs.Prelude.{◌≡◌, ◌≤◌, ◌<◌, ◌+◌, ◌-◌, ◌^◌, ℕ, true, if◌then◌else◌, length, drop, IfOk, IfErr, IfSome, IfNone};
+ghost use Rattle.grep_lines.specs.Positions.{slice, IsLine, IsLineStart};
+ghost use Rattle.grep_matcher.specs.Lines.{lines};
+ghost use Rattle.grep_matcher.specs.Lawful.{IsInside, IsLawfulResult};
+ghost use Rattle.grep_matcher.specs.Matching.{Meaning};
+ghost use Rattle.grep_matcher.specs.Terminators.{byte_of};
+ghost use Rattle.grep_definitions.specs.Questions.{IsLawfulFor};
+ghost use Rattle.grep_walk.specs.LookAheads.{known_at, IsBounded, IsExact, IsKnown, MayAskAhead};
+ghost use Rattle.grep_walk.specs.LookAheads.{can_skip, skips};
+ghost use Rattle.grep_walk.specs.Walks.{walk_past, IsOrdered};
+
+use crate::config::Config;
+use crate::walk::Walk;
+use grep_lines::{LineStep, line_of};
+use grep_matcher::{LineMatchKind, LineTerminator, Matcher};
+use grep_report::SinkError;
+use std::alloc::Allocator;
+
+/// What is known of the lines of a window from a walk's line on, by positions in the window.
+#[derive(Clone, Copy)]
+pub struct Ahead {
+    /// The lines that begin before this position don't match.
+    pub misses: usize,
+    /// The line that begins at `misses`, if this position is after it, ends here and matches.
+    pub hits: usize,
+}
+
+/// Nothing is known.
+pub const UNKNOWN: Ahead = Ahead { misses: 0, hits: 0 };
+
+impl Ahead {
+    /// Whether the line that begins at a position matches, if that is known.
+    pub fn at(&self, start: usize) -> Option<bool>
+        ensures { result ≡ known_at self.now start }
+    {
+        if start < self.misses {
+            Some(false)
+        } else if start < self.hits {
+            Some(true)
+        } else {
+            None
+        }
+    }
+
+    /// Where the line ends that begins at a position; none at the end of the window.
+    pub fn line_end(&self, window: &[u8], start: usize, terminator: u8) -> Option<usize>
+        requires inside { start ≤ length window.now }
+        requires bounded { IsBounded window.now self.now }
+        ensures within { IfSome result (λ end. (start < end) × (end ≤ length window.now)) }
+        ensures line { IfSome result (λ end. IsExact terminator window.now self.now → (i : ℕ)
+            → IsLineStart terminator window.now start i → IsLine terminator window.now i start end) }
+        ensures end { IfNone result (start ≡ length window.now) }
+        ensures last { IfNone result ((i : ℕ) → IsLineStart terminator window.now start i
+            → i ≡ length (lines terminator window.now)) }
+    {
+        if start == self.misses && start < self.hits {
+            return Some(self.hits);
+        }
+        let (_, end) = LineStep::new(terminator, start, window.len()).next(window)?;
+        Some(end)
+    }
+}
+
+impl Config {
+    /// Learns more if nothing is known of the line at `start`, and the matcher may be asked about many lines at once.
+    /// The caller ensures that a line of the window begins there. What is learnt is true of a matcher that is lawful
+    /// for the terminator. An error is made of the matcher's.
+    pub fn look_ahead<A: Allocator + Copy, M: Matcher, E: SinkError<A>>(
+        &self,
+        alloc: A,
+        matcher: &M,
+        window: &[u8],
+        start: usize,
+        walk: &Walk,
+        ahead: Ahead,
+    ) -> Result<Ahead, E>
+        requires inside { start ≤ length window.now }
+        requires bounded { IsBounded window.now ahead }
+        ensures bounded { IfOk result (IsBounded window.now) }
+        ensures known { IfOk result (λ next.
+            IsLawfulFor self.now (M.meaning matcher.now) (M.is_lawful matcher.now)
+            → (i : ℕ) → IsLineStart (byte_of self.now.line_terminator) window.now start i
+            → IsKnown self.now (M.meaning matcher.now) window.now start ahead
+            → IsKnown self.now (M.meaning matcher.now) window.now start next) }
+        ensures some { IfErr result (λ e. start < length window.now) }
+        ensures allowed { IfErr result
+            (λ e. MayAskAhead self.now (M.meaning matcher.now) walk.now) }
+        ensures fault { IfErr result (λ e. (error : M.Error) × E.is_message (M.Error.output error) e
+            × M.fails matcher.now (drop start window.now) error) }
+    {
+        if start < ahead.hits || start == window.len() || !self.asks_ahead(matcher, walk) {
+            return Ok(ahead);
+        }
+        match matcher.find_candidate_line(&window[start..]) {
+            Ok(found) => Ok(self.ahead_of(window, start, found)),
+            Err(e) => Err(E::error_message(alloc, e)),
+        }
+    }
+
+    // Whether a walk may ask a matcher about many lines at once.
+    fn asks_ahead<M: Matcher>(&self, matcher: &M, walk: &Walk) -> bool
+        ensures { result ≡ true → MayAskAhead self.now (M.meaning matcher.now) walk.now }
+    {
+        if self.passthru || self.is_full(walk) || self.stop_on_nonmatch && walk.match_count > 0 {
+            return false;
+        }
+        match matcher.line_terminator() {
+            Some(LineTerminator::Byte(0)) => false,
+            Some(terminator) => terminator == self.line_terminator,
+            None => match matcher.non_matching_bytes() {
+                Some(absent) => absent.contains(self.line_terminator.as_byte()),
+                None => false,
+            },
+        }
+    }
+
+    // What a matcher's result for the lines from `start` on says of them.
+    fn ahead_of(&self, window: &[u8], start: usize, found: Option<LineMatchKind>) -> Ahead
+        requires inside { start ≤ length window.now }
+        requires found { IsInside (drop start window.now) found }
+        ensures bounded { IsBounded window.now result }
+        ensures known { (meaning : Meaning) (i : ℕ)
+            → IsLineStart (byte_of self.now.line_terminator) window.now start i
+            → IsLawfulResult self.now.line_terminator meaning (drop start window.now) found
+            → IsKnown self.now meaning window.now start result }
+    {
+        let Some(found) = found else {
+            return Ahead {
+                misses: window.len(),
+                hits: window.len(),
+            };
+        };
+        let terminator = self.line_terminator.as_byte();
+        let line = line_of(&window[start..], terminator, found.position());
+        let misses = start + line.start();
+        Ahead {
+            misses,
+            hits: if found.is_confirmed() {
+                start + line.end()
+            } else {
+                misses
+            },
+        }
+    }
+
+    /// Skips the lines from `start` on that are known not to match, if none of them can be reported: moves the walk
+    /// past them and returns where it is then.
+    pub fn skip(&self, window: &[u8], start: usize, ahead: &Ahead, walk: &mut Walk) -> usize
+        requires bounded { IsBounded window.now ahead.now }
+        requires inside { start ≤ length window.now }
+        requires fits { walk.old.offset + (length window.now - start) < 2 ^ 64 }
+        requires ordered { IsOrdered walk.old }
+        ensures position { result ≡ (if skips self.now walk.old start ahead.now.misses
+            then ahead.now.misses else start) }
+        ensures walk { walk.new ≡ (if skips self.now walk.old start ahead.now.misses
+            then walk_past self.now walk.old (slice window.now start ahead.now.misses)
+            else walk.old) }
+        ensures ordered { IsOrdered walk.new }
+        ensures moved { walk.new.offset + start ≡ walk.old.offset + result }
+        ensures low { start ≤ result }
+        ensures within { result ≤ length window.now }
+    {
+        if start >= ahead.misses || !self.can_skip(walk) {
+            return start;
+        }
+        *walk = self.walk_past(walk, &window[start..ahead.misses]);
+        ahead.misses
+    }
+
+    // Whether a walk may skip lines that don't match.
+    fn can_skip(&self, walk: &Walk) -> bool
+        ensures { result ≡ can_skip self.now walk.now }
+    {
+        !self.invert_match
+            && !self.passthru
+            && walk.after_context_left == 0
+            && !(self.stop_on_nonmatch && walk.match_count > 0)
+    }
+}

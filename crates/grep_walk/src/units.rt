@@ -1,0 +1,104 @@
+//! The steps of a walk across lines, from one unit of lines that matches touch to the next.
+ghost use Rattle.std.specs.Prelude.{◌≡◌, ◌≤◌, ◌<◌, ◌+◌, ◌^◌, ℕ, true, false, List, length, IfOk, IfErr};
+ghost use Rattle.grep_matcher.specs.Terminators.{byte_of};
+ghost use Rattle.grep_lines.specs.Positions.{IsLine, IsLineStart};
+ghost use Rattle.grep_definitions.specs.AcrossQuestions.{IsAskedAcross};
+ghost use Rattle.grep_walk.specs.AcrossWalks.{is_done, is_joined, next_chosen, walk_after};
+ghost use Rattle.grep_walk.specs.AcrossWalks.{IsReady};
+ghost use Rattle.grep_walk.specs.Walks.{IsOrdered};
+
+use crate::blocks::Blocks;
+use crate::config::Config;
+use crate::walk::Walk;
+use grep_lines::laws::lines_are_few;
+use grep_lines::line_count;
+use grep_matcher::{Match, Matcher};
+use grep_report::SinkError;
+use std::alloc::Allocator;
+
+impl Config {
+    /// The unit that a walk at `start` comes to or is in: the next one, if the last one is passed. None is looked for
+    /// if no more lines are chosen. An error is made of the matcher's.
+    pub fn unit_at<A: Allocator + Copy, M: Matcher, E: SinkError<A>>(
+        &self,
+        alloc: A,
+        matcher: &M,
+        bytes: &[u8],
+        start: usize,
+        walk: &Walk,
+        unit: Match,
+        blocks: &mut Blocks,
+    ) -> Result<Match, E>
+        requires some { start < length bytes.now }
+        requires at { IsLineStart (byte_of self.now.line_terminator) bytes.now start
+            walk.now.line }
+        requires ready { IsReady self.now (M.meaning matcher.now) bytes.now start
+            walk.now unit blocks.old }
+        ensures ready { IfOk result (λ next.
+            IsReady self.now (M.meaning matcher.now) bytes.now start
+            walk.now next blocks.new) }
+        ensures ahead { IfOk result (λ next.
+            is_done self.now walk.now ≡ false → start < next.1) }
+        ensures fault { IfErr result (λ e. (haystack : List ℕ) × (error : M.Error)
+            × IsAskedAcross self.now (M.meaning matcher.now) bytes.now haystack
+            × M.fails matcher.now haystack error × E.is_message (M.Error.output error) e) }
+    {
+        if start < unit.end() || self.invert_match && self.is_full(walk) {
+            return Ok(unit);
+        }
+        self.next_unit(alloc, matcher, bytes, blocks)
+    }
+
+    /// Where the next chosen line begins, as far as is known from the unit that a walk at `start` comes to or is in.
+    pub fn next_chosen(&self, bytes: &[u8], start: usize, unit: &Match, walk: &Walk) -> usize
+        ensures { result ≡ next_chosen self.now bytes.now start unit.now walk.now }
+    {
+        if !self.invert_match {
+            unit.start()
+        } else if self.is_full(walk) {
+            bytes.len()
+        } else if start < unit.start() {
+            start
+        } else {
+            unit.end()
+        }
+    }
+
+    /// Where the unit ends that begins at `start`, if it is chosen, and the line, if it isn't. Under inversion a unit
+    /// is one line.
+    pub fn end_across(&self, bytes: &[u8], start: usize, unit: &Match, chosen: bool) -> usize
+        requires some { start < length bytes.now }
+        requires within { unit.now.1 ≤ length bytes.now }
+        requires ahead { is_joined self.now chosen ≡ true → start < unit.now.1 }
+        ensures low { start < result }
+        ensures within { result ≤ length bytes.now }
+        ensures unit { is_joined self.now chosen ≡ true → result ≡ unit.now.1 }
+        ensures line { is_joined self.now chosen ≡ false → (i : ℕ)
+            → IsLineStart (byte_of self.now.line_terminator) bytes.now start i
+            → IsLine (byte_of self.now.line_terminator) bytes.now i start result }
+    {
+        if chosen && !self.invert_match {
+            return unit.end();
+        }
+        match self.next_line(bytes, start) {
+            Some(end) => end,
+            None => bytes.len(),
+        }
+    }
+
+    /// The walk after a line, or after a unit of chosen lines.
+    pub fn walk_after(&self, walk: &Walk, lines: &[u8], chosen: bool) -> Walk
+        requires fits { walk.now.offset + length lines.now < 2 ^ 64 }
+        requires some { 0 < length lines.now }
+        requires ordered { IsOrdered walk.now }
+        ensures { result ≡ walk_after self.now walk.now lines.now chosen }
+    {
+        lines_are_few();
+        let mut next = self.advance(walk, lines, chosen);
+        if chosen && !self.invert_match {
+            next.line = walk.line + line_count(lines, self.line_terminator.as_byte());
+            next.reported_through = next.line;
+        }
+        next
+    }
+}

@@ -1,0 +1,190 @@
+//! A walk over the lines of some bytes: how far it has come, which line comes next, whether that is chosen, and whether
+//! more lines have a turn.
+ghost use Rattle.std.specs.Prelude.{◌≡◌, ◌≤◌, ◌<◌, ◌+◌, ◌^◌, ◌&&◌, ℕ, not, false, length};
+ghost use Rattle.std.specs.Prelude.{IfOk, IfErr, IfSome, IfNone, MatchBool};
+ghost use Rattle.grep_matcher.specs.Terminators.{byte_of};
+ghost use Rattle.grep_matcher.specs.Lines.{lines, strip};
+ghost use Rattle.grep_lines.specs.Positions.{IsLine, IsLineStart};
+ghost use Rattle.grep_definitions.specs.Below.{is_at};
+ghost use Rattle.grep_definitions.specs.InputFronts.{IsClosed};
+ghost use Rattle.grep_definitions.specs.LineSearch.{differ};
+ghost use Rattle.grep_definitions.specs.LineTurns.{number_of, matches_line};
+ghost use Rattle.grep_walk.specs.Walks.{next_walk, walk_past, is_over, IsOrdered};
+
+use crate::config::Config;
+use grep_lines::laws::lines_are_few;
+use grep_lines::{LineStep, line_count, without_terminator};
+use grep_matcher::Matcher;
+use grep_report::SinkError;
+use std::alloc::Allocator;
+
+/// How far a walk over lines has come. Offsets and counts of lines are those of the whole input.
+#[derive(Clone, Copy)]
+pub struct Walk {
+    /// Where the next line begins, in bytes.
+    pub offset: u64,
+    /// How many lines are before it.
+    pub line: u64,
+    /// How many lines there are up to the last reported one, and with it.
+    pub reported_through: u64,
+    /// How many lines are still to be reported after a match.
+    pub after_context_left: usize,
+    /// How many lines were chosen.
+    pub match_count: u64,
+}
+
+/// Before the first line.
+pub const START: Walk = Walk {
+    offset: 0,
+    line: 0,
+    reported_through: 0,
+    after_context_left: 0,
+    match_count: 0,
+};
+
+impl Config {
+    /// Where the line ends that begins at a position, in bytes; none at the end of the bytes. The caller ensures that
+    /// the position is within them.
+    pub fn next_line(&self, bytes: &[u8], start: usize) -> Option<usize>
+        requires { start ≤ length bytes.now }
+        ensures within { IfSome result (λ end. (start < end) × (end ≤ length bytes.now)) }
+        ensures line { IfSome result (λ end. (i : ℕ)
+            → IsLineStart (byte_of self.now.line_terminator) bytes.now start i
+            → IsLine (byte_of self.now.line_terminator) bytes.now i start end) }
+        ensures end { IfNone result (start ≡ length bytes.now) }
+        ensures last { IfNone result ((i : ℕ)
+            → IsLineStart (byte_of self.now.line_terminator) bytes.now start i
+            → i ≡ length (lines (byte_of self.now.line_terminator) bytes.now)) }
+    {
+        let terminator = self.line_terminator.as_byte();
+        let (_, end) = LineStep::new(terminator, start, bytes.len()).next(bytes)?;
+        Some(end)
+    }
+
+    /// Whether the last byte ends a line. The caller ensures that there is one.
+    pub fn is_terminated(&self, window: &[u8]) -> bool
+        requires { 0 < length window.now }
+        ensures { MatchBool result (IsClosed (byte_of self.now.line_terminator) window.now)
+            (IsClosed (byte_of self.now.line_terminator) window.now → ⊥) }
+    {
+        window[window.len() - 1] == self.line_terminator.as_byte()
+    }
+
+    /// The number of the line with this index, counted from 1, if lines are numbered.
+    pub fn number(&self, index: u64) -> Option<u64>
+        requires { index + 1 < 2 ^ 64 }
+        ensures { result ≡ number_of self.now index }
+    {
+        if self.line_number {
+            Some(index + 1)
+        } else {
+            None
+        }
+    }
+
+    /// Whether the limit is reached.
+    pub fn is_full(&self, walk: &Walk) -> bool
+        ensures { result ≡ is_at walk.now.match_count self.now.max_matches }
+    {
+        match self.max_matches {
+            Some(limit) => walk.match_count == limit,
+            None => false,
+        }
+    }
+
+    /// Whether no line has a turn.
+    pub fn is_idle(&self) -> bool
+        ensures { result ≡ (not self.now.passthru
+            && is_at 0 self.now.max_matches) }
+    {
+        match self.max_matches {
+            Some(limit) => !self.passthru && limit == 0,
+            None => false,
+        }
+    }
+
+    /// Whether no later line has a turn.
+    pub fn is_over(&self, walk: &Walk, chosen: bool) -> bool
+        ensures { result ≡ is_over self.now walk.now chosen }
+    {
+        self.stop_on_nonmatch && walk.match_count > 0 && !chosen
+            || !self.passthru && self.is_full(walk) && walk.after_context_left == 0
+    }
+
+    /// Whether the line that a walk is at is chosen. The matcher is asked about it without its terminator, but not if
+    /// it is `known` whether the line matches, nor once the limit is reached. An error is made of the matcher's.
+    pub fn is_chosen<A: Allocator + Copy, M: Matcher, E: SinkError<A>>(
+        &self,
+        alloc: A,
+        matcher: &M,
+        line: &[u8],
+        known: Option<bool>,
+        walk: &Walk,
+    ) -> Result<bool, E>
+        ensures value { IfOk result (λ chosen.
+            IfSome known (λ matches. matches
+            ≡ matches_line self.now (M.meaning matcher.now) line.now)
+            → chosen ≡ (not (is_at walk.now.match_count self.now.max_matches)
+            && differ (matches_line self.now (M.meaning matcher.now) line.now)
+            self.now.invert_match)) }
+        ensures open { IfErr result
+            (λ e. is_at walk.now.match_count self.now.max_matches ≡ false) }
+        ensures fault { IfErr result (λ e. (error : M.Error) × E.is_message (M.Error.output error) e
+            × M.fails matcher.now (strip self.now.line_terminator line.now) error) }
+    {
+        if self.is_full(walk) {
+            return Ok(false);
+        }
+        if let Some(matches) = known {
+            return Ok(matches != self.invert_match);
+        }
+        match matcher.shortest_match(without_terminator(line, self.line_terminator)) {
+            Ok(position) => Ok(position.is_some() != self.invert_match),
+            Err(e) => Err(E::error_message(alloc, e)),
+        }
+    }
+
+    /// The walk after a line, by whether that was chosen. The caller ensures that the offset of its end is below 2^64.
+    pub fn advance(&self, walk: &Walk, line: &[u8], chosen: bool) -> Walk
+        requires fits { walk.now.offset + length line.now < 2 ^ 64 }
+        requires number { walk.now.line + 1 < 2 ^ 64 }
+        requires few { walk.now.match_count ≤ walk.now.line }
+        ensures { result ≡ next_walk self.now walk.now line.now chosen }
+    {
+        let is_reported = chosen || walk.after_context_left > 0 || self.passthru;
+        Walk {
+            offset: walk.offset + line.len() as u64,
+            line: walk.line + 1,
+            reported_through: if is_reported {
+                walk.line + 1
+            } else {
+                walk.reported_through
+            },
+            after_context_left: if chosen {
+                self.after_context
+            } else {
+                walk.after_context_left.saturating_sub(1)
+            },
+            match_count: if chosen {
+                walk.match_count + 1
+            } else {
+                walk.match_count
+            },
+        }
+    }
+
+    /// The walk after lines that are passed unreported. The caller ensures that the offset of their end is below 2^64.
+    pub fn walk_past(&self, walk: &Walk, lines: &[u8]) -> Walk
+        requires fits { walk.now.offset + length lines.now < 2 ^ 64 }
+        requires ordered { IsOrdered walk.now }
+        ensures walk { result ≡ walk_past self.now walk.now lines.now }
+        ensures ordered { IsOrdered result }
+    {
+        lines_are_few();
+        Walk {
+            offset: walk.offset + lines.len() as u64,
+            line: walk.line + line_count(lines, self.line_terminator.as_byte()),
+            ..*walk
+        }
+    }
+}
