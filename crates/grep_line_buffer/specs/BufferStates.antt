@@ -1,13 +1,14 @@
 -- What contracts see of a line buffer.
-use Rattle.std.specs.Prelude.{◌≡◌, ◌≢◌, ◌⊎◌, ℕ, ◌+◌, ◌*◌, ◌-◌, ◌<◌, ◌≤◌, Bool, true, false, List, [], ◌++◌, length, drop, All, Option, None, Some, is_some, ◌&&◌, if◌then◌else◌, slice_index}
+use Rattle.std.specs.Prelude.{◌≡◌, ◌≢◌, ◌⊎◌, ℕ, ◌+◌, ◌*◌, ◌-◌, ◌<◌, ◌≤◌, Bool, true, false, List, [], ◌++◌, length}
+use Rattle.std.specs.Prelude.{drop, All, Option, None, Some, is_some, ◌&&◌, if◌then◌else◌, slice_index}
 use Rattle.std.specs.Option.{option_map}
 use Rattle.std.specs.Io.KnownBytes.{prepend_known, Keeps}
 use Rattle.grep_line_buffer.specs.declared.detection.Detection.{Detection}
 use Rattle.grep_line_buffer.specs.Detections.{detected, is_quit}
 
 -- A line buffer: the bytes that it shows, the bytes that it holds after them, the offset of its first byte in the whole
--- input, its size in bytes, the most that this may become, how many bytes are free, the byte that ends a line, what it does
--- with binary bytes, the offset of the first binary byte that it read, and whether the end of the input was seen.
+-- input, its size in bytes, the most that this may become, how many bytes are free, the byte that ends a line, what it
+-- does with binary bytes, the offset of the first binary byte that it read, and whether the end of the input was seen.
 pub record BufferState : Type 0 where
   pub shown : List ℕ
   pub rest : List ℕ

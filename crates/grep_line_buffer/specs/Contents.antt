@@ -31,8 +31,8 @@ ContentsFail limit capacity bytes Offset = ⊥
 ContentsFail limit capacity bytes Memory = LacksMemory limit capacity bytes
 
 module _ {R : Type 0} (remaining : R → Option (List ℕ)) (step : R → ReadResult → R → Type 0) where
-  -- Reads of the decoder gave these bytes, and then one more call of the reader returned this error. The decoder has still to
-  -- give all that it had then.
+  -- Reads of the decoder gave these bytes, and then one more call of the reader returned this error. The decoder has
+  -- still to give all that it had then.
   pub record FailsAfter (error : Error) (decoder : DecoderState) (reader : R) (given : List ℕ)
       (decoder' : DecoderState) (reader' : R) : Type 0 where
     pub mid : R

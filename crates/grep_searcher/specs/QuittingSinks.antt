@@ -33,8 +33,8 @@ module _ {S E : Type 0} (step : Steps S E) (may_call : S → Type 0) where
       × step mid settings call result new)
       ⊎ (result ≡ Ok true → ⊥) × step old settings breaks result new
 
-  -- a report of bytes from an offset on, by where the byte is in them: without it the report is made, else `binary_data`
-  -- is called in its place and its break isn't made
+  -- a report of bytes from an offset on, by where the byte is in them: without it the report is made, else
+  -- `binary_data` is called in its place and its break isn't made
   abbrev pub IsLookedAt : Option ℕ → ℕ → Watch S → Settings → Call → Result Bool E → Watch S
       → Type 0
   IsLookedAt None from old settings call result new =

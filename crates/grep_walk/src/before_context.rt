@@ -75,7 +75,7 @@ impl Config {
     }
 
     /// Whether lines were left out before the one with this index, which is reported before the chosen one that a walk
-    /// is at, or is that line.
+    /// is at, or is that line: the caller ensures that it is no later one.
     pub fn is_gap(&self, index: u64, walk: &Walk) -> bool
         requires { index ≤ walk.now.line }
         ensures { result ≡ is_gap self.now walk.now.reported_through index walk.now.line }

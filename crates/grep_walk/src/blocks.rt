@@ -66,7 +66,7 @@ impl Config {
     }
 
     /// Returns the next unit, and moves past it. At the end of the bytes, if there is no other, it is empty. An error
-    /// is made of the matcher's.
+    /// is made of the matcher's. The caller ensures that the blocks are those that the step before left.
     pub fn next_unit<A: Allocator + Copy, M: Matcher, E: SinkError<A>>(
         &self,
         alloc: A,

@@ -146,7 +146,8 @@ impl Config {
     }
 
     /// Skips the lines from `start` on that are known not to match, if none of them can be reported: moves the walk
-    /// past them and returns where it is then.
+    /// past them and returns where it is then, in bytes of the window. The caller ensures that `start` is in the window,
+    /// where the walk is, and that the offset of the window's end is below 2^64.
     pub fn skip(&self, window: &[u8], start: usize, ahead: &Ahead, walk: &mut Walk) -> usize
         requires bounded { IsBounded window.now ahead.now }
         requires inside { start ≤ length window.now }

@@ -70,7 +70,8 @@ impl Config {
         window[window.len() - 1] == self.line_terminator.as_byte()
     }
 
-    /// The number of the line with this index, counted from 1, if lines are numbered.
+    /// The number of the line with this index, counted from 1, if lines are numbered. The caller ensures that it is
+    /// below 2^64.
     pub fn number(&self, index: u64) -> Option<u64>
         requires { index + 1 < 2 ^ 64 }
         ensures { result ≡ number_of self.now index }
@@ -103,7 +104,7 @@ impl Config {
         }
     }
 
-    /// Whether no later line has a turn.
+    /// Whether no later line has a turn, by whether the last line was chosen.
     pub fn is_over(&self, walk: &Walk, chosen: bool) -> bool
         ensures { result ≡ is_over self.now walk.now chosen }
     {
