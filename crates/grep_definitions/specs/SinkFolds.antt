@@ -109,8 +109,8 @@ module _ {S E : Type 0} (step : Steps S E) where
 
 module _ {S E F : Type 0} (step : Steps S E) (errors : ErrorMakers E)
     (matcher : MatcherFacts F) where
-  -- without binary detection, a search with a lawful matcher that ended in `Ok` is a run along the calls for the decoded
-  -- bytes of its input
+  -- without binary detection, a search with a lawful matcher that ended in `Ok` is a run along the calls for the
+  -- decoded bytes of its input
   abbrev pub SearchesRun : Type 0
   SearchesRun =
       (state : SearcherState) (input : List ℕ) (old : S) (new : S)

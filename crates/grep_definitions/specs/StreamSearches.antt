@@ -16,8 +16,8 @@ use Rattle.grep_definitions.specs.SinkRuns.{Steps, Outcome, all_true, AreReporte
 abbrev pub stream_calls : Settings → Meaning → SearchCalls
 stream_calls settings meaning = record (calls_by_line settings meaning) { view = view_of settings }
 
--- a search that goes on past a binary byte called `binary_data` with the offset of the first one. Under `Quit` none goes
--- on
+-- a search that goes on past a binary byte called `binary_data` with the offset of the first one. Under `Quit` none
+-- goes on
 pub record IsNotedFor (settings : Settings) (bytes : List ℕ) (found : Option ℕ) : Type 0 where
   pub first : (offset : ℕ) → found ≡ Some offset → binary_of settings bytes ≡ Some offset
   pub goes_on : (b : ℕ) → settings.binary_detection ≡ Quit b → found ≡ None

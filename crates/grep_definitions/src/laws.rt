@@ -1,7 +1,8 @@
 //! Laws of the calls that a search makes, over their definition alone: each is the contract of a function that does
 //! nothing.
 ghost use Rattle.grep_definitions.specs.SearchLaws.{UnchangedIsInput, UnsniffedIsUnchanged, UnmarkedIsUnchanged};
-ghost use Rattle.grep_definitions.specs.SearchLaws.{ReportsAscend, AfterWins, InversionComplements, FirstLinesBegin, AtMostLimit, WholeCount};
+ghost use Rattle.grep_definitions.specs.SearchLaws.{ReportsAscend, AfterWins, InversionComplements};
+ghost use Rattle.grep_definitions.specs.SearchLaws.{FirstLinesBegin, AtMostLimit, WholeCount};
 ghost use Rattle.grep_definitions.specs.SearchLaws.{LinesAreNumbered, MatchesAreSelected, MatchesDecide};
 ghost use Rattle.grep_definitions.specs.SearchLaws.{MatchesAreCounted, FirstMatchIsFirst, MatchesAreFew};
 ghost use Rattle.grep_definitions.specs.AcrossLaws;
@@ -61,9 +62,9 @@ pub fn whole_count()
     lines_join();
 }
 
-/// By line the calls depend on a matcher's matches alone, not on the terminator or the bytes that it excludes: a search
-/// by line with `Plain` of a matcher, which asks about one line at a time, makes the same calls as one with the matcher.
-/// It has as many turns and the same byte count.
+/// By line the calls depend on a matcher's matches alone, not on the terminator or the bytes that it excludes: a
+/// search by line with `Plain` of a matcher, which asks about one line at a time, makes the same calls as one with
+/// the matcher. It has as many turns and the same byte count.
 pub fn matches_decide()
     ensures { MatchesDecide }
 {}

@@ -1,6 +1,7 @@
 //! What a walk knows of the lines from its line on: what a matcher found in many lines at once, and which of them the
 //! walk skips.
-ghost use Rattle.std.specs.Prelude.{◌≡◌, ◌≤◌, ◌<◌, ◌+◌, ◌-◌, ◌^◌, ℕ, true, if◌then◌else◌, length, drop, IfOk, IfErr, IfSome, IfNone};
+ghost use Rattle.std.specs.Prelude.{◌≡◌, ◌≤◌, ◌<◌, ◌+◌, ◌-◌, ◌^◌, ℕ, true, if◌then◌else◌};
+ghost use Rattle.std.specs.Prelude.{length, drop, IfOk, IfErr, IfSome, IfNone};
 ghost use Rattle.grep_lines.specs.Positions.{slice, IsLine, IsLineStart};
 ghost use Rattle.grep_matcher.specs.Lines.{lines};
 ghost use Rattle.grep_matcher.specs.Lawful.{IsInside, IsLawfulResult};
@@ -146,8 +147,8 @@ impl Config {
     }
 
     /// Skips the lines from `start` on that are known not to match, if none of them can be reported: moves the walk
-    /// past them and returns where it is then, in bytes of the window. The caller ensures that `start` is in the window,
-    /// where the walk is, and that the offset of the window's end is below 2^64.
+    /// past them and returns where it is then, in bytes of the window. The caller ensures that `start` is in the
+    /// window, where the walk is, and that the offset of the window's end is below 2^64.
     pub fn skip(&self, window: &[u8], start: usize, ahead: &Ahead, walk: &mut Walk) -> usize
         requires bounded { IsBounded window.now ahead.now }
         requires inside { start ≤ length window.now }

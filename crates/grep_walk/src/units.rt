@@ -18,8 +18,8 @@ use std::alloc::Allocator;
 
 impl Config {
     /// The unit that a walk at `start` comes to or is in: the next one, if the last one is passed. None is looked for
-    /// if no more lines are chosen. An error is made of the matcher's. The caller ensures that a line begins at `start`,
-    /// and that the unit and the blocks are those of the step before.
+    /// if no more lines are chosen. An error is made of the matcher's. The caller ensures that a line begins at
+    /// `start`, and that the unit and the blocks are those of the step before.
     pub fn unit_at<A: Allocator + Copy, M: Matcher, E: SinkError<A>>(
         &self,
         alloc: A,
@@ -87,8 +87,8 @@ impl Config {
         }
     }
 
-    /// The walk after a line, or after a unit of chosen lines. The caller ensures that it has a byte, and that the offset
-    /// of its end is below 2^64.
+    /// The walk after a line, or after a unit of chosen lines. The caller ensures that it has a byte, and that the
+    /// offset of its end is below 2^64.
     pub fn walk_after(&self, walk: &Walk, lines: &[u8], chosen: bool) -> Walk
         requires fits { walk.now.offset + length lines.now < 2 ^ 64 }
         requires some { 0 < length lines.now }
