@@ -13,7 +13,7 @@ use Rattle.grep_definitions.specs.BinaryBytes.{Look, nowhere, in_contents, on_st
 use Rattle.grep_definitions.specs.DecodedInputs.{IsInput, is_searched_unchanged, searched_bytes}
 use Rattle.grep_definitions.specs.Modes.{is_across}
 use Rattle.grep_definitions.specs.NotedSinks.{noted}
-use Rattle.grep_definitions.specs.ReaderSearches.{Taken, IsUnreadIn, IsUnread, IsReaderFaultIn, of_search, of_reading}
+use Rattle.grep_definitions.specs.ReaderSearches.{IsUnreadIn, IsUnread, IsReaderFaultIn, of_search, of_reading}
 use Rattle.grep_definitions.specs.ReaderSearches.{of_cut as unread_cut, of_reader as unread_reader, of_buffers as unread_buffers}
 use Rattle.grep_definitions.specs.ReaderSearches.{of_contents as unread_contents, of_failed_read as unread_failed}
 use Rattle.grep_definitions.specs.ReaderSearches as readers
@@ -27,7 +27,7 @@ use Rattle.grep_definitions.specs.Settings.{SearcherState}
 use Rattle.grep_definitions.specs.SinkRuns.{Steps}
 use Rattle.grep_definitions.specs.StreamSearches.{IsCutRun, stream_calls}
 use Rattle.grep_definitions.proofs.KnownReaderLemmas.{taken-input}
-use Rattle.grep_searcher.specs.InputSearches.{IsBytesSearched}
+use Rattle.grep_core.specs.InputSearches.{IsBytesSearched}
 
 -- a search that looks at contents isn't one of a stream, and one that looks at a stream is
 look-contents : (d : BinaryDetection) (is_stream : Bool) (b : ℕ) → look_at d is_stream ≡ in_contents b → is_stream ≡ false

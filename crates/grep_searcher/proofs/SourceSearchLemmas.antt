@@ -13,7 +13,7 @@ use Rattle.grep_definitions.specs.Refusals.{refusal_of}
 use Rattle.grep_definitions.specs.Searches.{ErrorMakers, MatcherFacts, IsLawful}
 use Rattle.grep_definitions.specs.Settings.{Settings, SearcherState}
 use Rattle.grep_definitions.specs.SinkRuns.{Steps}
-use Rattle.grep_searcher.proofs.StreamBeginLemmas.{came-none, clear-none, unnoted-for}
+use Rattle.grep_core.proofs.StreamBeginLemmas.{came-none, clear-none, unnoted-for}
 
 module _ {S E F : Type 0} (step : Steps S E) (errors : ErrorMakers E) (matcher : MatcherFacts F)
     {R : Type 0} (remaining : R → Option (List ℕ)) (read_step : R → ReadResult → R → Type 0) where

@@ -1,10 +1,4 @@
 pub mod ClosureSinks
-pub mod HeldViews
-pub mod InputSearches
-pub mod NotedCalls
-pub mod QuittingSinks
-pub mod Rolls
-pub mod SearchBuffers
 pub use Rattle.grep_definitions.specs.Settings
 pub use Rattle.grep_definitions.specs.SinkCalls
 pub use Rattle.grep_definitions.specs.Below

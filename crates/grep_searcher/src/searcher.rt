@@ -4,43 +4,31 @@ ghost use Rattle.std.specs.IoError.{error_kind};
 ghost use Rattle.std.specs.declared.io.Error.{Error};
 ghost use Rattle.std.specs.declared.io.ErrorKind.{ErrorKind};
 ghost use Rattle.grep_matcher.specs.Matching.{IsInfallible};
-ghost use Rattle.grep_matcher.specs.Terminators.{byte_of};
 ghost use Rattle.grep_definitions.specs.Below.{is_at};
-ghost use Rattle.grep_definitions.specs.BinaryBytes.{look_at};
 ghost use Rattle.grep_definitions.specs.DecodedInputs.{is_searched_unchanged};
 ghost use Rattle.grep_definitions.specs.Questions.{IsLawfulFor};
-ghost use Rattle.grep_definitions.specs.ReaderSearches.{IsReaderSearched, IsUnread};
+ghost use Rattle.grep_definitions.specs.ReaderSearches.{IsReaderSearched, IsSourceSearched, IsUnread};
 ghost use Rattle.grep_definitions.specs.ReadingFaults.{IsUndecoded};
 ghost use Rattle.grep_definitions.specs.Refusals.{refusal_of};
-ghost use Rattle.grep_definitions.specs.Searches.{IsFaultIn, IsInputSearched, IsSearched};
+ghost use Rattle.grep_definitions.specs.Searches.{IsInputSearched, IsSearched};
 ghost use Rattle.grep_definitions.specs.Searches.{errors_by, facts_by};
-ghost use Rattle.grep_definitions.specs.SearchTurns.{calls_if};
 ghost use Rattle.grep_definitions.specs.Settings.{default_settings};
-ghost use Rattle.grep_definitions.specs.SinkRuns.{NeverFails, Outcome};
-ghost use Rattle.grep_searcher.specs.InputSearches.{IsBytesSearched};
-ghost use Rattle.grep_searcher.specs.SearchBuffers.{AreFitting};
-ghost use Rattle.grep_walk.specs.Walks.{Counted, IsKept};
+ghost use Rattle.grep_definitions.specs.SinkRuns.{NeverFails};
+ghost use Rattle.grep_core.specs.SearchBuffers.{AreFitting};
 
-mod buffers;
 mod builder;
-mod by_line;
-mod contents;
 mod files;
-mod multi_line;
-mod noted;
 mod queries;
-mod quitting;
-mod read_by_line;
-mod sink_lines;
-mod until;
+mod sink_calls;
 
-use crate::searcher::buffers::Buffers;
+use crate::searcher::sink_calls::SinkCalls;
 use crate::sink::Sink;
 pub use builder::SearcherBuilder;
+use grep_core::Buffers;
 use grep_decode::Source;
 use grep_definitions::laws::unchanged_is_searched;
 use grep_matcher::Matcher;
-use grep_report::{ConfigError, SinkError, SinkFinish};
+use grep_report::{ConfigError, SinkError};
 use grep_walk::Config;
 use std::alloc::{Allocator, Global};
 use std::io;
@@ -57,8 +45,7 @@ pub struct Searcher<A: Allocator + Copy = Global> {
 impl<A: Allocator + Copy> Model for Searcher<A> {
     ghost use Rattle.std.specs.Prelude.{◌≡◌, true, is_some, IfSome};
     ghost use Rattle.grep_definitions.specs.Settings.{SearcherState};
-    ghost use Rattle.grep_matcher.specs.Terminators.{byte_of};
-    ghost use Rattle.grep_searcher.specs.SearchBuffers.{AreFitting};
+    ghost use Rattle.grep_core.specs.SearchBuffers.{AreFitting};
 
     ghost Value = { SearcherState };
 
@@ -67,8 +54,7 @@ impl<A: Allocator + Copy> Model for Searcher<A> {
 
     ghost invariant = { λ s.
         (s.config.passthru ≡ true → (s.config.after_context ≡ 0) × (s.config.before_context ≡ 0))
-        × IfSome s.buffers (λ b.
-        AreFitting s.config.heap_limit (byte_of s.config.line_terminator) b.lines) };
+        × IfSome s.buffers (λ b. AreFitting s.config b) };
 }
 
 impl<A: Allocator + Copy> Searcher<A> {
@@ -244,8 +230,7 @@ impl<A: Allocator + Copy> Searcher<A> {
     fn take_buffers(&mut self) -> io::Result<Buffers<A>>
         ensures settings { self.new.settings ≡ self.old.settings }
         ensures taken { self.new.has_buffers ≡ false }
-        ensures fitting { IfOk result (λ buffers. AreFitting self.new.settings.heap_limit
-            (byte_of self.new.settings.line_terminator) buffers.lines) }
+        ensures fitting { IfOk result (λ buffers. AreFitting self.new.settings buffers) }
         ensures none { OnErr result (self.old.has_buffers ≡ false) }
         ensures memory { IfErr result (λ e. error_kind e ≡ ErrorKind.OutOfMemory) }
     {
@@ -260,8 +245,7 @@ impl<A: Allocator + Copy> Searcher<A> {
 
     // Puts back the buffers that a search took out.
     fn put_back(&mut self, buffers: Buffers<A>)
-        requires { AreFitting self.old.settings.heap_limit
-            (byte_of self.old.settings.line_terminator) buffers.lines }
+        requires { AreFitting self.old.settings buffers }
         ensures { self.new ≡ record self.old { has_buffers = true } }
     {
         self.buffers = Some(buffers);
@@ -299,76 +283,55 @@ impl<A: Allocator + Copy> Searcher<A> {
     {
         unchanged_is_searched();
         if self.config.is_searched_unchanged(input) {
-            return self.search_bytes(matcher, input, sink);
+            return self
+                .search()
+                .search_bytes::<M, SinkCalls<S>>(matcher, input, sink);
         }
         let mut source = input;
         self.search_source(matcher, &mut source, sink)
     }
 
-    // A search of a slice as it is, that isn't refused.
-    fn search_bytes<M: Matcher, S: Sink>(
-        &self,
+    // A search of a reader that isn't refused. The buffers are taken out, so that the searcher that a sink is lent
+    // has none, and put back whatever comes.
+    pub(crate) fn search_source<M: Matcher, R: Source, S: Sink>(
+        &mut self,
         matcher: &M,
-        bytes: &[u8],
+        reader: &mut R,
         sink: &mut S,
     ) -> Result<(), S::Error>
     where
         S::Error: SinkError<A>,
-        requires { S.may_call sink.old }
-        ensures searched { IsLawfulFor self.now.settings (M.meaning matcher.now)
+        requires allowed { is_at 0 self.old.settings.heap_limit ≡ false }
+        requires may_call { S.may_call sink.old }
+        ensures settings { self.new.settings ≡ self.old.settings }
+        ensures buffers { self.old.has_buffers ≡ true → self.new.has_buffers ≡ true }
+        ensures gets { OnOk result (self.new.has_buffers ≡ true) }
+        ensures searched { IsLawfulFor self.old.settings (M.meaning matcher.now)
             (M.is_lawful matcher.now)
-            → IsBytesSearched S.step
+            → IsSourceSearched R.remaining R.step S.step
             (errors_by S.Error.is_message S.Error.is_io S.Error.is_config)
             (facts_by M.meaning M.fails M.is_lawful M.Error.output matcher.now)
-            (look_at self.now.settings.binary_detection false) self.now.settings bytes.now sink.old
-            result sink.new }
+            self.old reader.old sink.old result reader.new sink.new }
         ensures succeeds { NeverFails S.step S.may_call → IsInfallible (M.fails matcher.now)
-            → IsOk result }
+            → IsLawfulFor self.old.settings (M.meaning matcher.now) (M.is_lawful matcher.now)
+            → IfErr result (λ e. (seen : Option (List ℕ)) × (error : Error)
+            × IsUnread R.remaining R.step self.old
+            (M.meaning matcher.now) reader.old seen error reader.new
+            × S.Error.is_io error e) }
         ensures may_call { S.may_call sink.new }
     {
-        let is_across = self.config.is_across(matcher);
-        if let Some(byte) = self.binary_detection().quit_byte() {
-            return self.search_until(matcher, bytes, byte, is_across, sink);
-        }
-        let count = self.match_bytes(matcher, bytes, is_across, sink)?;
-        sink.finish(self, &SinkFinish::new(count, None))
-    }
-
-    // Makes each call but `finish`, across lines or by line, and returns the byte count.
-    pub(crate) fn match_bytes<M: Matcher, S: Sink>(
-        &self,
-        matcher: &M,
-        bytes: &[u8],
-        is_across: bool,
-        sink: &mut S,
-    ) -> Result<u64, S::Error>
-    where
-        S::Error: SinkError<A>,
-        requires { S.may_call sink.old }
-        ensures reported { IfOk result (λ count.
-            (is_across ≡ false → IsLawfulFor self.now.settings (M.meaning matcher.now)
-            (M.is_lawful matcher.now))
-            → (outcome : Outcome S.Error)
-            × Counted S.step self.now.settings sink.old
-            ((calls_if self.now.settings (M.meaning matcher.now) is_across).turns bytes.now)
-            ((calls_if self.now.settings (M.meaning matcher.now) is_across).byte_count bytes.now)
-            count outcome sink.new) }
-        ensures fault { IfErr result (λ e.
-            (is_across ≡ false → IsLawfulFor self.now.settings (M.meaning matcher.now)
-            (M.is_lawful matcher.now))
-            → IsFaultIn S.step
-            (errors_by S.Error.is_message S.Error.is_io S.Error.is_config)
-            (facts_by M.meaning M.fails M.is_lawful M.Error.output matcher.now)
-            (calls_if self.now.settings (M.meaning matcher.now) is_across)
-            self.now.settings bytes.now sink.old e sink.new) }
-        ensures succeeds { NeverFails S.step S.may_call → IsInfallible (M.fails matcher.now)
-            → IsOk result }
-        ensures kept { IsKept S.step self.now.settings sink.old sink.new }
-        ensures may_call { S.may_call sink.new }
-    {
-        if is_across {
-            return self.match_across(matcher, bytes, sink);
-        }
-        self.match_by_line(matcher, bytes, sink)
+        let mut buffers = match self.take_buffers() {
+            Ok(buffers) => buffers,
+            Err(error) => return Err(S::Error::error_io(self.alloc, error)),
+        };
+        let search = self.search();
+        let result = search.search_reader::<M, R, SinkCalls<S>>(
+            matcher,
+            &mut buffers,
+            reader,
+            sink,
+        );
+        self.put_back(buffers);
+        result
     }
 }

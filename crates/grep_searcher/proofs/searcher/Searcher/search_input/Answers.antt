@@ -60,6 +60,7 @@ returns-then-is_searched_unchanged-clause-searched g c = λ lawful.
     in
     let unchanged =
     rw (settings_is c.self.view_is) at (sym c.is_searched_unchanged.ensures ∙ c.if-is_searched_unchanged.true) in
+    let searched = rw (sym c.search.ensures.configured.same) at c.search_bytes.ensures.searched in
     unchanged-searched g.S.Sink.step errors facts c.args.self.now c.args.input.now unchanged
     (c.unchanged_is_searched.ensures.input c.args.self.now.settings c.args.input.now unchanged) c.args.sink.now
-    c.search_bytes.result c.search_bytes.new.sink (c.search_bytes.ensures.searched lawful)
+    c.search_bytes.result c.search_bytes.new.sink (searched lawful)

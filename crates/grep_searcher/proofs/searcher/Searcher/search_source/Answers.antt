@@ -1,4 +1,4 @@
-use Rattle.std.proofs.Common.{None, subst, sym}
+use Rattle.std.proofs.Common.{◌∙◌, None, subst, sym}
 use Rattle.grep_definitions.specs.Questions.{IsLawfulFor}
 use Rattle.grep_definitions.specs.ReaderSearches.{of_buffers}
 use Rattle.grep_definitions.specs.Searches.{ErrorMakers, MatcherFacts}
@@ -40,10 +40,11 @@ returns-clause-searched g c = λ lawful.
       text_of = g.M.Error.Display.output;
     }
     in
-    searched-same g.S.Sink.step errors facts g.R.Source.remaining g.R.Source.step c.take_buffers.new.self.settings c.args.self.now
-    c.args.reader.now c.args.sink.now c.search_with-result.result c.search_with-result.new.reader c.search_with-result.new.sink
-    c.in-Ok.ensures.settings
-    (c.search_with-result.ensures.searched (subst (λ k. IsLawfulFor k facts.meaning facts.is_lawful) (sym c.in-Ok.ensures.settings) lawful))
+    let same = sym c.search-search.ensures.configured.same ∙ c.in-Ok.ensures.settings in
+    searched-same g.S.Sink.step errors facts g.R.Source.remaining g.R.Source.step c.search-search.result.config c.args.self.now
+    c.args.reader.now c.args.sink.now c.search_reader-result.result c.search_reader-result.new.reader c.search_reader-result.new.sink
+    same
+    (c.search_reader-result.ensures.searched (subst (λ k. IsLawfulFor k facts.meaning facts.is_lawful) (sym same) lawful))
 
 pub returns-clause-succeeds : goal.returns-clause-succeeds
 returns-clause-succeeds g c = λ never infallible lawful.
@@ -59,7 +60,8 @@ returns-clause-succeeds g c = λ never infallible lawful.
       text_of = g.M.Error.Display.output;
     }
     in
-    unread-same g.S.Sink.step errors facts g.R.Source.remaining g.R.Source.step c.take_buffers.new.self.settings c.args.self.now
-    c.args.reader.now c.search_with-result.result c.search_with-result.new.reader c.in-Ok.ensures.settings
-    (c.search_with-result.ensures.succeeds never infallible
-    (subst (λ k. IsLawfulFor k facts.meaning facts.is_lawful) (sym c.in-Ok.ensures.settings) lawful))
+    let same = sym c.search-search.ensures.configured.same ∙ c.in-Ok.ensures.settings in
+    unread-same g.S.Sink.step errors facts g.R.Source.remaining g.R.Source.step c.search-search.result.config c.args.self.now
+    c.args.reader.now c.search_reader-result.result c.search_reader-result.new.reader same
+    (c.search_reader-result.ensures.succeeds never infallible
+    (subst (λ k. IsLawfulFor k facts.meaning facts.is_lawful) (sym same) lawful))

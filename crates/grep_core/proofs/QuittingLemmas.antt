@@ -1,0 +1,393 @@
+-- A search by a sink that looks for a byte in each report: the calls that it makes of the sink that it has.
+use Rattle.std.proofs.Common.{◌≡◌, ◌⊎◌, ℕ, zero, suc, ◌+◌, ◌-◌, ◌<◌, Bool, true, false, List, [], ◌∷◌, take}
+use Rattle.std.proofs.Common.{if◌then◌else◌, ◌==◌, Result, Ok, Err}
+use Rattle.std.proofs.Common.{Option, None, Some, refl, sym, ap, ◌∙◌, arith, inl, inr, subst}
+use Rattle.std.specs.Prelude.{is_some}
+use Rattle.std.specs.List.{position}
+use Rattle.std.proofs.lemmas.Bool.{true≢false, false≢true}
+use Rattle.grep_definitions.specs.BinaryBytes.{position_of}
+use Rattle.grep_definitions.specs.LineTurns.{one_turn}
+use Rattle.grep_definitions.specs.QuitPoints.{holds_byte, call_at, calls_before, offset_at, quit_in_reports, IsEndedAt, IsRunTo}
+use Rattle.grep_definitions.specs.Settings.{Settings}
+use Rattle.grep_definitions.specs.SinkCalls.{Call, Turn, begins, matches, context, breaks, binary_data, finishes}
+use Rattle.grep_definitions.specs.SinkCalls.{is_break, reported_bytes, reported_from}
+use Rattle.grep_definitions.specs.SinkRuns.{Steps, Outcome, all_true, stopped, failed, AreReported, IsFinished, IsRun, finish_result}
+use Rattle.grep_core.specs.QuittingSinks.{Watch, quitting, ended, IsLookedAt, IsMadeAfter, count_to}
+use Rattle.grep_core.proofs.FirstPositionLemmas as first
+
+-- calls that report lines
+abbrev pub is_report : Call → Bool
+is_report begins = false
+is_report (matches number from bytes) = true
+is_report (context kind number from bytes) = true
+is_report breaks = false
+is_report (binary_data offset) = false
+is_report (finishes count binary) = false
+
+-- each break is followed by a report with the same end
+pub data AreJoined : List Turn → Type 0 where
+  no_turns : AreJoined []
+  joined_report : {turn : Turn} {later : List Turn} → is_report turn.call ≡ true → AreJoined later → AreJoined (turn ∷ later)
+  joined_break : {gap turn : Turn} {later : List Turn} → gap.call ≡ breaks → is_report turn.call ≡ true → gap.end ≡ turn.end
+      → AreJoined later → AreJoined (gap ∷ turn ∷ later)
+
+-- a report is no break
+report-no-break : (call : Call) → is_report call ≡ true → is_break call ≡ false
+report-no-break begins is = refl
+report-no-break (matches number from bytes) is = refl
+report-no-break (context kind number from bytes) is = refl
+report-no-break breaks is = absurd (false≢true is)
+report-no-break (binary_data offset) is = refl
+report-no-break (finishes count binary) is = refl
+
+not-stopped : {E : Type 0} (end : ℕ) → ◌≡◌ {A = Outcome E} all_true (stopped end) → ⊥
+not-stopped {E} end eq = true≢false (ap goes eq)
+  where
+    goes : Outcome E → Bool
+    goes all_true = true
+    goes (stopped end) = false
+    goes (failed e) = false
+
+not-failed : {E : Type 0} (e : E) → ◌≡◌ {A = Outcome E} all_true (failed e) → ⊥
+not-failed {E} e eq = true≢false (ap goes eq)
+  where
+    goes : Outcome E → Bool
+    goes all_true = true
+    goes (stopped end) = false
+    goes (failed e) = false
+
+module _ (b : ℕ) where
+  -- no break of a report that holds the byte
+  abbrev IsApart : Turn → List Turn → Type 0
+  IsApart turn later = (is_break turn.call ≡ false) ⊎ ((n : ℕ) → position (holds_byte b) later ≡ Some n → 0 < n)
+
+  -- the calls before a later report that holds the byte, with one more call before them
+  before-more : (turn : Turn) (later : List Turn) (n : ℕ) → (is_break turn.call ≡ false) ⊎ (0 < n)
+      → calls_before b (turn ∷ later) (suc n) ≡ turn ∷ calls_before b later n
+  before-more turn later zero (inl plain) = rw plain (ap (λ l. turn ∷ l) (go (is_break (call_at b later 0).call)))
+    where
+      go : (c : Bool) → [] ≡ take (if c then 0 else 0) later
+      go true = refl
+      go false = refl
+  before-more turn later zero (inr some) = absurd (omega (arith, some))
+  before-more turn later (suc n) apart =
+      let one : suc (suc n) - 1 ≡ suc n = omega arith in
+      let less : suc n - 1 ≡ n = omega arith in
+      rw (one, less) (go (is_break (call_at b later n).call))
+    where
+      go : (c : Bool) → take (if c then suc n else suc (suc n)) (turn ∷ later) ≡ turn ∷ take (if c then n else suc n) later
+      go true = refl
+      go false = refl
+
+  apart-at : (turn : Turn) (later : List Turn) (n : ℕ) → IsApart turn later → position (holds_byte b) later ≡ Some n
+      → (is_break turn.call ≡ false) ⊎ (0 < n)
+  apart-at turn later n (inl plain) is = inl plain
+  apart-at turn later n (inr far) is = inr (far n is)
+
+module _ {S E : Type 0} (step : Steps S E) (may_call : S → Type 0) (k : Settings) (b : ℕ) where
+  -- what came of a call that ended the search, or of `binary_data`
+  abbrev IsEnd : Outcome E → Result Bool E → Type 0
+  IsEnd outcome (Ok goes_on) = (end : ℕ) × (outcome ≡ stopped end)
+  IsEnd outcome (Err e) = outcome ≡ failed e
+
+  -- what the sink had of some turns: no report holds the byte; or the search ended before the first one that does, or at it
+  pub data HasQuit (turns : List Turn) (old : S) (outcome : Outcome E) (new : Watch S) : Type 0 where
+    unheld : position (holds_byte b) turns ≡ None → new.found ≡ None → AreReported step k old turns outcome new.sink
+        → HasQuit turns old outcome new
+    ended_before : (n : ℕ) → position (holds_byte b) turns ≡ Some n → new.found ≡ None → (outcome ≡ all_true → ⊥)
+        → AreReported step k old (calls_before b turns n) outcome new.sink → HasQuit turns old outcome new
+    ended_at : (n : ℕ) → position (holds_byte b) turns ≡ Some n → new.found ≡ Some (offset_at b turns n) → (mid : S)
+        → AreReported step k old (calls_before b turns n) all_true mid → (returned : Result Bool E)
+        → step mid k (binary_data (offset_at b turns n)) returned new.sink → IsEnd outcome returned
+        → HasQuit turns old outcome new
+
+  -- one more call before them, that doesn't hold the byte
+  quits-more : (turn : Turn) (later : List Turn) (old mid : S) (outcome : Outcome E) (new : Watch S)
+      → holds_byte b turn ≡ false → IsApart b turn later → step old k turn.call (Ok true) mid
+      → HasQuit later mid outcome new → HasQuit (turn ∷ later) old outcome new
+  quits-more turn later old mid outcome new free apart made (unheld none clear reported) =
+      unheld (first.position-never (holds_byte b) turn later free none) clear (inl (mid, made, reported))
+  quits-more turn later old mid outcome new free apart made (ended_before n is clear some reported) =
+      ended_before (suc n) (first.position-later (holds_byte b) turn later n free is) clear some
+      (subst (λ l. AreReported step k old l outcome new.sink) (sym (before-more b turn later n (apart-at b turn later n apart is)))
+      (inl (mid, made, reported)))
+  quits-more turn later old mid outcome new free apart made (ended_at n is found last reported returned called end) =
+      ended_at (suc n) (first.position-later (holds_byte b) turn later n free is) found last
+      (subst (λ l. AreReported step k old l all_true last) (sym (before-more b turn later n (apart-at b turn later n apart is)))
+      (inl (mid, made, reported))) returned called end
+
+  -- or it ended at that call
+  quits-none : (turn : Turn) (later : List Turn) (old : S) (outcome : Outcome E) (new : Watch S)
+      → holds_byte b turn ≡ false → IsApart b turn later → new.found ≡ None → (outcome ≡ all_true → ⊥)
+      → ((rest : List Turn) → AreReported step k old (turn ∷ rest) outcome new.sink) → HasQuit (turn ∷ later) old outcome new
+  quits-none turn later old outcome new free apart clear some reported = go (position (holds_byte b) later) refl
+    where
+      go : (found : Option ℕ) → position (holds_byte b) later ≡ found → HasQuit (turn ∷ later) old outcome new
+      go None is = unheld (first.position-never (holds_byte b) turn later free is) clear (reported later)
+      go (Some n) is = ended_before (suc n) (first.position-later (holds_byte b) turn later n free is) clear some
+          (subst (λ l. AreReported step k old l outcome new.sink) (sym (before-more b turn later n (apart-at b turn later n apart is)))
+          (reported (calls_before b later n)))
+
+  abbrev Q : Steps (Watch S) E
+  Q = quitting step may_call b
+
+  -- what followed a call
+  abbrev Went : Turn → Result Bool E → Watch S → List Turn → Outcome E → Watch S → Type 0
+  Went turn (Ok true) mid later outcome new = AreReported Q k mid later outcome new
+  Went turn (Ok false) mid later outcome new = (outcome ≡ stopped turn.end) × (new ≡ mid)
+  Went turn (Err e) mid later outcome new = (outcome ≡ failed e) × (new ≡ mid)
+
+  first-call : (turn : Turn) (later : List Turn) (old : Watch S) (outcome : Outcome E) (new : Watch S)
+      → AreReported Q k old (turn ∷ later) outcome new
+      → (result : Result Bool E) × (mid : Watch S) × Q old k turn.call result mid × Went turn result mid later outcome new
+  first-call turn later old outcome new (inl (mid, made, rest)) = (Ok true, mid, made, rest)
+  first-call turn later old outcome new (inr (inl (is, made))) = (Ok false, new, made, (is, refl))
+  first-call turn later old outcome new (inr (inr (e, is, made))) = (Err e, new, made, (is, refl))
+
+  -- a report that is made
+  quits-report : (turn : Turn) (later : List Turn) (old : S) (mid : Watch S) (outcome : Outcome E) (new : Watch S)
+      → (result : Result Bool E) → is_break turn.call ≡ false → holds_byte b turn ≡ false
+      → step old k turn.call result mid.sink → mid.found ≡ None → Went turn result mid later outcome new
+      → (AreReported Q k mid later outcome new → HasQuit later mid.sink outcome new) → HasQuit (turn ∷ later) old outcome new
+  quits-report turn later old mid outcome new (Ok true) is free made clear went rest =
+      quits-more turn later old mid.sink outcome new free (inl is) made (rest went)
+  quits-report turn later old mid outcome new (Ok false) is free made clear (stops, same) rest =
+      quits-none turn later old outcome new free (inl is) (ap (λ (w : Watch S). w.found) same ∙ clear)
+      (λ all. not-stopped turn.end (sym all ∙ stops))
+      (λ rest. inr (inl (stops, subst (λ (w : Watch S). step old k turn.call (Ok false) w.sink) (sym same) made)))
+  quits-report turn later old mid outcome new (Err e) is free made clear (fails, same) rest =
+      quits-none turn later old outcome new free (inl is) (ap (λ (w : Watch S). w.found) same ∙ clear)
+      (λ all. not-failed e (sym all ∙ fails))
+      (λ rest. inr (inr (e, fails, subst (λ (w : Watch S). step old k turn.call (Err e) w.sink) (sym same) made)))
+
+  -- the calls before a first report that holds the byte
+  none-before : (turn : Turn) (later : List Turn) → calls_before b (turn ∷ later) 0 ≡ []
+  none-before turn later = go (is_break turn.call)
+    where
+      go : (c : Bool) → take (if c then 0 else 0) (turn ∷ later) ≡ []
+      go true = refl
+      go false = refl
+
+  -- the search ended at a report
+  end-of : (turn : Turn) (later : List Turn) (mid : Watch S) (outcome : Outcome E) (new : Watch S) (returned : Result Bool E)
+      → Went turn (ended returned) mid later outcome new → (new ≡ mid) × IsEnd outcome returned
+  end-of turn later mid outcome new (Ok goes_on) (stops, same) = (same, (turn.end, stops))
+  end-of turn later mid outcome new (Err e) (fails, same) = (same, fails)
+
+  looked : (call : Call) (old : Watch S) (result : Result Bool E) (mid : Watch S) → is_report call ≡ true → Q old k call result mid
+      → IsLookedAt step may_call (position_of b (reported_bytes call)) (reported_from call) old k call result mid
+  looked begins old result mid is made = absurd (false≢true is)
+  looked (matches number from bytes) old result mid is made = made
+  looked (context kind number from bytes) old result mid is made = made
+  looked breaks old result mid is made = absurd (false≢true is)
+  looked (binary_data offset) old result mid is made = absurd (false≢true is)
+  looked (finishes count binary) old result mid is made = absurd (false≢true is)
+
+  -- such turns, from any state between two reports
+  abbrev QuitsFrom : List Turn → Outcome E → Watch S → Type 0
+  QuitsFrom turns outcome new =
+      (mid : Watch S) → mid.has_break ≡ false → mid.found ≡ None → AreReported Q k mid turns outcome new
+      → HasQuit turns mid.sink outcome new
+
+  pub quits : (turns : List Turn) → AreJoined turns → (old : Watch S) (outcome : Outcome E) (new : Watch S)
+      → old.has_break ≡ false → old.found ≡ None → AreReported Q k old turns outcome new → HasQuit turns old.sink outcome new
+  quits [] no_turns old outcome new whole clear (all, same) =
+      unheld refl (ap (λ (w : Watch S). w.found) same ∙ clear) (all, ap (λ (w : Watch S). w.sink) same)
+  quits (turn ∷ later) (joined_report is joined) old outcome new whole clear reported =
+      let made = first-call turn later old outcome new reported in
+      go (λ mid none empty. quits later joined mid outcome new none empty)
+      (position_of b (reported_bytes turn.call)) refl made.0 made.1 (looked turn.call old made.0 made.1 is made.2) made.3
+    where
+      go : QuitsFrom later outcome new
+          → (at : Option ℕ) → position_of b (reported_bytes turn.call) ≡ at → (result : Result Bool E) (mid : Watch S)
+          → IsLookedAt step may_call at (reported_from turn.call) old k turn.call result mid → Went turn result mid later outcome new
+          → HasQuit (turn ∷ later) old.sink outcome new
+      go quits_later None free result mid (same, none, made) went =
+          let alone = subst (λ c. IsMadeAfter step may_call c old.sink k turn.call result mid.sink) whole made in
+          quits-report turn later old.sink mid outcome new result (report-no-break turn.call is) (ap is_some free) alone (same ∙ clear) went
+          (quits_later mid none (same ∙ clear))
+      go quits_later (Some index) holds result mid (found, whole_now, (returned, ends, called)) went =
+          let end = end-of turn later mid outcome new returned (subst (λ r. Went turn r mid later outcome new) ends went) in
+          let offset : offset_at b (turn ∷ later) 0 ≡ reported_from turn.call + index =
+          ap (λ i. reported_from turn.call + i) (first.position-is (λ x. x == b) (reported_bytes turn.call) index holds) in
+          ended_at 0 (first.position-first (holds_byte b) turn later (ap is_some holds))
+          (ap (λ (w : Watch S). w.found) end.0 ∙ found ∙ ap (λ n. Some n) (sym offset)) old.sink
+          (subst (λ l. AreReported step k old.sink l all_true old.sink) (sym (none-before turn later)) (refl, refl)) returned
+          (subst (λ n. step old.sink k (binary_data n) returned new.sink) (sym offset)
+          (subst (λ (w : Watch S). step old.sink k (binary_data (reported_from turn.call + index)) returned w.sink) (sym end.0) called))
+          end.1
+  quits (gap ∷ turn ∷ later) (joined_break off is same_end joined) old outcome new whole clear reported =
+      let made = first-call gap (turn ∷ later) old outcome new reported in
+      let held : (made.1 ≡ record old { has_break = true }) × (made.0 ≡ Ok true) =
+      subst (λ call. Q old k call made.0 made.1) off made.2 in
+      let rest : AreReported Q k (record old { has_break = true }) (turn ∷ later) outcome new =
+      subst (λ w. AreReported Q k w (turn ∷ later) outcome new) held.0
+      (subst (λ r. Went gap r made.1 (turn ∷ later) outcome new) held.1 made.3) in
+      let next = first-call turn later (record old { has_break = true }) outcome new rest in
+      go (λ mid none empty. quits later joined mid outcome new none empty)
+      (position_of b (reported_bytes turn.call)) refl next.0 next.1
+      (looked turn.call (record old { has_break = true }) next.0 next.1 is next.2) next.3
+    where
+      gap-free : holds_byte b gap ≡ false
+      gap-free = rw off refl
+
+      apart : holds_byte b turn ≡ false → IsApart b gap (turn ∷ later)
+      apart free = inr (λ n at. let some = rw free at (first.position-is (holds_byte b) (turn ∷ later) n at) in omega (arith, some))
+
+      nothing : calls_before b (gap ∷ turn ∷ later) 1 ≡ []
+      nothing = rw off refl
+
+      after : QuitsFrom later outcome new
+          → (result : Result Bool E) (mid : Watch S) → holds_byte b turn ≡ false → mid.found ≡ None → mid.has_break ≡ false
+          → IsMadeAfter step may_call true old.sink k turn.call result mid.sink → Went turn result mid later outcome new
+          → HasQuit (gap ∷ turn ∷ later) old.sink outcome new
+      after quits_later result mid free none whole (inl (m, may, broken, made)) went =
+          quits-more gap (turn ∷ later) old.sink m outcome new gap-free (apart free)
+          (subst (λ call. step old.sink k call (Ok true) m) (sym off) broken)
+          (quits-report turn later m mid outcome new result (report-no-break turn.call is) free made none went (quits_later mid whole none))
+      after quits_later (Ok true) mid free none whole (inr (never, broken)) went = absurd (never refl)
+      after quits_later (Ok false) mid free none whole (inr (never, broken)) (stops, same) =
+          quits-none gap (turn ∷ later) old.sink outcome new gap-free (apart free) (ap (λ (w : Watch S). w.found) same ∙ none)
+          (λ all. not-stopped turn.end (sym all ∙ stops))
+          (λ rest. inr (inl (
+            stops ∙ ap (λ n. stopped n) (sym same_end),
+            subst (λ call. step old.sink k call (Ok false) new.sink) (sym off)
+                (subst (λ (w : Watch S). step old.sink k breaks (Ok false) w.sink) (sym same) broken),
+          )))
+      after quits_later (Err e) mid free none whole (inr (never, broken)) (fails, same) =
+          quits-none gap (turn ∷ later) old.sink outcome new gap-free (apart free) (ap (λ (w : Watch S). w.found) same ∙ none)
+          (λ all. not-failed e (sym all ∙ fails))
+          (λ rest. inr (inr (
+            e,
+            fails,
+            subst (λ call. step old.sink k call (Err e) new.sink) (sym off)
+                (subst (λ (w : Watch S). step old.sink k breaks (Err e) w.sink) (sym same) broken),
+          )))
+
+      go : QuitsFrom later outcome new
+          → (at : Option ℕ) → position_of b (reported_bytes turn.call) ≡ at → (result : Result Bool E) (mid : Watch S)
+          → IsLookedAt step may_call at (reported_from turn.call) (record old { has_break = true }) k turn.call result mid
+          → Went turn result mid later outcome new → HasQuit (gap ∷ turn ∷ later) old.sink outcome new
+      go quits_later None free result mid (same, whole, made) went =
+          after quits_later result mid (ap is_some free) (same ∙ clear) whole made went
+      go quits_later (Some index) holds result mid (found, whole_now, (returned, ends, called)) went =
+          let end = end-of turn later mid outcome new returned (subst (λ r. Went turn r mid later outcome new) ends went) in
+          let offset : offset_at b (gap ∷ turn ∷ later) 1 ≡ reported_from turn.call + index =
+          ap (λ i. reported_from turn.call + i) (first.position-is (λ x. x == b) (reported_bytes turn.call) index holds) in
+          ended_at 1 (first.position-later (holds_byte b) gap (turn ∷ later) 0 gap-free
+          (first.position-first (holds_byte b) turn later (ap is_some holds)))
+          (ap (λ (w : Watch S). w.found) end.0 ∙ found ∙ ap (λ n. Some n) (sym offset)) old.sink
+          (subst (λ l. AreReported step k old.sink l all_true old.sink) (sym nothing) (refl, refl)) returned
+          (subst (λ n. step old.sink k (binary_data n) returned new.sink) (sym offset)
+          (subst (λ (w : Watch S). step old.sink k (binary_data (reported_from turn.call + index)) returned w.sink) (sym end.0) called))
+          end.1
+
+  -- and of `begin` and some turns
+  pub quits-begun : (end : ℕ) (turns : List Turn) → AreJoined turns → (old : Watch S) (outcome : Outcome E) (new : Watch S)
+      → old.has_break ≡ false → old.found ≡ None
+      → AreReported Q k old (record { call = begins; end = end } ∷ turns) outcome new
+      → HasQuit (record { call = begins; end = end } ∷ turns) old.sink outcome new
+  quits-begun end turns joined old outcome new whole clear reported =
+      let begin : Turn = record { call = begins; end = end } in
+      let made = first-call begin turns old outcome new reported in
+      quits-report begin turns old.sink made.1 outcome new made.0 refl refl made.2.2 (made.2.0 ∙ clear) made.3
+      (quits turns joined made.1 outcome new (made.2.1 ∙ whole) (made.2.0 ∙ clear))
+
+  -- `finish` after them
+  pub quits-run : (turns : List Turn) (old : S) (count : ℕ) (outcome : Outcome E) (mid : Watch S) (result : Result (Unit {0}) E)
+      (new : Watch S) → HasQuit turns old outcome mid → IsFinished Q k outcome mid count None result new
+      → IsRunTo step k (quit_in_reports b turns) old turns count result new.sink
+  quits-run turns old count outcome mid result new (unheld none clear reported) finished =
+      rw none (record {
+        outcome = outcome;
+        mid = mid.sink;
+        reported = reported;
+        finished = plainly outcome clear finished;
+      })
+    where
+      plainly : (outcome : Outcome E) → mid.found ≡ None → IsFinished Q k outcome mid count None result new
+          → IsFinished step k outcome mid.sink count None result new.sink
+      plainly all_true clear (same, broken, made) =
+          subst (λ f. step mid.sink k (finishes (count_to f count) f) (finish_result result) new.sink) clear made
+      plainly (stopped end) clear (same, broken, made) =
+          subst (λ f. step mid.sink k (finishes (count_to f end) f) (finish_result result) new.sink) clear made
+      plainly (failed e) clear (is, same) = (is, ap (λ (w : Watch S). w.sink) same)
+  quits-run turns old count outcome mid result new (ended_before n is clear some reported) finished =
+      rw is (record {
+        outcome = outcome;
+        mid = mid.sink;
+        reported = reported;
+        ended = early outcome some clear finished;
+      })
+    where
+      early : (outcome : Outcome E) → (outcome ≡ all_true → ⊥) → mid.found ≡ None → IsFinished Q k outcome mid count None result new
+          → IsEndedAt step k (offset_at b turns n) (offset_at b turns n) outcome mid.sink result new.sink
+      early all_true some clear finished = absurd (some refl)
+      early (stopped end) some clear (same, broken, made) =
+          subst (λ f. step mid.sink k (finishes (count_to f end) f) (finish_result result) new.sink) clear made
+      early (failed e) some clear (is, same) = (is, ap (λ (w : Watch S). w.sink) same)
+  quits-run turns old count outcome mid result new (ended_at n is found last reported returned called end) finished =
+      rw is (record {
+        outcome = all_true;
+        mid = last;
+        reported = reported;
+        ended = at returned called end finished;
+      })
+    where
+      offset : ℕ
+      offset = offset_at b turns n
+
+      closed : (end : ℕ) → outcome ≡ stopped end → IsFinished Q k outcome mid count None result new
+          → step mid.sink k (finishes offset (Some offset)) (finish_result result) new.sink
+      closed end stops finished =
+          let made = subst (λ o. IsFinished Q k o mid count None result new) stops finished in
+          subst (λ f. step mid.sink k (finishes (count_to f end) f) (finish_result result) new.sink) found made.2
+
+      at : (returned : Result Bool E) → step last k (binary_data offset) returned mid.sink → IsEnd outcome returned
+          → IsFinished Q k outcome mid count None result new
+          → IsRun step k last (one_turn (binary_data offset) offset) offset (Some offset) result new.sink
+      at (Ok true) called (end, stops) finished = record {
+        outcome = all_true;
+        mid = mid.sink;
+        reported = inl (mid.sink, called, (refl, refl));
+        finished = closed end stops finished;
+      }
+      at (Ok false) called (end, stops) finished = record {
+        outcome = stopped offset;
+        mid = mid.sink;
+        reported = inr (inl (refl, called));
+        finished = closed end stops finished;
+      }
+      at (Err e) called fails finished =
+          let made = subst (λ o. IsFinished Q k o mid count None result new) fails finished in record {
+            outcome = failed e;
+            mid = mid.sink;
+            reported = inr (inr (e, refl, called));
+            finished = (made.0, ap (λ (w : Watch S). w.sink) made.1);
+          }
+
+  -- all of them were made: no report holds the byte
+  pub quits-all : (turns : List Turn) (old : S) (new : Watch S) → HasQuit turns old all_true new
+      → (position (holds_byte b) turns ≡ None) × AreReported step k old turns all_true new.sink
+  quits-all turns old new (unheld none clear reported) = (none, reported)
+  quits-all turns old new (ended_before n is clear some reported) = absurd (some refl)
+  quits-all turns old new (ended_at n is found last reported (Ok goes_on) called (end, stops)) = absurd (not-stopped end stops)
+  quits-all turns old new (ended_at n is found last reported (Err e) called fails) = absurd (not-failed e fails)
+
+-- `binary_data` and `finish`, whatever the first returned
+pub run-called : {S E : Type 0} (step : Steps S E) (k : Settings) (offset count : ℕ) (first mid new : S) (goes_on : Bool)
+    (result : Result (Unit {0}) E) → step first k (binary_data offset) (Ok goes_on) mid
+    → step mid k (finishes count (Some offset)) (finish_result result) new
+    → IsRun step k first (one_turn (binary_data offset) count) count (Some offset) result new
+run-called step k offset count first mid new true result called finish = record {
+  outcome = all_true;
+  mid = mid;
+  reported = inl (mid, called, (refl, refl));
+  finished = finish;
+}
+run-called step k offset count first mid new false result called finish = record {
+  outcome = stopped count;
+  mid = mid;
+  reported = inr (inl (refl, called));
+  finished = finish;
+}

@@ -1,0 +1,398 @@
+-- A search of a reader, fill by fill, against what the reader gives.
+use Rattle.std.proofs.Common.{◌≡◌, ℕ, ◌<◌, ◌≤◌, Bool, true, false, List, [], ◌++◌, length, take, drop}
+use Rattle.std.proofs.Common.{Option, Some, None, Ok, inl, inr, refl, sym, ◌∙◌, ap, subst, arith}
+use Rattle.std.proofs.Common.{append-nil, append_assoc, length-append}
+use Rattle.std.proofs.lemmas.Bool.{false≢true}
+use Rattle.std.specs.List.{position}
+use Rattle.std.specs.Prelude.{not, ◌||◌, if◌then◌else◌, is_some, ◌==◌, ◌&&◌}
+use Rattle.grep_decode.specs.declared.mode.Mode.TheVariants.{Passing}
+use Rattle.grep_decode.specs.DecoderStates.{DecoderState, Decodes, IsDone, IsSettled, started, still_to_give}
+use Rattle.grep_decode.specs.Source.{ReadResult}
+use Rattle.grep_line_buffer.specs.declared.detection.Detection.{Detection}
+use Rattle.grep_line_buffer.specs.declared.detection.Detection.TheVariants.{None as no_detection, Quit, Convert}
+use Rattle.grep_line_buffer.specs.BufferStates.{BufferState, held, is_cut, GrowsIfFull, IsFilled, IsSameBuffer, IsWithin}
+use Rattle.grep_line_buffer.specs.Detections.{detected, found_in, is_quit}
+use Rattle.grep_line_buffer.specs.Fills.{Fills}
+use Rattle.grep_core.specs.HeldViews.{HoldsGiven}
+use Rattle.grep_lines.specs.LineLaws.{LinesJoin, LinesAppend, LinesAreNumbered, LinesAreFew}
+use Rattle.grep_matcher.specs.Lines.{lines}
+use Rattle.grep_matcher.specs.Matching.{Meaning}
+use Rattle.grep_matcher.specs.Terminators.{byte_of}
+use Rattle.grep_definitions.specs.BinaryBytes.{binary_of, is_detecting, view_of}
+use Rattle.grep_definitions.specs.DecodedInputs.{IsInput}
+use Rattle.grep_definitions.specs.InputFronts.{IsClosed, IsFront}
+use Rattle.grep_definitions.specs.LineSearch
+use Rattle.grep_definitions.specs.ReaderSearches.{IsReaderFaultIn, Taken, is_idle, reads_lines, of_search}
+use Rattle.grep_definitions.specs.SearchLaws.{UnchangedIsInput}
+use Rattle.grep_definitions.specs.Searches.{ErrorMakers, MatcherFacts, IsClearFault, IsFaultIn, IsLineFault, of_matcher, of_sink}
+use Rattle.grep_definitions.specs.StreamSearches.{stream_calls}
+use Rattle.grep_definitions.specs.Settings.{Settings}
+use Rattle.grep_definitions.specs.SinkCalls.{begins}
+use Rattle.grep_definitions.specs.SinkRuns.{Steps}
+use Rattle.grep_walk.specs.declared.walk.Walk.{Walk}
+use Rattle.grep_core.specs.Rolls.{HasCounted, HasEnded, HasMovedOn, IsBetween, IsCountedFor, IsLast, IsReady, IsRolling, start_in}
+use Rattle.grep_walk.specs.Walks.{IsCount}
+use Rattle.grep_walk.specs.Windows.{HasSearched}
+use Rattle.grep_core.specs.SearchBuffers.{IsFitting, detection_of, least_size}
+use Rattle.grep_walk.proofs.FrontLemmas.{turns-seen}
+use Rattle.grep_core.proofs.HeldLemmas as holding
+use Rattle.grep_core.proofs.ReadingLemmas as reading
+use Rattle.grep_core.proofs.RollLemmas as rolls
+use Rattle.grep_core.proofs.StreamViewLemmas as views
+use Rattle.grep_core.proofs.UnreadLemmas.{grown}
+use Rattle.grep_walk.proofs.WalkLemmas.{start_walk}
+use Rattle.grep_walk.proofs.WindowLemmas as windows
+use Rattle.grep_walk.proofs.WindowLemmas.{closed-append}
+use Rattle.grep_walk.proofs.WindowSearchLemmas.{searched-start}
+
+-- a fault of a search by line is one of a search of a view
+stream-fault : {S E F : Type 0} (step : Steps S E) (errors : ErrorMakers E) (matcher : MatcherFacts F) (k : Settings) (bytes : List ℕ)
+    (first : S) (e : E) (now : S) → IsLineFault step errors matcher k bytes first e now
+    → IsFaultIn step errors matcher (stream_calls k matcher.meaning) k bytes first e now
+stream-fault step errors matcher k bytes first e now (of_sink run) = of_sink run
+stream-fault step errors matcher k bytes first e now (of_matcher haystack error made asked fails message reported) =
+    of_matcher haystack error made asked fails message reported
+
+-- a search that reads though no line may have a turn looks for a binary byte
+idle-detects : (idle detecting : Bool) → idle ≡ true → (not idle || detecting) ≡ true → detecting ≡ true
+idle-detects true detecting is reads = reads
+idle-detects false detecting is reads = absurd (false≢true is)
+
+module _ {R : Type 0} (remaining : R → Option (List ℕ)) (read_step : R → ReadResult → R → Type 0)
+    (join : LinesJoin) (append : LinesAppend) {S E : Type 0} (step : Steps S E) (k : Settings) (meaning : Meaning) where
+  abbrev pub t : ℕ
+  t = byte_of k.line_terminator
+
+  -- a search begins with an empty buffer, once `begin` returned true
+  pub rolling-start : LinesAreNumbered → LinesAreFew → (decoder : DecoderState) (reader : R) (first now : S) (buffer : BufferState)
+      → buffer.shown ≡ [] → buffer.rest ≡ [] → buffer.offset ≡ 0 → buffer.has_ended ≡ false → buffer.binary ≡ None
+      → buffer.detection ≡ detection_of k.binary_detection → buffer.terminator ≡ t
+      → Decodes remaining read_step decoder reader [] decoder reader → reads_lines k ≡ true → step first k begins (Ok true) now
+      → IsRolling step k meaning remaining read_step decoder reader first buffer decoder reader (start_walk k meaning []) now
+  rolling-start numbered few decoder reader first now buffer shown rest offset unended binary detects ends_at reads busy begun = record {
+    gone = [];
+    between = record {
+      opens = λ none. rolls.nothing none;
+      shut = λ some. absurd (omega (arith, some, ap length shown));
+      unfinished = λ i x below. absurd (omega (arith, below, ap length rest));
+      offset = offset;
+      unended = unended;
+      few = omega (arith, ap (λ xs. length (lines t xs)) shown);
+      fits = λ limit is i x below. absurd (omega (arith, below, ap (λ xs. length (lines t xs)) shown));
+      at = omega (arith, ap length shown);
+      next = λ some. subst (λ xs. (more after : List ℕ) → (0 < length after → IsClosed t (xs ++ more))
+          → HasSearched-at (xs ++ more) (xs ++ more) (length xs) after) (sym shown)
+          (λ more after closes. searched-start step k meaning more (more ++ after) first now
+          (windows.shown join append numbered few t [] more after (λ none. rolls.nothing none) closes) some begun);
+      idle = λ idle. record { none = shown; detecting = idle-detects (is_idle k) (is_detecting k.binary_detection) idle busy; begun = begun };
+    };
+    given = [];
+    holds = record {
+      whole = ap (λ xs. xs ++ buffer.rest) shown ∙ (rest ∙ sym (nothing-held buffer.detection));
+      found = binary ∙ sym (nothing-found buffer.detection);
+      decodes = reads;
+    };
+    detects = detects;
+    uncut = ap (λ b. is_quit buffer.detection && is_some b) binary ∙ never buffer.detection;
+    settled = inr refl;
+  }
+    where
+      nothing-held : (d : Detection) → detected d buffer.terminator [] ≡ []
+      nothing-held no_detection = refl
+      nothing-held (Quit b) = refl
+      nothing-held (Convert b) = refl
+
+      nothing-found : (d : Detection) → found_in d buffer.terminator [] ≡ None
+      nothing-found no_detection = refl
+      nothing-found (Quit b) = refl
+      nothing-found (Convert b) = go (b == buffer.terminator)
+        where
+          go : (same : Bool) → (if same then None else position (λ x. x == b) []) ≡ None
+          go true = refl
+          go false = refl
+
+      never : (d : Detection) → (is_quit d && false) ≡ false
+      never no_detection = refl
+      never (Quit b) = refl
+      never (Convert b) = refl
+
+      HasSearched-at : List ℕ → List ℕ → ℕ → List ℕ → Type 0
+      HasSearched-at window shown start after =
+          HasSearched step k meaning [] window ([] ++ (shown ++ after)) first start (start_walk k meaning []) now
+
+  -- a fill of a search that reads on
+  module _ (capacity : ℕ) (reader reader' : R) (d d' : DecoderState) (gone : List ℕ) (old new : BufferState) (first : S)
+      (w : Walk) (now : S) (between : IsBetween step k meaning gone old first w now) (fitting : IsFitting k.heap_limit t old)
+      (same : IsSameBuffer old new) where
+    abbrev seen : List ℕ
+    seen = gone ++ old.shown
+
+    -- it succeeded
+    module _ (busy : is_idle k ≡ false) (given : List ℕ) (whole : held new ≡ held old ++ given) (filled : rolls.IsUncut old new)
+        (room : length (held new) ≤ new.size)
+        (within : IsWithin new.limit new.size) (raw : List ℕ)
+        (shows : (later : List ℕ) → view_of k (raw ++ later) ≡ (gone ++ held new) ++ view_of k later)
+        (reads : Decodes remaining read_step (started capacity k.encoding k.bom_sniffing) reader raw d' reader')
+        (is_found : new.binary ≡ found_in (detection_of k.binary_detection) t raw)
+        (unquit : is_quit (detection_of k.binary_detection) ≡ true → new.binary ≡ None)
+        (none : (d : DecoderState) (more : List ℕ) → IsDone d → still_to_give d more ≡ [])
+        (done : new.has_ended ≡ true → IsDone d') where
+      abbrev shown : List ℕ
+      shown = gone ++ new.shown
+
+      pub shown-room : length new.shown ≤ new.size
+      shown-room = omega (arith, room, length-append new.shown new.rest)
+
+      abbrev Input : List ℕ → Type 0
+      Input = IsInput k d'.has_ended reads.pieces
+
+      abbrev pub taken : Taken remaining read_step reader reader'
+      taken = reading.taken remaining read_step k capacity reader raw d' reader' reads
+
+      pub limit-within : (limit : ℕ) → k.heap_limit ≡ Some limit → new.size ≤ limit
+      limit-within limit is = subst (λ m. IsWithin m new.size) (same.limit ∙ (fitting.limit ∙ is)) within
+
+      -- what follows what is shown
+      abbrev after : (bytes : List ℕ) → Input bytes → List ℕ
+      after bytes input =
+          new.rest ++ (reading.view-is remaining read_step k capacity reader raw d' reader' reads none (gone ++ held new) shows bytes input).0
+
+      after-is : (bytes : List ℕ) (input : Input bytes) → gone ++ (new.shown ++ after bytes input) ≡ view_of k bytes
+      after-is bytes input =
+          let text = reading.view-is remaining read_step k capacity reader raw d' reader' reads none (gone ++ held new) shows bytes input in
+          sym (text.1 ∙ (append_assoc gone (held new) text.0 ∙ ap (λ xs. gone ++ xs) (append_assoc new.shown new.rest text.0)))
+
+      last : (bytes : List ℕ) (input : Input bytes) → new.has_ended ≡ true
+          → (reading.view-is remaining read_step k capacity reader raw d' reader' reads none (gone ++ held new) shows bytes input).0 ≡ []
+      last bytes input ended =
+          (reading.view-is remaining read_step k capacity reader raw d' reader' reads none (gone ++ held new) shows bytes input).2 (done ended)
+
+      closes : (bytes : List ℕ) (input : Input bytes) → 0 < length (after bytes input) → IsClosed t new.shown
+      closes bytes input = rolls.closed-filled t old new fitting.terminator
+          (reading.view-is remaining read_step k capacity reader raw d' reader' reads none (gone ++ held new) shows bytes input).0 filled
+          (last bytes input)
+
+      abbrev front : (bytes : List ℕ) (input : Input bytes) → IsFront k (view_of k bytes) shown
+      front bytes input = record {
+        after = after bytes input;
+        whole = sym (after-is bytes input) ∙ sym (append_assoc gone new.shown (after bytes input));
+        closed = λ some. closed-append t gone new.shown between.opens (closes bytes input some);
+        held = λ limit is. rolls.fits-filled join append step k meaning gone old first w now between new given whole fitting.terminator
+            filled shown-room limit is (limit-within limit is);
+      }
+
+      raw-length : length raw ≡ length (gone ++ held new)
+      raw-length = omega (
+        arith,
+        ap length (shows []),
+        views.view-length k.binary_detection t (raw ++ []),
+        views.view-length k.binary_detection t [],
+        length-append raw [],
+        length-append (gone ++ held new) (view_of k []),
+      )
+
+      start-is : start_in new w ≡ length old.shown
+      start-is = omega (arith, rolls.walk-at join append step k meaning gone old first w now between, same.offset, between.offset)
+
+      ready : IsReady step k meaning gone new.shown (start_in new w) first w now
+      ready = subst (λ p. IsReady step k meaning gone new.shown p first w now) (sym start-is)
+          (rolls.filled-ready join append step k meaning gone old first w now between new given whole fitting.terminator busy filled)
+
+      -- no binary byte is among the first bytes of what is shown, if none was found
+      clear-shown : (count : ℕ) → count ≤ length shown → new.binary ≡ None → (bytes : List ℕ) → Input bytes
+          → binary_of k (take count bytes) ≡ None
+      clear-shown count low unfound bytes input =
+          let text = reading.input-is remaining read_step k capacity reader raw d' reader' reads none bytes input in
+          ap (λ xs. binary_of k (take count xs)) text.1
+          ∙ views.clear-front k.binary_detection t raw text.0 count
+          (omega (
+            arith,
+            low,
+            raw-length,
+            length-append gone (held new),
+            length-append gone new.shown,
+            length-append new.shown new.rest,
+          )) (sym is_found ∙ unfound)
+
+      -- a fault within what is shown
+      pub cleared : {F : Type 0} (errors : ErrorMakers E) (matcher : MatcherFacts F) (e : E) (now' : S)
+          → ((gone : List ℕ) (first : S) → IsReady step k meaning gone new.shown (start_in new w) first w now
+          → (after : List ℕ) → (0 < length after → IsClosed t new.shown)
+          → IsLineFault step errors matcher k (gone ++ (new.shown ++ after)) first e now')
+          → new.binary ≡ None → IsClearFault step errors matcher Input k first e now'
+      cleared errors matcher e now' fault unfound = record {
+        seen = shown;
+        front = front;
+        clear = clear-shown (length shown) (omega arith) unfound;
+        made = inl (subst (λ xs. IsLineFault step errors matcher k (gone ++ xs) first e now') (append-nil new.shown)
+            (fault gone first ready [] rolls.nothing));
+      }
+
+      pub faulted : {F : Type 0} (errors : ErrorMakers E) (matcher : MatcherFacts F) (has_buffers : Bool) (e : E) (now' : S)
+          → ((gone : List ℕ) (first : S) → IsReady step k meaning gone new.shown (start_in new w) first w now
+          → (after : List ℕ) → (0 < length after → IsClosed t new.shown)
+          → IsLineFault step errors matcher k (gone ++ (new.shown ++ after)) first e now')
+          → IsReaderFaultIn remaining read_step step errors matcher (stream_calls k matcher.meaning)
+          (record { settings = k; has_buffers = has_buffers }) reader first e reader' now'
+      faulted errors matcher has_buffers e now' fault = of_search taken shown (λ across. absurd (false≢true across))
+          (stream-fault step errors matcher k shown first e now'
+          (subst (λ xs. IsLineFault step errors matcher k (gone ++ xs) first e now') (append-nil new.shown)
+          (fault gone first ready [] rolls.nothing)))
+          (λ bytes input. (
+            front bytes input,
+            stream-fault step errors matcher k (view_of k bytes) first e now'
+                (subst (λ xs. IsLineFault step errors matcher k xs first e now') (after-is bytes input)
+                (fault gone first ready (after bytes input) (closes bytes input))),
+            (λ across. absurd (false≢true across)),
+          ))
+
+      -- the search ended within what is shown, or with it
+      module _ (w' : Walk) (now' : S) (ended : HasEnded step k meaning new w now w' now') where
+        over : (bytes : List ℕ) (input : Input bytes) → IsCountedFor step k meaning first (view_of k bytes) w'.offset ended.outcome now'
+        over bytes input = subst (λ xs. IsCountedFor step k meaning first xs w'.offset ended.outcome now') (after-is bytes input)
+            (ended.counted gone first between.opens ready (after bytes input) (closes bytes input)
+            (λ nothing_new. rolls.last-filled t old new fitting.terminator
+            (reading.view-is remaining read_step k capacity reader raw d' reader' reads none (gone ++ held new) shows bytes input).0 filled
+            (last bytes input) (subst (λ p. IsLast t new.shown p) start-is nothing_new)))
+
+        high : w'.offset ≤ length shown
+        high = omega (arith, ended.high, same.offset, between.offset, length-append gone new.shown)
+
+        pub has-counted : UnchangedIsInput → IsSettled d'.mode → (d'.mode ≡ Passing → (length d'.ready ≤ 3) × (d'.held ≡ []))
+            → HasCounted step k meaning remaining read_step reader first w'.offset new.binary reader' now'
+        has-counted unchanged settled passing = record {
+          taken = taken;
+          seen = shown;
+          outcome = ended.outcome;
+          over_seen = subst (λ xs. IsCountedFor step k meaning first (gone ++ xs) w'.offset ended.outcome now') (append-nil new.shown)
+              (ended.counted gone first between.opens ready [] rolls.nothing (λ _. refl));
+          front = front;
+          over_all = over;
+          all = λ bytes input all.
+              let count = subst (λ o. IsCount o (LineSearch.byte_count k meaning (view_of k bytes)) w'.offset) all
+              (over bytes input).is_count in
+              let text : view_of k bytes ≡ shown ++ after bytes input = (front bytes input).whole in
+              subst (λ xs. LineSearch.turn_count k meaning xs ≤ length (lines t shown)) (sym text)
+              (turns-seen join append k meaning shown (after bytes input) (front bytes input).closed
+              (subst (λ xs. LineSearch.byte_count k meaning xs ≤ length shown) text (omega (arith, count, high))));
+          ahead = λ limit is same_bytes.
+              let few = reading.taken-few remaining read_step k capacity reader raw d' reader' reads unchanged same_bytes
+              settled passing in
+              omega (
+                arith,
+                few,
+                limit-within limit is,
+                ended.low,
+                room,
+                raw-length,
+                length-append gone (held new),
+                rolls.walk-at join append step k meaning gone old first w now between,
+              );
+          noted_for = λ bytes input.
+              let text = reading.input-is remaining read_step k capacity reader raw d' reader' reads none bytes input in
+              record {
+                first = λ offset is. ap (binary_of k) text.1
+                    ∙ views.first-kept k.binary_detection t raw text.0 offset (sym is_found ∙ is);
+                goes_on = λ b quits. unquit (ap (λ d. is_quit (detection_of d)) quits);
+              };
+          clear = λ bytes input is. clear-shown w'.offset high is bytes input;
+          clear_seen = λ bytes input is. clear-shown (length shown) (omega arith) is bytes input;
+        }
+
+  -- what comes after a fill that succeeded
+  module _ (busy : is_idle k ≡ false) (capacity : ℕ) (reader : R) (decoder : DecoderState)
+      (begun : decoder ≡ started capacity k.encoding k.bom_sniffing) (first : S) (old new : BufferState) (d d' : DecoderState)
+      (r r' : R) (w : Walk) (now : S)
+      (so_far : IsRolling step k meaning remaining read_step decoder reader first old d r w now)
+      (fitting : IsFitting k.heap_limit t old) (same : IsSameBuffer old new) (fills : Fills remaining read_step old d r new d' r')
+      (held_now : (more : List ℕ) × HoldsGiven remaining read_step so_far.gone old.detection old.terminator new decoder reader
+      (so_far.given ++ more) d' r') (uncut : is_cut new ≡ false) (filled : IsFilled old new)
+      (room : length (held new) ≤ new.size) (within : IsWithin new.limit new.size) where
+    abbrev raw : List ℕ
+    raw = so_far.given ++ held_now.0
+
+    abbrev from_start : Decodes remaining read_step (started capacity k.encoding k.bom_sniffing) reader raw d' r'
+    from_start = subst (λ x. Decodes remaining read_step x reader raw d' r') begun held_now.1.decodes
+
+    abbrev shows : (later : List ℕ) → view_of k (raw ++ later) ≡ (so_far.gone ++ held new) ++ view_of k later
+    shows = holding.shows-there remaining read_step k so_far.gone raw old new decoder d' reader r' held_now.1 so_far.detects
+        fitting.terminator same uncut
+
+    abbrev is_found : new.binary ≡ found_in (detection_of k.binary_detection) t raw
+    is_found = holding.found-there remaining read_step k so_far.gone raw old new decoder d' reader r' held_now.1 so_far.detects
+        fitting.terminator same
+
+    abbrev unquit : is_quit (detection_of k.binary_detection) ≡ true → new.binary ≡ None
+    unquit = holding.unquit-there remaining read_step k so_far.gone raw old new decoder d' reader r' held_now.1 so_far.detects
+        fitting.terminator same uncut
+
+    abbrev appended : List ℕ
+    appended = detected old.detection old.terminator fills.given
+
+    abbrev shows_whole : rolls.IsUncut old new
+    shows_whole = rolls.uncut-filled old new uncut filled
+
+    module _ (none : (d : DecoderState) (more : List ℕ) → IsDone d → still_to_give d more ≡ [])
+        (done : (old.has_ended ≡ true → is_cut old ≡ false → IsDone d) → new.has_ended ≡ true → is_cut new ≡ false → IsDone d') where
+      done_then : new.has_ended ≡ true → IsDone d'
+      done_then ended = done (λ was whole. absurd (false≢true (sym so_far.between.unended ∙ was))) ended uncut
+
+      pub faulted-filled : {F : Type 0} (errors : ErrorMakers E) (matcher : MatcherFacts F) (has_buffers : Bool) (e : E) (now' : S)
+          → ((gone : List ℕ) (first : S) → IsReady step k meaning gone new.shown (start_in new w) first w now
+          → (after : List ℕ) → (0 < length after → IsClosed t new.shown)
+          → IsLineFault step errors matcher k (gone ++ (new.shown ++ after)) first e now')
+          → IsReaderFaultIn remaining read_step step errors matcher (stream_calls k matcher.meaning)
+          (record { settings = k; has_buffers = has_buffers }) reader first e r' now'
+      faulted-filled = faulted capacity reader r' d d' so_far.gone old new first w now so_far.between fitting same busy appended
+          fills.appended shows_whole room within raw shows from_start is_found unquit none done_then
+
+      pub cleared-filled : {F : Type 0} (errors : ErrorMakers E) (matcher : MatcherFacts F) (e : E) (now' : S)
+          → ((gone : List ℕ) (first : S) → IsReady step k meaning gone new.shown (start_in new w) first w now
+          → (after : List ℕ) → (0 < length after → IsClosed t new.shown)
+          → IsLineFault step errors matcher k (gone ++ (new.shown ++ after)) first e now')
+          → new.binary ≡ None
+          → IsClearFault step errors matcher (IsInput k d'.has_ended from_start.pieces) k first e now'
+      cleared-filled = cleared capacity reader r' d d' so_far.gone old new first w now so_far.between fitting same busy appended
+          fills.appended shows_whole room within raw shows from_start is_found unquit none done_then
+
+      pub counted-filled : (w' : Walk) (now' : S) → HasEnded step k meaning new w now w' now' → UnchangedIsInput → IsSettled d'.mode
+          → (d'.mode ≡ Passing → (length d'.ready ≤ 3) × (d'.held ≡ []))
+          → HasCounted step k meaning remaining read_step reader first w'.offset new.binary r' now'
+      counted-filled = has-counted capacity reader r' d d' so_far.gone old new first w now so_far.between fitting same busy appended
+          fills.appended shows_whole room within raw shows from_start is_found unquit none done_then
+
+      pub rolling-next : (w' : Walk) (moved : BufferState) (now' : S) → HasMovedOn step k meaning new w now moved w' now'
+          → ((count : ℕ) → so_far.gone ++ held new ≡ (so_far.gone ++ take count new.shown) ++ (drop count new.shown ++ new.rest))
+          → IsSettled d'.mode
+          → IsRolling step k meaning remaining read_step decoder reader first moved d' r' w' now'
+      rolling-next w' moved now' on consumed settled = record {
+        gone = so_far.gone ++ take on.count new.shown;
+        between = rolls.between-next join append step k meaning so_far.gone old first w now so_far.between new appended fills.appended
+            fitting.terminator busy shows_whole same.offset (omega (arith, room, length-append new.shown new.rest))
+            (limit-within capacity reader r' d d' so_far.gone old new first w now so_far.between fitting same busy appended
+            fills.appended shows_whole room within raw shows from_start is_found unquit none done_then)
+            moved w' now' on;
+        given = raw;
+        holds = subst (λ b. HoldsGiven remaining read_step (so_far.gone ++ take on.count new.shown) b.detection b.terminator b
+            decoder reader raw d' r') (sym on.moved) (record {
+              whole = sym (consumed on.count) ∙ (held_now.1.whole
+                  ∙ (ap (λ x. detected x old.terminator raw) (sym same.detection)
+                  ∙ ap (λ c. detected new.detection c raw) (sym same.terminator)));
+              found = held_now.1.found ∙ (ap (λ x. found_in x old.terminator raw) (sym same.detection)
+                  ∙ ap (λ c. found_in new.detection c raw) (sym same.terminator));
+              decodes = held_now.1.decodes;
+            });
+        detects = ap (λ b. b.detection) on.moved ∙ (same.detection ∙ so_far.detects);
+        uncut = ap is_cut on.moved ∙ uncut;
+        settled = inl settled;
+      }
+
+-- buffers that fit a configuration do so after a fill
+pub fitting-filled : (most : Option ℕ) (t : ℕ) (old new : BufferState) → IsFitting most t old → IsSameBuffer old new
+    → GrowsIfFull old new → IsWithin new.limit new.size → IsFitting most t new
+fitting-filled most t old new fitting same grows within = record {
+  limit = same.limit ∙ fitting.limit;
+  terminator = same.terminator ∙ fitting.terminator;
+  size = grown (least_size most) old new grows fitting.size;
+  within = subst (λ m. IsWithin m new.size) (same.limit ∙ fitting.limit) within;
+}

@@ -1,0 +1,319 @@
+-- A search of whole contents that ends at a byte.
+use Rattle.std.proofs.Common.{◌≡◌, ℕ, Bool, true, false, List, [], ◌∷◌, ◌++◌, take, Result, Ok, Err, Option, None, Some}
+use Rattle.std.proofs.Common.{refl, sym, ap, ◌∙◌, inl, inr, subst, zero, suc, ◌+◌, arith, if◌then◌else◌}
+use Rattle.std.specs.Prelude.{filter, nat_le, ◌||◌, min, length}
+use Rattle.std.proofs.lemmas.Bool.{false≢true, le-leb}
+use Rattle.std.proofs.lemmas.List.{take_min}
+use Rattle.std.proofs.Math.Nat.{min_comm}
+use Rattle.memchr.specs.Find.{IsFirstByte, is_byte}
+use Rattle.grep_matcher.specs.Matching.{Meaning}
+use Rattle.grep_definitions.specs.AcrossLines
+use Rattle.grep_definitions.specs.BinaryBytes.{position_of}
+use Rattle.grep_definitions.specs.LineSearch
+use Rattle.grep_definitions.specs.LineSearch.{Kind, matched, in_context}
+use Rattle.grep_definitions.specs.Below.{joined_from}
+use Rattle.grep_definitions.specs.LineTurns.{one_turn}
+use Rattle.grep_definitions.specs.QuitPoints.{first_look, quit_in_reports, IsQuitRun, IsRunTo}
+use Rattle.grep_definitions.specs.Searches.{ErrorMakers, MatcherFacts, IsFaultIn, IsQuitFault, IsRunUntil}
+use Rattle.grep_definitions.specs.Searches.{of_sink, of_matcher, of_quit_sink, of_quit_matcher}
+use Rattle.grep_definitions.specs.SearchTurns.{calls_if}
+use Rattle.grep_definitions.specs.Settings.{Settings}
+use Rattle.grep_definitions.specs.SinkCalls.{Call, Turn, begins, matches, context, breaks, binary_data, finishes, is_break, ends_in_break}
+use Rattle.grep_definitions.specs.SinkRuns.{Steps, Outcome, all_true, stopped, failed}
+use Rattle.grep_definitions.specs.SinkRuns.{AreReported, IsFinished, IsRun, NeverFails, finish_result}
+use Rattle.grep_definitions.proofs.BreakLemmas as pairs
+use Rattle.grep_definitions.proofs.BreakLemmas.{AreBreaksPaired}
+use Rattle.grep_core.specs.declared.quitting.Quitting.{Quitting}
+use Rattle.grep_lines.proofs.ReplaceLemmas.{position-found}
+use Rattle.grep_core.specs.InputSearches.{IsSearchedUntil}
+use Rattle.grep_core.specs.QuittingSinks.{Watch, Quits, quitting, watch_of, IsMadeAfter, IsLookedAt}
+use Rattle.grep_walk.specs.Walks.{Counted}
+use Rattle.grep_walk.proofs.FinishLemmas.{run-finish}
+use Rattle.grep_core.proofs.QuittingLemmas as quitting_calls
+use Rattle.grep_core.proofs.QuittingLemmas.{AreJoined, no_turns, joined_report, joined_break, is_report}
+
+-- a break or a report
+abbrev pub is_of_line : Call → Bool
+is_of_line call = is_break call || is_report call
+
+abbrev pub AreOfLines : List Turn → Type 0
+AreOfLines [] = Unit {0}
+AreOfLines (turn ∷ later) = (is_of_line turn.call ≡ true) × AreOfLines later
+
+is-breaks : (call : Call) → is_break call ≡ true → call ≡ breaks
+is-breaks begins is = absurd (false≢true is)
+is-breaks (matches number from bytes) is = absurd (false≢true is)
+is-breaks (context kind number from bytes) is = absurd (false≢true is)
+is-breaks breaks is = refl
+is-breaks (binary_data offset) is = absurd (false≢true is)
+is-breaks (finishes count binary) is = absurd (false≢true is)
+
+report-of : (call : Call) → is_break call ≡ false → is_of_line call ≡ true → is_report call ≡ true
+report-of call other line = rw other at line
+
+-- such calls, if each break is directly followed by a report
+pub joined-of : (turns : List Turn) → AreBreaksPaired turns → AreOfLines turns → AreJoined turns
+joined-of [] paired lines = no_turns
+joined-of (turn ∷ []) (here, paired) (line, lines) = go (is_break turn.call) refl
+  where
+    go : (c : Bool) → is_break turn.call ≡ c → AreJoined (turn ∷ [])
+    go true is = absurd (here is)
+    go false is = joined_report (report-of turn.call is line) no_turns
+joined-of (turn ∷ next ∷ later) (here, (there, paired)) (line, (line', lines)) =
+    go (is_break turn.call) refl (joined-of later paired lines) (joined-of (next ∷ later) (there, paired) (line', lines))
+  where
+    go : (c : Bool) → is_break turn.call ≡ c → AreJoined later → AreJoined (next ∷ later) → AreJoined (turn ∷ next ∷ later)
+    go true is two one =
+        let report = here is in
+        joined_break (is-breaks turn.call is) (report-of next.call report.0 line') (sym report.1) two
+    go false is two one = joined_report (report-of turn.call is line) one
+
+lines-append : (front back : List Turn) → AreOfLines front → AreOfLines back → AreOfLines (front ++ back)
+lines-append [] back none lines = lines
+lines-append (turn ∷ front) back (is, rest) lines = (is, lines-append front back rest lines)
+
+lines-joined : (f : ℕ → List Turn) (i n : ℕ) → ((j : ℕ) → AreOfLines (f j)) → AreOfLines (joined_from f i n)
+lines-joined f i zero each = tt
+lines-joined f i (suc n) each = lines-append (f i) (joined_from f (i + 1) n) (each i) (lines-joined f (i + 1) n each)
+
+lines-take : (n : ℕ) (turns : List Turn) → AreOfLines turns → AreOfLines (take n turns)
+lines-take zero turns lines = tt
+lines-take (suc n) [] lines = tt
+lines-take (suc n) (turn ∷ later) (line, lines) = (line, lines-take n later lines)
+
+lines-through : (offset : ℕ) (turns : List Turn) → AreOfLines turns → AreOfLines (filter (λ turn. nat_le turn.end offset) turns)
+lines-through offset [] lines = tt
+lines-through offset (turn ∷ later) (line, lines) = go (nat_le turn.end offset) (lines-through offset later lines)
+  where
+    rest : List Turn
+    rest = filter (λ turn. nat_le turn.end offset) later
+
+    go : (c : Bool) → AreOfLines rest → AreOfLines (if c then turn ∷ rest else rest)
+    go true all = (line, all)
+    go false all = all
+
+module _ {S E : Type 0} (step : Steps S E) (may_call : S → Type 0) (k : Settings) (b : ℕ) where
+  -- the same calls, without the reference
+  watched : (turns : List Turn) (old : Quitting S) (outcome : Outcome E) (new : Quitting S) → old.byte ≡ b
+      → AreReported (Quits step may_call) k old turns outcome new
+      → (new.byte ≡ b) × AreReported (quitting step may_call b) k (watch_of old) turns outcome (watch_of new)
+  watched [] old outcome new is (all, same) = (ap (λ (q : Quitting S). q.byte) same ∙ is, (all, ap watch_of same))
+  watched (turn ∷ later) old outcome new is (inl (mid, made, rest)) =
+      let next = watched later mid outcome new (made.1 ∙ is) rest in (
+        next.0,
+        inl (
+          watch_of mid,
+          subst (λ n. quitting step may_call n (watch_of old) k turn.call (Ok true) (watch_of mid)) is made.2,
+          next.1,
+        ),
+      )
+  watched (turn ∷ later) old outcome new is (inr (inl (stops, made))) =
+      (made.1 ∙ is, inr (inl (stops, subst (λ n. quitting step may_call n (watch_of old) k turn.call (Ok false) (watch_of new)) is made.2)))
+  watched (turn ∷ later) old outcome new is (inr (inr (e, fails, made))) =
+      (made.1 ∙ is, inr (inr (e, fails, subst (λ n. quitting step may_call n (watch_of old) k turn.call (Err e) (watch_of new)) is made.2)))
+
+  -- a search by a sink that has made no call yet ended in `finish`
+  pub until-run : (turns : List Turn) → AreJoined turns → (count : ℕ) (old : Quitting S) → old.byte ≡ b → old.has_break ≡ false
+      → old.found ≡ None → (result : Result (Unit {0}) E) (new : Quitting S)
+      → IsRun (Quits step may_call) k old (record { call = begins; end = 0 } ∷ turns) count None result new
+      → IsRunTo step k (quit_in_reports b (record { call = begins; end = 0 } ∷ turns)) old.sink.now
+      (record { call = begins; end = 0 } ∷ turns) count result new.sink.now
+  until-run turns joined count old is whole clear result new run =
+      let all : List Turn = record { call = begins; end = 0 } ∷ turns in
+      let made = watched all old run.outcome run.mid is run.reported in
+      quitting_calls.quits-run step may_call k b all old.sink.now count run.outcome (watch_of run.mid) result (watch_of new)
+      (quitting_calls.quits-begun step may_call k b 0 turns joined (watch_of old) run.outcome (watch_of run.mid) whole clear made.1)
+      (closed run.outcome made.0 run.finished)
+    where
+      closed : (outcome : Outcome E) → run.mid.byte ≡ b
+          → IsFinished (Quits step may_call) k outcome run.mid count None result new
+          → IsFinished (quitting step may_call b) k outcome (watch_of run.mid) count None result (watch_of new)
+      closed all_true same finished =
+          subst (λ n. quitting step may_call n (watch_of run.mid) k (finishes count None) (finish_result result) (watch_of new)) same
+          finished.2
+      closed (stopped end) same finished =
+          subst (λ n. quitting step may_call n (watch_of run.mid) k (finishes end None) (finish_result result) (watch_of new)) same
+          finished.2
+      closed (failed e) same (fails, stays) = (fails, ap watch_of stays)
+
+module _ {S E : Type 0} (step : Steps S E) (may_call : S → Type 0) (never : NeverFails step may_call) where
+  made-fails : (c : Bool) (old : S) (k : Settings) (call : Call) (e : E) (new : S) → may_call old
+      → IsMadeAfter step may_call c old k call (Err e) new → ⊥
+  made-fails false old k call e new may made = never old k call e new may made
+  made-fails true old k call e new may (inl (mid, still, broken, made)) = never mid k call e new still made
+  made-fails true old k call e new may (inr (no_true, made)) = never old k breaks e new may made
+
+  looked-fails : (at : Option ℕ) (from : ℕ) (old : Watch S) (k : Settings) (call : Call) (e : E) (new : Watch S) → may_call old.sink
+      → IsLookedAt step may_call at from old k call (Err e) new → ⊥
+  looked-fails None from old k call e new may (same, whole, made) = made-fails old.has_break old.sink k call e new.sink may made
+  looked-fails (Some index) from old k call e new may (found, whole, (Ok goes_on, ends, called)) = is-ok ends
+    where
+      is-ok : ◌≡◌ {A = Result Bool E} (Err e) (Ok false) → ⊥
+      is-ok eq = false≢true (ap goes eq)
+        where
+          goes : Result Bool E → Bool
+          goes (Ok c) = true
+          goes (Err e) = false
+  looked-fails (Some index) from old k call e new may (found, whole, (Err other, ends, called)) =
+      never old.sink k (binary_data (from + index)) other new.sink may called
+
+  -- such a sink never fails, if the sink that it has doesn't
+  pub never-fails : NeverFails (Quits step may_call) (λ q. may_call q.sink.now)
+  never-fails old k begins e new may (name, byte, (found, whole, made)) = never old.sink.now k begins e new.sink.now may made
+  never-fails old k (matches number from bytes) e new may (name, byte, made) =
+      looked-fails (position_of old.byte bytes) from (watch_of old) k (matches number from bytes) e (watch_of new) may made
+  never-fails old k (context kind number from bytes) e new may (name, byte, made) =
+      looked-fails (position_of old.byte bytes) from (watch_of old) k (context kind number from bytes) e (watch_of new) may made
+  never-fails old k breaks e new may (name, byte, (same, goes_on)) = is-true goes_on
+    where
+      is-true : ◌≡◌ {A = Result Bool E} (Err e) (Ok true) → ⊥
+      is-true eq = false≢true (ap goes eq)
+        where
+          goes : Result Bool E → Bool
+          goes (Ok c) = true
+          goes (Err e) = false
+  never-fails old k (binary_data offset) e new may (name, byte, (found, whole, made)) =
+      never old.sink.now k (binary_data offset) e new.sink.now may made
+  never-fails old k (finishes count binary) e new may (name, byte, (found, whole, made)) = never old.sink.now k _ e new.sink.now may made
+
+module _ (k : Settings) (meaning : Meaning) (bytes : List ℕ) where
+  line-report : (i : ℕ) (o : Option Kind) → AreOfLines (LineSearch.report k meaning bytes i o)
+  line-report i None = tt
+  line-report i (Some matched) = (refl, tt)
+  line-report i (Some (in_context c)) = (refl, tt)
+
+  unit-report : (i : ℕ) (o : Option Kind) → AreOfLines (AcrossLines.report k meaning bytes i o)
+  unit-report i None = tt
+  unit-report i (Some matched) = go (AcrossLines.continues_unit k meaning bytes i)
+    where
+      go : (c : Bool) → AreOfLines (if c then [] else record {
+        call = matches (LineSearch.number k meaning bytes i) (LineSearch.start k meaning bytes i)
+            (AcrossLines.unit k meaning bytes i);
+        end = AcrossLines.turn_end k meaning bytes i (Some matched);
+      } ∷ [])
+      go true = tt
+      go false = (refl, tt)
+  unit-report i (Some (in_context c)) = (refl, tt)
+
+  broken-lines : (c : Bool) (end : ℕ) (report : List Turn) → AreOfLines report
+      → AreOfLines (if c then record { call = breaks; end = end } ∷ report else report)
+  broken-lines true end report lines = (refl, lines)
+  broken-lines false end report lines = lines
+
+  -- the calls after `begin`
+  abbrev line_turns : List Turn
+  line_turns = joined_from (LineSearch.turns_at k meaning bytes) 0 (LineSearch.turn_count k meaning bytes)
+
+  abbrev unit_turns : List Turn
+  unit_turns = joined_from (AcrossLines.turns_at k meaning bytes) 0 (AcrossLines.turn_count k meaning bytes)
+
+  lines-by_line : AreOfLines line_turns
+  lines-by_line = lines-joined (LineSearch.turns_at k meaning bytes) 0 (LineSearch.turn_count k meaning bytes)
+      (λ i. broken-lines (LineSearch.breaks_before k meaning bytes i) _ (LineSearch.report k meaning bytes i
+      (LineSearch.kind k meaning bytes i)) (line-report i (LineSearch.kind k meaning bytes i)))
+
+  joined-by_line : AreJoined line_turns
+  joined-by_line = joined-of line_turns (pairs.paired-by_line k meaning bytes).1 lines-by_line
+
+  lines-across : AreOfLines unit_turns
+  lines-across = lines-joined (AcrossLines.turns_at k meaning bytes) 0 (AcrossLines.turn_count k meaning bytes)
+      (λ i. broken-lines (AcrossLines.breaks_before k meaning bytes i) _ (AcrossLines.report k meaning bytes i
+      (AcrossLines.kind k meaning bytes i)) (unit-report i (AcrossLines.kind k meaning bytes i)))
+
+  joined-across : AreJoined unit_turns
+  joined-across = joined-of unit_turns (pairs.paired-across k meaning bytes).1 lines-across
+
+-- where the byte is in the bytes that are looked at first
+pub first-found : (b : ℕ) (bytes : List ℕ) (n : ℕ) (found : Option ℕ) → n ≡ min (length bytes) first_look
+    → IsFirstByte (is_byte b) (take n bytes) found → position_of b (take first_look bytes) ≡ found
+first-found b bytes n found is first =
+    ap (position_of b) (sym (ap (λ m. take m bytes) (is ∙ min_comm (length bytes) first_look) ∙ take_min first_look bytes))
+    ∙ position-found b (take n bytes) found first
+
+-- a search that ended before its first line
+pub quit-searched : {S E F : Type 0} (step : Steps S E) (errors : ErrorMakers E) (matcher : MatcherFacts F) (k : Settings) (b : ℕ)
+    (bytes : List ℕ) (across : Bool) (offset : ℕ) → position_of b (take first_look bytes) ≡ Some offset → (old : S)
+    (result : Result (Unit {0}) E) (new : S)
+    → IsQuitRun step k old (record { before = one_turn begins 0; offset = offset; count = 0 }) result new
+    → IsSearchedUntil step errors matcher (calls_if k matcher.meaning across) b k bytes old result new
+quit-searched step errors matcher k b bytes across offset is old result new run = go across result
+    (run-until across)
+  where
+    run-until : (across : Bool)
+        → IsRunUntil step errors matcher (calls_if k matcher.meaning across) b k bytes old result new
+    run-until true = rw is run
+    run-until false = rw is run
+
+    go : (across : Bool) (result : Result (Unit {0}) _)
+        → IsRunUntil step errors matcher (calls_if k matcher.meaning across) b k bytes old result new
+        → IsSearchedUntil step errors matcher (calls_if k matcher.meaning across) b k bytes old result new
+    go across (Ok u) run = run
+    go across (Err e) run = of_quit_sink run
+
+module _ {S E F : Type 0} (step : Steps S E) (may_call : S → Type 0) (errors : ErrorMakers E) (matcher : MatcherFacts F) (k : Settings)
+    (b : ℕ) (bytes : List ℕ) (none : position_of b (take first_look bytes) ≡ None) (old : Quitting S) (is : old.byte ≡ b)
+    (whole : old.has_break ≡ false) (clear : old.found ≡ None) where
+  -- a search that ended in `finish`
+  pub searched-until : (across : Bool) (result : Result (Unit {0}) E) (new : Quitting S)
+      → IsRun (Quits step may_call) k old ((calls_if k matcher.meaning across).turns bytes)
+      ((calls_if k matcher.meaning across).byte_count bytes) None result new
+      → IsRunUntil step errors matcher (calls_if k matcher.meaning across) b k bytes old.sink.now result new.sink.now
+  searched-until true result new run =
+      rw none (until-run step may_call k b (unit_turns k matcher.meaning bytes) (joined-across k matcher.meaning bytes)
+      ((calls_if k matcher.meaning true).byte_count bytes) old is whole clear result new run)
+  searched-until false result new run =
+      rw none (until-run step may_call k b (line_turns k matcher.meaning bytes) (joined-by_line k matcher.meaning bytes)
+      ((calls_if k matcher.meaning false).byte_count bytes) old is whole clear result new run)
+
+  -- the matcher's error came after calls that were all made
+  fault-made : (across : Bool) (haystack : List ℕ) (error : F) (made later : List Turn) (e : E) (new : Quitting S)
+      → made ≡ record { call = begins; end = 0 } ∷ later → AreJoined later
+      → (calls_if k matcher.meaning across).IsAsked bytes haystack made → matcher.fails haystack error
+      → errors.is_message (matcher.text_of error) e → AreReported (Quits step may_call) k old made all_true new
+      → IsQuitFault step errors matcher (calls_if k matcher.meaning across) b k bytes old.sink.now e new.sink.now
+  fault-made across haystack error made later e new begun joined asked fails message reported =
+      let seen = watched step may_call k b made old all_true new is reported in
+      let all = quitting_calls.quits-all step may_call k b (record { call = begins; end = 0 } ∷ later) old.sink.now (watch_of new)
+      (quitting_calls.quits-begun step may_call k b 0 later joined (watch_of old) all_true (watch_of new) whole clear
+      (subst (λ l. AreReported (quitting step may_call b) k (watch_of old) l all_true (watch_of new)) begun seen.1)) in
+      of_quit_matcher haystack error made asked fails message
+      (rw none (subst (λ l. quit_in_reports b l ≡ None) (sym begun) (rw all.0 refl)))
+      (subst (λ l. AreReported step k old.sink.now l all_true new.sink.now) (sym begun) all.1)
+
+  -- a search that ended in an error before
+  pub fault-until : (across : Bool) (e : E) (new : Quitting S)
+      → IsFaultIn (Quits step may_call) errors matcher (calls_if k matcher.meaning across) k bytes old e new
+      → IsQuitFault step errors matcher (calls_if k matcher.meaning across) b k bytes old.sink.now e new.sink.now
+  fault-until across e new (of_sink run) = of_quit_sink (searched-until across (Err e) new run)
+  fault-until true e new (of_matcher haystack error made (asked, (count, taken), last) fails message reported) =
+      let turns = (calls_if k matcher.meaning true).turns bytes in
+      let whole_made : ends_in_break (take (suc count) turns) ≡ false = ap ends_in_break (sym taken) ∙ last in
+      let paired = pairs.paired-take (suc count) turns (pairs.paired-across k matcher.meaning bytes) whole_made in
+      let joined = joined-of (take count (unit_turns k matcher.meaning bytes)) paired.1
+      (lines-take count (unit_turns k matcher.meaning bytes) (lines-across k matcher.meaning bytes)) in
+      fault-made true haystack error made (take count (unit_turns k matcher.meaning bytes)) e new taken joined
+      (asked, (count, taken), last) fails message reported
+  fault-until false e new (of_matcher haystack error made asked fails message reported) =
+      let offset = LineSearch.start k matcher.meaning bytes asked.index in
+      let later : List Turn = filter (λ turn. nat_le turn.end offset) (line_turns k matcher.meaning bytes) in
+      let begun : made ≡ record { call = begins; end = 0 } ∷ later =
+      asked.before ∙ (rw (le-leb 0 offset (omega arith)) refl) in
+      let joined : AreJoined later = joined-of later
+      (pairs.paired-through offset (line_turns k matcher.meaning bytes) (pairs.paired-by_line k matcher.meaning bytes).1)
+      (lines-through offset (line_turns k matcher.meaning bytes) (lines-by_line k matcher.meaning bytes)) in
+      fault-made false haystack error made later e new begun joined asked fails message reported
+
+  -- `finish` ends what was counted
+  pub until-finished : (across : Bool) (count : ℕ) (outcome : Outcome E) (mid : Quitting S) (result : Result (Unit {0}) E)
+      (new : Quitting S)
+      → Counted (Quits step may_call) k old ((calls_if k matcher.meaning across).turns bytes)
+      ((calls_if k matcher.meaning across).byte_count bytes) count outcome mid
+      → Quits step may_call mid k (finishes count None) (finish_result result) new
+      → IsSearchedUntil step errors matcher (calls_if k matcher.meaning across) b k bytes old.sink.now result new.sink.now
+  until-finished across count outcome mid (Ok u) new counted finish =
+      searched-until across (Ok u) new (run-finish (Quits step may_call) k old ((calls_if k matcher.meaning across).turns bytes)
+      ((calls_if k matcher.meaning across).byte_count bytes) count outcome mid (Ok u) new counted finish)
+  until-finished across count outcome mid (Err e) new counted finish =
+      of_quit_sink (searched-until across (Err e) new (run-finish (Quits step may_call) k old
+      ((calls_if k matcher.meaning across).turns bytes) ((calls_if k matcher.meaning across).byte_count bytes) count outcome mid (Err e) new
+      counted finish))

@@ -1,0 +1,71 @@
+use Rattle.std.proofs.Common.{rules, ◌≡◌, ◌∙◌, [], arith, sym, true, false}
+use Rattle.std.proofs.lemmas.Result.{err_from_is_err_and}
+use Rattle.grep_matcher.specs.Terminators.{byte_of}
+use Rattle.grep_definitions.specs.SinkRuns.{all_true, stopped}
+use Rattle.grep_walk.proofs.WalkLemmas as walks
+use Rattle.grep_walk.proofs.WindowLemmas.{own-window}
+use Rattle.grep_walk.proofs.WindowSearchLemmas as search
+use Rattle.grep_core.proofs.search.Search.match_by_line.Goals as goal
+
+pub returns-in_err-begin-clause-fault : goal.returns-in_err-begin-clause-fault
+returns-in_err-begin-clause-fault g c =
+    let p = err_from_is_err_and c.from_residual.result c.from_residual.ensures.1 in
+    rw (p.1, p.2) (λ lawful. walks.fault-begin g.C.Calls.step _ _ c.args.self.now.config c.args.bytes.now c.args.sink.now _ _
+    c.in_err-begin.ensures.step)
+
+pub returns-then-not-branch-clause-reported : goal.returns-then-not-branch-clause-reported
+returns-then-not-branch-clause-reported g c = λ lawful.
+    let unbegun : c.in_ok-begin.field-0 ≡ false = search rules in (
+      stopped 0,
+      walks.counted-unbegun c.args.self.now.config (g.M.Matcher.meaning c.args.matcher.now) c.args.bytes.now g.C.Calls.step
+          c.args.sink.now _ (rw unbegun at c.in_ok-begin.ensures.step),
+    )
+
+pub returns-then-is_idle-clause-reported : goal.returns-then-is_idle-clause-reported
+returns-then-is_idle-clause-reported g c = λ lawful.
+    let idle = c.is_idle.ensures in
+    let goes : c.in_ok-begin.field-0 ≡ true = search rules in (
+      all_true,
+      walks.counted-idle c.args.self.now.config (g.M.Matcher.meaning c.args.matcher.now) c.args.bytes.now g.C.Calls.step
+          c.args.sink.now _ (sym idle ∙ c.if-is_idle.true) (rw goes at c.in_ok-begin.ensures.step),
+    )
+
+pub returns-in_err-search_window-clause-fault : goal.returns-in_err-search_window-clause-fault
+returns-in_err-search_window-clause-fault g c =
+    let p = err_from_is_err_and c.from_residual-in_err-search_window.result c.from_residual-in_err-search_window.ensures.1 in
+    let idle = c.is_idle.ensures in
+    let goes : c.in_ok-begin.field-0 ≡ true = search rules in
+    let begun = rw goes at c.in_ok-begin.ensures.step in
+    rw (p.1, p.2) (λ lawful. c.in_err-search_window.ensures.fault lawful [] c.args.bytes.now c.args.sink.now
+    (search.searched-start g.C.Calls.step c.args.self.now.config (g.M.Matcher.meaning c.args.matcher.now) c.args.bytes.now c.args.bytes.now
+    c.args.sink.now c.begin.new.sink (own-window (byte_of c.args.self.now.config.line_terminator) c.args.bytes.now)
+    (sym idle ∙ c.if-is_idle.false) begun))
+
+pub returns-clause-reported : goal.returns-clause-reported
+returns-clause-reported g c = λ lawful.
+    let idle = c.is_idle.ensures in
+    let goes : c.in_ok-begin.field-0 ≡ true = search rules in
+    let begun = rw goes at c.in_ok-begin.ensures.step in
+    let start = search.searched-start g.C.Calls.step c.args.self.now.config (g.M.Matcher.meaning c.args.matcher.now) c.args.bytes.now
+    c.args.bytes.now c.args.sink.now c.begin.new.sink (own-window (byte_of c.args.self.now.config.line_terminator)
+    c.args.bytes.now) (sym idle ∙ c.if-is_idle.false) begun in
+    search.counted-either g.C.Calls.step
+    (record { is_message = g.C.Error.SinkError.is_message; is_io = g.C.Error.SinkError.is_io; is_config = g.C.Error.SinkError.is_config })
+    (record {
+      meaning = g.M.Matcher.meaning c.args.matcher.now;
+      fails = g.M.Matcher.fails c.args.matcher.now;
+      is_lawful = g.M.Matcher.is_lawful c.args.matcher.now;
+      text_of = g.M.Error.Display.output;
+    })
+    c.args.self.now.config [] c.args.bytes.now c.args.bytes.now c.args.sink.now
+    c.in_ok-search_window.field-0 c.search_window.new.walk c.search_window.new.sink
+    (λ on. c.in_ok-search_window.ensures.goes_on lawful on [] c.args.bytes.now c.args.sink.now start)
+    (λ off.
+    let ends = c.in_ok-search_window.ensures.ends lawful off in
+    (ends.0, ends.1 [] c.args.bytes.now c.args.sink.now start)) (omega arith)
+
+pub returns-clause-kept : goal.returns-clause-kept
+returns-clause-kept g c = λ name each. c.search_window.ensures.kept name each ∙ each _ _ _ _ c.begin.ensures.step
+
+pub returns-in_err-search_window-clause-kept : goal.returns-in_err-search_window-clause-kept
+returns-in_err-search_window-clause-kept g c = λ name each. c.search_window.ensures.kept name each ∙ each _ _ _ _ c.begin.ensures.step

@@ -1,0 +1,11 @@
+use Rattle.std.proofs.Common.{refl}
+use Rattle.grep_core.proofs.ResultLemmas.{if_ok-each, if_err-each}
+use Rattle.grep_core.proofs.search.Search.match_bytes.Goals as goal
+
+pub returns-clause-reported : goal.returns-clause-reported
+returns-clause-reported g c = rw c.if-is_across.false
+    (if_ok-each _ _ c.match_by_line.result (λ count each by_line. each (by_line refl)) c.match_by_line.ensures.reported)
+
+pub returns-clause-fault : goal.returns-clause-fault
+returns-clause-fault g c = rw c.if-is_across.false
+    (if_err-each _ _ c.match_by_line.result (λ e each by_line. each (by_line refl)) c.match_by_line.ensures.fault)

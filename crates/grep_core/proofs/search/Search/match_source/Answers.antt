@@ -1,0 +1,77 @@
+use Rattle.std.proofs.Common.{◌∙◌, sym, true, false, refl, subst, Ok, Err}
+use Rattle.grep_definitions.specs.BinaryBytes.{is_detecting}
+use Rattle.grep_definitions.specs.SinkCalls.{begins}
+use Rattle.grep_definitions.specs.ReaderSearches.{IsStreamSearched, is_idle}
+use Rattle.std.proofs.lemmas.Result.{err_from_is_err_and}
+use Rattle.grep_definitions.specs.Searches.{ErrorMakers, MatcherFacts}
+use Rattle.grep_core.proofs.StreamBeginLemmas as streams
+use Rattle.grep_core.proofs.StreamBeginLemmas.{idle-unread}
+use Rattle.grep_core.proofs.search.Search.match_source.Goals as goal
+
+pub returns-in_err-begin-clause-fault : goal.returns-in_err-begin-clause-fault
+returns-in_err-begin-clause-fault g c =
+    let maker = g.C.Error.SinkError in
+    let matcher = g.M.Matcher in
+    let errors : ErrorMakers g.row.C-Error.Denot =
+    record { is_message = maker.is_message; is_io = maker.is_io; is_config = maker.is_config } in
+    let facts : MatcherFacts g.row.M-Error.Denot =
+    record {
+      meaning = matcher.meaning c.args.matcher.now;
+      fails = matcher.fails c.args.matcher.now;
+      is_lawful = matcher.is_lawful c.args.matcher.now;
+      text_of = g.M.Error.Display.output;
+    }
+    in
+    let p = err_from_is_err_and c.from_residual.result c.from_residual.ensures.1 in
+    rw (p.1, p.2) (λ lawful has_buffers. streams.fault-begin g.R.Source.remaining g.R.Source.step g.C.Calls.step errors facts
+    (record { settings = c.args.self.now.config; has_buffers = has_buffers }) c.args.reader.now c.args.sink.now _ _
+    c.in_err-begin.ensures.step)
+
+pub returns-then-not-branch-clause-counted : goal.returns-then-not-branch-clause-counted
+returns-then-not-branch-clause-counted g c = λ lawful.
+    rw c.new.ensures (streams.counted-unbegun g.R.Source.remaining g.R.Source.step g.C.Calls.step c.args.self.now.config
+    (g.M.Matcher.meaning c.args.matcher.now) c.lines_join.ensures c.lines_append.ensures c.args.reader.now c.args.sink.now c.begin.new.sink
+    (rw c.if-not-branch.true at c.in_ok-begin.ensures.step))
+
+pub returns-then-not-branch-clause-begun : goal.returns-then-not-branch-clause-begun
+returns-then-not-branch-clause-begun g c = record {
+  begun = false;
+  first = c.begin.new.sink;
+  begin = rw c.if-not-branch.true at c.in_ok-begin.ensures.step;
+  unread = λ e. refl;
+}
+
+pub returns-then-not-reads_lines-clause-counted : goal.returns-then-not-reads_lines-clause-counted
+returns-then-not-reads_lines-clause-counted g c = λ lawful.
+    let reads = c.reads_lines.ensures in
+    rw c.new-then-not-reads_lines.ensures (streams.counted-idle g.R.Source.remaining g.R.Source.step g.C.Calls.step c.args.self.now.config
+    (g.M.Matcher.meaning c.args.matcher.now) c.lines_join.ensures c.lines_append.ensures c.args.reader.now c.args.sink.now c.begin.new.sink
+    (idle-unread (is_idle c.args.self.now.config) (is_detecting c.args.self.now.config.binary_detection)
+    (sym reads ∙ c.if-not-reads_lines.true)) (rw c.if-not-branch.false at c.in_ok-begin.ensures.step))
+
+pub returns-in-Err-clause-succeeds : goal.returns-in-Err-clause-succeeds
+returns-in-Err-clause-succeeds g c = λ never infallible lawful.
+    let begun = rw c.if-not-branch.false at c.in_ok-begin.ensures.step in
+    c.in-Err.ensures.succeeds never infallible lawful c.args.sink.now
+    (subst (λ s. g.C.Calls.step c.args.sink.now c.args.self.now.config begins (Ok true) s) (sym c.new-noted.ensures.sink) begun)
+
+pub returns-in-Err-clause-fault : goal.returns-in-Err-clause-fault
+returns-in-Err-clause-fault g c = λ lawful has_buffers.
+    let maker = g.C.Error.SinkError in
+    let matcher = g.M.Matcher in
+    let errors : ErrorMakers g.row.C-Error.Denot =
+    record { is_message = maker.is_message; is_io = maker.is_io; is_config = maker.is_config } in
+    let facts : MatcherFacts g.row.M-Error.Denot =
+    record {
+      meaning = matcher.meaning c.args.matcher.now;
+      fails = matcher.fails c.args.matcher.now;
+      is_lawful = matcher.is_lawful c.args.matcher.now;
+      text_of = g.M.Error.Display.output;
+    }
+    in
+    let begun = rw c.if-not-branch.false at c.in_ok-begin.ensures.step in
+    subst (λ s. IsStreamSearched g.R.Source.remaining g.R.Source.step g.C.Calls.step errors facts
+    (record { settings = c.args.self.now.config; has_buffers = has_buffers }) c.args.reader.now c.args.sink.now (Err c.in-Err.error)
+    c.read_by_line.new.reader s) (sym (c.in-Err.sink-in-Err-1-own.given.1 (sym (c.in-Err.ensures.same_sink ∙ c.new-noted.ensures.same_sink))))
+    (c.in-Err.ensures.fault lawful c.args.sink.now
+    (subst (λ s. g.C.Calls.step c.args.sink.now c.args.self.now.config begins (Ok true) s) (sym c.new-noted.ensures.sink) begun) has_buffers)

@@ -1,0 +1,183 @@
+use Rattle.std.proofs.Common.{rules, ◌≡◌, ◌==◌, ◌∙◌, arith, sym, subst, refl, true, false, [], ◌-◌, drop, length-take, length-drop}
+use Rattle.std.proofs.lemmas.Result.{err_from_is_err_and}
+use Rattle.grep_matcher.specs.Terminators.{byte_of}
+use Rattle.grep_lines.specs.Positions.{slice, IsLineStart}
+use Rattle.grep_definitions.specs.Settings.{Settings}
+use Rattle.grep_definitions.specs.SinkRuns.{all_true, failed, stopped}
+use Rattle.grep_walk.specs.Walks.{line_end}
+use Rattle.grep_walk.proofs.AcrossEndLemmas as ends
+use Rattle.grep_walk.proofs.AcrossStepLemmas as steps
+use Rattle.grep_walk.proofs.AcrossTurnLemmas as turns
+use Rattle.grep_walk.proofs.AcrossUnitLemmas as units
+use Rattle.grep_core.proofs.search.Search.search_across.Goals as goal
+
+-- under passthru there are no contexts
+abbrev Bare : Settings → Type 0
+Bare settings = settings.passthru ≡ true → (settings.after_context ≡ 0) × (settings.before_context ≡ 0)
+
+pub returns-in_err-blocks-clause-fault : goal.returns-in_err-blocks-clause-fault
+returns-in_err-blocks-clause-fault g c =
+    let p = err_from_is_err_and c.from_residual.result c.from_residual.ensures.1 in
+    let fault = c.in_err-blocks.ensures.fault in
+    rw (p.1, p.2) (λ first begun. ends.fault-matcher g.C.Calls.step _ _ c.args.self.now.config c.args.bytes.now first _ c.args.sink.now
+    (steps.across-start c.args.self.now.config (g.M.Matcher.meaning c.args.matcher.now) c.args.bytes.now)
+    (ends.reported-begin c.args.self.now.config (g.M.Matcher.meaning c.args.matcher.now) c.args.bytes.now g.C.Calls.step first
+    c.args.sink.now begun)
+    fault.0 fault.1 _ fault.2 fault.3 fault.4)
+
+pub returns-in_err-unit-clause-fault : goal.returns-in_err-unit-clause-fault
+returns-in_err-unit-clause-fault g c =
+    let p = err_from_is_err_and c.from_residual-in_err-unit.result c.from_residual-in_err-unit.ensures.1 in
+    let fault = c.in_err-unit.ensures.fault in
+    rw (p.1, p.2) (λ first begun. ends.fault-matcher g.C.Calls.step _ _ c.args.self.now.config c.args.bytes.now first c.lines.walk
+    c.lines.sink c.lines.invariant.walk (c.lines.invariant.reported first begun)
+    fault.0 fault.1 _ fault.2 fault.3 fault.4)
+
+pub returns-then-next-bytes-clause-reported : goal.returns-then-next-bytes-clause-reported
+returns-then-next-bytes-clause-reported g c = λ first begun.
+    let k = c.args.self.now.config in
+    let meaning = g.M.Matcher.meaning c.args.matcher.now in
+    let ready = c.in_ok-unit.ensures.ready in
+    let ahead = c.in_ok-unit.ensures.ahead in
+    let chosen = c.next_chosen-next.ensures in
+    let at = subst (λ o. IsLineStart (byte_of k.line_terminator) c.args.bytes.now o c.lines.walk.line) c.lines.invariant.same
+    c.lines.invariant.walk.placed.at in
+    let next = subst (units.IsNext k meaning c.args.bytes.now c.lines.walk c.lines.start) (sym chosen)
+    (units.next-is k meaning c.args.bytes.now c.lines.start c.lines.walk c.in_ok-unit.unit c.unit_at.new.blocks c.lines.invariant.walk
+    at ready c.lines-test.true ahead) in
+    let plain : k.passthru ≡ false = search rules in (
+      all_true,
+      ends.counted-past k meaning c.args.bytes.now g.C.Calls.step first c.lines.walk c.lines.start c.next_chosen-next.result
+          c.lines.invariant.same c.lines.invariant.walk next c.if-next-bytes.true plain c.if-walk-eq0.true c.lines.sink
+          (c.lines.invariant.reported first begun),
+    )
+
+pub lines-preserved-then-walk-eq0 : goal.lines-preserved-then-walk-eq0
+lines-preserved-then-walk-eq0 g c =
+    let k = c.args.self.now.config in
+    let meaning = g.M.Matcher.meaning c.args.matcher.now in
+    let ready = c.in_ok-unit.ensures.ready in
+    let ahead = c.in_ok-unit.ensures.ahead in
+    let chosen = c.next_chosen-next.ensures in
+    let past = c.walk_past-walk.ensures.walk in
+    let at = subst (λ o. IsLineStart (byte_of k.line_terminator) c.args.bytes.now o c.lines.walk.line) c.lines.invariant.same
+    c.lines.invariant.walk.placed.at in
+    let next = subst (units.IsNext k meaning c.args.bytes.now c.lines.walk c.lines.start) (sym chosen)
+    (units.next-is k meaning c.args.bytes.now c.lines.start c.lines.walk c.in_ok-unit.unit c.unit_at.new.blocks c.lines.invariant.walk
+    at ready c.lines-test.true ahead) in
+    let plain : k.passthru ≡ false = search rules in
+    rw past (record {
+      within = next.within;
+      same = omega (
+        arith,
+        c.lines.invariant.same,
+        next.from,
+        next.within,
+        length-take (c.next_chosen-next.result - c.lines.start)
+            (drop c.lines.start c.args.bytes.now),
+        length-drop c.lines.start c.args.bytes.now,
+      );
+      ordered = rw past at c.walk_past-walk.ensures.ordered;
+      ready = units.ready-past k meaning c.args.bytes.now c.lines.start c.lines.walk c.in_ok-unit.unit c.unit_at.new.blocks
+          c.lines.invariant.walk at ready c.lines-test.true ahead _ c.next_chosen-next.result
+          chosen refl;
+      walk = steps.across-past k meaning c.args.bytes.now c.lines.walk c.lines.start c.next_chosen-next.result c.lines.invariant.same
+          c.lines.invariant.walk next plain c.if-walk-eq0.true;
+      reported = c.lines.invariant.reported;
+      kept = c.lines.invariant.kept;
+      may_call = c.lines.invariant.may_call;
+    })
+
+pub returns-in_err-sink_line-clause-fault : goal.returns-in_err-sink_line-clause-fault
+returns-in_err-sink_line-clause-fault g c =
+    let k = c.args.self.now.config in
+    let meaning = g.M.Matcher.meaning c.args.matcher.now in
+    let ready = c.in_ok-unit.ensures.ready in
+    let ahead = c.in_ok-unit.ensures.ahead in
+    let chosen = c.next_chosen-next.ensures in
+    let unit = c.end_across-end.ensures.unit in
+    let line = c.end_across-end.ensures.line in
+    let bare = c.requires.configured.bare in
+    let p = err_from_is_err_and c.from_residual-in_err-sink_line.result c.from_residual-in_err-sink_line.ensures.1 in
+    let turned = turns.turned k meaning c.args.bytes.now bare c.lines.start c.end_across-end.result c.next_chosen-next.result
+    c.lines.walk c.in_ok-unit.unit c.unit_at.new.blocks c.lines.invariant.walk c.lines.invariant.same ready
+    ahead chosen c.end_across-end.ensures.low c.end_across-end.ensures.within
+    (c.lines.start == c.next_chosen-next.result) refl unit line in
+    rw (p.1, p.2) (λ first begun. ends.fault-sink g.C.Calls.step _ _ k c.args.bytes.now first _ _ _ turned.across
+    (ends.reported-next k meaning c.args.bytes.now g.C.Calls.step first c.lines.walk _ _ c.lines.sink turned.front
+    (c.lines.invariant.reported first begun) (failed _) _
+    (c.in_err-sink_line.ensures.reported [] c.args.bytes.now
+    (turns.in-window k meaning c.args.bytes.now c.lines.walk c.lines.start c.lines.invariant.same c.lines.invariant.walk))))
+
+pub returns-then-not-branch-clause-reported : goal.returns-then-not-branch-clause-reported
+returns-then-not-branch-clause-reported g c = λ first begun.
+    let k = c.args.self.now.config in
+    let meaning = g.M.Matcher.meaning c.args.matcher.now in
+    let ready = c.in_ok-unit.ensures.ready in
+    let ahead = c.in_ok-unit.ensures.ahead in
+    let chosen = c.next_chosen-next.ensures in
+    let unit = c.end_across-end.ensures.unit in
+    let line = c.end_across-end.ensures.line in
+    let bare = c.requires.configured.bare in
+    let stops : c.in_ok-sink_line.field-0 ≡ false = search rules in
+    let reported = rw stops at c.in_ok-sink_line.ensures.reported in
+    let turned = turns.turned k meaning c.args.bytes.now bare c.lines.start c.end_across-end.result c.next_chosen-next.result
+    c.lines.walk c.in_ok-unit.unit c.unit_at.new.blocks c.lines.invariant.walk c.lines.invariant.same ready
+    ahead chosen c.end_across-end.ensures.low c.end_across-end.ensures.within
+    (c.lines.start == c.next_chosen-next.result) refl unit line in
+    let stop = line_end c.lines.walk (slice c.args.bytes.now c.lines.start c.end_across-end.result) in (
+      stopped stop,
+      ends.counted-stopped k meaning c.args.bytes.now g.C.Calls.step first _ stop c.end_across-end.result _ turned.across
+          (sym turned.end_is)
+          (ends.reported-next k meaning c.args.bytes.now g.C.Calls.step first c.lines.walk _ _ c.lines.sink turned.front
+          (c.lines.invariant.reported first begun) (stopped stop) _
+          (reported [] c.args.bytes.now
+          (turns.in-window k meaning c.args.bytes.now c.lines.walk c.lines.start c.lines.invariant.same c.lines.invariant.walk))),
+    )
+
+pub lines-preserved : goal.lines-preserved
+lines-preserved g c =
+    let k = c.args.self.now.config in
+    let meaning = g.M.Matcher.meaning c.args.matcher.now in
+    let ready = c.in_ok-unit.ensures.ready in
+    let ahead = c.in_ok-unit.ensures.ahead in
+    let chosen = c.next_chosen-next.ensures in
+    let unit = c.end_across-end.ensures.unit in
+    let line = c.end_across-end.ensures.line in
+    let after = c.walk_after-walk.ensures in
+    let bare = c.requires.configured.bare in
+    let goes : c.in_ok-sink_line.field-0 ≡ true = search rules in
+    let reported = rw goes at c.in_ok-sink_line.ensures.reported in
+    let turned = turns.turned k meaning c.args.bytes.now bare c.lines.start c.end_across-end.result c.next_chosen-next.result
+    c.lines.walk c.in_ok-unit.unit c.unit_at.new.blocks c.lines.invariant.walk c.lines.invariant.same ready
+    ahead chosen c.end_across-end.ensures.low c.end_across-end.ensures.within
+    (c.lines.start == c.next_chosen-next.result) refl unit line in
+    rw after (record {
+      within = c.end_across-end.ensures.within;
+      same = turned.offset;
+      ordered = turns.ordered-across k meaning c.args.bytes.now _ turned.across;
+      ready = turned.ready;
+      walk = turned.across;
+      reported = λ first begun. ends.reported-next k meaning c.args.bytes.now g.C.Calls.step first c.lines.walk _ _ c.lines.sink
+          turned.front (c.lines.invariant.reported first begun) all_true _
+          (reported [] c.args.bytes.now
+          (turns.in-window k meaning c.args.bytes.now c.lines.walk c.lines.start c.lines.invariant.same c.lines.invariant.walk));
+      kept = λ name each. c.in_ok-sink_line.ensures.kept name each ∙ c.lines.invariant.kept name each;
+      may_call = c.in_ok-sink_line.ensures.may_call;
+    })
+
+pub returns-clause-reported : goal.returns-clause-reported
+returns-clause-reported g c = λ first begun.
+    let k = c.args.self.now.config in
+    let meaning = g.M.Matcher.meaning c.args.matcher.now in (
+      all_true,
+      ends.counted-end k meaning c.args.bytes.now g.C.Calls.step first c.lines.walk c.lines.sink c.lines.invariant.walk
+          (omega (arith, c.lines.invariant.within, c.lines.invariant.same, c.lines-test.false))
+          (c.lines.invariant.reported first begun),
+    )
+
+pub returns-in_err-sink_line-clause-kept : goal.returns-in_err-sink_line-clause-kept
+returns-in_err-sink_line-clause-kept g c = λ name each. c.sink_line.ensures.kept name each ∙ c.lines.invariant.kept name each
+
+pub returns-then-not-branch-clause-kept : goal.returns-then-not-branch-clause-kept
+returns-then-not-branch-clause-kept g c = λ name each. c.sink_line.ensures.kept name each ∙ c.lines.invariant.kept name each

@@ -1,0 +1,24 @@
+use Rattle.std.proofs.Common.{◌≡◌, ◌≤◌, ◌-◌, true, length}
+use Rattle.std.specs.Prelude.{Ok}
+use Rattle.grep_definitions.specs.SinkCalls.{begins}
+use Rattle.grep_definitions.specs.SinkRuns.{AreReported, all_true}
+use Rattle.grep_walk.specs.AcrossWalks.{IsAcross, IsReady, turns_before}
+use Rattle.grep_walk.specs.Walks.{IsKept, IsOrdered}
+use Rattle.grep_core.proofs.search.Search.search_across.Given as goal
+
+abbrev pub invariant-lines : goal.invariant-lines
+invariant-lines g l = record {
+  within : l.start ≤ length l.bytes;
+  same : l.walk.offset ≡ l.start;
+  ordered : IsOrdered l.walk;
+  ready : IsReady l.self.config (g.M.Matcher.meaning l.matcher) l.bytes l.start l.walk l.unit l.blocks;
+  walk : IsAcross l.self.config (g.M.Matcher.meaning l.matcher) l.bytes l.walk;
+  reported : (first : g.row.C-Sink.Denot) → g.C.Calls.step first l.self.config begins (Ok true) l.fn.sink
+      → AreReported g.C.Calls.step l.self.config first
+      (turns_before l.self.config (g.M.Matcher.meaning l.matcher) l.bytes l.walk.reported_through) all_true l.sink;
+  kept : IsKept g.C.Calls.step l.self.config l.fn.sink l.sink;
+  may_call : g.C.Calls.may_call l.sink;
+}
+
+abbrev pub decreases-lines : goal.decreases-lines
+decreases-lines g l = length l.bytes - l.start

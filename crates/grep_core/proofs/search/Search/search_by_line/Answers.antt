@@ -1,0 +1,29 @@
+use Rattle.std.proofs.lemmas.Result.{err_from_is_err_and}
+use Rattle.grep_definitions.specs.Searches.{ErrorMakers, MatcherFacts}
+use Rattle.grep_core.proofs.StreamFinishLemmas.{stream-finished}
+use Rattle.grep_core.proofs.search.Search.search_by_line.Goals as goal
+
+pub returns-clause-searched : goal.returns-clause-searched
+returns-clause-searched g c =
+    let maker = g.C.Error.SinkError in
+    let matcher = g.M.Matcher in
+    let errors : ErrorMakers g.row.C-Error.Denot =
+    record { is_message = maker.is_message; is_io = maker.is_io; is_config = maker.is_config } in
+    let facts : MatcherFacts g.row.M-Error.Denot =
+    record {
+      meaning = matcher.meaning c.args.matcher.now;
+      fails = matcher.fails c.args.matcher.now;
+      is_lawful = matcher.is_lawful c.args.matcher.now;
+      text_of = g.M.Error.Display.output;
+    }
+    in
+    λ lawful has_buffers.
+    stream-finished g.C.Calls.step errors facts g.R.Source.remaining g.R.Source.step c.args.self.now.config has_buffers
+    c.args.reader.now c.args.sink.now c.in_ok-finish.finish.byte_count c.match_source.new.reader
+    c.in_ok-finish.finish.binary_byte_offset c.match_source.new.sink c.finish.result c.finish.new.sink c.in_ok-finish.ensures.begun
+    (c.in_ok-finish.ensures.counted lawful) c.finish.ensures.step
+
+pub returns-in_err-finish-clause-searched : goal.returns-in_err-finish-clause-searched
+returns-in_err-finish-clause-searched g c =
+    let p = err_from_is_err_and c.from_residual.result c.from_residual.ensures.1 in
+    rw (p.1, p.2) c.in_err-finish.ensures.fault

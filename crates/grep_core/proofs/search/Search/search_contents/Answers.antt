@@ -1,0 +1,111 @@
+use Rattle.std.proofs.Common.{ℕ, Bool, List, true, None, length, ◌∙◌, subst, sym}
+use Rattle.std.proofs.lemmas.Bool.{true≢false}
+use Rattle.std.proofs.lemmas.Result.{err_from_is_err_and}
+use Rattle.std.specs.Prelude.{vec_capacity}
+use Rattle.grep_line_buffer.specs.Contents.{IsBelow, ContentsFail}
+use Rattle.grep_definitions.specs.BinaryBytes.{view_of}
+use Rattle.grep_definitions.specs.ReaderSearches.{IsUnreadIn}
+use Rattle.grep_definitions.specs.Searches.{ErrorMakers, MatcherFacts, IsFaultIn}
+use Rattle.grep_definitions.specs.SearchTurns.{calls_across}
+use Rattle.grep_core.specs.InputSearches.{IsAcrossSearched}
+use Rattle.grep_core.proofs.ContentsSearchLemmas as whole
+use Rattle.grep_core.proofs.LookLemmas.{look-plain, look-quit}
+use Rattle.grep_core.proofs.search.Search.search_contents.Given.{Over}
+use Rattle.grep_core.proofs.search.Search.search_contents.Goals as goal
+
+abbrev errors-of : (g : Over) → ErrorMakers g.row.C-Error.Denot
+errors-of g =
+    let maker = g.C.Error.SinkError in
+    record { is_message = maker.is_message; is_io = maker.is_io; is_config = maker.is_config }
+
+abbrev facts-of : (g : Over) → g.row.M.Denot → MatcherFacts g.row.M-Error.Denot
+facts-of g matcher =
+    let meant = g.M.Matcher in
+    record {
+      meaning = meant.meaning matcher;
+      fails = meant.fails matcher;
+      is_lawful = meant.is_lawful matcher;
+      text_of = g.M.Error.Display.output;
+    }
+
+-- why not all was read
+unread : (g : Over) (c : goal.After-error_io g) (has_buffers : Bool) (view : List ℕ → List ℕ)
+    → IsUnreadIn g.R.Source.remaining g.R.Source.step true view
+    (record { settings = c.args.self.now.config; has_buffers = has_buffers })
+    (g.M.Matcher.meaning c.args.matcher.now) c.args.reader.now None c.io_error.result c.read_contents.new.reader
+unread g c has_buffers view =
+    whole.unread-read g.R.Source.remaining g.R.Source.step c.args.self.now.config c.args.decoder.now.capacity c.args.decoder.now
+    c.requires.started c.args.reader.now c.read_contents.new.contents.items c.read_contents.new.decoder c.read_contents.new.reader
+    c.done_gives_nothing.ensures c.unchanged_is_searched.ensures.input view has_buffers (g.M.Matcher.meaning c.args.matcher.now)
+    c.in-Err.error c.io_error.result c.io_error.ensures (vec_capacity c.args.contents.now)
+    (subst (λ limit. ContentsFail limit (vec_capacity c.args.contents.now) c.read_contents.new.contents.items c.in-Err.error)
+    c.heap_limit.ensures c.in-Err.ensures.error)
+    c.in-Err.ensures.reads c.in-Err.ensures.read
+    c.in-Err.ensures.passed c.in-Err.ensures.empty c.in-Err.ensures.few
+
+pub returns-in-Err-clause-searched : goal.returns-in-Err-clause-searched
+returns-in-Err-clause-searched g c = λ has_buffers.
+    whole.across-unread g.R.Source.remaining g.R.Source.step g.C.Calls.step (errors-of g) (facts-of g c.args.matcher.now)
+    c.args.self.now.config.binary_detection (record { settings = c.args.self.now.config; has_buffers = has_buffers }) c.args.reader.now
+    c.args.sink.now c.io_error.result c.error_io.result c.read_contents.new.reader (unread g c has_buffers) c.error_io.ensures
+
+pub returns-in-Err-clause-succeeds : goal.returns-in-Err-clause-succeeds
+returns-in-Err-clause-succeeds g c = λ never infallible has_buffers.
+    (None, c.io_error.result, unread g c has_buffers (view_of c.args.self.now.config), c.error_io.ensures)
+
+pub returns-in-Some-clause-searched : goal.returns-in-Some-clause-searched
+returns-in-Some-clause-searched g c = λ has_buffers.
+    let reads = c.in_default.ensures.reads in
+    let below = subst (λ limit. IsBelow limit (length c.read_contents.new.contents.items))
+    c.heap_limit.ensures c.in_default.ensures.below in
+    let quit = sym c.quit_byte.ensures ∙ c.in-Some.is in
+    let searched = rw c.deref.ensures.value at (c.search_until.ensures.searched (λ never. absurd (true≢false never))) in
+    subst (λ look. IsAcrossSearched g.R.Source.remaining g.R.Source.step g.C.Calls.step (errors-of g) (facts-of g c.args.matcher.now) look
+    (record { settings = c.args.self.now.config; has_buffers = has_buffers }) c.args.reader.now c.args.sink.now c.search_until.result
+    c.read_contents.new.reader c.search_until.new.sink)
+    (sym (look-quit c.args.self.now.config.binary_detection c.in-Some.byte quit))
+    (whole.contents-until-read g.R.Source.remaining g.R.Source.step c.args.self.now.config c.args.decoder.now.capacity
+    c.args.decoder.now c.requires.started c.args.reader.now c.read_contents.new.contents.items c.read_contents.new.decoder
+    c.read_contents.new.reader reads c.done_gives_nothing.ensures c.lines_join.ensures c.in_default.ensures.done
+    below g.C.Calls.step (errors-of g) (facts-of g c.args.matcher.now) has_buffers c.args.sink.now c.in-Some.byte c.search_until.result
+    c.search_until.new.sink searched)
+
+pub returns-in_err-count-clause-searched : goal.returns-in_err-count-clause-searched
+returns-in_err-count-clause-searched g c = λ has_buffers.
+    let reads = c.in_default.ensures.reads in
+    let below = subst (λ limit. IsBelow limit (length c.read_contents.new.contents.items))
+    c.heap_limit.ensures c.in_default.ensures.below in
+    let error = err_from_is_err_and c.from_residual.result c.from_residual.ensures.1 in
+    let fault = rw c.deref-2.ensures.value at c.in_err-count.ensures.fault in
+    let quit = c.quit_byte.ensures in
+    subst (λ look. IsAcrossSearched g.R.Source.remaining g.R.Source.step g.C.Calls.step (errors-of g) (facts-of g c.args.matcher.now) look
+    (record { settings = c.args.self.now.config; has_buffers = has_buffers }) c.args.reader.now c.args.sink.now c.from_residual.result
+    c.read_contents.new.reader c.match_across.new.sink)
+    (sym (look-plain c.args.self.now.config.binary_detection (λ b is. c.in_default-quit_byte.not-Some b (quit ∙ is))))
+    (rw error.1
+    (whole.contents-fault-read g.R.Source.remaining g.R.Source.step c.args.self.now.config c.args.decoder.now.capacity
+    c.args.decoder.now c.requires.started c.args.reader.now c.read_contents.new.contents.items c.read_contents.new.decoder
+    c.read_contents.new.reader reads c.done_gives_nothing.ensures c.lines_join.ensures c.in_default.ensures.done
+    below g.C.Calls.step (errors-of g) (facts-of g c.args.matcher.now) has_buffers c.args.sink.now
+    error.0 c.match_across.new.sink (subst (λ e. IsFaultIn g.C.Calls.step (errors-of g) (facts-of g c.args.matcher.now)
+    (calls_across c.args.self.now.config (g.M.Matcher.meaning c.args.matcher.now)) c.args.self.now.config
+    c.read_contents.new.contents.items c.args.sink.now e c.match_across.new.sink) (sym error.2) fault)))
+
+pub returns-clause-searched : goal.returns-clause-searched
+returns-clause-searched g c = λ has_buffers.
+    let reads = c.in_default.ensures.reads in
+    let below = subst (λ limit. IsBelow limit (length c.read_contents.new.contents.items))
+    c.heap_limit.ensures c.in_default.ensures.below in
+    let finish = rw c.new.ensures at c.finish.ensures.step in
+    let reported = rw c.deref-2.ensures.value at c.in_ok-count.ensures.reported in
+    let quit = c.quit_byte.ensures in
+    subst (λ look. IsAcrossSearched g.R.Source.remaining g.R.Source.step g.C.Calls.step (errors-of g) (facts-of g c.args.matcher.now) look
+    (record { settings = c.args.self.now.config; has_buffers = has_buffers }) c.args.reader.now c.args.sink.now c.finish.result
+    c.read_contents.new.reader c.finish.new.sink)
+    (sym (look-plain c.args.self.now.config.binary_detection (λ b is. c.in_default-quit_byte.not-Some b (quit ∙ is))))
+    (whole.contents-searched g.R.Source.remaining g.R.Source.step c.args.self.now.config c.args.decoder.now.capacity
+    c.args.decoder.now c.requires.started c.args.reader.now c.read_contents.new.contents.items c.read_contents.new.decoder
+    c.read_contents.new.reader reads c.done_gives_nothing.ensures c.lines_join.ensures c.in_default.ensures.done
+    below g.C.Calls.step (errors-of g) (facts-of g c.args.matcher.now) has_buffers c.args.sink.now
+    c.in_ok-count.count reported.0 c.match_across.new.sink c.finish.result c.finish.new.sink
+    reported.1 finish)

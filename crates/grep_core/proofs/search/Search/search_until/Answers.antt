@@ -1,0 +1,41 @@
+use Rattle.std.proofs.Common.{◌∙◌, None, Some, sym, subst}
+use Rattle.grep_definitions.specs.Searches.{ErrorMakers, MatcherFacts}
+use Rattle.grep_definitions.specs.SearchTurns.{calls_if}
+use Rattle.grep_core.specs.InputSearches.{IsSearchedUntil}
+use Rattle.grep_core.proofs.UntilLemmas.{first-found, quit-searched}
+use Rattle.grep_core.proofs.search.Search.search_until.Given.{Over}
+use Rattle.grep_core.proofs.search.Search.search_until.Goals as goal
+
+abbrev errors-of : (g : Over) → ErrorMakers g.row.C-Error.Denot
+errors-of g =
+    let maker = g.C.Error.SinkError in
+    record { is_message = maker.is_message; is_io = maker.is_io; is_config = maker.is_config }
+
+abbrev facts-of : (g : Over) → g.row.M.Denot → MatcherFacts g.row.M-Error.Denot
+facts-of g matcher =
+    let meant = g.M.Matcher in
+    record {
+      meaning = meant.meaning matcher;
+      fails = meant.fails matcher;
+      is_lawful = meant.is_lawful matcher;
+      text_of = g.M.Error.Display.output;
+    }
+
+pub search_quitting-requires-clause-none : goal.search_quitting-requires-clause-none
+search_quitting-requires-clause-none g c =
+    rw c.new-quitting.ensures.byte (first-found c.args.byte c.args.bytes.now c.min.result None c.min.ensures c.in-None.ensures)
+
+pub returns-in-Some-clause-searched : goal.returns-in-Some-clause-searched
+returns-in-Some-clause-searched g c = λ lawful.
+    quit-searched g.C.Calls.step (errors-of g) (facts-of g c.args.matcher.now) c.args.self.now.config c.args.byte c.args.bytes.now
+    c.args.is_across c.in-Some.offset
+    (first-found c.args.byte c.args.bytes.now c.min.result (Some c.in-Some.offset) c.min.ensures c.in-Some.ensures)
+    c.args.sink.now c.quit_first.result c.quit_first.new.sink c.quit_first.ensures.quits
+
+pub returns-in-None-clause-searched : goal.returns-in-None-clause-searched
+returns-in-None-clause-searched g c = λ lawful.
+    subst (λ s. IsSearchedUntil g.C.Calls.step (errors-of g) (facts-of g c.args.matcher.now)
+    (calls_if c.args.self.now.config (g.M.Matcher.meaning c.args.matcher.now) c.args.is_across) c.args.byte c.args.self.now.config
+    c.args.bytes.now c.args.sink.now c.search_quitting.result s)
+    (sym (c.sink-1.given.1 (sym (c.search_quitting.ensures.same_sink ∙ c.new-quitting.ensures.same_sink))))
+    (rw (c.new-quitting.ensures.byte, c.new-quitting.ensures.sink) at (c.search_quitting.ensures.searched lawful))

@@ -1,0 +1,221 @@
+use Rattle.std.proofs.Common.{rules, ◌≡◌, ◌∙◌, ℕ, length, refl, ap, sym, subst, arith, true, false, length-take, length-drop, ◌-◌, drop}
+use Rattle.std.proofs.lemmas.Bool.{false≢true}
+use Rattle.std.proofs.lemmas.Result.{err_from_is_err_and}
+use Rattle.grep_lines.specs.Positions.{slice, IsLineStart}
+use Rattle.grep_matcher.specs.Lines.{lines}
+use Rattle.grep_definitions.specs.Searches.{ErrorMakers, MatcherFacts}
+use Rattle.grep_definitions.specs.Settings.{Settings}
+use Rattle.grep_definitions.specs.SinkRuns.{all_true, stopped}
+use Rattle.grep_walk.specs.Walks.{is_over, line_end}
+use Rattle.grep_walk.proofs.SkipLemmas as skips
+use Rattle.grep_walk.proofs.WindowSearchLemmas as search
+use Rattle.grep_walk.proofs.WindowSearchLemmas.{ordered-next}
+use Rattle.grep_core.proofs.search.Search.search_window.Given.{Over}
+use Rattle.grep_core.proofs.search.Search.search_window.Goals as goal
+
+-- under passthru there are no contexts
+abbrev Bare : Settings → Type 0
+Bare settings = settings.passthru ≡ true → (settings.after_context ≡ 0) × (settings.before_context ≡ 0)
+
+abbrev errors : (g : Over) → ErrorMakers g.row.C-Error.Denot
+errors g = record {
+  is_message = g.C.Error.SinkError.is_message;
+  is_io = g.C.Error.SinkError.is_io;
+  is_config = g.C.Error.SinkError.is_config;
+}
+
+abbrev facts : (g : Over) → g.row.M.Denot → MatcherFacts g.row.M-Error.Denot
+facts g matcher = record {
+  meaning = g.M.Matcher.meaning matcher;
+  fails = g.M.Matcher.fails matcher;
+  is_lawful = g.M.Matcher.is_lawful matcher;
+  text_of = g.M.Error.Display.output;
+}
+
+pub lines-init : goal.lines-init
+lines-init g c = record {
+  within = c.requires.inside;
+  same = refl;
+  ahead = omega arith;
+  ordered = c.requires.ordered;
+  bounded = record { ordered = omega arith; within = omega arith };
+  known = λ lawful gone input first so_far. skips.known-nothing c.args.self.now.config (g.M.Matcher.meaning c.args.matcher.now)
+      c.args.window.now c.args.start;
+  searched = λ lawful gone input first so_far. so_far;
+  kept = λ name each. refl;
+  may_call = c.requires.may_call;
+}
+
+pub returns-in_err-ahead-clause-fault : goal.returns-in_err-ahead-clause-fault
+returns-in_err-ahead-clause-fault g c =
+    let p = err_from_is_err_and c.from_residual.result c.from_residual.ensures.1 in
+    let ahead = c.in_err-ahead.ensures in
+    let allowed = ahead.allowed in
+    let fault = ahead.fault in
+    rw (p.1, p.2) (λ lawful gone input first so_far. skips.failed-ahead c.lines_join.ensures c.lines_append.ensures g.C.Calls.step
+    (errors g) (facts g c.args.matcher.now) c.args.self.now.config gone c.args.window.now input first c.lines.sink
+    (λ passthru. absurd (false≢true (sym allowed.allowed.selects ∙ passthru)))
+    c.lines.walk c.lines.start (c.lines.invariant.searched lawful gone input first so_far) ahead.some allowed
+    fault.0 _ fault.1 fault.2)
+
+pub returns-in_default-clause-goes_on : goal.returns-in_default-clause-goes_on
+returns-in_default-clause-goes_on g c = λ lawful goes gone input first so_far.
+    let learns = c.in_ok-ahead.ensures.known in
+    let position = c.skip-start.ensures.position in
+    let skipped = c.skip-start.ensures.walk in
+    let bare = c.requires.configured.bare in
+    let now = c.lines.invariant.searched lawful gone input first so_far in
+    let known = learns lawful _ now.inside.line.begins (c.lines.invariant.known lawful gone input first so_far) in
+    let here = skips.searched-on c.lines_join.ensures c.lines_append.ensures _ (errors g) (facts g c.args.matcher.now) _ _ _ _ _ _ bare
+    _ _ c.in_ok-ahead.ahead now (omega (arith, c.in_ok-ahead.ensures.bounded.ordered, c.in_ok-ahead.ensures.bounded.within)) known _ _
+    position skipped in
+    let terminator = c.terminator-terminator.ensures in
+    search.passed-all _ _ _ _ _ _ _ _ _ _ here c.in_default.ensures.end
+    (subst (λ b. (i : ℕ) → IsLineStart b c.args.window.now c.skip-start.result i → i ≡ length (lines b c.args.window.now)) terminator
+    c.in_default.ensures.last)
+
+pub returns-in_err-chosen-clause-fault : goal.returns-in_err-chosen-clause-fault
+returns-in_err-chosen-clause-fault g c =
+    let learns = c.in_ok-ahead.ensures.known in
+    let position = c.skip-start.ensures.position in
+    let skipped = c.skip-start.ensures.walk in
+    let p = err_from_is_err_and c.from_residual-in_err-chosen.result c.from_residual-in_err-chosen.ensures.1 in
+    let fault = c.in_err-chosen.ensures.fault in
+    let below = c.in_err-chosen.ensures.open in
+    rw (p.1, p.2) (λ lawful gone input first so_far.
+    let bare = c.requires.configured.bare in
+    let now = c.lines.invariant.searched lawful gone input first so_far in
+    let known = learns lawful _ now.inside.line.begins (c.lines.invariant.known lawful gone input first so_far) in
+    let terminator = c.terminator-terminator.ensures in
+    let turn = skips.line-reached c.lines_join.ensures c.lines_append.ensures _ (errors g) (facts g c.args.matcher.now) _ _ _ _ _ _ bare
+    _ _ _ now c.in_ok-ahead.ensures.bounded known _ _ c.skip-start.ensures.low position skipped _ _ terminator
+    c.in-Some.ensures.line _ c.at-known.ensures in
+    search.failed-matcher _ (errors g) (facts g c.args.matcher.now) _ _ _ _ _ bare _ _ _ _ turn.here c.in-Some.ensures.within.0
+    c.in-Some.ensures.within.1 turn.line below _ fault.0 _
+    (search.asked-line _ (errors g) (facts g c.args.matcher.now) _ _ _ _ _ bare _ _ _ _ turn.here c.in-Some.ensures.within.0
+    c.in-Some.ensures.within.1 turn.line) fault.1 fault.2)
+
+pub returns-in_err-sink_line-clause-fault : goal.returns-in_err-sink_line-clause-fault
+returns-in_err-sink_line-clause-fault g c =
+    let learns = c.in_ok-ahead.ensures.known in
+    let position = c.skip-start.ensures.position in
+    let skipped = c.skip-start.ensures.walk in
+    let value = c.in_ok-chosen.ensures.value in
+    let p = err_from_is_err_and c.from_residual-in_err-sink_line.result c.from_residual-in_err-sink_line.ensures.1 in
+    rw (p.1, p.2) (λ lawful gone input first so_far.
+    let bare = c.requires.configured.bare in
+    let now = c.lines.invariant.searched lawful gone input first so_far in
+    let known = learns lawful _ now.inside.line.begins (c.lines.invariant.known lawful gone input first so_far) in
+    let terminator = c.terminator-terminator.ensures in
+    let turn = skips.line-reached c.lines_join.ensures c.lines_append.ensures _ (errors g) (facts g c.args.matcher.now) _ _ _ _ _ _ bare
+    _ _ _ now c.in_ok-ahead.ensures.bounded known _ _ c.skip-start.ensures.low position skipped _ _ terminator
+    c.in-Some.ensures.line _ c.at-known.ensures in
+    search.failed-line _ (errors g) (facts g c.args.matcher.now) _ _ _ _ _ bare _ _ _ _ turn.here c.in-Some.ensures.within.0
+    c.in-Some.ensures.within.1 turn.line c.in_ok-chosen.chosen (value turn.agrees) _ _
+    (c.in_err-sink_line.ensures.reported gone input turn.here.inside))
+
+pub returns-then-not-branch-clause-ends : goal.returns-then-not-branch-clause-ends
+returns-then-not-branch-clause-ends g c = λ lawful ends.
+    let learns = c.in_ok-ahead.ensures.known in
+    let position = c.skip-start.ensures.position in
+    let skipped = c.skip-start.ensures.walk in
+    let value = c.in_ok-chosen.ensures.value in
+    let stops : c.in_ok-sink_line.field-0 ≡ false = search rules in
+    let reported = rw stops at c.in_ok-sink_line.ensures.reported in (
+      stopped (line_end c.skip-start.new.walk (slice c.args.window.now c.skip-start.result c.in-Some.end)),
+      λ gone input first so_far.
+          let bare = c.requires.configured.bare in
+          let now = c.lines.invariant.searched lawful gone input first so_far in
+          let known = learns lawful _ now.inside.line.begins (c.lines.invariant.known lawful gone input first so_far) in
+          let terminator = c.terminator-terminator.ensures in
+          let turn = skips.line-reached c.lines_join.ensures c.lines_append.ensures _ (errors g) (facts g c.args.matcher.now) _ _ _ _ _ _
+          bare _ _ _ now c.in_ok-ahead.ensures.bounded known _ _ c.skip-start.ensures.low position skipped
+          _ _ terminator c.in-Some.ensures.line _ c.at-known.ensures in
+          search.counted-stopped _ (errors g) (facts g c.args.matcher.now) _ _ _ _ _ bare _ _ _ _ turn.here c.in-Some.ensures.within.0
+          c.in-Some.ensures.within.1 turn.line c.in_ok-chosen.chosen (value turn.agrees) _
+          (reported gone input turn.here.inside),
+    )
+
+pub returns-then-is_over-clause-ends : goal.returns-then-is_over-clause-ends
+returns-then-is_over-clause-ends g c = λ lawful ends.
+    let learns = c.in_ok-ahead.ensures.known in
+    let position = c.skip-start.ensures.position in
+    let skipped = c.skip-start.ensures.walk in
+    let value = c.in_ok-chosen.ensures.value in
+    let next = c.advance.ensures in
+    let over_is = c.is_over.ensures in
+    let goes : c.in_ok-sink_line.field-0 ≡ true = search rules in
+    let reported = rw goes at c.in_ok-sink_line.ensures.reported in
+    let over = ap (λ p. is_over c.args.self.now.config p c.in_ok-chosen.chosen) (sym next)
+    ∙ rw over_is at c.if-is_over.true in
+    rw next (
+      all_true,
+      λ gone input first so_far.
+          let bare = c.requires.configured.bare in
+          let now = c.lines.invariant.searched lawful gone input first so_far in
+          let known = learns lawful _ now.inside.line.begins (c.lines.invariant.known lawful gone input first so_far) in
+          let terminator = c.terminator-terminator.ensures in
+          let turn = skips.line-reached c.lines_join.ensures c.lines_append.ensures _ (errors g) (facts g c.args.matcher.now) _ _ _ _ _ _
+          bare _ _ _ now c.in_ok-ahead.ensures.bounded known _ _ c.skip-start.ensures.low position skipped
+          _ _ terminator c.in-Some.ensures.line _ c.at-known.ensures in
+          search.counted-over _ (errors g) (facts g c.args.matcher.now) _ _ _ _ _ bare _ _ _ _ turn.here c.in-Some.ensures.within.0
+          c.in-Some.ensures.within.1 turn.line c.in_ok-chosen.chosen (value turn.agrees) _
+          (reported gone input turn.here.inside) over,
+    )
+
+pub lines-preserved : goal.lines-preserved
+lines-preserved g c =
+    let learns = c.in_ok-ahead.ensures.known in
+    let position = c.skip-start.ensures.position in
+    let skipped = c.skip-start.ensures.walk in
+    let value = c.in_ok-chosen.ensures.value in
+    let next = c.advance.ensures in
+    let over_is = c.is_over.ensures in
+    let goes : c.in_ok-sink_line.field-0 ≡ true = search rules in
+    let reported = rw goes at c.in_ok-sink_line.ensures.reported in
+    let on = ap (λ p. is_over c.args.self.now.config p c.in_ok-chosen.chosen) (sym next)
+    ∙ rw over_is at c.if-is_over.false in
+    let size = length-take (c.in-Some.end - c.skip-start.result) (drop c.skip-start.result c.args.window.now) in
+    rw next (record {
+      within = c.in-Some.ensures.within.1;
+      same = omega (
+        arith,
+        size,
+        length-drop c.skip-start.result c.args.window.now,
+        c.in-Some.ensures.within.0,
+        c.in-Some.ensures.within.1,
+        c.skip-start.ensures.moved,
+        c.lines.invariant.same,
+      );
+      ahead = omega (arith, c.lines.invariant.ahead, c.skip-start.ensures.low, c.in-Some.ensures.within.0);
+      ordered = ordered-next c.args.self.now.config c.skip-start.new.walk c.skip-start.result c.in-Some.end c.args.window.now
+          c.in_ok-chosen.chosen c.in-Some.ensures.within.0 c.in-Some.ensures.within.1 c.skip-start.ensures.ordered;
+      bounded = c.in_ok-ahead.ensures.bounded;
+      known = λ lawful gone input first so_far.
+          let now = c.lines.invariant.searched lawful gone input first so_far in
+          skips.known-later c.args.self.now.config (g.M.Matcher.meaning c.args.matcher.now) c.args.window.now c.lines.start
+          c.in-Some.end c.in_ok-ahead.ahead (omega (arith, c.skip-start.ensures.low, c.in-Some.ensures.within.0))
+          (learns lawful _ now.inside.line.begins (c.lines.invariant.known lawful gone input first so_far));
+      searched = λ lawful gone input first so_far.
+          let bare = c.requires.configured.bare in
+          let now = c.lines.invariant.searched lawful gone input first so_far in
+          let known = learns lawful _ now.inside.line.begins (c.lines.invariant.known lawful gone input first so_far) in
+          let terminator = c.terminator-terminator.ensures in
+          let turn = skips.line-reached c.lines_join.ensures c.lines_append.ensures _ (errors g) (facts g c.args.matcher.now) _ _ _ _ _ _
+          bare _ _ _ now c.in_ok-ahead.ensures.bounded known _ _ c.skip-start.ensures.low position skipped
+          _ _ terminator c.in-Some.ensures.line _ c.at-known.ensures in
+          search.searched-next _ (errors g) (facts g c.args.matcher.now) _ _ _ _ _ bare _ _ _ _ turn.here c.in-Some.ensures.within.0
+          c.in-Some.ensures.within.1 turn.line c.in_ok-chosen.chosen (value turn.agrees) _
+          (reported gone input turn.here.inside) on;
+      kept = λ name each. c.in_ok-sink_line.ensures.kept name each ∙ c.lines.invariant.kept name each;
+      may_call = c.in_ok-sink_line.ensures.may_call;
+    })
+
+pub returns-in_err-sink_line-clause-kept : goal.returns-in_err-sink_line-clause-kept
+returns-in_err-sink_line-clause-kept g c = λ name each. c.sink_line.ensures.kept name each ∙ c.lines.invariant.kept name each
+
+pub returns-then-not-branch-clause-kept : goal.returns-then-not-branch-clause-kept
+returns-then-not-branch-clause-kept g c = λ name each. c.sink_line.ensures.kept name each ∙ c.lines.invariant.kept name each
+
+pub returns-then-is_over-clause-kept : goal.returns-then-is_over-clause-kept
+returns-then-is_over-clause-kept g c = λ name each. c.sink_line.ensures.kept name each ∙ c.lines.invariant.kept name each

@@ -1,0 +1,28 @@
+use Rattle.std.proofs.Common.{◌≡◌, ◌≤◌, ◌+◌, ◌-◌, ℕ, List, length}
+use Rattle.grep_definitions.specs.Questions.{IsLawfulFor}
+use Rattle.grep_walk.specs.LookAheads.{IsBounded, IsKnown}
+use Rattle.grep_walk.specs.Walks.{IsKept, IsOrdered}
+use Rattle.grep_walk.specs.Windows.{HasSearched}
+use Rattle.grep_core.proofs.search.Search.search_window.Given as goal
+
+abbrev pub invariant-lines : goal.invariant-lines
+invariant-lines g l = record {
+  within : l.start ≤ length l.window;
+  same : l.walk.offset + l.fn.start ≡ l.fn.walk.offset + l.start;
+  ahead : l.fn.start ≤ l.start;
+  ordered : IsOrdered l.walk;
+  bounded : IsBounded l.window l.ahead;
+  known : IsLawfulFor l.self.config (g.M.Matcher.meaning l.matcher) (g.M.Matcher.is_lawful l.matcher)
+      → (gone input : List ℕ) (first : g.row.C-Sink.Denot)
+      → HasSearched g.C.Calls.step l.self.config (g.M.Matcher.meaning l.matcher) gone l.window input first l.fn.start l.fn.walk l.fn.sink
+      → IsKnown l.self.config (g.M.Matcher.meaning l.matcher) l.window l.start l.ahead;
+  searched : IsLawfulFor l.self.config (g.M.Matcher.meaning l.matcher) (g.M.Matcher.is_lawful l.matcher)
+      → (gone input : List ℕ) (first : g.row.C-Sink.Denot)
+      → HasSearched g.C.Calls.step l.self.config (g.M.Matcher.meaning l.matcher) gone l.window input first l.fn.start l.fn.walk l.fn.sink
+      → HasSearched g.C.Calls.step l.self.config (g.M.Matcher.meaning l.matcher) gone l.window input first l.start l.walk l.sink;
+  kept : IsKept g.C.Calls.step l.self.config l.fn.sink l.sink;
+  may_call : g.C.Calls.may_call l.sink;
+}
+
+abbrev pub decreases-lines : goal.decreases-lines
+decreases-lines g l = length l.window - l.start

@@ -1,0 +1,24 @@
+use Rattle.std.proofs.Common.{◌≡◌, ℕ, List, length, ◌+◌, ◌-◌, ◌≤◌}
+use Rattle.grep_definitions.specs.SinkRuns.{AreReported, all_true}
+use Rattle.grep_definitions.specs.LineTurns.{pending_turns}
+use Rattle.grep_walk.specs.Windows.{IsInWindow, IsLineIn}
+use Rattle.grep_walk.specs.Walks.{IsKept}
+use Rattle.grep_core.proofs.search.Search.sink_before_lines.Given as goal
+
+abbrev pub invariant-loop-at : goal.invariant-loop-at
+invariant-loop-at g l = record {
+  inside : l.position ≤ length l.window;
+  same : l.offset + l.start ≡ l.walk.offset + l.position;
+  low : l.index ≤ l.at;
+  below : l.at ≤ l.walk.line;
+  at : (gone : List ℕ) → IsLineIn l.self.config gone l.window l.first l.index → IsLineIn l.self.config gone l.window l.position l.at;
+  reported : (gone input : List ℕ) → IsInWindow l.self.config gone l.window input l.start l.walk
+      → IsLineIn l.self.config gone l.window l.first l.index
+      → (end : ℕ) → AreReported g.C.Calls.step l.self.config l.fn.sink
+      (pending_turns l.self.config input l.walk.reported_through l.walk.line end l.index (l.at - l.index)) all_true l.sink;
+  kept : IsKept g.C.Calls.step l.self.config l.fn.sink l.sink;
+  may_call : g.C.Calls.may_call l.sink;
+}
+
+abbrev pub decreases-loop-at : goal.decreases-loop-at
+decreases-loop-at g l = l.walk.line - l.at

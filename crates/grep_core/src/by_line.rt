@@ -1,0 +1,147 @@
+//! The walk of a search by line: over all lines of a slice, or over those of a window, with the calls that they make.
+ghost use Rattle.std.specs.Prelude.{◌≡◌, ◌≤◌, ◌<◌, ◌+◌, ◌-◌, ◌^◌, ℕ, true, false, length};
+ghost use Rattle.std.specs.Prelude.{List, IfOk, IfErr, IsOk};
+ghost use Rattle.grep_matcher.specs.Matching.{IsInfallible};
+ghost use Rattle.grep_definitions.specs.LineSearch.{turns, byte_count};
+ghost use Rattle.grep_definitions.specs.Questions.{IsLawfulFor};
+ghost use Rattle.grep_definitions.specs.Searches.{IsLineFault, errors_by, facts_by};
+ghost use Rattle.grep_definitions.specs.SinkRuns.{Outcome, NeverFails};
+ghost use Rattle.grep_walk.specs.Walks.{Counted, IsOrdered, IsKept};
+ghost use Rattle.grep_walk.specs.Windows.{HasSearched, HasPassed};
+ghost use Rattle.grep_core.specs.Configured.{IsConfigured};
+
+use crate::calls::Calls;
+use crate::search::Search;
+use grep_lines::laws::{lines_append, lines_join};
+use grep_matcher::Matcher;
+use grep_report::SinkError;
+use grep_walk::{START, UNKNOWN, Walk};
+use std::alloc::Allocator;
+
+impl<'c, A: Allocator + Copy, T> Search<'c, A, T> {
+    // Makes each call but `finish`, and returns the byte count.
+    pub(crate) fn match_by_line<M: Matcher, C: Calls<T>>(
+        &self,
+        matcher: &M,
+        bytes: &[u8],
+        sink: &mut C::Sink,
+    ) -> Result<u64, C::Error>
+    where
+        C::Error: SinkError<A>,
+        requires configured { IsConfigured (C.settings self.now.searcher.now) self.now.config }
+        requires may_call { C.may_call sink.old }
+        ensures reported { IfOk result (λ count.
+            IsLawfulFor self.now.config (M.meaning matcher.now) (M.is_lawful matcher.now)
+            → (outcome : Outcome C.Error)
+            × Counted C.step self.now.config sink.old
+            (turns self.now.config (M.meaning matcher.now) bytes.now)
+            (byte_count self.now.config (M.meaning matcher.now) bytes.now)
+            count outcome sink.new) }
+        ensures fault { IfErr result (λ e.
+            IsLawfulFor self.now.config (M.meaning matcher.now) (M.is_lawful matcher.now)
+            → IsLineFault C.step
+            (errors_by C.Error.is_message C.Error.is_io C.Error.is_config)
+            (facts_by M.meaning M.fails M.is_lawful M.Error.output matcher.now)
+            self.now.config bytes.now sink.old e sink.new) }
+        ensures succeeds { NeverFails C.step C.may_call → IsInfallible (M.fails matcher.now)
+            → IsOk result }
+        ensures kept { IsKept C.step self.now.config sink.old sink.new }
+        ensures may_call { C.may_call sink.new }
+    {
+        if !C::begin(self, sink)? {
+            return Ok(0);
+        }
+        if self.config.is_idle() {
+            return Ok(0);
+        }
+        let mut walk = START;
+        let _ = self.search_window::<M, C>(matcher, bytes, 0, &mut walk, sink)?;
+        Ok(walk.offset)
+    }
+
+    // Walks over the lines of a window from `start` to the window's end, and returns whether the search goes on
+    // after it; if not, the walk's offset is the byte count. A window shows some bytes of the input. The caller
+    // ensures that its lines are lines of the input, and that of the lines before `start` that weren't reported it
+    // has as many as are reported with a match.
+    pub(crate) fn search_window<M: Matcher, C: Calls<T>>(
+        &self,
+        matcher: &M,
+        window: &[u8],
+        start: usize,
+        walk: &mut Walk,
+        sink: &mut C::Sink,
+    ) -> Result<bool, C::Error>
+    where
+        C::Error: SinkError<A>,
+        requires inside { start ≤ length window.now }
+        requires after { start ≤ walk.old.offset }
+        requires fits { walk.old.offset + (length window.now - start) < 2 ^ 64 }
+        requires ordered { IsOrdered walk.old }
+        requires configured { IsConfigured (C.settings self.now.searcher.now) self.now.config }
+        requires may_call { C.may_call sink.old }
+        ensures ordered { IfOk result (λ goes_on. IsOrdered walk.new) }
+        ensures moved { IfOk result (λ goes_on. goes_on ≡ true
+            → walk.new.offset + start ≡ walk.old.offset + length window.now) }
+        ensures within { IfOk result (λ goes_on.
+            walk.new.offset + start ≤ walk.old.offset + length window.now) }
+        ensures ahead { IfOk result (λ goes_on. walk.old.offset ≤ walk.new.offset) }
+        ensures goes_on { IfOk result (λ goes_on.
+            IsLawfulFor self.now.config (M.meaning matcher.now) (M.is_lawful matcher.now)
+            → goes_on ≡ true → (gone input : List ℕ) (first : C.Sink)
+            → HasSearched C.step self.now.config (M.meaning matcher.now) gone window.now input
+            first start walk.old sink.old
+            → HasPassed C.step self.now.config (M.meaning matcher.now) gone window.now input
+            first walk.new sink.new) }
+        ensures ends { IfOk result (λ goes_on.
+            IsLawfulFor self.now.config (M.meaning matcher.now) (M.is_lawful matcher.now)
+            → goes_on ≡ false → (outcome : Outcome C.Error) × ((gone input : List ℕ) (first : C.Sink)
+            → HasSearched C.step self.now.config (M.meaning matcher.now) gone window.now input
+            first start walk.old sink.old
+            → Counted C.step self.now.config first
+            (turns self.now.config (M.meaning matcher.now) input)
+            (byte_count self.now.config (M.meaning matcher.now) input)
+            walk.new.offset outcome sink.new)) }
+        ensures fault { IfErr result (λ e.
+            IsLawfulFor self.now.config (M.meaning matcher.now) (M.is_lawful matcher.now)
+            → (gone input : List ℕ) (first : C.Sink)
+            → HasSearched C.step self.now.config (M.meaning matcher.now) gone window.now input
+            first start walk.old sink.old
+            → IsLineFault C.step
+            (errors_by C.Error.is_message C.Error.is_io C.Error.is_config)
+            (facts_by M.meaning M.fails M.is_lawful M.Error.output matcher.now)
+            self.now.config input first e sink.new) }
+        ensures succeeds { NeverFails C.step C.may_call → IsInfallible (M.fails matcher.now)
+            → IsOk result }
+        ensures kept { IsKept C.step self.now.config sink.old sink.new }
+        ensures may_call { C.may_call sink.new }
+    {
+        lines_join();
+        lines_append();
+        let terminator = self.terminator();
+        let mut start = start;
+        let mut ahead = UNKNOWN;
+        'lines: loop {
+            ahead = self
+                .config
+                .look_ahead::<A, M, C::Error>(self.alloc, matcher, window, start, walk, ahead)?;
+            start = self.config.skip(window, start, &ahead, walk);
+            let Some(end) = ahead.line_end(window, start, terminator) else {
+                return Ok(true);
+            };
+            let line = &window[start..end];
+            let known = ahead.at(start);
+            let chosen = self
+                .config
+                .is_chosen::<A, M, C::Error>(self.alloc, matcher, line, known, walk)?;
+            if !self.sink_line::<C>(window, start, end, walk, chosen, sink)? {
+                walk.offset += line.len() as u64;
+                return Ok(false);
+            }
+            *walk = self.config.advance(walk, line, chosen);
+            if self.config.is_over(walk, chosen) {
+                return Ok(false);
+            }
+            start = end;
+        }
+    }
+}

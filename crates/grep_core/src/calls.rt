@@ -1,0 +1,102 @@
+//! How a search calls a sink.
+ghost use Rattle.std.specs.Prelude.{◌≡◌, ◌+◌, ◌<◌, ◌^◌, Bool, Result, length, is_some};
+ghost use Rattle.grep_matcher.specs.Terminators.{byte_of};
+ghost use Rattle.grep_core.specs.Configured.{IsConfigured};
+ghost use Rattle.grep_definitions.specs.Settings.{Settings};
+ghost use Rattle.grep_report.specs.SinkReports.{match_bytes};
+ghost use Rattle.grep_definitions.specs.SinkCalls.{Call, begins, breaks, binary_data};
+ghost use Rattle.grep_definitions.specs.SinkCalls.{match_call, context_call, finish_call};
+ghost use Rattle.grep_definitions.specs.SinkRuns.{finish_result};
+
+use crate::search::Search;
+use grep_report::{SinkContext, SinkFinish, SinkMatch};
+
+/// The calls of the sinks of one type, made with a searcher of type `T`, which each call gets. No value of such a type
+/// is needed: it says how a search calls a sink.
+///
+/// Each call returns whether the search goes on; an error is the sink's own.
+pub trait Calls<T> {
+    /// The sinks.
+    type Sink;
+
+    /// Why a call failed.
+    type Error;
+
+    /// The settings of a searcher.
+    ghost settings: { T → Settings };
+
+    /// One call: the state before, the searcher's settings, the call with its data, what it returned, the state after.
+    ghost step: { Self.Sink → Settings → Call → Result Bool Self.Error → Self.Sink → Type 0 };
+
+    /// Whether the sink may be called. The caller of a search ensures it, and each call keeps it.
+    ghost may_call: { Self.Sink → Type 0 };
+
+    /// A search begins.
+    fn begin<A>(search: &Search<'_, A, T>, sink: &mut Self::Sink) -> Result<bool, Self::Error>
+        requires configured { IsConfigured (settings search.now.searcher.now) search.now.config }
+        requires may_call { may_call sink.old }
+        ensures step { step sink.old search.now.config begins result sink.new }
+        ensures may_call { may_call sink.new };
+
+    /// Selected lines, split as the searcher splits lines, with a line number exactly if it numbers lines.
+    fn matched<A>(
+        search: &Search<'_, A, T>,
+        sink: &mut Self::Sink,
+        found: &SinkMatch<'_>,
+    ) -> Result<bool, Self::Error>
+        requires configured { IsConfigured (settings search.now.searcher.now) search.now.config }
+        requires may_call { may_call sink.old }
+        requires split { found.now.terminator ≡ byte_of search.now.config.line_terminator }
+        requires numbered { is_some found.now.line_number ≡ search.now.config.line_number }
+        requires fits { found.now.offset + length (match_bytes found.now) < 2 ^ 64 }
+        ensures step { step sink.old search.now.config (match_call found.now) result sink.new }
+        ensures may_call { may_call sink.new };
+
+    /// A line that isn't selected and is reported, with a number exactly if the searcher numbers lines.
+    fn context<A>(
+        search: &Search<'_, A, T>,
+        sink: &mut Self::Sink,
+        line: &SinkContext<'_>,
+    ) -> Result<bool, Self::Error>
+        requires configured { IsConfigured (settings search.now.searcher.now) search.now.config }
+        requires may_call { may_call sink.old }
+        requires numbered { is_some line.now.line_number ≡ search.now.config.line_number }
+        requires fits { line.now.offset + length line.now.bytes < 2 ^ 64 }
+        ensures step { step sink.old search.now.config (context_call line.now) result sink.new }
+        ensures may_call { may_call sink.new };
+
+    /// Lines were left out since the last report.
+    fn context_break<A>(
+        search: &Search<'_, A, T>,
+        sink: &mut Self::Sink,
+    ) -> Result<bool, Self::Error>
+        requires configured { IsConfigured (settings search.now.searcher.now) search.now.config }
+        requires may_call { may_call sink.old }
+        ensures step { step sink.old search.now.config breaks result sink.new }
+        ensures may_call { may_call sink.new };
+
+    /// The input is binary: `binary_byte_offset` is the offset, in bytes, of its first binary byte.
+    fn binary_data<A>(
+        search: &Search<'_, A, T>,
+        sink: &mut Self::Sink,
+        binary_byte_offset: u64,
+    ) -> Result<bool, Self::Error>
+        requires configured { IsConfigured (settings search.now.searcher.now) search.now.config }
+        requires may_call { may_call sink.old }
+        ensures step { step sink.old search.now.config (binary_data binary_byte_offset) result
+            sink.new }
+        ensures may_call { may_call sink.new };
+
+    /// The search ends.
+    fn finish<A>(
+        search: &Search<'_, A, T>,
+        sink: &mut Self::Sink,
+        finish: &SinkFinish,
+    ) -> Result<(), Self::Error>
+        requires configured { IsConfigured (settings search.now.searcher.now) search.now.config }
+        requires may_call { may_call sink.old }
+        ensures step { step sink.old search.now.config (finish_call finish.now)
+            (finish_result result)
+            sink.new }
+        ensures may_call { may_call sink.new };
+}

@@ -1,0 +1,69 @@
+//! The search of a reader across lines, for which all of it is read first.
+ghost use Rattle.std.specs.Prelude.{◌≡◌, ℕ, Bool, List, Option, true, false, IfErr};
+ghost use Rattle.std.specs.declared.io.Error.{Error};
+ghost use Rattle.grep_matcher.specs.Matching.{IsInfallible};
+ghost use Rattle.grep_decode.specs.DecoderStates.{started};
+ghost use Rattle.grep_definitions.specs.BinaryBytes.{look_at, view_of};
+ghost use Rattle.grep_definitions.specs.ReaderSearches.{IsUnreadIn};
+ghost use Rattle.grep_definitions.specs.Searches.{errors_by, facts_by};
+ghost use Rattle.grep_definitions.specs.SinkRuns.{NeverFails};
+ghost use Rattle.grep_core.specs.InputSearches.{IsAcrossSearched};
+ghost use Rattle.grep_core.specs.Configured.{IsConfigured};
+
+use crate::calls::Calls;
+use crate::read_by_line::io_error;
+use crate::search::Search;
+use grep_decode::laws::{done_gives_nothing, reads_continue};
+use grep_decode::{Decoder, Source};
+use grep_definitions::laws::unchanged_is_searched;
+use grep_line_buffer::read_contents;
+use grep_lines::laws::lines_join;
+use grep_matcher::Matcher;
+use grep_report::{SinkError, SinkFinish};
+use std::alloc::Allocator;
+
+impl<'c, A: Allocator + Copy, T> Search<'c, A, T> {
+    // Searches the decoded bytes of a reader across lines. All of them are read into `contents` before `begin`. The
+    // caller ensures that the decoder was started with the searcher's label.
+    pub(crate) fn search_contents<M: Matcher, R: Source, C: Calls<T>>(
+        &self,
+        matcher: &M,
+        decoder: &mut Decoder<A>,
+        contents: &mut Vec<u8, A>,
+        reader: &mut R,
+        sink: &mut C::Sink,
+    ) -> Result<(), C::Error>
+    where
+        C::Error: SinkError<A>,
+        requires started { decoder.old ≡ started decoder.old.capacity self.now.config.encoding
+            self.now.config.bom_sniffing }
+        requires configured { IsConfigured (C.settings self.now.searcher.now) self.now.config }
+        requires may_call { C.may_call sink.old }
+        ensures searched { (has_buffers : Bool) → IsAcrossSearched R.remaining R.step C.step
+            (errors_by C.Error.is_message C.Error.is_io C.Error.is_config)
+            (facts_by M.meaning M.fails M.is_lawful M.Error.output matcher.now)
+            (look_at self.now.config.binary_detection false)
+            (record { settings = self.now.config; has_buffers = has_buffers })
+            reader.old sink.old result reader.new sink.new }
+        ensures succeeds { NeverFails C.step C.may_call → IsInfallible (M.fails matcher.now)
+            → IfErr result (λ e. (has_buffers : Bool) → (seen : Option (List ℕ)) × (error : Error)
+            × IsUnreadIn R.remaining R.step true (view_of self.now.config)
+            (record { settings = self.now.config; has_buffers = has_buffers })
+            (M.meaning matcher.now)
+            reader.old seen error reader.new × C.Error.is_io error e) }
+        ensures may_call { C.may_call sink.new }
+    {
+        unchanged_is_searched();
+        reads_continue::<R>();
+        done_gives_nothing();
+        lines_join();
+        if let Err(error) = read_contents(decoder, reader, self.heap_limit(), contents) {
+            return Err(C::Error::error_io(self.alloc, io_error(error)));
+        }
+        if let Some(byte) = self.quit_byte() {
+            return self.search_until::<M, C>(matcher, contents, byte, true, sink);
+        }
+        let count = self.match_across::<M, C>(matcher, contents, sink)?;
+        C::finish(self, sink, &SinkFinish::new(count, None))
+    }
+}

@@ -1,0 +1,117 @@
+//! The walk of a search across lines, from one unit of lines that matches touch to the next.
+ghost use Rattle.std.specs.Prelude.{◌<◌, ◌+◌, ◌-◌, ◌&&◌, ◌==◌, true};
+ghost use Rattle.std.specs.Prelude.{Ok, IfOk, IfErr, IsOk};
+ghost use Rattle.grep_matcher.specs.Matching.{IsInfallible};
+ghost use Rattle.grep_definitions.specs.Searches.{IsFaultIn, errors_by, facts_by};
+ghost use Rattle.grep_definitions.specs.SearchTurns.{calls_across};
+ghost use Rattle.grep_definitions.specs.SinkCalls.{begins};
+ghost use Rattle.grep_definitions.specs.SinkRuns.{Outcome, NeverFails};
+ghost use Rattle.grep_walk.specs.Walks.{Counted, IsKept};
+ghost use Rattle.grep_core.specs.Configured.{IsConfigured};
+
+use crate::calls::Calls;
+use crate::search::Search;
+use grep_matcher::{Match, Matcher};
+use grep_report::SinkError;
+use grep_walk::START;
+use std::alloc::Allocator;
+
+impl<'c, A: Allocator + Copy, T> Search<'c, A, T> {
+    // Makes each call but `finish` of a search across lines, and returns the byte count.
+    pub(crate) fn match_across<M: Matcher, C: Calls<T>>(
+        &self,
+        matcher: &M,
+        bytes: &[u8],
+        sink: &mut C::Sink,
+    ) -> Result<u64, C::Error>
+    where
+        C::Error: SinkError<A>,
+        requires configured { IsConfigured (C.settings self.now.searcher.now) self.now.config }
+        requires may_call { C.may_call sink.old }
+        ensures reported { IfOk result (λ count. (outcome : Outcome C.Error)
+            × Counted C.step self.now.config sink.old
+            ((calls_across self.now.config (M.meaning matcher.now)).turns bytes.now)
+            ((calls_across self.now.config (M.meaning matcher.now)).byte_count bytes.now)
+            count outcome sink.new) }
+        ensures fault { IfErr result (λ e. IsFaultIn C.step
+            (errors_by C.Error.is_message C.Error.is_io C.Error.is_config)
+            (facts_by M.meaning M.fails M.is_lawful M.Error.output matcher.now)
+            (calls_across self.now.config (M.meaning matcher.now))
+            self.now.config bytes.now sink.old e sink.new) }
+        ensures succeeds { NeverFails C.step C.may_call → IsInfallible (M.fails matcher.now)
+            → IsOk result }
+        ensures kept { IsKept C.step self.now.config sink.old sink.new }
+        ensures may_call { C.may_call sink.new }
+    {
+        if !C::begin(self, sink)? {
+            return Ok(0);
+        }
+        self.search_across::<M, C>(matcher, bytes, sink)
+    }
+
+    // Makes the calls after `begin`, and returns the byte count.
+    fn search_across<M: Matcher, C: Calls<T>>(
+        &self,
+        matcher: &M,
+        bytes: &[u8],
+        sink: &mut C::Sink,
+    ) -> Result<u64, C::Error>
+    where
+        C::Error: SinkError<A>,
+        requires configured { IsConfigured (C.settings self.now.searcher.now) self.now.config }
+        requires may_call { C.may_call sink.old }
+        ensures reported { IfOk result (λ count. (first : C.Sink)
+            → C.step first self.now.config begins (Ok true) sink.old
+            → (outcome : Outcome C.Error) × Counted C.step self.now.config first
+            ((calls_across self.now.config (M.meaning matcher.now)).turns bytes.now)
+            ((calls_across self.now.config (M.meaning matcher.now)).byte_count bytes.now)
+            count outcome sink.new) }
+        ensures fault { IfErr result (λ e. (first : C.Sink)
+            → C.step first self.now.config begins (Ok true) sink.old
+            → IsFaultIn C.step
+            (errors_by C.Error.is_message C.Error.is_io C.Error.is_config)
+            (facts_by M.meaning M.fails M.is_lawful M.Error.output matcher.now)
+            (calls_across self.now.config (M.meaning matcher.now))
+            self.now.config bytes.now first e sink.new) }
+        ensures succeeds { NeverFails C.step C.may_call → IsInfallible (M.fails matcher.now)
+            → IsOk result }
+        ensures kept { IsKept C.step self.now.config sink.old sink.new }
+        ensures may_call { C.may_call sink.new }
+    {
+        let mut blocks = self
+            .config
+            .first_block::<A, M, C::Error>(self.alloc, matcher, bytes)?;
+        let mut unit = Match::zero(0);
+        let mut walk = START;
+        let mut start = 0;
+        'lines: while start < bytes.len() {
+            unit = self.config.unit_at::<A, M, C::Error>(
+                self.alloc,
+                matcher,
+                bytes,
+                start,
+                &walk,
+                unit,
+                &mut blocks,
+            )?;
+            let next = self.config.next_chosen(bytes, start, &unit, &walk);
+            if start < next && !self.config.passthru && walk.after_context_left == 0 {
+                // Nothing is reported after these lines, so they needn't be counted.
+                if next == bytes.len() {
+                    return Ok(next as u64);
+                }
+                walk = self.config.walk_past(&walk, &bytes[start..next]);
+                start = next;
+                continue;
+            }
+            let chosen = start == next;
+            let end = self.config.end_across(bytes, start, &unit, chosen);
+            if !self.sink_line::<C>(bytes, start, end, &walk, chosen, sink)? {
+                return Ok(end as u64);
+            }
+            walk = self.config.walk_after(&walk, &bytes[start..end], chosen);
+            start = end;
+        }
+        Ok(walk.offset)
+    }
+}

@@ -1,0 +1,374 @@
+//! The search of a reader, fill by fill of a line buffer. It follows grep-searcher's module `searcher::glue`.
+ghost use Rattle.std.specs.Prelude.{◌^◌, ◌≡◌, ◌≤◌, ◌<◌, ◌+◌, ◌++◌, ℕ, Bool, List, Option, Ok, true, false, length};
+ghost use Rattle.std.specs.Prelude.{IfOk, IfErr, IsOk, OnErr, Err, None};
+ghost use Rattle.std.specs.declared.io.Error.{Error};
+ghost use Rattle.grep_matcher.specs.Terminators.{byte_of};
+ghost use Rattle.grep_matcher.specs.Matching.{IsInfallible};
+ghost use Rattle.grep_decode.specs.DecoderStates.{started};
+ghost use Rattle.grep_line_buffer.specs.BufferStates.{empty_buffer, held};
+ghost use Rattle.grep_definitions.specs.Below.{is_at};
+ghost use Rattle.grep_definitions.specs.InputFronts.{IsClosed};
+ghost use Rattle.grep_definitions.specs.ReaderSearches.{IsLineUnread, IsSourceSearched};
+ghost use Rattle.grep_definitions.specs.ReaderSearches.{IsStreamSearched, IsUnread, reads_lines};
+ghost use Rattle.grep_definitions.specs.Questions.{IsLawfulFor};
+ghost use Rattle.grep_definitions.specs.Searches.{IsLineFault, errors_by, facts_by};
+ghost use Rattle.grep_definitions.specs.SinkCalls.{begins};
+ghost use Rattle.grep_definitions.specs.SinkRuns.{NeverFails};
+ghost use Rattle.grep_core.specs.NotedCalls.{FailsAtBinary, HasNoted, PassesBinary};
+ghost use Rattle.grep_core.specs.Rolls.{IsReady, HasBegun, HasMovedOn, HasEnded, IsStreamCounted, start_in};
+ghost use Rattle.grep_core.specs.SearchBuffers.{AreFitting, IsFitting, IsMadeOf, detection_of};
+ghost use Rattle.grep_walk.specs.Walks.{IsKept, IsOrdered};
+ghost use Rattle.grep_core.specs.Configured.{IsConfigured};
+
+use crate::buffers::Buffers;
+use crate::calls::Calls;
+use crate::noted::{Noted, NotedCalls};
+use crate::search::Search;
+use grep_decode::laws::{done_gives_nothing, reads_continue};
+use grep_decode::{Decoder, Source};
+use grep_definitions::laws::unchanged_is_searched;
+use grep_line_buffer::laws::fills_continue;
+use grep_line_buffer::{Detection, FillError, LineBuffer};
+use grep_lines::laws::{lines_append, lines_are_few, lines_are_numbered, lines_join};
+use grep_matcher::Matcher;
+use grep_report::{BinaryDetection, SinkError, SinkFinish};
+use grep_walk::{START, Walk};
+use std::alloc::Allocator;
+use std::io;
+
+impl<'c, A: Allocator + Copy, T> Search<'c, A, T> {
+    /// Searches the decoded bytes of a reader with these buffers, across lines or by line, as `Searcher::search_reader`
+    /// says, and returns its errors. Whatever comes, the buffers fit another search with this configuration.
+    ///
+    /// The caller ensures that the configuration is the searcher's, that the search isn't refused, that the buffers fit
+    /// the configuration, as new ones do, and that the sink may be called.
+    pub fn search_reader<M: Matcher, R: Source, C: Calls<T>>(
+        &self,
+        matcher: &M,
+        buffers: &mut Buffers<A>,
+        reader: &mut R,
+        sink: &mut C::Sink,
+    ) -> Result<(), C::Error>
+    where
+        C::Error: SinkError<A>,
+        requires allowed { is_at 0 self.now.config.heap_limit ≡ false }
+        requires fitting { AreFitting self.now.config buffers.old }
+        requires configured { IsConfigured (C.settings self.now.searcher.now) self.now.config }
+        requires may_call { C.may_call sink.old }
+        ensures fitting { AreFitting self.now.config buffers.new }
+        ensures searched { IsLawfulFor self.now.config (M.meaning matcher.now)
+            (M.is_lawful matcher.now)
+            → (has_buffers : Bool) → IsSourceSearched R.remaining R.step C.step
+            (errors_by C.Error.is_message C.Error.is_io C.Error.is_config)
+            (facts_by M.meaning M.fails M.is_lawful M.Error.output matcher.now)
+            (record { settings = self.now.config; has_buffers = has_buffers })
+            reader.old sink.old result reader.new sink.new }
+        ensures succeeds { NeverFails C.step C.may_call → IsInfallible (M.fails matcher.now)
+            → IsLawfulFor self.now.config (M.meaning matcher.now) (M.is_lawful matcher.now)
+            → IfErr result (λ e. (has_buffers : Bool) → (seen : Option (List ℕ)) × (error : Error)
+            × IsUnread R.remaining R.step
+            (record { settings = self.now.config; has_buffers = has_buffers })
+            (M.meaning matcher.now) reader.old seen error reader.new × C.Error.is_io error e) }
+        ensures may_call { C.may_call sink.new }
+    {
+        if self.config.is_across(matcher) {
+            let Buffers {
+                decoder,
+                contents,
+                ..
+            } = buffers;
+            decoder.start(self.config.label(), self.config.bom_sniffing);
+            return self.search_contents::<M, R, C>(matcher, decoder, contents, reader, sink);
+        }
+        self.search_by_line::<M, R, C>(matcher, buffers, reader, sink)
+    }
+
+    // The same of a search by line.
+    fn search_by_line<M: Matcher, R: Source, C: Calls<T>>(
+        &self,
+        matcher: &M,
+        buffers: &mut Buffers<A>,
+        reader: &mut R,
+        sink: &mut C::Sink,
+    ) -> Result<(), C::Error>
+    where
+        C::Error: SinkError<A>,
+        requires allowed { is_at 0 self.now.config.heap_limit ≡ false }
+        requires fitting { AreFitting self.now.config buffers.old }
+        requires configured { IsConfigured (C.settings self.now.searcher.now) self.now.config }
+        requires may_call { C.may_call sink.old }
+        ensures fitting { AreFitting self.now.config buffers.new }
+        ensures searched { IsLawfulFor self.now.config (M.meaning matcher.now)
+            (M.is_lawful matcher.now)
+            → (has_buffers : Bool) → IsStreamSearched R.remaining R.step C.step
+            (errors_by C.Error.is_message C.Error.is_io C.Error.is_config)
+            (facts_by M.meaning M.fails M.is_lawful M.Error.output matcher.now)
+            (record { settings = self.now.config; has_buffers = has_buffers })
+            reader.old sink.old result reader.new sink.new }
+        ensures succeeds { NeverFails C.step C.may_call → IsInfallible (M.fails matcher.now)
+            → IsLawfulFor self.now.config (M.meaning matcher.now) (M.is_lawful matcher.now)
+            → IfErr result (λ e. (has_buffers : Bool) → (seen : Option (List ℕ)) × (error : Error)
+            × IsLineUnread R.remaining R.step
+            (record { settings = self.now.config; has_buffers = has_buffers })
+            (M.meaning matcher.now) reader.old seen error reader.new × C.Error.is_io error e) }
+        ensures may_call { C.may_call sink.new }
+    {
+        let finish = self.match_source::<M, R, C>(matcher, buffers, reader, sink)?;
+        C::finish(self, sink, &finish)
+    }
+
+    // Makes each call but `finish`, and returns what that has.
+    fn match_source<M: Matcher, R: Source, C: Calls<T>>(
+        &self,
+        matcher: &M,
+        buffers: &mut Buffers<A>,
+        reader: &mut R,
+        sink: &mut C::Sink,
+    ) -> Result<SinkFinish, C::Error>
+    where
+        C::Error: SinkError<A>,
+        requires allowed { is_at 0 self.now.config.heap_limit ≡ false }
+        requires fitting { AreFitting self.now.config buffers.old }
+        requires configured { IsConfigured (C.settings self.now.searcher.now) self.now.config }
+        requires may_call { C.may_call sink.old }
+        ensures fitting { AreFitting self.now.config buffers.new }
+        ensures begun { IfOk result
+            (λ finish. HasBegun C.step self.now.config (M.meaning matcher.now)
+            R.remaining R.step reader.old sink.old reader.new) }
+        ensures counted { IfOk result (λ finish.
+            IsLawfulFor self.now.config (M.meaning matcher.now) (M.is_lawful matcher.now)
+            → IsStreamCounted C.step self.now.config (M.meaning matcher.now)
+            R.remaining R.step reader.old sink.old finish.byte_count finish.binary_byte_offset
+            reader.new sink.new) }
+        ensures fault { IfErr result (λ e.
+            IsLawfulFor self.now.config (M.meaning matcher.now) (M.is_lawful matcher.now)
+            → (has_buffers : Bool) → IsStreamSearched R.remaining R.step C.step
+            (errors_by C.Error.is_message C.Error.is_io C.Error.is_config)
+            (facts_by M.meaning M.fails M.is_lawful M.Error.output matcher.now)
+            (record { settings = self.now.config; has_buffers = has_buffers })
+            reader.old sink.old (Err e) reader.new sink.new) }
+        ensures succeeds { NeverFails C.step C.may_call → IsInfallible (M.fails matcher.now)
+            → IsLawfulFor self.now.config (M.meaning matcher.now) (M.is_lawful matcher.now)
+            → IfErr result (λ e. (has_buffers : Bool) → (seen : Option (List ℕ)) × (error : Error)
+            × IsLineUnread R.remaining R.step
+            (record { settings = self.now.config; has_buffers = has_buffers })
+            (M.meaning matcher.now) reader.old seen error reader.new × C.Error.is_io error e) }
+        ensures may_call { C.may_call sink.new }
+    {
+        lines_join();
+        lines_append();
+        if !C::begin(self, sink)? {
+            return Ok(SinkFinish::new(0, None));
+        }
+        if !self.config.reads_lines() {
+            return Ok(SinkFinish::new(0, None));
+        }
+        let Buffers { lines, decoder, .. } = buffers;
+        lines.clear();
+        lines.set_binary_detection(detection(self.config.binary_detection));
+        decoder.start(self.config.label(), self.config.bom_sniffing);
+        let mut noted = Noted::new(sink);
+        match self.read_by_line::<M, R, C>(matcher, lines, decoder, reader, &mut noted) {
+            Ok(count) => Ok(SinkFinish::new(count, noted.binary)),
+            Err(error) => Err(error),
+        }
+    }
+
+    // Searches the decoded bytes of a reader as a buffer shows them. Makes each call but `begin` and `finish`, and
+    // returns the byte count. The caller ensures that the buffer is empty and detects what is set, that the decoder was
+    // started with the searcher's label, that no binary byte is noted, and that `begin` returned true and some line may
+    // have a turn or a binary byte is looked for.
+    fn read_by_line<M: Matcher, R: Source, C: Calls<T>>(
+        &self,
+        matcher: &M,
+        lines: &mut LineBuffer<A>,
+        decoder: &mut Decoder<A>,
+        reader: &mut R,
+        sink: &mut Noted<'_, C::Sink>,
+    ) -> Result<u64, C::Error>
+    where
+        C::Error: SinkError<A>,
+        requires allowed { is_at 0 self.now.config.heap_limit ≡ false }
+        requires busy { reads_lines self.now.config ≡ true }
+        requires fitting { IsFitting self.now.config.heap_limit
+            (byte_of self.now.config.line_terminator) lines.old }
+        requires empty { lines.old
+            ≡ empty_buffer lines.old.size lines.old.limit lines.old.terminator
+            (detection_of self.now.config.binary_detection) }
+        requires started { decoder.old ≡ started decoder.old.capacity self.now.config.encoding
+            self.now.config.bom_sniffing }
+        requires configured { IsConfigured (C.settings self.now.searcher.now) self.now.config }
+        requires may_call { C.may_call sink.old.sink.now }
+        requires binary { sink.old.binary ≡ None }
+        requires has_called { sink.old.has_called ≡ false }
+        ensures fitting { IsFitting self.now.config.heap_limit
+            (byte_of self.now.config.line_terminator) lines.new }
+        ensures counted { IfOk result (λ count.
+            IsLawfulFor self.now.config (M.meaning matcher.now) (M.is_lawful matcher.now)
+            → (first : C.Sink)
+            → C.step first self.now.config begins (Ok true) sink.old.sink.now
+            → IsStreamCounted C.step self.now.config (M.meaning matcher.now) R.remaining R.step
+            reader.old first count sink.new.binary reader.new sink.new.sink.now) }
+        ensures fault { IfErr result (λ e.
+            IsLawfulFor self.now.config (M.meaning matcher.now) (M.is_lawful matcher.now)
+            → (first : C.Sink)
+            → C.step first self.now.config begins (Ok true) sink.old.sink.now
+            → (has_buffers : Bool) → IsStreamSearched R.remaining R.step C.step
+            (errors_by C.Error.is_message C.Error.is_io C.Error.is_config)
+            (facts_by M.meaning M.fails M.is_lawful M.Error.output matcher.now)
+            (record { settings = self.now.config; has_buffers = has_buffers })
+            reader.old first (Err e) reader.new sink.new.sink.now) }
+        ensures succeeds { NeverFails C.step C.may_call → IsInfallible (M.fails matcher.now)
+            → IsLawfulFor self.now.config (M.meaning matcher.now) (M.is_lawful matcher.now)
+            → IfErr result (λ e. (first : C.Sink)
+            → C.step first self.now.config begins (Ok true) sink.old.sink.now
+            → (has_buffers : Bool) → (seen : Option (List ℕ)) × (error : Error)
+            × IsLineUnread R.remaining R.step
+            (record { settings = self.now.config; has_buffers = has_buffers })
+            (M.meaning matcher.now) reader.old seen error reader.new × C.Error.is_io error e) }
+        ensures may_call { C.may_call sink.new.sink.now }
+        ensures same_sink { sink.new.sink.ghost_name ≡ sink.old.sink.ghost_name }
+    {
+        unchanged_is_searched();
+        reads_continue::<R>();
+        fills_continue::<R>();
+        done_gives_nothing();
+        lines_join();
+        lines_append();
+        lines_are_numbered();
+        lines_are_few();
+        let mut walk = START;
+        'fills: loop {
+            if let Err(error) = lines.fill(decoder, reader) {
+                return Err(C::Error::error_io(self.alloc, io_error(error)));
+            }
+            if !self.passes_binary::<C>(lines.binary_byte_offset(), sink)? {
+                return Ok(walk.offset);
+            }
+            if self.config.is_idle() {
+                return Ok(walk.offset);
+            }
+            if !self.search_shown::<M, NotedCalls<'_, C>>(matcher, lines, &mut walk, sink)? {
+                return Ok(walk.offset);
+            }
+        }
+    }
+
+    // Calls `binary_data` if a binary byte was found that isn't noted. Returns whether the search goes on.
+    fn passes_binary<C: Calls<T>>(
+        &self,
+        binary: Option<u64>,
+        sink: &mut Noted<'_, C::Sink>,
+    ) -> Result<bool, C::Error>
+        requires configured { IsConfigured (C.settings self.now.searcher.now) self.now.config }
+        requires may_call { C.may_call sink.old.sink.now }
+        requires noted { HasNoted sink.old }
+        ensures passes { IfOk result (λ goes_on.
+            PassesBinary C.step self.now.config binary sink.old goes_on sink.new) }
+        ensures fails { IfErr result
+            (λ e. FailsAtBinary C.step self.now.config binary sink.old e sink.new) }
+        ensures same_sink { sink.new.sink.ghost_name ≡ sink.old.sink.ghost_name }
+        ensures may_call { C.may_call sink.new.sink.now }
+    {
+        match (binary, sink.binary) {
+            (Some(offset), None) => {
+                let goes_on = self.note::<C>(sink, offset)?;
+                Ok(goes_on && self.quit_byte().is_none())
+            }
+            _ => Ok(true),
+        }
+    }
+
+    // Searches what a buffer shows from where a walk is, and moves past the lines that aren't kept. Returns whether
+    // more lines may come; if not, the walk's offset is the byte count.
+    fn search_shown<M: Matcher, C: Calls<T>>(
+        &self,
+        matcher: &M,
+        lines: &mut LineBuffer<A>,
+        walk: &mut Walk,
+        sink: &mut C::Sink,
+    ) -> Result<bool, C::Error>
+    where
+        C::Error: SinkError<A>,
+        requires low { lines.old.offset ≤ walk.old.offset }
+        requires inside { walk.old.offset ≤ lines.old.offset + length lines.old.shown }
+        requires ordered { IsOrdered walk.old }
+        requires configured { IsConfigured (C.settings self.now.searcher.now) self.now.config }
+        requires may_call { C.may_call sink.old }
+        ensures fitting { (limit : Option ℕ) (t : ℕ) → IsFitting limit t lines.old
+            → IsFitting limit t lines.new }
+        ensures ordered { IfOk result (λ goes_on. IsOrdered walk.new) }
+        ensures at { IfOk result (λ goes_on. goes_on ≡ true
+            → walk.new.offset ≡ lines.new.offset + length lines.new.shown) }
+        ensures below { IfOk result (λ goes_on. goes_on ≡ true → walk.new.offset < 2 ^ 64) }
+        ensures ahead { IfOk result
+            (λ goes_on. goes_on ≡ true → walk.old.offset < walk.new.offset) }
+        ensures goes_on { IfOk result (λ goes_on.
+            IsLawfulFor self.now.config (M.meaning matcher.now) (M.is_lawful matcher.now)
+            → goes_on ≡ true → HasMovedOn C.step self.now.config (M.meaning matcher.now)
+            lines.old walk.old sink.old lines.new walk.new sink.new) }
+        ensures same { IfOk result (λ goes_on. goes_on ≡ false → lines.new ≡ lines.old) }
+        ensures ends { IfOk result (λ goes_on.
+            IsLawfulFor self.now.config (M.meaning matcher.now) (M.is_lawful matcher.now)
+            → goes_on ≡ false → HasEnded C.step self.now.config (M.meaning matcher.now)
+            lines.old walk.old sink.old walk.new sink.new) }
+        ensures fault { IfErr result (λ e.
+            IsLawfulFor self.now.config (M.meaning matcher.now) (M.is_lawful matcher.now)
+            → (gone : List ℕ) (first : C.Sink)
+            → IsReady C.step self.now.config (M.meaning matcher.now) gone lines.old.shown
+            (start_in lines.old walk.old) first walk.old sink.old
+            → (after : List ℕ)
+            → (0 < length after → IsClosed
+            (byte_of self.now.config.line_terminator) lines.old.shown)
+            → IsLineFault C.step
+            (errors_by C.Error.is_message C.Error.is_io C.Error.is_config)
+            (facts_by M.meaning M.fails M.is_lawful M.Error.output matcher.now)
+            self.now.config (gone ++ (lines.old.shown ++ after)) first e sink.new) }
+        ensures kept { OnErr result (lines.new ≡ lines.old) }
+        ensures room { length (held lines.old) ≤ lines.old.size }
+        ensures succeeds { NeverFails C.step C.may_call → IsInfallible (M.fails matcher.now)
+            → IsOk result }
+        ensures same_sink { IsKept C.step self.now.config sink.old sink.new }
+        ensures may_call { C.may_call sink.new }
+    {
+        lines_join();
+        lines_append();
+        let window = lines.buffer();
+        let start = (walk.offset - lines.absolute_byte_offset()) as usize;
+        if start == window.len() {
+            return Ok(false);
+        }
+        if !self.search_window::<M, C>(matcher, window, start, walk, sink)? {
+            return Ok(false);
+        }
+        if !self.config.is_terminated(window) {
+            return Ok(false);
+        }
+        let count = self.config.first_kept(window, walk);
+        lines.consume(count);
+        Ok(true)
+    }
+}
+
+// The error of reading that an error of a line buffer becomes.
+pub(crate) fn io_error(error: FillError) -> io::Error
+    ensures { IsMadeOf error result }
+{
+    match error {
+        FillError::Read(error) => error,
+        FillError::HeapLimit => io::Error::from(io::ErrorKind::Other),
+        FillError::Offset => io::Error::from(io::ErrorKind::InvalidData),
+        FillError::Memory => io::Error::from(io::ErrorKind::OutOfMemory),
+    }
+}
+
+// What a line buffer does with binary bytes, by the setting.
+fn detection(setting: BinaryDetection) -> Detection
+    ensures { result ≡ detection_of setting }
+{
+    match setting {
+        BinaryDetection::None => Detection::None,
+        BinaryDetection::Quit(byte) => Detection::Quit(byte),
+        BinaryDetection::Convert(byte) => Detection::Convert(byte),
+    }
+}

@@ -1,0 +1,127 @@
+//! What a search runs with, and the search of bytes as they are.
+ghost use Rattle.std.specs.Prelude.{◌≡◌, false, IfOk, IfErr, IsOk};
+ghost use Rattle.grep_core.specs.Configured.{IsConfigured};
+ghost use Rattle.grep_core.specs.InputSearches.{IsBytesSearched};
+ghost use Rattle.grep_matcher.specs.Matching.{IsInfallible};
+ghost use Rattle.grep_matcher.specs.Terminators.{byte_of};
+ghost use Rattle.grep_report.specs.BinaryDetections.{quit_byte_of};
+ghost use Rattle.grep_definitions.specs.BinaryBytes.{look_at};
+ghost use Rattle.grep_definitions.specs.Questions.{IsLawfulFor};
+ghost use Rattle.grep_definitions.specs.SearchTurns.{calls_if};
+ghost use Rattle.grep_definitions.specs.Searches.{IsFaultIn, errors_by, facts_by};
+ghost use Rattle.grep_definitions.specs.SinkRuns.{NeverFails, Outcome};
+ghost use Rattle.grep_walk.specs.Walks.{Counted, IsKept};
+
+use crate::calls::Calls;
+use grep_matcher::Matcher;
+use grep_report::{SinkError, SinkFinish};
+use grep_walk::Config;
+use std::alloc::Allocator;
+
+/// What a search runs with: its configuration, the searcher that the calls of a sink get, and the allocator for what
+/// the search makes.
+#[derive(Drop)]
+pub struct Search<'c, A, T> {
+    /// The configuration: the searcher's.
+    pub config: Config,
+    /// The searcher.
+    pub searcher: &'c T,
+    /// The allocator of the searcher.
+    pub alloc: A,
+}
+
+impl<'c, A: Allocator + Copy, T> Search<'c, A, T> {
+    /// Searches a slice as it is, across lines or by line, as `Searcher::search_slice` says of one that isn't decoded.
+    /// An error is the sink's own or made of the matcher's.
+    ///
+    /// The caller ensures that the configuration is the searcher's, that the search isn't refused, and that the sink
+    /// may be called.
+    pub fn search_bytes<M: Matcher, C: Calls<T>>(
+        &self,
+        matcher: &M,
+        bytes: &[u8],
+        sink: &mut C::Sink,
+    ) -> Result<(), C::Error>
+    where
+        C::Error: SinkError<A>,
+        requires configured { IsConfigured (C.settings self.now.searcher.now) self.now.config }
+        requires may_call { C.may_call sink.old }
+        ensures searched { IsLawfulFor self.now.config (M.meaning matcher.now)
+            (M.is_lawful matcher.now)
+            → IsBytesSearched C.step
+            (errors_by C.Error.is_message C.Error.is_io C.Error.is_config)
+            (facts_by M.meaning M.fails M.is_lawful M.Error.output matcher.now)
+            (look_at self.now.config.binary_detection false) self.now.config bytes.now sink.old
+            result sink.new }
+        ensures succeeds { NeverFails C.step C.may_call → IsInfallible (M.fails matcher.now)
+            → IsOk result }
+        ensures may_call { C.may_call sink.new }
+    {
+        let is_across = self.config.is_across(matcher);
+        if let Some(byte) = self.quit_byte() {
+            return self.search_until::<M, C>(matcher, bytes, byte, is_across, sink);
+        }
+        let count = self.match_bytes::<M, C>(matcher, bytes, is_across, sink)?;
+        C::finish(self, sink, &SinkFinish::new(count, None))
+    }
+
+    // Makes each call but `finish`, across lines or by line, and returns the byte count.
+    pub(crate) fn match_bytes<M: Matcher, C: Calls<T>>(
+        &self,
+        matcher: &M,
+        bytes: &[u8],
+        is_across: bool,
+        sink: &mut C::Sink,
+    ) -> Result<u64, C::Error>
+    where
+        C::Error: SinkError<A>,
+        requires configured { IsConfigured (C.settings self.now.searcher.now) self.now.config }
+        requires may_call { C.may_call sink.old }
+        ensures reported { IfOk result (λ count.
+            (is_across ≡ false → IsLawfulFor self.now.config (M.meaning matcher.now)
+            (M.is_lawful matcher.now))
+            → (outcome : Outcome C.Error)
+            × Counted C.step self.now.config sink.old
+            ((calls_if self.now.config (M.meaning matcher.now) is_across).turns bytes.now)
+            ((calls_if self.now.config (M.meaning matcher.now) is_across).byte_count bytes.now)
+            count outcome sink.new) }
+        ensures fault { IfErr result (λ e.
+            (is_across ≡ false → IsLawfulFor self.now.config (M.meaning matcher.now)
+            (M.is_lawful matcher.now))
+            → IsFaultIn C.step
+            (errors_by C.Error.is_message C.Error.is_io C.Error.is_config)
+            (facts_by M.meaning M.fails M.is_lawful M.Error.output matcher.now)
+            (calls_if self.now.config (M.meaning matcher.now) is_across)
+            self.now.config bytes.now sink.old e sink.new) }
+        ensures succeeds { NeverFails C.step C.may_call → IsInfallible (M.fails matcher.now)
+            → IsOk result }
+        ensures kept { IsKept C.step self.now.config sink.old sink.new }
+        ensures may_call { C.may_call sink.new }
+    {
+        if is_across {
+            return self.match_across::<M, C>(matcher, bytes, sink);
+        }
+        self.match_by_line::<M, C>(matcher, bytes, sink)
+    }
+
+    // The byte that ends a line.
+    pub(crate) fn terminator(&self) -> u8
+        ensures { result ≡ byte_of self.now.config.line_terminator }
+    {
+        self.config.line_terminator.as_byte()
+    }
+
+    // The byte that ends the search, if one does.
+    pub(crate) fn quit_byte(&self) -> Option<u8>
+        ensures { result ≡ quit_byte_of self.now.config.binary_detection }
+    {
+        self.config.binary_detection.quit_byte()
+    }
+
+    // How many decoded bytes the search holds at most, if there is a limit.
+    pub(crate) fn heap_limit(&self) -> Option<usize>
+        ensures { result ≡ self.now.config.heap_limit }
+    {
+        self.config.heap_limit
+    }
+}

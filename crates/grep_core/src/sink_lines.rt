@@ -1,0 +1,253 @@
+//! What a walk reports of a line: the lines before a match, the match, a line after one, or any line under `passthru`.
+ghost use Rattle.std.specs.Prelude.{◌≤◌, ◌<◌, ◌+◌, ◌-◌, ◌^◌, ℕ, List, length};
+ghost use Rattle.std.specs.Prelude.{IsOk};
+ghost use Rattle.grep_lines.specs.Positions.{slice};
+ghost use Rattle.grep_definitions.specs.SinkCalls.{context};
+ghost use Rattle.grep_definitions.specs.LineTurns.{number_of, is_gap, break_turns};
+ghost use Rattle.grep_definitions.specs.LineTurns.{before_turns, pending_turns, match_turns};
+ghost use Rattle.grep_definitions.specs.SinkRuns.{AreReported, outcome_of, NeverFails};
+ghost use Rattle.grep_walk.specs.Walks.{line_turns, line_end, IsKept};
+ghost use Rattle.grep_walk.specs.Windows.{IsInWindow, IsLineIn};
+ghost use Rattle.grep_core.specs.Configured.{IsConfigured};
+
+use crate::calls::Calls;
+use crate::search::Search;
+use grep_report::{SinkContext, SinkContextKind, SinkMatch};
+use grep_walk::Walk;
+use std::alloc::Allocator;
+
+impl<'c, A: Allocator + Copy, T> Search<'c, A, T> {
+    // Reports the line that a walk is at, from `start` up to `end` of the window, and if it is chosen the lines before
+    // it that are near. Returns whether the search goes on.
+    pub(crate) fn sink_line<C: Calls<T>>(
+        &self,
+        window: &[u8],
+        start: usize,
+        end: usize,
+        walk: &Walk,
+        chosen: bool,
+        sink: &mut C::Sink,
+    ) -> Result<bool, C::Error>
+        requires ordered { start ≤ end }
+        requires within { end ≤ length window.now }
+        requires after { start ≤ walk.now.offset }
+        requires fits { walk.now.offset + (length window.now - start) < 2 ^ 64 }
+        requires number { walk.now.line + 1 < 2 ^ 64 }
+        requires through { walk.now.reported_through ≤ walk.now.line }
+        requires configured { IsConfigured (C.settings self.now.searcher.now) self.now.config }
+        requires may_call { C.may_call sink.old }
+        ensures reported { (gone input : List ℕ)
+            → IsInWindow self.now.config gone window.now input start walk.now
+            → AreReported C.step self.now.config sink.old
+            (line_turns self.now.config input walk.now (slice window.now start end) chosen)
+            (outcome_of (line_end walk.now (slice window.now start end)) result) sink.new }
+        ensures succeeds { NeverFails C.step C.may_call → IsOk result }
+        ensures kept { IsKept C.step self.now.config sink.old sink.new }
+        ensures may_call { C.may_call sink.new }
+    {
+        if chosen {
+            if !self.sink_before_context::<C>(window, start, walk, sink)? {
+                return Ok(false);
+            }
+            return self.sink_matched::<C>(window, start, end, walk, sink);
+        }
+        let line = &window[start..end];
+        if walk.after_context_left > 0 {
+            let kind = SinkContextKind::After;
+            return self.sink_context::<C>(kind, line, walk.offset, walk.line, sink);
+        }
+        if self.config.passthru {
+            let kind = SinkContextKind::Other;
+            return self.sink_context::<C>(kind, line, walk.offset, walk.line, sink);
+        }
+        Ok(true)
+    }
+
+    // Reports the lines before the chosen one that a walk is at, which begins at `start` of the window: of those after
+    // the last reported one as many as the context has. They are found again by stepping back.
+    fn sink_before_context<C: Calls<T>>(
+        &self,
+        window: &[u8],
+        start: usize,
+        walk: &Walk,
+        sink: &mut C::Sink,
+    ) -> Result<bool, C::Error>
+        requires inside { start ≤ length window.now }
+        requires after { start ≤ walk.now.offset }
+        requires fits { walk.now.offset + (length window.now - start) < 2 ^ 64 }
+        requires number { walk.now.line + 1 < 2 ^ 64 }
+        requires through { walk.now.reported_through ≤ walk.now.line }
+        requires configured { IsConfigured (C.settings self.now.searcher.now) self.now.config }
+        requires may_call { C.may_call sink.old }
+        ensures reported { (gone input : List ℕ)
+            → IsInWindow self.now.config gone window.now input start walk.now
+            → (end : ℕ) → AreReported C.step self.now.config sink.old
+            (pending_turns self.now.config input walk.now.reported_through walk.now.line end
+            walk.now.reported_through (walk.now.line - walk.now.reported_through))
+            (outcome_of end result) sink.new }
+        ensures succeeds { NeverFails C.step C.may_call → IsOk result }
+        ensures kept { IsKept C.step self.now.config sink.old sink.new }
+        ensures may_call { C.may_call sink.new }
+    {
+        let near = self.config.lines_before(walk);
+        if near == 0 {
+            return Ok(true);
+        }
+        let first = self.config.step_back(window, start, near);
+        self.sink_before_lines::<C>(window, first, walk.line - near as u64, start, walk, sink)
+    }
+
+    // Reports the lines from the one with this index on, which begins at `first` of the window, up to the chosen one
+    // that a walk is at, which begins at `start`.
+    fn sink_before_lines<C: Calls<T>>(
+        &self,
+        window: &[u8],
+        first: usize,
+        index: u64,
+        start: usize,
+        walk: &Walk,
+        sink: &mut C::Sink,
+    ) -> Result<bool, C::Error>
+        requires before { first ≤ start }
+        requires inside { start ≤ length window.now }
+        requires after { start ≤ walk.now.offset }
+        requires fits { walk.now.offset + (length window.now - start) < 2 ^ 64 }
+        requires number { walk.now.line + 1 < 2 ^ 64 }
+        requires below { index ≤ walk.now.line }
+        requires near { walk.now.line - index ≤ self.now.config.before_context }
+        requires configured { IsConfigured (C.settings self.now.searcher.now) self.now.config }
+        requires may_call { C.may_call sink.old }
+        ensures reported { (gone input : List ℕ)
+            → IsInWindow self.now.config gone window.now input start walk.now
+            → IsLineIn self.now.config gone window.now first index
+            → (end : ℕ) → AreReported C.step self.now.config sink.old
+            (pending_turns self.now.config input walk.now.reported_through walk.now.line end
+            index (walk.now.line - index))
+            (outcome_of end result) sink.new }
+        ensures succeeds { NeverFails C.step C.may_call → IsOk result }
+        ensures kept { IsKept C.step self.now.config sink.old sink.new }
+        ensures may_call { C.may_call sink.new }
+    {
+        let mut position = first;
+        let mut offset = walk.offset - (start - first) as u64;
+        let mut at = index;
+        while at < walk.line {
+            let Some(next) = self.config.next_line(window, position) else {
+                return Ok(true);
+            };
+            let line = &window[position..next];
+            if !self.sink_before_line::<C>(line, offset, at, walk, sink)? {
+                return Ok(false);
+            }
+            offset += line.len() as u64;
+            position = next;
+            at += 1;
+        }
+        Ok(true)
+    }
+
+    // Reports a line near the chosen one that a walk is at, and the break before it, if there is one.
+    fn sink_before_line<C: Calls<T>>(
+        &self,
+        line: &[u8],
+        offset: u64,
+        index: u64,
+        walk: &Walk,
+        sink: &mut C::Sink,
+    ) -> Result<bool, C::Error>
+        requires fits { offset + length line.now < 2 ^ 64 }
+        requires number { index + 1 < 2 ^ 64 }
+        requires below { index < walk.now.line }
+        requires near { walk.now.line - index ≤ self.now.config.before_context }
+        requires configured { IsConfigured (C.settings self.now.searcher.now) self.now.config }
+        requires may_call { C.may_call sink.old }
+        ensures reported { (end : ℕ) → AreReported C.step self.now.config sink.old
+            (before_turns self.now.config walk.now.reported_through index walk.now.line
+            (number_of self.now.config index) offset end line.now)
+            (outcome_of end result) sink.new }
+        ensures succeeds { NeverFails C.step C.may_call → IsOk result }
+        ensures kept { IsKept C.step self.now.config sink.old sink.new }
+        ensures may_call { C.may_call sink.new }
+    {
+        let is_gap = self.config.is_gap(index, walk);
+        if !self.sink_break::<C>(is_gap, sink)? {
+            return Ok(false);
+        }
+        self.sink_context::<C>(SinkContextKind::Before, line, offset, index, sink)
+    }
+
+    // Reports the chosen line that a walk is at, from `start` up to `end` of the window, and the break before it, if
+    // there is one.
+    fn sink_matched<C: Calls<T>>(
+        &self,
+        window: &[u8],
+        start: usize,
+        end: usize,
+        walk: &Walk,
+        sink: &mut C::Sink,
+    ) -> Result<bool, C::Error>
+        requires ordered { start ≤ end }
+        requires within { end ≤ length window.now }
+        requires fits { walk.now.offset + length (slice window.now start end) < 2 ^ 64 }
+        requires number { walk.now.line + 1 < 2 ^ 64 }
+        requires configured { IsConfigured (C.settings self.now.searcher.now) self.now.config }
+        requires may_call { C.may_call sink.old }
+        ensures reported { (stop : ℕ) → AreReported C.step self.now.config sink.old
+            (match_turns self.now.config walk.now.reported_through walk.now.line walk.now.offset
+            stop
+            (slice window.now start end))
+            (outcome_of stop result) sink.new }
+        ensures succeeds { NeverFails C.step C.may_call → IsOk result }
+        ensures kept { IsKept C.step self.now.config sink.old sink.new }
+        ensures may_call { C.may_call sink.new }
+    {
+        let is_gap = self.config.is_gap_before_match(walk);
+        if !self.sink_break::<C>(is_gap, sink)? {
+            return Ok(false);
+        }
+        let terminator = self.terminator();
+        let number = self.config.number(walk.line);
+        let found = SinkMatch::new(terminator, number, walk.offset, window, start..end);
+        C::matched(self, sink, &found)
+    }
+
+    // Makes a break if lines were left out. Returns whether the search goes on.
+    fn sink_break<C: Calls<T>>(&self, is_gap: bool, sink: &mut C::Sink) -> Result<bool, C::Error>
+        requires configured { IsConfigured (C.settings self.now.searcher.now) self.now.config }
+        requires may_call { C.may_call sink.old }
+        ensures reported { (end : ℕ)
+            → AreReported C.step self.now.config sink.old (break_turns is_gap end)
+            (outcome_of end result) sink.new }
+        ensures succeeds { NeverFails C.step C.may_call → IsOk result }
+        ensures kept { IsKept C.step self.now.config sink.old sink.new }
+        ensures may_call { C.may_call sink.new }
+    {
+        if !is_gap {
+            return Ok(true);
+        }
+        C::context_break(self, sink)
+    }
+
+    // Reports a context line with this index.
+    fn sink_context<C: Calls<T>>(
+        &self,
+        kind: SinkContextKind,
+        line: &[u8],
+        offset: u64,
+        index: u64,
+        sink: &mut C::Sink,
+    ) -> Result<bool, C::Error>
+        requires fits { offset + length line.now < 2 ^ 64 }
+        requires number { index + 1 < 2 ^ 64 }
+        requires configured { IsConfigured (C.settings self.now.searcher.now) self.now.config }
+        requires may_call { C.may_call sink.old }
+        ensures step { C.step sink.old self.now.config
+            (context kind (number_of self.now.config index) offset line.now) result sink.new }
+        ensures succeeds { NeverFails C.step C.may_call → IsOk result }
+        ensures kept { IsKept C.step self.now.config sink.old sink.new }
+        ensures may_call { C.may_call sink.new }
+    {
+        let context = SinkContext::new(kind, self.config.number(index), offset, line);
+        C::context(self, sink, &context)
+    }
+}

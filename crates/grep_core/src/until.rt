@@ -1,0 +1,109 @@
+//! The search of whole contents that ends at a binary byte.
+ghost use Rattle.std.specs.Prelude.{◌≡◌, false, None, IsOk, take};
+ghost use Rattle.grep_matcher.specs.Matching.{IsInfallible};
+ghost use Rattle.grep_definitions.specs.BinaryBytes.{position_of};
+ghost use Rattle.grep_definitions.specs.LineTurns.{one_turn};
+ghost use Rattle.grep_definitions.specs.Questions.{IsLawfulFor};
+ghost use Rattle.grep_definitions.specs.QuitPoints.{IsQuitRun, first_look};
+ghost use Rattle.grep_definitions.specs.SearchTurns.{calls_if};
+ghost use Rattle.grep_definitions.specs.Searches.{errors_by, facts_by};
+ghost use Rattle.grep_definitions.specs.SinkCalls.{begins};
+ghost use Rattle.grep_definitions.specs.SinkRuns.{NeverFails};
+ghost use Rattle.grep_core.specs.InputSearches.{IsSearchedUntil};
+ghost use Rattle.grep_core.specs.Configured.{IsConfigured};
+
+use crate::calls::Calls;
+use crate::quitting::{Quitting, QuittingCalls};
+use crate::search::Search;
+use grep_matcher::Matcher;
+use grep_report::{SinkError, SinkFinish};
+use memchr::memchr;
+use std::alloc::Allocator;
+
+// How many bytes are looked at before the first line.
+const FIRST_LOOK: usize = 65_536;
+
+impl<'c, A: Allocator + Copy, T> Search<'c, A, T> {
+    // Searches whole contents, across lines or by line, up to the first report that holds a byte, or not at all if the
+    // first bytes hold it.
+    pub(crate) fn search_until<M: Matcher, C: Calls<T>>(
+        &self,
+        matcher: &M,
+        bytes: &[u8],
+        byte: u8,
+        is_across: bool,
+        sink: &mut C::Sink,
+    ) -> Result<(), C::Error>
+    where
+        C::Error: SinkError<A>,
+        requires configured { IsConfigured (C.settings self.now.searcher.now) self.now.config }
+        requires may_call { C.may_call sink.old }
+        ensures searched { (is_across ≡ false
+            → IsLawfulFor self.now.config (M.meaning matcher.now) (M.is_lawful matcher.now))
+            → IsSearchedUntil C.step
+            (errors_by C.Error.is_message C.Error.is_io C.Error.is_config)
+            (facts_by M.meaning M.fails M.is_lawful M.Error.output matcher.now)
+            (calls_if self.now.config (M.meaning matcher.now) is_across)
+            byte self.now.config bytes.now sink.old result sink.new }
+        ensures succeeds { NeverFails C.step C.may_call → IsInfallible (M.fails matcher.now)
+            → IsOk result }
+        ensures may_call { C.may_call sink.new }
+    {
+        let first = &bytes[..bytes.len().min(FIRST_LOOK)];
+        match memchr(byte, first) {
+            Some(offset) => self.quit_first::<C>(offset as u64, sink),
+            None => {
+                let mut quitting = Quitting::new(sink, byte);
+                self.search_quitting::<M, C>(matcher, bytes, is_across, &mut quitting)
+            }
+        }
+    }
+
+    // Ends a search at a byte before its first line.
+    fn quit_first<C: Calls<T>>(&self, offset: u64, sink: &mut C::Sink) -> Result<(), C::Error>
+        requires configured { IsConfigured (C.settings self.now.searcher.now) self.now.config }
+        requires may_call { C.may_call sink.old }
+        ensures quits { IsQuitRun C.step self.now.config sink.old
+            (record { before = one_turn begins 0; offset = offset; count = 0 }) result sink.new }
+        ensures succeeds { NeverFails C.step C.may_call → IsOk result }
+        ensures may_call { C.may_call sink.new }
+    {
+        if !C::begin(self, sink)? {
+            return C::finish(self, sink, &SinkFinish::new(0, None));
+        }
+        let _ = C::binary_data(self, sink, offset)?;
+        C::finish(self, sink, &SinkFinish::new(0, Some(offset)))
+    }
+
+    // Searches whole contents whose first bytes don't hold the byte, up to the first report that does. The caller
+    // ensures that the sink has had no call.
+    fn search_quitting<M: Matcher, C: Calls<T>>(
+        &self,
+        matcher: &M,
+        bytes: &[u8],
+        is_across: bool,
+        sink: &mut Quitting<'_, C::Sink>,
+    ) -> Result<(), C::Error>
+    where
+        C::Error: SinkError<A>,
+        requires none { position_of sink.old.byte (take first_look bytes.now) ≡ None }
+        requires has_break { sink.old.has_break ≡ false }
+        requires found { sink.old.found ≡ None }
+        requires configured { IsConfigured (C.settings self.now.searcher.now) self.now.config }
+        requires may_call { C.may_call sink.old.sink.now }
+        ensures searched { (is_across ≡ false
+            → IsLawfulFor self.now.config (M.meaning matcher.now) (M.is_lawful matcher.now))
+            → IsSearchedUntil C.step
+            (errors_by C.Error.is_message C.Error.is_io C.Error.is_config)
+            (facts_by M.meaning M.fails M.is_lawful M.Error.output matcher.now)
+            (calls_if self.now.config (M.meaning matcher.now) is_across)
+            sink.old.byte self.now.config bytes.now sink.old.sink.now result sink.new.sink.now }
+        ensures succeeds { NeverFails C.step C.may_call → IsInfallible (M.fails matcher.now)
+            → IsOk result }
+        ensures same_sink { sink.new.sink.ghost_name ≡ sink.old.sink.ghost_name }
+        ensures may_call { C.may_call sink.new.sink.now }
+    {
+        let count = self.match_bytes::<M, QuittingCalls<'_, C>>(matcher, bytes, is_across, sink)?;
+        QuittingCalls::<'_, C>::finish(self, sink, &SinkFinish::new(count, None))
+    }
+}

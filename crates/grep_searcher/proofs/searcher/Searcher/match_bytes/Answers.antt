@@ -1,7 +1,0 @@
-use Rattle.std.proofs.Common.{refl}
-use Rattle.grep_searcher.proofs.ResultLemmas.{if_ok-each}
-use Rattle.grep_searcher.proofs.searcher.Searcher.match_bytes.Goals as goal
-
-pub returns-clause-reported : goal.returns-clause-reported
-returns-clause-reported g c = rw c.if-is_across.false
-    (if_ok-each _ _ c.match_by_line.result (λ count each by_line. each (by_line refl)) c.match_by_line.ensures.reported)

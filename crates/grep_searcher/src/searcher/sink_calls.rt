@@ -1,0 +1,82 @@
+//! How a search calls a sink of a searcher.
+ghost use Rattle.std.specs.Prelude.{◌≡◌};
+ghost use Rattle.grep_core.specs.Configured.{IsConfigured};
+
+use crate::searcher::Searcher;
+use crate::sink::Sink;
+use grep_core::{Calls, Search};
+use grep_report::{SinkContext, SinkFinish, SinkMatch};
+use std::alloc::Allocator;
+use std::marker::PhantomData;
+
+impl<A: Allocator + Copy> Searcher<A> {
+    // What a search with this searcher runs with.
+    pub(crate) fn search(&self) -> Search<'_, A, Searcher<A>>
+        ensures configured { IsConfigured self.now.settings result.config }
+        ensures searcher { result.searcher.now ≡ self.now }
+    {
+        Search {
+            config: self.config,
+            searcher: self,
+            alloc: self.alloc,
+        }
+    }
+}
+
+// The calls of a sink, each with the searcher.
+pub(crate) struct SinkCalls<S>(PhantomData<S>);
+
+impl<A: Allocator + Copy, S: Sink> Calls<Searcher<A>> for SinkCalls<S> {
+    type Sink = S;
+
+    type Error = S::Error;
+
+    ghost settings = { λ searcher. searcher.settings };
+
+    ghost step = { S.step };
+
+    ghost may_call = { S.may_call };
+
+    fn begin<B>(search: &Search<'_, B, Searcher<A>>, sink: &mut S) -> Result<bool, S::Error> {
+        sink.begin(search.searcher)
+    }
+
+    fn matched<B>(
+        search: &Search<'_, B, Searcher<A>>,
+        sink: &mut S,
+        found: &SinkMatch<'_>,
+    ) -> Result<bool, S::Error> {
+        sink.matched(search.searcher, found)
+    }
+
+    fn context<B>(
+        search: &Search<'_, B, Searcher<A>>,
+        sink: &mut S,
+        line: &SinkContext<'_>,
+    ) -> Result<bool, S::Error> {
+        sink.context(search.searcher, line)
+    }
+
+    fn context_break<B>(
+        search: &Search<'_, B, Searcher<A>>,
+        sink: &mut S,
+    ) -> Result<bool, S::Error> {
+        sink.context_break(search.searcher)
+    }
+
+    fn binary_data<B>(
+        search: &Search<'_, B, Searcher<A>>,
+        sink: &mut S,
+        binary_byte_offset: u64,
+    ) -> Result<bool, S::Error> {
+        sink.binary_data(search.searcher, binary_byte_offset)
+    }
+
+    fn finish<B>(
+        search: &Search<'_, B, Searcher<A>>,
+        sink: &mut S,
+        finish: &SinkFinish,
+    ) -> Result<(), S::Error> {
+        sink.finish(search.searcher, finish)
+    }
+}
