@@ -10,8 +10,6 @@ mod exit;
 mod options;
 mod printer;
 mod search;
-#[cfg(test)]
-mod tests;
 mod writing;
 
 pub use exit::status;

@@ -13,8 +13,6 @@ mod first;
 mod numbered;
 mod path;
 mod report;
-#[cfg(test)]
-mod tests;
 
 pub use collect::matching_lines;
 pub use count::count_matching_lines;

@@ -1,11 +1,12 @@
-//! Each caller, run once on its happy path.
-use crate::{
+//! Each caller of `uses`, run once on its happy path.
+use crate::paths::temporary_path;
+use grep_searcher::{LiteralMatcher, SearchError, Searcher};
+use std::fs;
+use std::path::Path;
+use std::test::Fail;
+use uses::{
     count_in_path, count_matching_lines, first_match, in_context, matching_lines, numbered_lines,
 };
-use grep_searcher::{LiteralMatcher, SearchError, Searcher};
-use std::path::{Path, PathBuf};
-use std::test::Fail;
-use std::{env, fs, io, process};
 
 // Line 2 and line 4 have an `a`.
 const INPUT: &[u8] = b"x\nab\ny\nba";
@@ -83,13 +84,6 @@ fn listed(rt: HostRuntime) -> Result<(), Fail> {
     Ok(())
 }
 
-// A path of this process alone, in the directory for temporary files.
-fn temporary_path(rt: &HostRuntime) -> io::Result<PathBuf> {
-    let alloc = rt.alloc();
-    let name = format!(in alloc; "uses-{}", process::id(rt.process()))?;
-    Ok(env::temp_dir(rt)?.join(alloc, name.as_str())?)
-}
-
 // How many lines of the file at a path have `Doctor Watson`.
 fn count_watsons(rt: &HostRuntime, path: Path<'_>) -> Result<u64, SearchError> {
     let mut searcher = Searcher::new(rt.alloc())?;
@@ -99,7 +93,7 @@ fn count_watsons(rt: &HostRuntime, path: Path<'_>) -> Result<u64, SearchError> {
 
 #[test]
 fn counted_in_path(rt: HostRuntime) -> Result<(), Fail> {
-    let path = temporary_path(&rt)?;
+    let path = temporary_path(&rt, "counted")?;
     fs::write(&rt, path.as_path(), SHERLOCK)?;
     let count = count_watsons(&rt, path.as_path());
     fs::remove_file(&rt, path.as_path())?;

@@ -1,11 +1,12 @@
-//! What arguments, runs and errors come to.
-use crate::{Options, OptionsFault, USAGE, Writing, run, run_path, status};
+//! What the arguments, the runs and the errors of `lgrep` come to.
+use crate::paths::temporary_path;
 use grep_searcher::{SearchError, Source};
+use lgrep_cli::{Options, OptionsFault, USAGE, Writing, run, run_path, status};
 use std::alloc::{AllocError, Global};
 use std::io::Write;
-use std::path::{Path, PathBuf};
+use std::path::Path;
 use std::test::Fail;
-use std::{env, fs, io, process};
+use std::{fs, io};
 
 // The arguments of a line, which one space each keeps apart.
 fn arguments(alloc: Global, line: &str) -> Result<Vec<String>, AllocError> {
@@ -339,13 +340,6 @@ fn writes_nothing_across_lines_if_a_read_fails(rt: HostRuntime) {
     );
     assert!(rt; is_fault(ended, io::ErrorKind::ConnectionReset));
     assert!(rt; writer.into_inner().is_empty());
-}
-
-// A path of this process alone, in the directory for temporary files.
-fn temporary_path(rt: &HostRuntime, name: &str) -> io::Result<PathBuf> {
-    let alloc = rt.alloc();
-    let name = format!(in alloc; "lgrep_cli-{}-{name}", process::id(rt.process()))?;
-    Ok(env::temp_dir(rt)?.join(alloc, name.as_str())?)
 }
 
 // Searches the file at a path by the options of a line, and returns whether a match was reported.
