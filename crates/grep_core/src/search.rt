@@ -34,8 +34,7 @@ impl<'c, A: Allocator + Copy, T> Search<'c, A, T> {
     /// Searches a slice as it is, across lines or by line, as `Searcher::search_slice` says of one that isn't decoded.
     /// An error is the sink's own or made of the matcher's.
     ///
-    /// The caller ensures that the configuration is the searcher's, that the search isn't refused, and that the sink
-    /// may be called.
+    /// The caller ensures that the configuration is the searcher's, and that the sink may be called.
     pub fn search_bytes<M: Matcher, C: Calls<T>>(
         &self,
         matcher: &M,

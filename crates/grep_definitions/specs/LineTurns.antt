@@ -1,5 +1,5 @@
--- The calls of one line as a walk from line to line makes them, by what it knows at that line. The contracts of
--- private functions cite these definitions; public ones only `one_turn` and `number_of`.
+-- The calls of one line as a walk from line to line makes them, by what it knows at that line. Of these definitions the
+-- contracts of grep_searcher cite only `one_turn` and `number_of`.
 use Rattle.std.specs.Prelude.{ℕ, ◌+◌, ◌-◌, Bool, ◌&&◌, ◌==◌, if◌then◌else◌, nat_lt, nat_le}
 use Rattle.std.specs.Prelude.{List, [], ◌∷◌, take, slice_index_or, count_by, Option, Some, None, is_some}
 use Rattle.grep_matcher.specs.Terminators.{byte_of}

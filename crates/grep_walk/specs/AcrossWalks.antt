@@ -1,5 +1,5 @@
 -- The walk of a search across lines: what it knows of the lines before it and of the unit that it comes to, and how
--- lines move it on. The contracts of private functions cite these definitions; no public contract does.
+-- lines move it on. No contract of grep_searcher cites these definitions.
 use Rattle.std.specs.Prelude.{◌≡◌, ℕ, ◌+◌, ◌-◌, ◌<◌, ◌≤◌, Bool, true, false, not, ◌&&◌, nat_lt}
 use Rattle.std.specs.Prelude.{if◌then◌else◌, List, ◌∷◌, length}
 use Rattle.grep_matcher.specs.Lines.{lines}

@@ -1,5 +1,5 @@
--- What a walk knows of the lines from its line on, and which of them it may skip. The contracts of private functions
--- cite these definitions; no public contract does.
+-- What a walk knows of the lines from its line on, and which of them it may skip. No contract of grep_searcher cites
+-- these definitions.
 use Rattle.std.specs.Prelude.{◌≡◌, ℕ, ◌<◌, ◌≤◌, Bool, true, false, not, ◌&&◌, ◌==◌, if◌then◌else◌, nat_lt}
 use Rattle.std.specs.Prelude.{List, length, Option, Some, None}
 use Rattle.grep_lines.specs.Positions.{slice, IsLine, IsLineStart}

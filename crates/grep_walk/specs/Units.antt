@@ -1,5 +1,5 @@
--- The units of lines that the matches of a search across lines touch, one after another. The contracts of private
--- functions cite these definitions; no public contract does.
+-- The units of lines that the matches of a search across lines touch, one after another. No contract of grep_searcher
+-- cites these definitions.
 use Rattle.std.specs.Prelude.{◌≡◌, ℕ, ◌+◌, ◌-◌, ◌<◌, ◌≤◌, Bool, true, false, ◌&&◌, nat_lt, nat_le}
 use Rattle.std.specs.Prelude.{List, [], ◌∷◌, ◌++◌, length, drop, Option, Some, None, IfSome, IfNone}
 use Rattle.std.specs.List.{list_any}

@@ -1,5 +1,5 @@
 -- The walk over the lines of some bytes: what it reports of the line that it is at, how that line moves it on, and what
--- it comes to. The contracts of private functions cite these definitions; no public contract does.
+-- it comes to. No contract of grep_searcher cites these definitions.
 use Rattle.std.specs.Prelude.{◌≡◌, ℕ, ◌+◌, ◌-◌, ◌≤◌, Bool, not, ◌&&◌, ◌||◌, ◌==◌, if◌then◌else◌, nat_lt, List, []}
 use Rattle.std.specs.Prelude.{◌++◌, length, All}
 use Rattle.grep_matcher.specs.Terminators.{byte_of}

@@ -1,5 +1,4 @@
--- A walk over the lines of an input of which a window is shown. The contracts of private functions cite these
--- definitions; no public contract does.
+-- A walk over the lines of an input of which a window is shown. No contract of grep_searcher cites these definitions.
 use Rattle.std.specs.Prelude.{◌≡◌, ℕ, ◌+◌, ◌-◌, ◌≤◌, min, List, ◌++◌, length}
 use Rattle.grep_matcher.specs.Terminators.{byte_of}
 use Rattle.grep_matcher.specs.Lines.{lines}
