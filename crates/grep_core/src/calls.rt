@@ -11,10 +11,10 @@ ghost use Rattle.grep_definitions.specs.SinkRuns.{finish_result};
 use crate::search::Search;
 use grep_report::{SinkContext, SinkFinish, SinkMatch};
 
-/// The calls of the sinks of one type, made with a searcher of type `T`, which each call gets. No value of such a type
-/// is needed: it says how a search calls a sink.
+/// How a search calls the sinks of one type, with a searcher of type `T`. What implements it is a name alone: no value
+/// of it is needed.
 ///
-/// Each call returns whether the search goes on; an error is the sink's own.
+/// Each call but `finish` returns whether the search goes on; an error is the sink's own.
 pub trait Calls<T> {
     /// The sinks.
     type Sink;
@@ -75,7 +75,7 @@ pub trait Calls<T> {
         ensures step { step sink.old search.now.config breaks result sink.new }
         ensures may_call { may_call sink.new };
 
-    /// The input is binary: `binary_byte_offset` is the offset, in bytes, of its first binary byte.
+    /// The input is binary: `binary_byte_offset` is the offset, in bytes, of the first binary byte that was found.
     fn binary_data<A>(
         search: &Search<'_, A, T>,
         sink: &mut Self::Sink,

@@ -51,7 +51,8 @@ impl SinkFinish {
         self.byte_count
     }
 
-    /// The offset of the first binary byte in the whole input, in bytes, if the search found one.
+    /// The offset in the whole input, in bytes, of the first binary byte that the search found, if
+    /// it found one.
     #[inline]
     pub fn binary_byte_offset(&self) -> Option<u64>
         ensures { result ≡ self.now.binary_byte_offset }
