@@ -40,8 +40,8 @@ impl<'c, A: Allocator + Copy, T> Search<'c, A, T> {
     /// Searches the decoded bytes of a reader with these buffers, across lines or by line, as `Searcher::search_reader`
     /// says, and returns its errors. Whatever comes, the buffers fit another search with this configuration.
     ///
-    /// The caller ensures that the configuration is the searcher's, that its heap limit isn't 0, that the buffers fit the
-    /// configuration, as new ones do, and that the sink may be called.
+    /// The caller ensures that the configuration is the searcher's, that its heap limit isn't 0, that the buffers fit
+    /// the configuration, as new ones do, and that the sink may be called.
     pub fn search_reader<M: Matcher, R: Source, C: Calls<T>>(
         &self,
         matcher: &M,

@@ -80,8 +80,8 @@ module _ {R : Type 0} (remaining : R → Option (List ℕ))
         → (TakesAtMost (remaining reader) (remaining reader') 2 → ⊥)
         → HasOpenLine state.settings (view (concat taken.pieces)) seen)
         → IsUnreadIn across view state meaning reader (Some seen) error reader'
-    -- across lines all is read before `begin`: there was no room for it, or the reader's last call failed, before as many
-    -- bytes came as the heap limit, if they are searched unchanged and more than two were taken
+    -- across lines all is read before `begin`: there was no room for it, or the reader's last call failed, before as
+    -- many bytes came as the heap limit, if they are searched unchanged and more than two were taken
     of_contents : {error : Error} {reader' : R} → across ≡ true → (taken : Taken reader reader')
         → ((bytes : List ℕ) → IsInput state.settings taken.ended taken.pieces bytes
         → CutsContents state.settings bytes error)

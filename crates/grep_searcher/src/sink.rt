@@ -75,9 +75,9 @@ pub trait Sink {
         ensures step { step self.old searcher.now.settings breaks result self.new }
         ensures may_call { may_call self.new };
 
-    /// The input is binary: `binary_byte_offset` is the offset, in bytes, of the first binary byte that the search found,
-    /// counted from 0 at the start of the decoded input. Under `BinaryDetection::Quit` a slice may hold one before it, in
-    /// a line that isn't reported. Returns whether the search goes on; an error is the sink's own.
+    /// The input is binary: `binary_byte_offset` is the offset, in bytes, of the first binary byte that the search
+    /// found, counted from 0 at the start of the decoded input. Under `BinaryDetection::Quit` a slice may hold one
+    /// before it, in a line that isn't reported. Returns whether the search goes on; an error is the sink's own.
     ///
     /// A search calls it once at most, before `finish`. If the binary byte ends the search (`BinaryDetection::Quit`),
     /// it does so whatever this returns.
