@@ -5,6 +5,7 @@ pub mod HeldLemmas
 pub mod LookLemmas
 pub mod ModeLemmas
 pub mod NotedLemmas
+pub mod OrderLemmas
 pub mod QuittingLemmas
 pub mod ReadingLemmas
 pub mod ResultLemmas

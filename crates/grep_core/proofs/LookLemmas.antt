@@ -1,8 +1,8 @@
 -- Where a search of whole contents looks for binary bytes.
-use Rattle.std.proofs.Common.{◌≡◌, ℕ, Bool, false, List, Some, Result, Ok, Err, refl, ap, sym, subst}
+use Rattle.std.proofs.Common.{◌≡◌, ℕ, Bool, true, false, List, Some, Result, Ok, Err, refl, ap, sym, subst}
 use Rattle.std.proofs.lemmas.Option.{none-some, same_Some}
 use Rattle.grep_core.specs.InputSearches.{IsBytesSearched, IsSearchedUntil}
-use Rattle.grep_definitions.specs.BinaryBytes.{in_contents, look_at, nowhere}
+use Rattle.grep_definitions.specs.BinaryBytes.{in_contents, is_detecting, look_at, nowhere}
 use Rattle.grep_definitions.specs.Modes.{is_across}
 use Rattle.grep_definitions.specs.SearchTurns.{calls_if}
 use Rattle.grep_definitions.specs.Searches.{ErrorMakers, MatcherFacts}
@@ -23,6 +23,12 @@ pub look-quit : (d : BinaryDetection) (b : ℕ) → quit_byte_of d ≡ Some b �
 look-quit no_detection b is = absurd (none-some b is)
 look-quit (Quit c) b is = ap (λ n. in_contents n) (same_Some c b is)
 look-quit (Convert c) b is = absurd (none-some b is)
+
+-- then a byte is looked for
+pub look-detects : (d : BinaryDetection) (b : ℕ) → quit_byte_of d ≡ Some b → is_detecting d ≡ true
+look-detects no_detection b is = absurd (none-some b is)
+look-detects (Quit c) b is = refl
+look-detects (Convert c) b is = absurd (none-some b is)
 
 -- a search of whole contents up to a byte is what is defined of one that looks for it, in the mode that it runs in
 module _ {S E F : Type 0} (step : Steps S E) (errors : ErrorMakers E) (matcher : MatcherFacts F) (k : Settings) (bytes : List ℕ)

@@ -9,7 +9,6 @@ use Rattle.grep_definitions.specs.SinkCalls.{begins, matches, context, breaks}
 use Rattle.grep_definitions.specs.SinkRuns.{Steps}
 use Rattle.grep_core.specs.declared.noted.Noted.{Noted}
 use Rattle.grep_core.specs.NotedCalls.{HasNoted, Notes, called_with, noted_of}
-use Rattle.grep_walk.specs.Walks.{IsKept}
 
 -- the offset with which `binary_data` was called is the one that is known, once it was
 pub called-known : {S : Type 0} (n : Noted S) → HasNoted n → called_with n ≡ n.binary
@@ -59,22 +58,3 @@ module _ {S E : Type 0} (step : Steps S E) (k : Settings) where
   notes-begun first now none uncalled begun =
       notes-passed (record { sink = record now.sink { now = first }; binary = now.binary; has_called = false }) now begins (Ok true)
       refl refl refl uncalled begun
-
--- a number for an offset that may be known
-abbrev pub code : Option ℕ → ℕ
-code None = 0
-code (Some offset) = offset + 1
-
-code-same : (a b : Option ℕ) → code a ≡ code b → a ≡ b
-code-same None None same = refl
-code-same None (Some n) same = absurd (omega (arith, same))
-code-same (Some m) None same = absurd (omega (arith, same))
-code-same (Some m) (Some n) same = let is : m ≡ n = omega (arith, same) in ap Some is
-
--- what each call keeps: the sink, and the offset that is known
-module _ {S E : Type 0} (step : Steps S E) (k : Settings) (old new : Noted S) (kept : IsKept (Notes step) k old new) where
-  pub name-kept : new.sink.ghost_name ≡ old.sink.ghost_name
-  name-kept = kept (λ n. n.sink.ghost_name) (λ s call result t passes. passes.0)
-
-  pub binary-kept : new.binary ≡ old.binary
-  binary-kept = code-same new.binary old.binary (kept (λ n. code n.binary) (λ s call result t passes. ap code passes.1))

@@ -2,11 +2,12 @@
 ghost use Rattle.std.specs.Prelude.{◌≡◌, ◌≤◌, ◌<◌, ◌+◌, ◌-◌, ◌^◌, ℕ, true, false, length};
 ghost use Rattle.std.specs.Prelude.{List, IfOk, IfErr, IsOk};
 ghost use Rattle.grep_matcher.specs.Matching.{IsInfallible};
+ghost use Rattle.grep_definitions.specs.CallOrder.{BeginsInOrder, GoesOnInOrder};
 ghost use Rattle.grep_definitions.specs.LineSearch.{turns, byte_count};
 ghost use Rattle.grep_definitions.specs.Questions.{IsLawfulFor};
 ghost use Rattle.grep_definitions.specs.Searches.{IsLineFault, errors_by, facts_by};
 ghost use Rattle.grep_definitions.specs.SinkRuns.{Outcome, NeverFails};
-ghost use Rattle.grep_walk.specs.Walks.{Counted, IsOrdered, IsKept};
+ghost use Rattle.grep_walk.specs.Walks.{Counted, IsOrdered};
 ghost use Rattle.grep_walk.specs.Windows.{HasSearched, HasPassed};
 ghost use Rattle.grep_core.specs.Configured.{IsConfigured};
 
@@ -45,7 +46,10 @@ impl<'c, A: Allocator + Copy, T> Search<'c, A, T> {
             self.now.config bytes.now sink.old e sink.new) }
         ensures succeeds { NeverFails C.step C.may_call → IsInfallible (M.fails matcher.now)
             → IsOk result }
-        ensures kept { IsKept C.step self.now.config sink.old sink.new }
+        ensures in_order { BeginsInOrder C.step self.now.config
+            (errors_by C.Error.is_message C.Error.is_io C.Error.is_config)
+            (facts_by M.meaning M.fails M.is_lawful M.Error.output matcher.now)
+            sink.old result sink.new }
         ensures may_call { C.may_call sink.new }
     {
         if !C::begin(self, sink)? {
@@ -112,7 +116,10 @@ impl<'c, A: Allocator + Copy, T> Search<'c, A, T> {
             self.now.config input first e sink.new) }
         ensures succeeds { NeverFails C.step C.may_call → IsInfallible (M.fails matcher.now)
             → IsOk result }
-        ensures kept { IsKept C.step self.now.config sink.old sink.new }
+        ensures in_order { GoesOnInOrder C.step self.now.config
+            (errors_by C.Error.is_message C.Error.is_io C.Error.is_config)
+            (facts_by M.meaning M.fails M.is_lawful M.Error.output matcher.now)
+            sink.old result walk.new.offset sink.new }
         ensures may_call { C.may_call sink.new }
     {
         lines_join();

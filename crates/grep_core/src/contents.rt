@@ -4,6 +4,7 @@ ghost use Rattle.std.specs.declared.io.Error.{Error};
 ghost use Rattle.grep_matcher.specs.Matching.{IsInfallible};
 ghost use Rattle.grep_decode.specs.DecoderStates.{started};
 ghost use Rattle.grep_definitions.specs.BinaryBytes.{look_at, view_of};
+ghost use Rattle.grep_definitions.specs.CallOrder.{IsReadingError, RunsInOrder};
 ghost use Rattle.grep_definitions.specs.ReaderSearches.{IsUnreadIn};
 ghost use Rattle.grep_definitions.specs.Searches.{errors_by, facts_by};
 ghost use Rattle.grep_definitions.specs.SinkRuns.{NeverFails};
@@ -45,6 +46,10 @@ impl<'c, A: Allocator + Copy, T> Search<'c, A, T> {
             (look_at self.now.config.binary_detection false)
             (record { settings = self.now.config; has_buffers = has_buffers })
             reader.old sink.old result reader.new sink.new }
+        ensures in_order { RunsInOrder C.step self.now.config
+            (errors_by C.Error.is_message C.Error.is_io C.Error.is_config)
+            (facts_by M.meaning M.fails M.is_lawful M.Error.output matcher.now)
+            (IsReadingError R.remaining R.step reader.old reader.new) sink.old result sink.new }
         ensures succeeds { NeverFails C.step C.may_call → IsInfallible (M.fails matcher.now)
             → IfErr result (λ e. (has_buffers : Bool) → (seen : Option (List ℕ)) × (error : Error)
             × IsUnreadIn R.remaining R.step true (view_of self.now.config)

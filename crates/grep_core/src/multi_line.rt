@@ -2,11 +2,12 @@
 ghost use Rattle.std.specs.Prelude.{◌<◌, ◌+◌, ◌-◌, ◌&&◌, ◌==◌, true};
 ghost use Rattle.std.specs.Prelude.{Ok, IfOk, IfErr, IsOk};
 ghost use Rattle.grep_matcher.specs.Matching.{IsInfallible};
+ghost use Rattle.grep_definitions.specs.CallOrder.{BeginsInOrder, EndsInOrder};
 ghost use Rattle.grep_definitions.specs.Searches.{IsFaultIn, errors_by, facts_by};
 ghost use Rattle.grep_definitions.specs.SearchTurns.{calls_across};
 ghost use Rattle.grep_definitions.specs.SinkCalls.{begins};
 ghost use Rattle.grep_definitions.specs.SinkRuns.{Outcome, NeverFails};
-ghost use Rattle.grep_walk.specs.Walks.{Counted, IsKept};
+ghost use Rattle.grep_walk.specs.Walks.{Counted};
 ghost use Rattle.grep_core.specs.Configured.{IsConfigured};
 
 use crate::calls::Calls;
@@ -40,7 +41,10 @@ impl<'c, A: Allocator + Copy, T> Search<'c, A, T> {
             self.now.config bytes.now sink.old e sink.new) }
         ensures succeeds { NeverFails C.step C.may_call → IsInfallible (M.fails matcher.now)
             → IsOk result }
-        ensures kept { IsKept C.step self.now.config sink.old sink.new }
+        ensures in_order { BeginsInOrder C.step self.now.config
+            (errors_by C.Error.is_message C.Error.is_io C.Error.is_config)
+            (facts_by M.meaning M.fails M.is_lawful M.Error.output matcher.now)
+            sink.old result sink.new }
         ensures may_call { C.may_call sink.new }
     {
         if !C::begin(self, sink)? {
@@ -75,7 +79,10 @@ impl<'c, A: Allocator + Copy, T> Search<'c, A, T> {
             self.now.config bytes.now first e sink.new) }
         ensures succeeds { NeverFails C.step C.may_call → IsInfallible (M.fails matcher.now)
             → IsOk result }
-        ensures kept { IsKept C.step self.now.config sink.old sink.new }
+        ensures in_order { EndsInOrder C.step self.now.config
+            (errors_by C.Error.is_message C.Error.is_io C.Error.is_config)
+            (facts_by M.meaning M.fails M.is_lawful M.Error.output matcher.now)
+            sink.old result sink.new }
         ensures may_call { C.may_call sink.new }
     {
         let mut blocks = self

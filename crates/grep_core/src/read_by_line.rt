@@ -1,12 +1,15 @@
 //! The search of a reader, fill by fill of a line buffer. It follows grep-searcher's module `searcher::glue`.
 ghost use Rattle.std.specs.Prelude.{◌^◌, ◌≡◌, ◌≤◌, ◌<◌, ◌+◌, ◌++◌, ℕ, Bool, List, Option, Ok, true, false, length};
-ghost use Rattle.std.specs.Prelude.{IfOk, IfErr, IsOk, OnErr, Err, None};
+ghost use Rattle.std.specs.Prelude.{IfOk, IfErr, IsOk, OnErr, OnOk, Err, None};
 ghost use Rattle.std.specs.declared.io.Error.{Error};
 ghost use Rattle.grep_matcher.specs.Terminators.{byte_of};
 ghost use Rattle.grep_matcher.specs.Matching.{IsInfallible};
 ghost use Rattle.grep_decode.specs.DecoderStates.{started};
 ghost use Rattle.grep_line_buffer.specs.BufferStates.{empty_buffer, held};
 ghost use Rattle.grep_definitions.specs.Below.{is_at};
+ghost use Rattle.grep_definitions.specs.BinaryBytes.{is_detecting};
+ghost use Rattle.grep_definitions.specs.CallOrder.{GoesOnInOrder, HasBegunTo, IsOrderedFault};
+ghost use Rattle.grep_definitions.specs.CallOrder.{IsReadingError, ReadsInOrder, RunsInOrder};
 ghost use Rattle.grep_definitions.specs.InputFronts.{IsClosed};
 ghost use Rattle.grep_definitions.specs.ReaderSearches.{IsLineUnread, IsSourceSearched};
 ghost use Rattle.grep_definitions.specs.ReaderSearches.{IsStreamSearched, IsUnread, reads_lines};
@@ -17,7 +20,7 @@ ghost use Rattle.grep_definitions.specs.SinkRuns.{NeverFails};
 ghost use Rattle.grep_core.specs.NotedCalls.{FailsAtBinary, HasNoted, PassesBinary};
 ghost use Rattle.grep_core.specs.Rolls.{IsReady, HasBegun, HasMovedOn, HasEnded, IsStreamCounted, start_in};
 ghost use Rattle.grep_core.specs.SearchBuffers.{AreFitting, IsFitting, IsMadeOf, detection_of};
-ghost use Rattle.grep_walk.specs.Walks.{IsKept, IsOrdered};
+ghost use Rattle.grep_walk.specs.Walks.{IsOrdered};
 ghost use Rattle.grep_core.specs.Configured.{IsConfigured};
 
 use crate::buffers::Buffers;
@@ -63,6 +66,10 @@ impl<'c, A: Allocator + Copy, T> Search<'c, A, T> {
             (facts_by M.meaning M.fails M.is_lawful M.Error.output matcher.now)
             (record { settings = self.now.config; has_buffers = has_buffers })
             reader.old sink.old result reader.new sink.new }
+        ensures in_order { RunsInOrder C.step self.now.config
+            (errors_by C.Error.is_message C.Error.is_io C.Error.is_config)
+            (facts_by M.meaning M.fails M.is_lawful M.Error.output matcher.now)
+            (IsReadingError R.remaining R.step reader.old reader.new) sink.old result sink.new }
         ensures succeeds { NeverFails C.step C.may_call → IsInfallible (M.fails matcher.now)
             → IsLawfulFor self.now.config (M.meaning matcher.now) (M.is_lawful matcher.now)
             → IfErr result (λ e. (has_buffers : Bool) → (seen : Option (List ℕ)) × (error : Error)
@@ -105,6 +112,10 @@ impl<'c, A: Allocator + Copy, T> Search<'c, A, T> {
             (facts_by M.meaning M.fails M.is_lawful M.Error.output matcher.now)
             (record { settings = self.now.config; has_buffers = has_buffers })
             reader.old sink.old result reader.new sink.new }
+        ensures in_order { RunsInOrder C.step self.now.config
+            (errors_by C.Error.is_message C.Error.is_io C.Error.is_config)
+            (facts_by M.meaning M.fails M.is_lawful M.Error.output matcher.now)
+            (IsReadingError R.remaining R.step reader.old reader.new) sink.old result sink.new }
         ensures succeeds { NeverFails C.step C.may_call → IsInfallible (M.fails matcher.now)
             → IsLawfulFor self.now.config (M.meaning matcher.now) (M.is_lawful matcher.now)
             → IfErr result (λ e. (has_buffers : Bool) → (seen : Option (List ℕ)) × (error : Error)
@@ -147,6 +158,15 @@ impl<'c, A: Allocator + Copy, T> Search<'c, A, T> {
             (facts_by M.meaning M.fails M.is_lawful M.Error.output matcher.now)
             (record { settings = self.now.config; has_buffers = has_buffers })
             reader.old sink.old (Err e) reader.new sink.new) }
+        ensures in_order { IfOk result (λ finish.
+            HasBegunTo C.step self.now.config sink.old finish.byte_count sink.new) }
+        ensures noted { IfOk result (λ finish.
+            is_detecting self.now.config.binary_detection ≡ false
+            → finish.binary_byte_offset ≡ None) }
+        ensures broken { IfErr result (λ e. IsOrderedFault C.step self.now.config
+            (errors_by C.Error.is_message C.Error.is_io C.Error.is_config)
+            (facts_by M.meaning M.fails M.is_lawful M.Error.output matcher.now)
+            (IsReadingError R.remaining R.step reader.old reader.new) sink.old e sink.new) }
         ensures succeeds { NeverFails C.step C.may_call → IsInfallible (M.fails matcher.now)
             → IsLawfulFor self.now.config (M.meaning matcher.now) (M.is_lawful matcher.now)
             → IfErr result (λ e. (has_buffers : Bool) → (seen : Option (List ℕ)) × (error : Error)
@@ -218,6 +238,12 @@ impl<'c, A: Allocator + Copy, T> Search<'c, A, T> {
             (facts_by M.meaning M.fails M.is_lawful M.Error.output matcher.now)
             (record { settings = self.now.config; has_buffers = has_buffers })
             reader.old first (Err e) reader.new sink.new.sink.now) }
+        ensures in_order { ReadsInOrder C.step self.now.config
+            (errors_by C.Error.is_message C.Error.is_io C.Error.is_config)
+            (facts_by M.meaning M.fails M.is_lawful M.Error.output matcher.now)
+            (IsReadingError R.remaining R.step reader.old reader.new) sink.old.sink.now result sink.new.sink.now }
+        ensures noted { OnOk result (is_detecting self.now.config.binary_detection ≡ false
+            → sink.new.binary ≡ None) }
         ensures succeeds { NeverFails C.step C.may_call → IsInfallible (M.fails matcher.now)
             → IsLawfulFor self.now.config (M.meaning matcher.now) (M.is_lawful matcher.now)
             → IfErr result (λ e. (first : C.Sink)
@@ -328,7 +354,12 @@ impl<'c, A: Allocator + Copy, T> Search<'c, A, T> {
         ensures room { length (held lines.old) ≤ lines.old.size }
         ensures succeeds { NeverFails C.step C.may_call → IsInfallible (M.fails matcher.now)
             → IsOk result }
-        ensures same_sink { IsKept C.step self.now.config sink.old sink.new }
+        ensures binary { OnOk result (lines.new.binary ≡ lines.old.binary) }
+        ensures detection { OnOk result (lines.new.detection ≡ lines.old.detection) }
+        ensures in_order { GoesOnInOrder C.step self.now.config
+            (errors_by C.Error.is_message C.Error.is_io C.Error.is_config)
+            (facts_by M.meaning M.fails M.is_lawful M.Error.output matcher.now)
+            sink.old result walk.new.offset sink.new }
         ensures may_call { C.may_call sink.new }
     {
         lines_join();

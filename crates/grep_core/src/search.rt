@@ -6,11 +6,12 @@ ghost use Rattle.grep_matcher.specs.Matching.{IsInfallible};
 ghost use Rattle.grep_matcher.specs.Terminators.{byte_of};
 ghost use Rattle.grep_report.specs.BinaryDetections.{quit_byte_of};
 ghost use Rattle.grep_definitions.specs.BinaryBytes.{look_at};
+ghost use Rattle.grep_definitions.specs.CallOrder.{BeginsInOrder, RunsInOrder};
 ghost use Rattle.grep_definitions.specs.Questions.{IsLawfulFor};
 ghost use Rattle.grep_definitions.specs.SearchTurns.{calls_if};
 ghost use Rattle.grep_definitions.specs.Searches.{IsFaultIn, errors_by, facts_by};
 ghost use Rattle.grep_definitions.specs.SinkRuns.{NeverFails, Outcome};
-ghost use Rattle.grep_walk.specs.Walks.{Counted, IsKept};
+ghost use Rattle.grep_walk.specs.Walks.{Counted};
 
 use crate::calls::Calls;
 use grep_matcher::Matcher;
@@ -52,6 +53,10 @@ impl<'c, A: Allocator + Copy, T> Search<'c, A, T> {
             (facts_by M.meaning M.fails M.is_lawful M.Error.output matcher.now)
             (look_at self.now.config.binary_detection false) self.now.config bytes.now sink.old
             result sink.new }
+        ensures in_order { RunsInOrder C.step self.now.config
+            (errors_by C.Error.is_message C.Error.is_io C.Error.is_config)
+            (facts_by M.meaning M.fails M.is_lawful M.Error.output matcher.now)
+            (λ _. ⊥) sink.old result sink.new }
         ensures succeeds { NeverFails C.step C.may_call → IsInfallible (M.fails matcher.now)
             → IsOk result }
         ensures may_call { C.may_call sink.new }
@@ -94,7 +99,10 @@ impl<'c, A: Allocator + Copy, T> Search<'c, A, T> {
             self.now.config bytes.now sink.old e sink.new) }
         ensures succeeds { NeverFails C.step C.may_call → IsInfallible (M.fails matcher.now)
             → IsOk result }
-        ensures kept { IsKept C.step self.now.config sink.old sink.new }
+        ensures in_order { BeginsInOrder C.step self.now.config
+            (errors_by C.Error.is_message C.Error.is_io C.Error.is_config)
+            (facts_by M.meaning M.fails M.is_lawful M.Error.output matcher.now)
+            sink.old result sink.new }
         ensures may_call { C.may_call sink.new }
     {
         if is_across {

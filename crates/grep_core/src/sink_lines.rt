@@ -2,11 +2,12 @@
 ghost use Rattle.std.specs.Prelude.{◌≤◌, ◌<◌, ◌+◌, ◌-◌, ◌^◌, ℕ, List, length};
 ghost use Rattle.std.specs.Prelude.{IsOk};
 ghost use Rattle.grep_lines.specs.Positions.{slice};
+ghost use Rattle.grep_definitions.specs.CallOrder.{HasCalled};
 ghost use Rattle.grep_definitions.specs.SinkCalls.{context};
 ghost use Rattle.grep_definitions.specs.LineTurns.{number_of, is_gap, break_turns};
 ghost use Rattle.grep_definitions.specs.LineTurns.{before_turns, pending_turns, match_turns};
 ghost use Rattle.grep_definitions.specs.SinkRuns.{AreReported, outcome_of, NeverFails};
-ghost use Rattle.grep_walk.specs.Walks.{line_turns, line_end, IsKept};
+ghost use Rattle.grep_walk.specs.Walks.{line_turns, line_end};
 ghost use Rattle.grep_walk.specs.Windows.{IsInWindow, IsLineIn};
 ghost use Rattle.grep_core.specs.Configured.{IsConfigured};
 
@@ -42,7 +43,8 @@ impl<'c, A: Allocator + Copy, T> Search<'c, A, T> {
             (line_turns self.now.config input walk.now (slice window.now start end) chosen)
             (outcome_of (line_end walk.now (slice window.now start end)) result) sink.new }
         ensures succeeds { NeverFails C.step C.may_call → IsOk result }
-        ensures kept { IsKept C.step self.now.config sink.old sink.new }
+        ensures called { (stop : ℕ) → HasCalled C.step self.now.config sink.old
+            (outcome_of stop result) sink.new }
         ensures may_call { C.may_call sink.new }
     {
         if chosen {
@@ -86,7 +88,8 @@ impl<'c, A: Allocator + Copy, T> Search<'c, A, T> {
             walk.now.reported_through (walk.now.line - walk.now.reported_through))
             (outcome_of end result) sink.new }
         ensures succeeds { NeverFails C.step C.may_call → IsOk result }
-        ensures kept { IsKept C.step self.now.config sink.old sink.new }
+        ensures called { (end : ℕ) → HasCalled C.step self.now.config sink.old
+            (outcome_of end result) sink.new }
         ensures may_call { C.may_call sink.new }
     {
         let near = self.config.lines_before(walk);
@@ -125,7 +128,8 @@ impl<'c, A: Allocator + Copy, T> Search<'c, A, T> {
             index (walk.now.line - index))
             (outcome_of end result) sink.new }
         ensures succeeds { NeverFails C.step C.may_call → IsOk result }
-        ensures kept { IsKept C.step self.now.config sink.old sink.new }
+        ensures called { (end : ℕ) → HasCalled C.step self.now.config sink.old
+            (outcome_of end result) sink.new }
         ensures may_call { C.may_call sink.new }
     {
         let mut position = first;
@@ -166,7 +170,6 @@ impl<'c, A: Allocator + Copy, T> Search<'c, A, T> {
             (number_of self.now.config index) offset end line.now)
             (outcome_of end result) sink.new }
         ensures succeeds { NeverFails C.step C.may_call → IsOk result }
-        ensures kept { IsKept C.step self.now.config sink.old sink.new }
         ensures may_call { C.may_call sink.new }
     {
         let is_gap = self.config.is_gap(index, walk);
@@ -198,7 +201,6 @@ impl<'c, A: Allocator + Copy, T> Search<'c, A, T> {
             (slice window.now start end))
             (outcome_of stop result) sink.new }
         ensures succeeds { NeverFails C.step C.may_call → IsOk result }
-        ensures kept { IsKept C.step self.now.config sink.old sink.new }
         ensures may_call { C.may_call sink.new }
     {
         let is_gap = self.config.is_gap_before_match(walk);
@@ -219,7 +221,6 @@ impl<'c, A: Allocator + Copy, T> Search<'c, A, T> {
             → AreReported C.step self.now.config sink.old (break_turns is_gap end)
             (outcome_of end result) sink.new }
         ensures succeeds { NeverFails C.step C.may_call → IsOk result }
-        ensures kept { IsKept C.step self.now.config sink.old sink.new }
         ensures may_call { C.may_call sink.new }
     {
         if !is_gap {
@@ -244,7 +245,6 @@ impl<'c, A: Allocator + Copy, T> Search<'c, A, T> {
         ensures step { C.step sink.old self.now.config
             (context kind (number_of self.now.config index) offset line.now) result sink.new }
         ensures succeeds { NeverFails C.step C.may_call → IsOk result }
-        ensures kept { IsKept C.step self.now.config sink.old sink.new }
         ensures may_call { C.may_call sink.new }
     {
         let context = SinkContext::new(kind, self.config.number(index), offset, line);

@@ -1,7 +1,8 @@
 //! The search of whole contents that ends at a binary byte.
-ghost use Rattle.std.specs.Prelude.{◌≡◌, false, None, IsOk, take};
+ghost use Rattle.std.specs.Prelude.{◌≡◌, true, false, None, IsOk, take};
 ghost use Rattle.grep_matcher.specs.Matching.{IsInfallible};
-ghost use Rattle.grep_definitions.specs.BinaryBytes.{position_of};
+ghost use Rattle.grep_definitions.specs.BinaryBytes.{is_detecting, position_of};
+ghost use Rattle.grep_definitions.specs.CallOrder.{RunsInOrder};
 ghost use Rattle.grep_definitions.specs.LineTurns.{one_turn};
 ghost use Rattle.grep_definitions.specs.Questions.{IsLawfulFor};
 ghost use Rattle.grep_definitions.specs.QuitPoints.{IsQuitRun, first_look};
@@ -36,6 +37,7 @@ impl<'c, A: Allocator + Copy, T> Search<'c, A, T> {
     ) -> Result<(), C::Error>
     where
         C::Error: SinkError<A>,
+        requires detecting { is_detecting self.now.config.binary_detection ≡ true }
         requires configured { IsConfigured (C.settings self.now.searcher.now) self.now.config }
         requires may_call { C.may_call sink.old }
         ensures searched { (is_across ≡ false
@@ -45,6 +47,10 @@ impl<'c, A: Allocator + Copy, T> Search<'c, A, T> {
             (facts_by M.meaning M.fails M.is_lawful M.Error.output matcher.now)
             (calls_if self.now.config (M.meaning matcher.now) is_across)
             byte self.now.config bytes.now sink.old result sink.new }
+        ensures in_order { RunsInOrder C.step self.now.config
+            (errors_by C.Error.is_message C.Error.is_io C.Error.is_config)
+            (facts_by M.meaning M.fails M.is_lawful M.Error.output matcher.now)
+            (λ _. ⊥) sink.old result sink.new }
         ensures succeeds { NeverFails C.step C.may_call → IsInfallible (M.fails matcher.now)
             → IsOk result }
         ensures may_call { C.may_call sink.new }
@@ -89,6 +95,7 @@ impl<'c, A: Allocator + Copy, T> Search<'c, A, T> {
         requires none { position_of sink.old.byte (take first_look bytes.now) ≡ None }
         requires has_break { sink.old.has_break ≡ false }
         requires found { sink.old.found ≡ None }
+        requires detecting { is_detecting self.now.config.binary_detection ≡ true }
         requires configured { IsConfigured (C.settings self.now.searcher.now) self.now.config }
         requires may_call { C.may_call sink.old.sink.now }
         ensures searched { (is_across ≡ false
@@ -98,6 +105,10 @@ impl<'c, A: Allocator + Copy, T> Search<'c, A, T> {
             (facts_by M.meaning M.fails M.is_lawful M.Error.output matcher.now)
             (calls_if self.now.config (M.meaning matcher.now) is_across)
             sink.old.byte self.now.config bytes.now sink.old.sink.now result sink.new.sink.now }
+        ensures in_order { RunsInOrder C.step self.now.config
+            (errors_by C.Error.is_message C.Error.is_io C.Error.is_config)
+            (facts_by M.meaning M.fails M.is_lawful M.Error.output matcher.now)
+            (λ _. ⊥) sink.old.sink.now result sink.new.sink.now }
         ensures succeeds { NeverFails C.step C.may_call → IsInfallible (M.fails matcher.now)
             → IsOk result }
         ensures same_sink { sink.new.sink.ghost_name ≡ sink.old.sink.ghost_name }

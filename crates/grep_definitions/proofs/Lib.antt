@@ -4,6 +4,7 @@ pub mod PositionLemmas
 pub mod BelowLemmas
 pub mod BreakLemmas
 pub mod SinkRunLemmas
+pub mod CallOrderLemmas
 pub mod NotedLemmas
 pub mod SinkViewLemmas
 pub mod PlainStreamLemmas

@@ -11,6 +11,7 @@ use Rattle.grep_definitions.specs.BinaryBytes.{Look, nowhere, in_contents, on_st
 use Rattle.grep_definitions.specs.ReaderSearches.{Taken, Came, IsUnread, IsUnreadIn, IsReaderFaultIn, IsReaderFaultUnless}
 use Rattle.grep_definitions.specs.ReaderSearches.{IsContentsRun, IsNotedReaderRun, IsPlainlySearched, IsReaderCut}
 use Rattle.grep_definitions.specs.ReaderSearches.{IsReaderRunIn, IsReaderSearched, IsSearchedAt}
+use Rattle.grep_definitions.specs.CallOrder.{IsReadingError}
 use Rattle.grep_definitions.specs.NotedSinks.{noted}
 use Rattle.grep_definitions.specs.StreamSearches.{stream_calls}
 use Rattle.grep_definitions.specs.ReaderSearches.{of_cut, of_reader, of_contents, of_failed_read, of_buffers, of_search, of_reading}
@@ -102,6 +103,18 @@ module _ {R T N : Type 0} (view : R → T) (name : R → N) (remaining : T → O
         whole None error after (of_failed_read is_across mid taken unended failed few) =
             of_failed_read is_across (view mid) (Taken-seen reader mid taken) unended (seen mid (Err error) after failed).1 few
         whole None error after (of_buffers none memory) = of_buffers none memory
+
+    pub IsReadingError-seen : (error : Error) → IsReadingError (λ s. remaining (view s)) read reader reader' error
+        → IsReadingError remaining seen_read (view reader) last error
+    IsReadingError-seen error (inl (mid, taken, unended, failed)) =
+        let one = seen mid (Err error) reader' failed in
+        inl (
+          view mid,
+          Taken-seen reader mid taken,
+          unended,
+          subst (seen_read (view mid) (Err error)) (sym (ends (Taken-named reader mid taken ∙ sym one.0))) one.1,
+        )
+    IsReadingError-seen error (inr own) = inr own
 
     pub IsUnread-seen : (meaning : Meaning) (lines : Option (List ℕ)) (error : Error)
         → IsUnread (λ s. remaining (view s)) read state meaning reader lines error reader'

@@ -4,6 +4,7 @@ pub mod AcrossQuestions
 pub mod Below
 pub mod BinaryBytes
 pub mod BinaryLaws
+pub mod CallOrder
 pub mod DecodedInputs
 pub mod FileSearches
 pub mod InputFronts
@@ -25,5 +26,6 @@ pub mod Settings
 pub mod SinkCalls
 pub mod SinkFolds
 pub mod SinkRuns
+pub mod SliceReads
 pub mod StreamSearches
 pub mod SuccessiveMatches

@@ -1,8 +1,8 @@
 -- A search of a slice: if it is decoded, that of a reader that has it as its bytes and never fails.
 use Rattle.std.proofs.Common.{◌≡◌, ◌⊎◌, ℕ, Bool, true, false, not, List, Option, Some, None, Result, Ok, Err, inl, inr}
-use Rattle.std.proofs.Common.{refl, sym, subst, ⊎_elim}
+use Rattle.std.proofs.Common.{refl, sym, subst, ⊎_elim, ◌++◌, Bor}
 use Rattle.std.proofs.lemmas.Bool.{false≢true}
-use Rattle.std.specs.Prelude.{IfErr}
+use Rattle.std.specs.Prelude.{IfErr, MatchResult}
 use Rattle.std.specs.declared.io.Error.{Error}
 use Rattle.grep_decode.specs.Source.{ReadResult}
 use Rattle.grep_report.specs.declared.binary_detection.BinaryDetection.{BinaryDetection}
@@ -20,14 +20,23 @@ use Rattle.grep_definitions.specs.ReaderSearches as readers
 use Rattle.grep_definitions.specs.ReadingFaults.{IsUndecodedIn, IsUndecoded}
 use Rattle.grep_definitions.specs.ReadingFaults.{of_cut as undecoded_cut, of_contents as undecoded_contents, of_buffers as undecoded_buffers}
 use Rattle.grep_definitions.specs.Searches.{ErrorMakers, MatcherFacts, IsClearFault, IsFaultIn, HasReportedIn, IsQuitFault}
-use Rattle.grep_definitions.specs.Searches.{IsRunUntil, IsUnsearched}
+use Rattle.grep_definitions.specs.Refusals.{refusal_of}
+use Rattle.grep_definitions.specs.Searches.{IsLawful, IsRunUntil, IsUnsearched}
 use Rattle.grep_definitions.specs.Searches as inputs
 use Rattle.grep_definitions.specs.SearchTurns.{SearchCalls, calls_if, search_calls}
 use Rattle.grep_definitions.specs.Settings.{SearcherState}
 use Rattle.grep_definitions.specs.SinkRuns.{Steps}
+use Rattle.grep_definitions.specs.SliceReads.{IsSliceRead}
 use Rattle.grep_definitions.specs.StreamSearches.{IsCutRun, stream_calls}
 use Rattle.grep_definitions.proofs.KnownReaderLemmas.{taken-input}
 use Rattle.grep_core.specs.InputSearches.{IsBytesSearched}
+
+-- a read of a slice, of which a name is no part
+pub slice-read : (s : Bor (List ℕ)) (result : ReadResult) (t : Bor (List ℕ))
+    → MatchResult result (λ bytes. s.now ≡ bytes ++ t.now) (λ _. ⊥)
+    → (◌≡◌ {A = Unit {0}} tt tt) × IsSliceRead s.now result t.now
+slice-read s (Ok bytes) t read = (refl, read)
+slice-read s (Err e) t read = absurd read
 
 -- a search that looks at contents isn't one of a stream, and one that looks at a stream is
 look-contents : (d : BinaryDetection) (is_stream : Bool) (b : ℕ) → look_at d is_stream ≡ in_contents b → is_stream ≡ false
@@ -316,3 +325,12 @@ unchanged-searched step errors matcher state input unchanged same old result new
     go (in_contents b) (Ok u) run = run
     go (in_contents b) (Err e) fault = inl fault
     go on_stream result never = absurd never
+
+-- a search that isn't refused
+pub input-allowed : {S E F : Type 0} (step : Steps S E) (errors : ErrorMakers E) (matcher : MatcherFacts F) (state : SearcherState)
+    (input : List ℕ) → refusal_of state.settings matcher.meaning ≡ None → (old : S) (result : Result (Unit {0}) E) (new : S)
+    → (IsLawful matcher state.settings → inputs.IsInputSearched step errors matcher state input old result new)
+    → inputs.IsSearched step errors matcher state input old result new
+input-allowed step errors matcher state input allowed old (Ok u) new searched = (allowed, searched)
+input-allowed step errors matcher state input allowed old (Err e) new searched =
+    subst (λ refusal. inputs.IsFaultUnless step errors matcher refusal state input old e new) (sym allowed) searched

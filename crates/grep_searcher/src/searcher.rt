@@ -1,10 +1,11 @@
 //! The searcher and its builder.
-ghost use Rattle.std.specs.Prelude.{◌≡◌, ℕ, true, false, List, Option, None, Ok, IfOk, IfErr, OnOk, OnErr, IsOk, Result};
+ghost use Rattle.std.specs.Prelude.{◌≡◌, ℕ, true, false, List, Option, None, Some, Ok, IfOk, IfErr, OnOk, OnErr, IsOk, Result};
 ghost use Rattle.std.specs.IoError.{error_kind};
 ghost use Rattle.std.specs.declared.io.Error.{Error};
 ghost use Rattle.std.specs.declared.io.ErrorKind.{ErrorKind};
 ghost use Rattle.grep_matcher.specs.Matching.{IsInfallible};
 ghost use Rattle.grep_definitions.specs.Below.{is_at};
+ghost use Rattle.grep_definitions.specs.CallOrder.{IsOwnError, IsReadingError, RunsInOrder};
 ghost use Rattle.grep_definitions.specs.DecodedInputs.{is_searched_unchanged};
 ghost use Rattle.grep_definitions.specs.Questions.{IsLawfulFor};
 ghost use Rattle.grep_definitions.specs.ReaderSearches.{IsReaderSearched, IsSourceSearched, IsUnread};
@@ -14,6 +15,7 @@ ghost use Rattle.grep_definitions.specs.Searches.{IsInputSearched, IsSearched};
 ghost use Rattle.grep_definitions.specs.Searches.{errors_by, facts_by};
 ghost use Rattle.grep_definitions.specs.Settings.{default_settings};
 ghost use Rattle.grep_definitions.specs.SinkRuns.{NeverFails};
+ghost use Rattle.grep_definitions.specs.SliceReads.{IsSliceRead};
 ghost use Rattle.grep_core.specs.SearchBuffers.{AreFitting};
 
 mod builder;
@@ -142,6 +144,18 @@ impl<A: Allocator + Copy> Searcher<A> {
             (errors_by S.Error.is_message S.Error.is_io S.Error.is_config)
             (facts_by M.meaning M.fails M.is_lawful M.Error.output matcher)
             self.old bytes.now sink.old result sink.new }
+        ensures decoded { is_searched_unchanged self.old.settings bytes.now ≡ false
+            → (rest : List ℕ) × IsReaderSearched (λ all. Some all) IsSliceRead S.step
+            (errors_by S.Error.is_message S.Error.is_io S.Error.is_config)
+            (facts_by M.meaning M.fails M.is_lawful M.Error.output matcher)
+            self.old bytes.now sink.old result rest sink.new }
+        ensures in_order { refusal_of self.old.settings (M.meaning matcher) ≡ None
+            → RunsInOrder S.step self.old.settings
+            (errors_by S.Error.is_message S.Error.is_io S.Error.is_config)
+            (facts_by M.meaning M.fails M.is_lawful M.Error.output matcher)
+            (λ error. (is_searched_unchanged self.old.settings bytes.now ≡ false)
+            × IsOwnError error)
+            sink.old result sink.new }
         ensures completes { NeverFails S.step S.may_call → IsInfallible (M.fails matcher)
             → refusal_of self.old.settings (M.meaning matcher) ≡ None
             → is_searched_unchanged self.old.settings bytes.now ≡ true → IsOk result }
@@ -206,6 +220,11 @@ impl<A: Allocator + Copy> Searcher<A> {
             (errors_by S.Error.is_message S.Error.is_io S.Error.is_config)
             (facts_by M.meaning M.fails M.is_lawful M.Error.output matcher)
             self.old reader.old sink.old result reader.new sink.new }
+        ensures in_order { refusal_of self.old.settings (M.meaning matcher) ≡ None
+            → RunsInOrder S.step self.old.settings
+            (errors_by S.Error.is_message S.Error.is_io S.Error.is_config)
+            (facts_by M.meaning M.fails M.is_lawful M.Error.output matcher)
+            (IsReadingError R.remaining R.step reader.old reader.new) sink.old result sink.new }
         ensures succeeds { NeverFails S.step S.may_call → IsInfallible (M.fails matcher)
             → IsLawfulFor self.old.settings (M.meaning matcher) (M.is_lawful matcher)
             → refusal_of self.old.settings (M.meaning matcher) ≡ None
@@ -272,6 +291,18 @@ impl<A: Allocator + Copy> Searcher<A> {
             (errors_by S.Error.is_message S.Error.is_io S.Error.is_config)
             (facts_by M.meaning M.fails M.is_lawful M.Error.output matcher.now)
             self.old input.now sink.old result sink.new }
+        ensures decoded { is_searched_unchanged self.old.settings input.now ≡ false
+            → refusal_of self.old.settings (M.meaning matcher.now) ≡ None
+            → (rest : List ℕ) × IsReaderSearched (λ all. Some all) IsSliceRead S.step
+            (errors_by S.Error.is_message S.Error.is_io S.Error.is_config)
+            (facts_by M.meaning M.fails M.is_lawful M.Error.output matcher.now)
+            self.old input.now sink.old result rest sink.new }
+        ensures in_order { RunsInOrder S.step self.old.settings
+            (errors_by S.Error.is_message S.Error.is_io S.Error.is_config)
+            (facts_by M.meaning M.fails M.is_lawful M.Error.output matcher.now)
+            (λ error. (is_searched_unchanged self.old.settings input.now ≡ false)
+            × IsOwnError error)
+            sink.old result sink.new }
         ensures completes { NeverFails S.step S.may_call → IsInfallible (M.fails matcher.now)
             → is_searched_unchanged self.old.settings input.now ≡ true → IsOk result }
         ensures succeeds { NeverFails S.step S.may_call → IsInfallible (M.fails matcher.now)
@@ -312,6 +343,10 @@ impl<A: Allocator + Copy> Searcher<A> {
             (errors_by S.Error.is_message S.Error.is_io S.Error.is_config)
             (facts_by M.meaning M.fails M.is_lawful M.Error.output matcher.now)
             self.old reader.old sink.old result reader.new sink.new }
+        ensures in_order { RunsInOrder S.step self.old.settings
+            (errors_by S.Error.is_message S.Error.is_io S.Error.is_config)
+            (facts_by M.meaning M.fails M.is_lawful M.Error.output matcher.now)
+            (IsReadingError R.remaining R.step reader.old reader.new) sink.old result sink.new }
         ensures succeeds { NeverFails S.step S.may_call → IsInfallible (M.fails matcher.now)
             → IsLawfulFor self.old.settings (M.meaning matcher.now) (M.is_lawful matcher.now)
             → IfErr result (λ e. (seen : Option (List ℕ)) × (error : Error)

@@ -1,6 +1,7 @@
 //! Searches of files.
 ghost use Rattle.std.specs.Prelude.{◌≡◌, true, ℕ, List, Option, None, IfErr, OnOk};
 ghost use Rattle.std.specs.declared.io.Error.{Error};
+ghost use Rattle.grep_definitions.specs.CallOrder.{IsReadingError, RunsInOrder};
 ghost use Rattle.grep_definitions.specs.FileSearches.{IsFileRead, IsFileSearched, IsPathSearched};
 ghost use Rattle.grep_definitions.specs.Questions.{IsLawfulFor};
 ghost use Rattle.grep_definitions.specs.ReaderSearches.{IsUnread};
@@ -46,6 +47,11 @@ impl<A: Allocator + Copy> Searcher<A> {
             (errors_by S.Error.is_message S.Error.is_io S.Error.is_config)
             (facts_by M.meaning M.fails M.is_lawful M.Error.output matcher)
             self.old file.old sink.old result file.new sink.new }
+        ensures in_order { refusal_of self.old.settings (M.meaning matcher) ≡ None
+            → RunsInOrder S.step self.old.settings
+            (errors_by S.Error.is_message S.Error.is_io S.Error.is_config)
+            (facts_by M.meaning M.fails M.is_lawful M.Error.output matcher)
+            (IsReadingError F.remaining (IsFileRead F.remaining) file.old file.new) sink.old result sink.new }
         ensures succeeds { NeverFails S.step S.may_call → IsInfallible (M.fails matcher)
             → IsLawfulFor self.old.settings (M.meaning matcher) (M.is_lawful matcher)
             → refusal_of self.old.settings (M.meaning matcher) ≡ None
@@ -80,6 +86,11 @@ impl<A: Allocator + Copy> Searcher<A> {
             (errors_by S.Error.is_message S.Error.is_io S.Error.is_config)
             (facts_by M.meaning M.fails M.is_lawful M.Error.output matcher)
             self.old sink.old result sink.new }
+        ensures in_order { refusal_of self.old.settings (M.meaning matcher) ≡ None
+            → RunsInOrder S.step self.old.settings
+            (errors_by S.Error.is_message S.Error.is_io S.Error.is_config)
+            (facts_by M.meaning M.fails M.is_lawful M.Error.output matcher)
+            (λ _. Unit {0}) sink.old result sink.new }
         ensures succeeds { NeverFails S.step S.may_call → IsInfallible (M.fails matcher)
             → IsLawfulFor self.old.settings (M.meaning matcher) (M.is_lawful matcher)
             → refusal_of self.old.settings (M.meaning matcher) ≡ None

@@ -1,7 +1,9 @@
-use Rattle.std.proofs.Common.{rules, ◌≡◌, false}
+use Rattle.std.proofs.Common.{rules, ◌≡◌, false, true}
 use Rattle.std.proofs.lemmas.Result.{err_from_is_err_and}
 use Rattle.grep_definitions.specs.SinkRuns.{stopped}
 use Rattle.grep_walk.proofs.AcrossEndLemmas as ends
+use Rattle.grep_definitions.specs.Searches.{errors_by, facts_by}
+use Rattle.grep_definitions.proofs.CallOrderLemmas as order
 use Rattle.grep_core.proofs.search.Search.match_across.Goals as goal
 
 pub returns-in_err-begin-clause-fault : goal.returns-in_err-begin-clause-fault
@@ -17,3 +19,21 @@ returns-then-not-branch-clause-reported g c =
       ends.counted-unbegun c.args.self.now.config (g.M.Matcher.meaning c.args.matcher.now) c.args.bytes.now g.C.Calls.step
           c.args.sink.now _ (rw unbegun at c.in_ok-begin.ensures.step),
     )
+
+pub returns-in_err-begin-clause-in_order : goal.returns-in_err-begin-clause-in_order
+returns-in_err-begin-clause-in_order g c =
+    let p = err_from_is_err_and c.from_residual.result c.from_residual.ensures.1 in
+    rw (p.1, p.2) (order.failed-begin g.C.Calls.step c.args.self.now.config _ _ c.args.sink.now _ _ c.in_err-begin.ensures.step)
+
+pub returns-then-not-branch-clause-in_order : goal.returns-then-not-branch-clause-in_order
+returns-then-not-branch-clause-in_order g c =
+    order.begun-to-0 g.C.Calls.step c.args.self.now.config c.args.sink.now _ _ c.in_ok-begin.ensures.step
+
+pub returns-clause-in_order : goal.returns-clause-in_order
+returns-clause-in_order g c =
+    let goes : c.in_ok-begin.field-0 ≡ true = search rules in
+    order.order-begun g.C.Calls.step c.args.self.now.config
+    (errors_by g.C.Error.SinkError.is_message g.C.Error.SinkError.is_io g.C.Error.SinkError.is_config)
+    (facts_by g.M.Matcher.meaning g.M.Matcher.fails g.M.Matcher.is_lawful g.M.Error.Display.output c.args.matcher.now)
+    c.args.sink.now c.begin.new.sink c.search_across.result c.search_across.new.sink
+    (rw goes at c.in_ok-begin.ensures.step) c.search_across.ensures.in_order

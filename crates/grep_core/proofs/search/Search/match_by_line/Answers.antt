@@ -5,6 +5,8 @@ use Rattle.grep_definitions.specs.SinkRuns.{all_true, stopped}
 use Rattle.grep_walk.proofs.WalkLemmas as walks
 use Rattle.grep_walk.proofs.WindowLemmas.{own-window}
 use Rattle.grep_walk.proofs.WindowSearchLemmas as search
+use Rattle.grep_definitions.specs.Searches.{errors_by, facts_by}
+use Rattle.grep_definitions.proofs.CallOrderLemmas as order
 use Rattle.grep_core.proofs.search.Search.match_by_line.Goals as goal
 
 pub returns-in_err-begin-clause-fault : goal.returns-in_err-begin-clause-fault
@@ -64,8 +66,30 @@ returns-clause-reported g c = λ lawful.
     let ends = c.in_ok-search_window.ensures.ends lawful off in
     (ends.0, ends.1 [] c.args.bytes.now c.args.sink.now start)) (omega arith)
 
-pub returns-clause-kept : goal.returns-clause-kept
-returns-clause-kept g c = λ name each. c.search_window.ensures.kept name each ∙ each _ _ _ _ c.begin.ensures.step
+pub returns-in_err-begin-clause-in_order : goal.returns-in_err-begin-clause-in_order
+returns-in_err-begin-clause-in_order g c =
+    let p = err_from_is_err_and c.from_residual.result c.from_residual.ensures.1 in
+    rw (p.1, p.2) (order.failed-begin g.C.Calls.step c.args.self.now.config _ _ c.args.sink.now _ _ c.in_err-begin.ensures.step)
 
-pub returns-in_err-search_window-clause-kept : goal.returns-in_err-search_window-clause-kept
-returns-in_err-search_window-clause-kept g c = λ name each. c.search_window.ensures.kept name each ∙ each _ _ _ _ c.begin.ensures.step
+pub returns-then-not-branch-clause-in_order : goal.returns-then-not-branch-clause-in_order
+returns-then-not-branch-clause-in_order g c =
+    order.begun-to-0 g.C.Calls.step c.args.self.now.config c.args.sink.now _ _ c.in_ok-begin.ensures.step
+
+pub returns-then-is_idle-clause-in_order : goal.returns-then-is_idle-clause-in_order
+returns-then-is_idle-clause-in_order g c =
+    order.begun-to-0 g.C.Calls.step c.args.self.now.config c.args.sink.now _ _ c.in_ok-begin.ensures.step
+
+pub returns-in_err-search_window-clause-in_order : goal.returns-in_err-search_window-clause-in_order
+returns-in_err-search_window-clause-in_order g c =
+    let p = err_from_is_err_and c.from_residual-in_err-search_window.result c.from_residual-in_err-search_window.ensures.1 in
+    let goes : c.in_ok-begin.field-0 ≡ true = search rules in
+    rw (p.1, p.2) (order.failed-begun g.C.Calls.step c.args.self.now.config _ _ c.args.sink.now _ _ _
+    (rw goes at c.in_ok-begin.ensures.step) c.in_err-search_window.ensures.in_order)
+
+pub returns-clause-in_order : goal.returns-clause-in_order
+returns-clause-in_order g c =
+    let goes : c.in_ok-begin.field-0 ≡ true = search rules in
+    order.begun-to g.C.Calls.step c.args.self.now.config c.args.sink.now _ _ _ (rw goes at c.in_ok-begin.ensures.step)
+    (order.called-to g.C.Calls.step c.args.self.now.config
+    (errors_by g.C.Error.SinkError.is_message g.C.Error.SinkError.is_io g.C.Error.SinkError.is_config)
+    (facts_by g.M.Matcher.meaning g.M.Matcher.fails g.M.Matcher.is_lawful g.M.Error.Display.output c.args.matcher.now) c.begin.new.sink _ c.in_ok-search_window.field-0 _ c.in_ok-search_window.ensures.in_order)

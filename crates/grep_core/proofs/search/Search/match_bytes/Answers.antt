@@ -9,3 +9,7 @@ returns-clause-reported g c = rw c.if-is_across.false
 pub returns-clause-fault : goal.returns-clause-fault
 returns-clause-fault g c = rw c.if-is_across.false
     (if_err-each _ _ c.match_by_line.result (λ e each by_line. each (by_line refl)) c.match_by_line.ensures.fault)
+
+pub returns-then-is_across-clause-reported : goal.returns-then-is_across-clause-reported
+returns-then-is_across-clause-reported g c = rw c.if-is_across.true
+    (if_ok-each _ _ c.match_across.result (λ count counted _. counted) c.match_across.ensures.reported)

@@ -3,9 +3,11 @@ use Rattle.grep_definitions.specs.BinaryBytes.{is_detecting}
 use Rattle.grep_definitions.specs.SinkCalls.{begins}
 use Rattle.grep_definitions.specs.ReaderSearches.{IsStreamSearched, is_idle}
 use Rattle.std.proofs.lemmas.Result.{err_from_is_err_and}
-use Rattle.grep_definitions.specs.Searches.{ErrorMakers, MatcherFacts}
+use Rattle.grep_definitions.specs.Searches.{ErrorMakers, MatcherFacts, errors_by, facts_by}
 use Rattle.grep_core.proofs.StreamBeginLemmas as streams
 use Rattle.grep_core.proofs.StreamBeginLemmas.{idle-unread}
+use Rattle.grep_definitions.specs.CallOrder.{IsOrderedFault, IsReadingError}
+use Rattle.grep_definitions.proofs.CallOrderLemmas as order
 use Rattle.grep_core.proofs.search.Search.match_source.Goals as goal
 
 pub returns-in_err-begin-clause-fault : goal.returns-in_err-begin-clause-fault
@@ -75,3 +77,27 @@ returns-in-Err-clause-fault g c = λ lawful has_buffers.
     c.read_by_line.new.reader s) (sym (c.in-Err.sink-in-Err-1-own.given.1 (sym (c.in-Err.ensures.same_sink ∙ c.new-noted.ensures.same_sink))))
     (c.in-Err.ensures.fault lawful c.args.sink.now
     (subst (λ s. g.C.Calls.step c.args.sink.now c.args.self.now.config begins (Ok true) s) (sym c.new-noted.ensures.sink) begun) has_buffers)
+
+pub returns-in_err-begin-clause-broken : goal.returns-in_err-begin-clause-broken
+returns-in_err-begin-clause-broken g c =
+    let p = err_from_is_err_and c.from_residual.result c.from_residual.ensures.1 in
+    rw (p.1, p.2) (order.order-failed g.C.Calls.step c.args.self.now.config _ _ _ c.args.sink.now _ _
+    (order.failed-begin g.C.Calls.step c.args.self.now.config _ _ c.args.sink.now _ _ c.in_err-begin.ensures.step))
+
+pub returns-then-not-branch-clause-in_order : goal.returns-then-not-branch-clause-in_order
+returns-then-not-branch-clause-in_order g c =
+    rw c.new.ensures (order.begun-to-0 g.C.Calls.step c.args.self.now.config c.args.sink.now _ c.begin.new.sink
+    c.in_ok-begin.ensures.step)
+
+pub returns-in-Err-clause-broken : goal.returns-in-Err-clause-broken
+returns-in-Err-clause-broken g c =
+    let errors = errors_by g.C.Error.SinkError.is_message g.C.Error.SinkError.is_io g.C.Error.SinkError.is_config in
+    let facts = facts_by g.M.Matcher.meaning g.M.Matcher.fails g.M.Matcher.is_lawful g.M.Error.Display.output c.args.matcher.now in
+    let begun = rw c.if-not-branch.false at c.in_ok-begin.ensures.step in
+    subst (λ s. IsOrderedFault g.C.Calls.step c.args.self.now.config errors facts
+    (IsReadingError g.R.Source.remaining g.R.Source.step c.args.reader.now c.read_by_line.new.reader) c.args.sink.now c.in-Err.error s)
+    (sym (c.in-Err.sink-in-Err-1-own.given.1 (sym (c.in-Err.ensures.same_sink ∙ c.new-noted.ensures.same_sink))))
+    (order.order-read g.C.Calls.step c.args.self.now.config errors facts (IsReadingError g.R.Source.remaining g.R.Source.step c.args.reader.now c.read_by_line.new.reader)
+    c.args.sink.now _ c.in-Err.error _
+    (subst (λ s. g.C.Calls.step c.args.sink.now c.args.self.now.config begins (Ok true) s) (sym c.new-noted.ensures.sink) begun)
+    c.in-Err.ensures.in_order)

@@ -1,4 +1,5 @@
-use Rattle.std.proofs.Common.{rules, subst, false, inl, ap, arith, length, refl, sym, ◌∙◌, ◌≡◌, ◌++◌, Some, true}
+use Rattle.std.proofs.Common.{rules, subst, false, inl, inr, None, Err, Bool, [], ap, arith, length, refl, sym, ◌∙◌, ◌≡◌, ◌++◌, Some, true}
+use Rattle.std.proofs.lemmas.Option.{none-some}
 use Rattle.std.proofs.lemmas.Result.{err_from_is_err_and}
 use Rattle.grep_matcher.specs.Terminators.{byte_of}
 use Rattle.grep_definitions.specs.Searches.{errors_by, facts_by}
@@ -10,6 +11,12 @@ use Rattle.grep_core.proofs.StreamEndLemmas as ends
 use Rattle.grep_core.proofs.UnreadLemmas as unread
 use Rattle.grep_core.specs.NotedCalls.{FailsAtBinary, Notes, PassesBinary}
 use Rattle.grep_core.specs.Rolls.{IsRolling}
+use Rattle.grep_line_buffer.specs.Fills.{FailsToFill, IfRead}
+use Rattle.grep_definitions.specs.BinaryBytes.{is_detecting}
+use Rattle.grep_definitions.specs.CallOrder.{of_call}
+use Rattle.grep_definitions.specs.SinkRuns.{all_true, failed}
+use Rattle.grep_definitions.proofs.CallOrderLemmas as order
+use Rattle.grep_core.proofs.OrderLemmas as passed
 use Rattle.grep_core.proofs.search.Search.read_by_line.Goals as goal
 
 pub fills-init : goal.fills-init
@@ -23,6 +30,11 @@ fills-init g c =
       may_call = c.requires.may_call;
       called = search rules;
       same_sink = refl;
+      decoded = ([], c.reads_continue.ensures.none c.args.decoder.now c.args.reader.now);
+      detects = ap (λ b. b.detection) empty;
+      clear = λ _. ap (λ b. b.binary) empty;
+      noted_detects = λ offset is. absurd (none-some offset (sym c.requires.binary ∙ is));
+      calls = order.called-none g.C.Calls.step c.args.self.now.config c.args.sink.now.sink.now;
       noted = λ lawful. c.requires.binary ∙ sym (ap (λ b. b.binary) empty);
       rolling = λ lawful first begun. rolling.rolling-start g.R.Source.remaining g.R.Source.step c.lines_join.ensures c.lines_append.ensures
           (Notes g.C.Calls.step) c.args.self.now.config (g.M.Matcher.meaning c.args.matcher.now) c.lines_are_numbered.ensures
@@ -35,12 +47,20 @@ fills-init g c =
 
 pub returns-in_err-search_shown-clause-same_sink : goal.returns-in_err-search_shown-clause-same_sink
 returns-in_err-search_shown-clause-same_sink g c =
-    noting.name-kept g.C.Calls.step c.args.self.now.config c.passes_binary.new.sink c.search_shown.new.sink c.search_shown.ensures.same_sink
+    (order.goes-keeps (Notes g.C.Calls.step) c.args.self.now.config
+    (errors_by g.C.Error.SinkError.is_message g.C.Error.SinkError.is_io g.C.Error.SinkError.is_config)
+    (facts_by g.M.Matcher.meaning g.M.Matcher.fails g.M.Matcher.is_lawful g.M.Error.Display.output c.args.matcher.now)
+    (λ n. n.sink.ghost_name) (λ s call result t passes. passes.0) c.passes_binary.new.sink c.search_shown.result
+    c.search_shown.new.walk.offset c.search_shown.new.sink c.search_shown.ensures.in_order)
     ∙ (c.passes_binary.ensures.same_sink ∙ c.fills.invariant.same_sink)
 
 pub returns-then-not-branch-2-clause-same_sink : goal.returns-then-not-branch-2-clause-same_sink
 returns-then-not-branch-2-clause-same_sink g c =
-    noting.name-kept g.C.Calls.step c.args.self.now.config c.passes_binary.new.sink c.search_shown.new.sink c.search_shown.ensures.same_sink
+    (order.goes-keeps (Notes g.C.Calls.step) c.args.self.now.config
+    (errors_by g.C.Error.SinkError.is_message g.C.Error.SinkError.is_io g.C.Error.SinkError.is_config)
+    (facts_by g.M.Matcher.meaning g.M.Matcher.fails g.M.Matcher.is_lawful g.M.Error.Display.output c.args.matcher.now)
+    (λ n. n.sink.ghost_name) (λ s call result t passes. passes.0) c.passes_binary.new.sink c.search_shown.result
+    c.search_shown.new.walk.offset c.search_shown.new.sink c.search_shown.ensures.in_order)
     ∙ (c.passes_binary.ensures.same_sink ∙ c.fills.invariant.same_sink)
 
 pub returns-in-Err-clause-fault : goal.returns-in-Err-clause-fault
@@ -161,7 +181,11 @@ returns-in_err-search_shown-clause-fault g c =
     (c.binary_byte_offset.ensures.exact fill.fits) c.in_ok-passes_binary.field-0 (search rules) c.in_ok-passes_binary.ensures.passes
     c.passes_binary.ensures.same_sink in
     let busy = (sym c.is_idle.ensures ∙ c.if-is_idle.false) in
-    let kept = noting.binary-kept g.C.Calls.step k c.passes_binary.new.sink c.search_shown.new.sink c.search_shown.ensures.same_sink in
+    let kept = (order.goes-keeps (Notes g.C.Calls.step) c.args.self.now.config
+    (errors_by g.C.Error.SinkError.is_message g.C.Error.SinkError.is_io g.C.Error.SinkError.is_config)
+    (facts_by g.M.Matcher.meaning g.M.Matcher.fails g.M.Matcher.is_lawful g.M.Error.Display.output c.args.matcher.now)
+    (λ n. n.binary) (λ s call result t passes. passes.1) c.passes_binary.new.sink c.search_shown.result
+    c.search_shown.new.walk.offset c.search_shown.new.sink c.search_shown.ensures.in_order) in
     let errors = errors_by g.C.Error.SinkError.is_message g.C.Error.SinkError.is_io g.C.Error.SinkError.is_config in
     let facts = facts_by g.M.Matcher.meaning g.M.Matcher.fails g.M.Matcher.is_lawful g.M.Error.Display.output c.args.matcher.now in
     cuts.fault-shown g.R.Source.remaining g.R.Source.step c.lines_join.ensures c.lines_append.ensures g.C.Calls.step k meaning
@@ -210,7 +234,11 @@ returns-then-not-branch-2-clause-counted g c = λ lawful first begun.
     (c.binary_byte_offset.ensures.exact fill.fits) c.in_ok-passes_binary.field-0 (search rules) c.in_ok-passes_binary.ensures.passes
     c.passes_binary.ensures.same_sink in
     let busy = (sym c.is_idle.ensures ∙ c.if-is_idle.false) in
-    let kept = noting.binary-kept g.C.Calls.step k c.passes_binary.new.sink c.search_shown.new.sink c.search_shown.ensures.same_sink in
+    let kept = (order.goes-keeps (Notes g.C.Calls.step) c.args.self.now.config
+    (errors_by g.C.Error.SinkError.is_message g.C.Error.SinkError.is_io g.C.Error.SinkError.is_config)
+    (facts_by g.M.Matcher.meaning g.M.Matcher.fails g.M.Matcher.is_lawful g.M.Error.Display.output c.args.matcher.now)
+    (λ n. n.binary) (λ s call result t passes. passes.1) c.passes_binary.new.sink c.search_shown.result
+    c.search_shown.new.walk.offset c.search_shown.new.sink c.search_shown.ensures.in_order) in
     inl (cuts.counted-shown g.R.Source.remaining g.R.Source.step c.lines_join.ensures c.lines_append.ensures g.C.Calls.step k meaning
     c.args.decoder.now.capacity c.args.reader.now c.args.decoder.now c.requires.started c.done_gives_nothing.ensures
     first c.args.sink.now c.fills.lines c.fills.decoder c.fills.reader c.fills.walk c.passes_binary.new.sink there.rolling
@@ -232,7 +260,22 @@ fills-preserved g c =
     (subst (λ x. PassesBinary g.C.Calls.step k c.binary_byte_offset.result c.fills.sink x c.passes_binary.new.sink) goes
     c.in_ok-passes_binary.ensures.passes) in
     let same = c.fill.ensures.same in
-    let kept = noting.binary-kept g.C.Calls.step k c.passes_binary.new.sink c.search_shown.new.sink c.search_shown.ensures.same_sink in
+    let unfound : is_detecting k.binary_detection ≡ false → c.fill.new.self.binary ≡ None =
+    passed.clear-filled k.binary_detection c.fills.lines c.fill.new.self fill.reads.given fill.reads.found
+    c.fills.invariant.detects c.fills.invariant.clear in
+    let detects = passed.detects-passed g.C.Calls.step k c.fill.new.self.binary unfound c.fills.sink c.passes_binary.new.sink true
+    c.fills.invariant.noted_detects passes in
+    let first = order.called-then g.C.Calls.step k c.args.sink.now.sink.now c.fills.sink.sink.now all_true
+    c.passes_binary.new.sink.sink.now c.fills.invariant.calls
+    (passed.passes-on g.C.Calls.step k c.fill.new.self.binary unfound c.fills.sink c.passes_binary.new.sink passes) in
+    let later = order.passed g.C.Calls.step (Notes g.C.Calls.step) k (λ n. n.sink.now) (passed.DetectsNoted g.C.Calls.step k)
+    (λ n count. count) (passed.noted-one g.C.Calls.step k) c.passes_binary.new.sink all_true c.search_shown.new.sink detects
+    (rw moves at c.in_ok-search_shown.ensures.in_order) in
+    let kept = (order.goes-keeps (Notes g.C.Calls.step) c.args.self.now.config
+    (errors_by g.C.Error.SinkError.is_message g.C.Error.SinkError.is_io g.C.Error.SinkError.is_config)
+    (facts_by g.M.Matcher.meaning g.M.Matcher.fails g.M.Matcher.is_lawful g.M.Error.Display.output c.args.matcher.now)
+    (λ n. n.binary) (λ s call result t passes. passes.1) c.passes_binary.new.sink c.search_shown.result
+    c.search_shown.new.walk.offset c.search_shown.new.sink c.search_shown.ensures.in_order) in
     let fitting = rolling.fitting-filled k.heap_limit (byte_of k.line_terminator)
     c.fills.lines c.fill.new.self c.fills.invariant.fitting same c.fill.ensures.grows c.fill.ensures.within in
     record {
@@ -242,7 +285,20 @@ fills-preserved g c =
       ordered = c.in_ok-search_shown.ensures.ordered;
       may_call = c.search_shown.ensures.may_call.0;
       called = c.search_shown.ensures.may_call.1;
-      same_sink = noting.name-kept g.C.Calls.step k c.passes_binary.new.sink c.search_shown.new.sink c.search_shown.ensures.same_sink
+      decoded = (
+        c.fills.invariant.decoded.0 ++ fill.reads.given,
+        c.reads_continue.ensures.more _ c.fills.decoder _ _ c.fills.reader _ _ _ c.fills.invariant.decoded.1 fill.reads.decodes,
+      );
+      detects = c.in_ok-search_shown.ensures.detection ∙ (same.detection ∙ c.fills.invariant.detects);
+      clear = λ none. c.in_ok-search_shown.ensures.binary ∙ unfound none;
+      noted_detects = later.0;
+      calls = order.called-then g.C.Calls.step k c.args.sink.now.sink.now c.passes_binary.new.sink.sink.now all_true
+          c.search_shown.new.sink.sink.now first later.1;
+      same_sink = (order.goes-keeps (Notes g.C.Calls.step) c.args.self.now.config
+    (errors_by g.C.Error.SinkError.is_message g.C.Error.SinkError.is_io g.C.Error.SinkError.is_config)
+    (facts_by g.M.Matcher.meaning g.M.Matcher.fails g.M.Matcher.is_lawful g.M.Error.Display.output c.args.matcher.now)
+    (λ n. n.sink.ghost_name) (λ s call result t passes. passes.0) c.passes_binary.new.sink c.search_shown.result
+    c.search_shown.new.walk.offset c.search_shown.new.sink c.search_shown.ensures.in_order)
           ∙ (c.passes_binary.ensures.same_sink ∙ c.fills.invariant.same_sink);
       noted = λ lawful. kept
           ∙ (ends.noted-passed g.C.Calls.step k c.fills.lines.binary c.fill.new.self.binary _ c.fills.sink c.passes_binary.new.sink
@@ -275,3 +331,172 @@ fills-preserved g c =
           c.search_shown.new.lines c.fill.new.decoder c.fill.new.reader c.search_shown.new.walk c.search_shown.new.sink)
           (sym kept) next;
     }
+
+pub returns-in-Err-clause-in_order : goal.returns-in-Err-clause-in_order
+returns-in-Err-clause-in_order g c = inr (
+  c.io_error.result,
+  passed.reading-error g.R.Source.remaining g.R.Source.step c.args.reader.now c.fill.new.reader c.in-Err.error c.io_error.result
+      (λ e is.
+      let fails = subst (λ fault. IfRead {X = Bool} (Err fault) (λ e. FailsToFill g.R.Source.remaining g.R.Source.step e c.fills.lines
+      c.fills.decoder c.fills.reader c.fill.new.self c.fill.new.decoder c.fill.new.reader)) is c.in-Err.ensures.read in
+      passed.failed-read g.R.Source.remaining g.R.Source.step c.args.reader.now c.args.decoder.now c.fill.new.decoder fails.mid
+      c.fill.new.reader _ e (ap (λ d. d.has_ended) c.requires.started)
+      (c.reads_continue.ensures.more _ c.fills.decoder _ _ c.fills.reader _ _ _ c.fills.invariant.decoded.1 fails.fills.decodes)
+      fails.unended fails.failed)
+      c.io_error.ensures,
+  c.error_io.ensures,
+  c.fills.invariant.calls,
+)
+
+pub returns-in_err-passes_binary-clause-in_order : goal.returns-in_err-passes_binary-clause-in_order
+returns-in_err-passes_binary-clause-in_order g c =
+    let p = err_from_is_err_and c.from_residual.result c.from_residual.ensures.1 in
+    let step = g.C.Calls.step in
+    let k = c.args.self.now.config in
+    let fill = c.in_default.ensures in
+    let exact = c.binary_byte_offset.ensures.exact fill.fits in
+    let clear : is_detecting k.binary_detection ≡ false → c.binary_byte_offset.result ≡ None =
+    λ none. exact ∙ passed.clear-filled k.binary_detection c.fills.lines c.fill.new.self fill.reads.given fill.reads.found
+    c.fills.invariant.detects c.fills.invariant.clear none in
+    rw (p.1, p.2) (inl (of_call (order.called-then step k c.args.sink.now.sink.now c.fills.sink.sink.now (failed _)
+    c.passes_binary.new.sink.sink.now c.fills.invariant.calls
+    (passed.fails-at step k c.binary_byte_offset.result clear c.fills.sink c.passes_binary.new.sink _
+    c.in_err-passes_binary.ensures.fails))))
+
+pub returns-then-not-branch-clause-in_order : goal.returns-then-not-branch-clause-in_order
+returns-then-not-branch-clause-in_order g c =
+    let step = g.C.Calls.step in
+    let k = c.args.self.now.config in
+    let fill = c.in_default.ensures in
+    let exact = c.binary_byte_offset.ensures.exact fill.fits in
+    let clear : is_detecting k.binary_detection ≡ false → c.binary_byte_offset.result ≡ None =
+    λ none. exact ∙ passed.clear-filled k.binary_detection c.fills.lines c.fill.new.self fill.reads.given fill.reads.found
+    c.fills.invariant.detects c.fills.invariant.clear none in
+    order.called-then-to step k c.args.sink.now.sink.now c.fills.sink.sink.now c.fills.walk.offset c.passes_binary.new.sink.sink.now
+    c.fills.invariant.calls
+    (passed.passes-off step k c.binary_byte_offset.result clear c.fills.sink c.passes_binary.new.sink c.fills.walk.offset
+    (subst (λ x. PassesBinary step k c.binary_byte_offset.result c.fills.sink x c.passes_binary.new.sink)
+    c.if-not-branch.true c.in_ok-passes_binary.ensures.passes))
+
+pub returns-then-not-branch-clause-noted : goal.returns-then-not-branch-clause-noted
+returns-then-not-branch-clause-noted g c =
+    let step = g.C.Calls.step in
+    let k = c.args.self.now.config in
+    let fill = c.in_default.ensures in
+    let exact = c.binary_byte_offset.ensures.exact fill.fits in
+    let clear : is_detecting k.binary_detection ≡ false → c.binary_byte_offset.result ≡ None =
+    λ none. exact ∙ passed.clear-filled k.binary_detection c.fills.lines c.fill.new.self fill.reads.given fill.reads.found
+    c.fills.invariant.detects c.fills.invariant.clear none in
+    passed.undetected-none step k c.passes_binary.new.sink
+    (passed.detects-passed step k c.binary_byte_offset.result clear c.fills.sink c.passes_binary.new.sink _
+    c.fills.invariant.noted_detects c.in_ok-passes_binary.ensures.passes)
+
+pub returns-then-is_idle-clause-in_order : goal.returns-then-is_idle-clause-in_order
+returns-then-is_idle-clause-in_order g c =
+    let step = g.C.Calls.step in
+    let k = c.args.self.now.config in
+    let fill = c.in_default.ensures in
+    let exact = c.binary_byte_offset.ensures.exact fill.fits in
+    let clear : is_detecting k.binary_detection ≡ false → c.binary_byte_offset.result ≡ None =
+    λ none. exact ∙ passed.clear-filled k.binary_detection c.fills.lines c.fill.new.self fill.reads.given fill.reads.found
+    c.fills.invariant.detects c.fills.invariant.clear none in
+    let goes : c.in_ok-passes_binary.field-0 ≡ true = search rules in
+    let passes : PassesBinary step k c.binary_byte_offset.result c.fills.sink true c.passes_binary.new.sink =
+    subst (λ x. PassesBinary step k c.binary_byte_offset.result c.fills.sink x c.passes_binary.new.sink) goes
+    c.in_ok-passes_binary.ensures.passes in
+    let first = order.called-then step k c.args.sink.now.sink.now c.fills.sink.sink.now all_true c.passes_binary.new.sink.sink.now
+    c.fills.invariant.calls (passed.passes-on step k c.binary_byte_offset.result clear c.fills.sink c.passes_binary.new.sink passes) in
+    let detects = passed.detects-passed step k c.binary_byte_offset.result clear c.fills.sink c.passes_binary.new.sink true
+    c.fills.invariant.noted_detects passes in
+    record { outcome = all_true; ends = tt; called = first }
+
+pub returns-then-is_idle-clause-noted : goal.returns-then-is_idle-clause-noted
+returns-then-is_idle-clause-noted g c =
+    let step = g.C.Calls.step in
+    let k = c.args.self.now.config in
+    let fill = c.in_default.ensures in
+    let exact = c.binary_byte_offset.ensures.exact fill.fits in
+    let clear : is_detecting k.binary_detection ≡ false → c.binary_byte_offset.result ≡ None =
+    λ none. exact ∙ passed.clear-filled k.binary_detection c.fills.lines c.fill.new.self fill.reads.given fill.reads.found
+    c.fills.invariant.detects c.fills.invariant.clear none in
+    let goes : c.in_ok-passes_binary.field-0 ≡ true = search rules in
+    let passes : PassesBinary step k c.binary_byte_offset.result c.fills.sink true c.passes_binary.new.sink =
+    subst (λ x. PassesBinary step k c.binary_byte_offset.result c.fills.sink x c.passes_binary.new.sink) goes
+    c.in_ok-passes_binary.ensures.passes in
+    let first = order.called-then step k c.args.sink.now.sink.now c.fills.sink.sink.now all_true c.passes_binary.new.sink.sink.now
+    c.fills.invariant.calls (passed.passes-on step k c.binary_byte_offset.result clear c.fills.sink c.passes_binary.new.sink passes) in
+    let detects = passed.detects-passed step k c.binary_byte_offset.result clear c.fills.sink c.passes_binary.new.sink true
+    c.fills.invariant.noted_detects passes in
+    passed.undetected-none step k c.passes_binary.new.sink detects
+
+pub returns-in_err-search_shown-clause-in_order : goal.returns-in_err-search_shown-clause-in_order
+returns-in_err-search_shown-clause-in_order g c =
+    let p = err_from_is_err_and c.from_residual-in_err-search_shown.result c.from_residual-in_err-search_shown.ensures.1 in
+    let step = g.C.Calls.step in
+    let k = c.args.self.now.config in
+    let fill = c.in_default.ensures in
+    let exact = c.binary_byte_offset.ensures.exact fill.fits in
+    let clear : is_detecting k.binary_detection ≡ false → c.binary_byte_offset.result ≡ None =
+    λ none. exact ∙ passed.clear-filled k.binary_detection c.fills.lines c.fill.new.self fill.reads.given fill.reads.found
+    c.fills.invariant.detects c.fills.invariant.clear none in
+    let goes : c.in_ok-passes_binary.field-0 ≡ true = search rules in
+    let passes : PassesBinary step k c.binary_byte_offset.result c.fills.sink true c.passes_binary.new.sink =
+    subst (λ x. PassesBinary step k c.binary_byte_offset.result c.fills.sink x c.passes_binary.new.sink) goes
+    c.in_ok-passes_binary.ensures.passes in
+    let first = order.called-then step k c.args.sink.now.sink.now c.fills.sink.sink.now all_true c.passes_binary.new.sink.sink.now
+    c.fills.invariant.calls (passed.passes-on step k c.binary_byte_offset.result clear c.fills.sink c.passes_binary.new.sink passes) in
+    let detects = passed.detects-passed step k c.binary_byte_offset.result clear c.fills.sink c.passes_binary.new.sink true
+    c.fills.invariant.noted_detects passes in
+    let errors = errors_by g.C.Error.SinkError.is_message g.C.Error.SinkError.is_io g.C.Error.SinkError.is_config in
+    let facts = facts_by g.M.Matcher.meaning g.M.Matcher.fails g.M.Matcher.is_lawful g.M.Error.Display.output c.args.matcher.now in
+    rw (p.1, p.2) (inl (order.failed-then step k errors facts c.args.sink.now.sink.now c.passes_binary.new.sink.sink.now _
+    c.search_shown.new.sink.sink.now first
+    (order.passed-failed step (Notes step) k (λ n. n.sink.now) (passed.DetectsNoted step k) (λ n count. count) (passed.noted-one step k)
+    errors facts c.passes_binary.new.sink _ c.search_shown.new.sink detects c.in_err-search_shown.ensures.in_order)))
+
+pub returns-then-not-branch-2-clause-in_order : goal.returns-then-not-branch-2-clause-in_order
+returns-then-not-branch-2-clause-in_order g c =
+    let step = g.C.Calls.step in
+    let k = c.args.self.now.config in
+    let fill = c.in_default.ensures in
+    let exact = c.binary_byte_offset.ensures.exact fill.fits in
+    let clear : is_detecting k.binary_detection ≡ false → c.binary_byte_offset.result ≡ None =
+    λ none. exact ∙ passed.clear-filled k.binary_detection c.fills.lines c.fill.new.self fill.reads.given fill.reads.found
+    c.fills.invariant.detects c.fills.invariant.clear none in
+    let goes : c.in_ok-passes_binary.field-0 ≡ true = search rules in
+    let passes : PassesBinary step k c.binary_byte_offset.result c.fills.sink true c.passes_binary.new.sink =
+    subst (λ x. PassesBinary step k c.binary_byte_offset.result c.fills.sink x c.passes_binary.new.sink) goes
+    c.in_ok-passes_binary.ensures.passes in
+    let first = order.called-then step k c.args.sink.now.sink.now c.fills.sink.sink.now all_true c.passes_binary.new.sink.sink.now
+    c.fills.invariant.calls (passed.passes-on step k c.binary_byte_offset.result clear c.fills.sink c.passes_binary.new.sink passes) in
+    let detects = passed.detects-passed step k c.binary_byte_offset.result clear c.fills.sink c.passes_binary.new.sink true
+    c.fills.invariant.noted_detects passes in
+    let ends = rw c.if-not-branch-2.true at c.in_ok-search_shown.ensures.in_order in
+    order.called-then-to step k c.args.sink.now.sink.now c.passes_binary.new.sink.sink.now c.search_shown.new.walk.offset
+    c.search_shown.new.sink.sink.now first
+    (order.passed-to step (Notes step) k (λ n. n.sink.now) (passed.DetectsNoted step k) (λ n count. count) (passed.noted-one step k)
+    c.passes_binary.new.sink c.search_shown.new.walk.offset c.search_shown.new.sink detects ends)
+
+pub returns-then-not-branch-2-clause-noted : goal.returns-then-not-branch-2-clause-noted
+returns-then-not-branch-2-clause-noted g c =
+    let step = g.C.Calls.step in
+    let k = c.args.self.now.config in
+    let fill = c.in_default.ensures in
+    let exact = c.binary_byte_offset.ensures.exact fill.fits in
+    let clear : is_detecting k.binary_detection ≡ false → c.binary_byte_offset.result ≡ None =
+    λ none. exact ∙ passed.clear-filled k.binary_detection c.fills.lines c.fill.new.self fill.reads.given fill.reads.found
+    c.fills.invariant.detects c.fills.invariant.clear none in
+    let goes : c.in_ok-passes_binary.field-0 ≡ true = search rules in
+    let passes : PassesBinary step k c.binary_byte_offset.result c.fills.sink true c.passes_binary.new.sink =
+    subst (λ x. PassesBinary step k c.binary_byte_offset.result c.fills.sink x c.passes_binary.new.sink) goes
+    c.in_ok-passes_binary.ensures.passes in
+    let first = order.called-then step k c.args.sink.now.sink.now c.fills.sink.sink.now all_true c.passes_binary.new.sink.sink.now
+    c.fills.invariant.calls (passed.passes-on step k c.binary_byte_offset.result clear c.fills.sink c.passes_binary.new.sink passes) in
+    let detects = passed.detects-passed step k c.binary_byte_offset.result clear c.fills.sink c.passes_binary.new.sink true
+    c.fills.invariant.noted_detects passes in
+    let same = (order.goes-keeps (Notes g.C.Calls.step) c.args.self.now.config
+    (errors_by g.C.Error.SinkError.is_message g.C.Error.SinkError.is_io g.C.Error.SinkError.is_config)
+    (facts_by g.M.Matcher.meaning g.M.Matcher.fails g.M.Matcher.is_lawful g.M.Error.Display.output c.args.matcher.now)
+    (λ n. n.binary) (λ s call result t passes. passes.1) c.passes_binary.new.sink c.search_shown.result
+    c.search_shown.new.walk.offset c.search_shown.new.sink c.search_shown.ensures.in_order) in
+    λ none. same ∙ passed.undetected-none step k c.passes_binary.new.sink detects none

@@ -9,6 +9,8 @@ use Rattle.grep_walk.proofs.AcrossEndLemmas as ends
 use Rattle.grep_walk.proofs.AcrossStepLemmas as steps
 use Rattle.grep_walk.proofs.AcrossTurnLemmas as turns
 use Rattle.grep_walk.proofs.AcrossUnitLemmas as units
+use Rattle.grep_definitions.specs.CallOrder.{of_call, of_question}
+use Rattle.grep_definitions.proofs.CallOrderLemmas.{called-none, called-then}
 use Rattle.grep_core.proofs.search.Search.search_across.Goals as goal
 
 -- under passthru there are no contexts
@@ -84,7 +86,7 @@ lines-preserved-then-walk-eq0 g c =
       walk = steps.across-past k meaning c.args.bytes.now c.lines.walk c.lines.start c.next_chosen-next.result c.lines.invariant.same
           c.lines.invariant.walk next plain c.if-walk-eq0.true;
       reported = c.lines.invariant.reported;
-      kept = c.lines.invariant.kept;
+      called = c.lines.invariant.called;
       may_call = c.lines.invariant.may_call;
     })
 
@@ -148,6 +150,7 @@ lines-preserved g c =
     let bare = c.requires.configured.bare in
     let goes : c.in_ok-sink_line.field-0 ≡ true = search rules in
     let reported = rw goes at c.in_ok-sink_line.ensures.reported in
+    let here = rw goes at c.in_ok-sink_line.ensures.called in
     let turned = turns.turned k meaning c.args.bytes.now bare c.lines.start c.end_across-end.result c.next_chosen-next.result
     c.lines.walk c.in_ok-unit.unit c.unit_at.new.blocks c.lines.invariant.walk c.lines.invariant.same ready
     ahead chosen c.end_across-end.ensures.low c.end_across-end.ensures.within
@@ -162,7 +165,7 @@ lines-preserved g c =
           turned.front (c.lines.invariant.reported first begun) all_true _
           (reported [] c.args.bytes.now
           (turns.in-window k meaning c.args.bytes.now c.lines.walk c.lines.start c.lines.invariant.same c.lines.invariant.walk));
-      kept = λ name each. c.in_ok-sink_line.ensures.kept name each ∙ c.lines.invariant.kept name each;
+      called = called-then g.C.Calls.step k c.args.sink.now c.lines.sink all_true c.sink_line.new.sink c.lines.invariant.called (here 0);
       may_call = c.in_ok-sink_line.ensures.may_call;
     })
 
@@ -176,8 +179,37 @@ returns-clause-reported g c = λ first begun.
           (c.lines.invariant.reported first begun),
     )
 
-pub returns-in_err-sink_line-clause-kept : goal.returns-in_err-sink_line-clause-kept
-returns-in_err-sink_line-clause-kept g c = λ name each. c.sink_line.ensures.kept name each ∙ c.lines.invariant.kept name each
+pub returns-in_err-blocks-clause-in_order : goal.returns-in_err-blocks-clause-in_order
+returns-in_err-blocks-clause-in_order g c =
+    let p = err_from_is_err_and c.from_residual.result c.from_residual.ensures.1 in
+    let fault = c.in_err-blocks.ensures.fault in
+    rw (p.1, p.2) (of_question _ fault.1 fault.3 fault.4 (called-none g.C.Calls.step c.args.self.now.config c.args.sink.now))
 
-pub returns-then-not-branch-clause-kept : goal.returns-then-not-branch-clause-kept
-returns-then-not-branch-clause-kept g c = λ name each. c.sink_line.ensures.kept name each ∙ c.lines.invariant.kept name each
+pub returns-in_err-unit-clause-in_order : goal.returns-in_err-unit-clause-in_order
+returns-in_err-unit-clause-in_order g c =
+    let p = err_from_is_err_and c.from_residual-in_err-unit.result c.from_residual-in_err-unit.ensures.1 in
+    let fault = c.in_err-unit.ensures.fault in
+    rw (p.1, p.2) (of_question _ fault.1 fault.3 fault.4 c.lines.invariant.called)
+
+pub returns-then-next-bytes-clause-in_order : goal.returns-then-next-bytes-clause-in_order
+returns-then-next-bytes-clause-in_order g c = record { outcome = all_true; ends = tt; called = c.lines.invariant.called }
+
+pub returns-in_err-sink_line-clause-in_order : goal.returns-in_err-sink_line-clause-in_order
+returns-in_err-sink_line-clause-in_order g c =
+    let p = err_from_is_err_and c.from_residual-in_err-sink_line.result c.from_residual-in_err-sink_line.ensures.1 in
+    rw (p.1, p.2) (of_call (called-then g.C.Calls.step c.args.self.now.config c.args.sink.now c.lines.sink (failed _)
+    c.sink_line.new.sink c.lines.invariant.called (c.in_err-sink_line.ensures.called 0)))
+
+pub returns-then-not-branch-clause-in_order : goal.returns-then-not-branch-clause-in_order
+returns-then-not-branch-clause-in_order g c =
+    let stops : c.in_ok-sink_line.field-0 ≡ false = search rules in
+    let here = rw stops at c.in_ok-sink_line.ensures.called in
+    record {
+      outcome = stopped c.end_across-end.result;
+      ends = refl;
+      called = called-then g.C.Calls.step c.args.self.now.config c.args.sink.now c.lines.sink (stopped c.end_across-end.result)
+          c.sink_line.new.sink c.lines.invariant.called (here c.end_across-end.result);
+    }
+
+pub returns-clause-in_order : goal.returns-clause-in_order
+returns-clause-in_order g c = record { outcome = all_true; ends = tt; called = c.lines.invariant.called }

@@ -1,9 +1,10 @@
 use Rattle.std.proofs.Common.{◌≡◌, ◌≤◌, ◌-◌, true, length}
 use Rattle.std.specs.Prelude.{Ok}
+use Rattle.grep_definitions.specs.CallOrder.{HasCalled}
 use Rattle.grep_definitions.specs.SinkCalls.{begins}
 use Rattle.grep_definitions.specs.SinkRuns.{AreReported, all_true}
 use Rattle.grep_walk.specs.AcrossWalks.{IsAcross, IsReady, turns_before}
-use Rattle.grep_walk.specs.Walks.{IsKept, IsOrdered}
+use Rattle.grep_walk.specs.Walks.{IsOrdered}
 use Rattle.grep_core.proofs.search.Search.search_across.Given as goal
 
 abbrev pub invariant-lines : goal.invariant-lines
@@ -16,7 +17,7 @@ invariant-lines g l = record {
   reported : (first : g.row.C-Sink.Denot) → g.C.Calls.step first l.self.config begins (Ok true) l.fn.sink
       → AreReported g.C.Calls.step l.self.config first
       (turns_before l.self.config (g.M.Matcher.meaning l.matcher) l.bytes l.walk.reported_through) all_true l.sink;
-  kept : IsKept g.C.Calls.step l.self.config l.fn.sink l.sink;
+  called : HasCalled g.C.Calls.step l.self.config l.fn.sink all_true l.sink;
   may_call : g.C.Calls.may_call l.sink;
 }
 

@@ -1,6 +1,8 @@
 use Rattle.std.proofs.lemmas.Result.{err_from_is_err_and}
 use Rattle.grep_definitions.specs.Searches.{ErrorMakers, MatcherFacts}
 use Rattle.grep_core.proofs.StreamFinishLemmas.{stream-finished}
+use Rattle.grep_definitions.specs.Searches.{errors_by, facts_by}
+use Rattle.grep_definitions.proofs.CallOrderLemmas.{order-finished}
 use Rattle.grep_core.proofs.search.Search.search_by_line.Goals as goal
 
 pub returns-clause-searched : goal.returns-clause-searched
@@ -27,3 +29,11 @@ pub returns-in_err-finish-clause-searched : goal.returns-in_err-finish-clause-se
 returns-in_err-finish-clause-searched g c =
     let p = err_from_is_err_and c.from_residual.result c.from_residual.ensures.1 in
     rw (p.1, p.2) c.in_err-finish.ensures.fault
+
+pub returns-clause-in_order : goal.returns-clause-in_order
+returns-clause-in_order g c =
+    order-finished g.C.Calls.step c.args.self.now.config
+    (errors_by g.C.Error.SinkError.is_message g.C.Error.SinkError.is_io g.C.Error.SinkError.is_config)
+    (facts_by g.M.Matcher.meaning g.M.Matcher.fails g.M.Matcher.is_lawful g.M.Error.Display.output c.args.matcher.now) _
+    c.args.sink.now c.match_source.new.sink c.in_ok-finish.finish.byte_count c.in_ok-finish.finish.binary_byte_offset c.finish.result
+    c.finish.new.sink c.in_ok-finish.ensures.noted c.in_ok-finish.ensures.in_order c.finish.ensures.step

@@ -1,9 +1,11 @@
-use Rattle.std.proofs.Common.{◌∙◌, sym, subst}
+use Rattle.std.proofs.Common.{◌∙◌, sym, subst, refl, None}
+use Rattle.std.proofs.lemmas.Result.{err_from_is_err_and}
 use Rattle.grep_definitions.specs.Searches.{ErrorMakers, MatcherFacts}
 use Rattle.grep_core.specs.InputSearches.{IsBytesSearched}
 use Rattle.grep_walk.proofs.FinishLemmas.{searched-finish}
-use Rattle.grep_core.proofs.LookLemmas.{look-plain, searched-at}
+use Rattle.grep_core.proofs.LookLemmas.{look-detects, look-plain, searched-at}
 use Rattle.grep_core.proofs.search.Search.search_bytes.Given.{Over}
+use Rattle.grep_definitions.proofs.CallOrderLemmas as order
 use Rattle.grep_core.proofs.search.Search.search_bytes.Goals as goal
 
 abbrev errors-of : (g : Over) → ErrorMakers g.row.C-Error.Denot
@@ -38,3 +40,19 @@ returns-clause-searched g c = λ lawful.
     (sym (look-plain c.args.self.now.config.binary_detection (λ b is. c.in_default.not-Some b (quit ∙ is))))
     (searched-finish g.C.Calls.step (errors-of g) (facts-of g c.args.matcher.now) c.args.self.now.config c.args.bytes.now c.args.sink.now
     c.in_ok-count.count reported.0 c.match_bytes.new.sink c.finish.result c.finish.new.sink reported.1 finish)
+
+pub search_until-requires-clause-detecting : goal.search_until-requires-clause-detecting
+search_until-requires-clause-detecting g c =
+    look-detects c.args.self.now.config.binary_detection c.in-Some.byte (sym c.quit_byte.ensures ∙ c.in-Some.is)
+
+pub returns-in_err-count-clause-in_order : goal.returns-in_err-count-clause-in_order
+returns-in_err-count-clause-in_order g c =
+    let p = err_from_is_err_and c.from_residual.result c.from_residual.ensures.1 in
+    rw (p.1, p.2) (order.order-failed g.C.Calls.step c.args.self.now.config (errors-of g) (facts-of g c.args.matcher.now) (λ _. ⊥)
+    c.args.sink.now _ _ c.in_err-count.ensures.in_order)
+
+pub returns-clause-in_order : goal.returns-clause-in_order
+returns-clause-in_order g c =
+    order.order-finished g.C.Calls.step c.args.self.now.config (errors-of g) (facts-of g c.args.matcher.now) (λ _. ⊥) c.args.sink.now
+    c.match_bytes.new.sink c.in_ok-count.count None c.finish.result c.finish.new.sink (λ none. refl) c.in_ok-count.ensures.in_order
+    (rw c.new.ensures at c.finish.ensures.step)

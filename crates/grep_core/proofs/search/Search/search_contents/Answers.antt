@@ -1,16 +1,20 @@
-use Rattle.std.proofs.Common.{ℕ, Bool, List, true, None, length, ◌∙◌, subst, sym}
+use Rattle.std.proofs.Common.{ℕ, Bool, List, true, None, length, ◌∙◌, subst, sym, refl, inl, ap, Err}
 use Rattle.std.proofs.lemmas.Bool.{true≢false}
 use Rattle.std.proofs.lemmas.Result.{err_from_is_err_and}
 use Rattle.std.specs.Prelude.{vec_capacity}
-use Rattle.grep_line_buffer.specs.Contents.{IsBelow, ContentsFail}
+use Rattle.grep_line_buffer.specs.Contents.{FailsAfter, IsBelow, ContentsFail}
+use Rattle.grep_line_buffer.specs.Fills.{IfRead}
 use Rattle.grep_definitions.specs.BinaryBytes.{view_of}
 use Rattle.grep_definitions.specs.ReaderSearches.{IsUnreadIn}
 use Rattle.grep_definitions.specs.Searches.{ErrorMakers, MatcherFacts, IsFaultIn}
 use Rattle.grep_definitions.specs.SearchTurns.{calls_across}
 use Rattle.grep_core.specs.InputSearches.{IsAcrossSearched}
 use Rattle.grep_core.proofs.ContentsSearchLemmas as whole
-use Rattle.grep_core.proofs.LookLemmas.{look-plain, look-quit}
+use Rattle.grep_core.proofs.LookLemmas.{look-detects, look-plain, look-quit}
 use Rattle.grep_core.proofs.search.Search.search_contents.Given.{Over}
+use Rattle.grep_definitions.specs.CallOrder.{of_reading}
+use Rattle.grep_definitions.proofs.CallOrderLemmas as order
+use Rattle.grep_core.proofs.OrderLemmas.{failed-read, reading-error}
 use Rattle.grep_core.proofs.search.Search.search_contents.Goals as goal
 
 abbrev errors-of : (g : Over) → ErrorMakers g.row.C-Error.Denot
@@ -109,3 +113,38 @@ returns-clause-searched g c = λ has_buffers.
     below g.C.Calls.step (errors-of g) (facts-of g c.args.matcher.now) has_buffers c.args.sink.now
     c.in_ok-count.count reported.0 c.match_across.new.sink c.finish.result c.finish.new.sink
     reported.1 finish)
+
+pub search_until-requires-clause-detecting : goal.search_until-requires-clause-detecting
+search_until-requires-clause-detecting g c =
+    look-detects c.args.self.now.config.binary_detection c.in-Some.byte (sym c.quit_byte.ensures ∙ c.in-Some.is)
+
+pub returns-in-Err-clause-in_order : goal.returns-in-Err-clause-in_order
+returns-in-Err-clause-in_order g c =
+    of_reading c.io_error.result
+    (reading-error g.R.Source.remaining g.R.Source.step c.args.reader.now c.read_contents.new.reader c.in-Err.error c.io_error.result
+    (λ e is.
+    let fails = subst (λ fault. IfRead {X = Unit {0}} (Err fault) (λ e. FailsAfter g.R.Source.remaining g.R.Source.step e
+    c.args.decoder.now c.args.reader.now c.read_contents.new.contents.items c.read_contents.new.decoder c.read_contents.new.reader))
+    is c.in-Err.ensures.read in
+    failed-read g.R.Source.remaining g.R.Source.step c.args.reader.now c.args.decoder.now c.read_contents.new.decoder fails.mid
+    c.read_contents.new.reader c.read_contents.new.contents.items e (ap (λ d. d.has_ended) c.requires.started) fails.decodes
+    fails.unended fails.failed)
+    c.io_error.ensures) c.error_io.ensures (inl refl)
+
+pub returns-in-Some-clause-in_order : goal.returns-in-Some-clause-in_order
+returns-in-Some-clause-in_order g c =
+    order.order-each g.C.Calls.step c.args.self.now.config (errors-of g) (facts-of g c.args.matcher.now) (λ _. ⊥) _ (λ error never. absurd never)
+    c.args.sink.now
+    c.search_until.result c.search_until.new.sink c.search_until.ensures.in_order
+
+pub returns-in_err-count-clause-in_order : goal.returns-in_err-count-clause-in_order
+returns-in_err-count-clause-in_order g c =
+    let p = err_from_is_err_and c.from_residual.result c.from_residual.ensures.1 in
+    rw (p.1, p.2) (order.order-failed g.C.Calls.step c.args.self.now.config (errors-of g) (facts-of g c.args.matcher.now) _
+    c.args.sink.now _ _ c.in_err-count.ensures.in_order)
+
+pub returns-clause-in_order : goal.returns-clause-in_order
+returns-clause-in_order g c =
+    order.order-finished g.C.Calls.step c.args.self.now.config (errors-of g) (facts-of g c.args.matcher.now) _ c.args.sink.now
+    c.match_across.new.sink c.in_ok-count.count None c.finish.result c.finish.new.sink (λ none. refl) c.in_ok-count.ensures.in_order
+    (rw c.new.ensures at c.finish.ensures.step)

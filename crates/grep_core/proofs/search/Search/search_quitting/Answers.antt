@@ -1,10 +1,13 @@
 use Rattle.std.proofs.Common.{◌∙◌, refl, sym, subst}
+use Rattle.std.proofs.lemmas.Bool.{false≢true}
 use Rattle.std.proofs.lemmas.Result.{err_from_is_err_and}
 use Rattle.grep_definitions.specs.Searches.{ErrorMakers, MatcherFacts, IsFaultIn}
 use Rattle.grep_definitions.specs.SearchTurns.{calls_if}
-use Rattle.grep_core.specs.QuittingSinks.{Quits}
 use Rattle.grep_core.proofs.UntilLemmas.{fault-until, until-finished}
 use Rattle.grep_core.proofs.search.Search.search_quitting.Given.{Over}
+use Rattle.grep_core.specs.QuittingSinks.{Quits, count_to}
+use Rattle.grep_core.proofs.OrderLemmas as passed
+use Rattle.grep_definitions.proofs.CallOrderLemmas as order
 use Rattle.grep_core.proofs.search.Search.search_quitting.Goals as goal
 
 abbrev errors-of : (g : Over) → ErrorMakers g.row.C-Error.Denot
@@ -35,7 +38,9 @@ returns-in_err-count-clause-searched g c = λ lawful.
 
 pub returns-in_err-count-clause-same_sink : goal.returns-in_err-count-clause-same_sink
 returns-in_err-count-clause-same_sink g c =
-    c.match_bytes.ensures.kept (λ quitting. quitting.sink.ghost_name) (λ old call result new step. step.0)
+    order.begun-keeps (Quits g.C.Calls.step g.C.Calls.may_call) c.args.self.now.config (errors-of g) (facts-of g c.args.matcher.now)
+    (λ quitting. quitting.sink.ghost_name) (λ old call result new step. step.0) c.args.sink.now c.match_bytes.result
+    c.match_bytes.new.sink c.match_bytes.ensures.in_order
 
 pub returns-clause-searched : goal.returns-clause-searched
 returns-clause-searched g c = λ lawful.
@@ -47,4 +52,32 @@ returns-clause-searched g c = λ lawful.
 
 pub returns-clause-same_sink : goal.returns-clause-same_sink
 returns-clause-same_sink g c =
-    c.finish.ensures.step.0 ∙ c.match_bytes.ensures.kept (λ quitting. quitting.sink.ghost_name) (λ old call result new step. step.0)
+    c.finish.ensures.step.0 ∙ (order.begun-keeps (Quits g.C.Calls.step g.C.Calls.may_call) c.args.self.now.config (errors-of g) (facts-of g c.args.matcher.now)
+    (λ quitting. quitting.sink.ghost_name) (λ old call result new step. step.0) c.args.sink.now c.match_bytes.result
+    c.match_bytes.new.sink c.match_bytes.ensures.in_order)
+
+pub returns-in_err-count-clause-in_order : goal.returns-in_err-count-clause-in_order
+returns-in_err-count-clause-in_order g c =
+    let error = err_from_is_err_and c.from_residual.result c.from_residual.ensures.1 in
+    let step = g.C.Calls.step in
+    let may_call = g.C.Calls.may_call in
+    let k = c.args.self.now.config in
+    rw (error.1, error.2) (order.order-failed step k (errors-of g) (facts-of g c.args.matcher.now) (λ _. ⊥) c.args.sink.now.sink.now _ _
+    (order.passed-begun-failed step (Quits step may_call) k (λ q. q.sink.now) (passed.FoundNone step k may_call c.requires.detecting)
+    (λ q n. count_to q.found n) (passed.quits-one step k may_call c.requires.detecting) (errors-of g) (facts-of g c.args.matcher.now)
+    (passed.quits-begun step k may_call c.requires.detecting) (passed.quits-held step k may_call c.requires.detecting) c.args.sink.now _
+    c.match_bytes.new.sink c.requires.found c.in_err-count.ensures.in_order))
+
+pub returns-clause-in_order : goal.returns-clause-in_order
+returns-clause-in_order g c =
+    let step = g.C.Calls.step in
+    let may_call = g.C.Calls.may_call in
+    let k = c.args.self.now.config in
+    let finish = rw c.new.ensures at c.finish.ensures.step in
+    order.order-finished step k (errors-of g) (facts-of g c.args.matcher.now) (λ _. ⊥) c.args.sink.now.sink.now c.match_bytes.new.sink.sink.now
+    (count_to c.match_bytes.new.sink.found c.in_ok-count.count) c.match_bytes.new.sink.found c.finish.result c.finish.new.sink.sink.now
+    (λ none. absurd (false≢true (sym none ∙ c.requires.detecting)))
+    (order.passed-begun-to step (Quits step may_call) k (λ q. q.sink.now) (passed.FoundNone step k may_call c.requires.detecting)
+    (λ q n. count_to q.found n) (passed.quits-one step k may_call c.requires.detecting) (errors-of g) (facts-of g c.args.matcher.now)
+    (passed.quits-begun step k may_call c.requires.detecting) (passed.quits-held step k may_call c.requires.detecting) c.args.sink.now
+    c.in_ok-count.count c.match_bytes.new.sink c.requires.found c.in_ok-count.ensures.in_order) finish.2.2

@@ -3,6 +3,8 @@ use Rattle.std.proofs.lemmas.Result.{err_from_is_err_and}
 use Rattle.grep_definitions.specs.InputFronts.{IsClosed}
 use Rattle.grep_matcher.specs.Terminators.{byte_of}
 use Rattle.grep_core.proofs.RollLemmas as rolls
+use Rattle.grep_definitions.specs.SinkRuns.{all_true}
+use Rattle.grep_definitions.proofs.CallOrderLemmas.{called-none}
 use Rattle.grep_core.proofs.search.Search.search_shown.Goals as goal
 
 pub returns-then-start-window-clause-ends : goal.returns-then-start-window-clause-ends
@@ -76,3 +78,20 @@ returns-clause-goes_on g c = λ lawful _.
           (λ gone opens. first.closed gone opens closed)
           (λ gone more after opens closes inside. first.kept gone more after opens closed closes inside);
     }
+
+pub returns-then-start-window-clause-in_order : goal.returns-then-start-window-clause-in_order
+returns-then-start-window-clause-in_order g c =
+    record { outcome = all_true; ends = tt; called = called-none g.C.Calls.step c.args.self.now.config c.args.sink.now }
+
+pub returns-then-not-branch-clause-in_order : goal.returns-then-not-branch-clause-in_order
+returns-then-not-branch-clause-in_order g c = rw c.if-not-branch.true at c.in_ok-search_window.ensures.in_order
+
+pub returns-then-not-is_terminated-clause-in_order : goal.returns-then-not-is_terminated-clause-in_order
+returns-then-not-is_terminated-clause-in_order g c =
+    let goes : c.in_ok-search_window.field-0 ≡ true = search rules in
+    record { outcome = all_true; ends = tt; called = rw goes at c.in_ok-search_window.ensures.in_order }
+
+pub returns-clause-in_order : goal.returns-clause-in_order
+returns-clause-in_order g c =
+    let goes : c.in_ok-search_window.field-0 ≡ true = search rules in
+    rw goes at c.in_ok-search_window.ensures.in_order

@@ -1,16 +1,18 @@
-use Rattle.std.proofs.Common.{rules, ◌≡◌, ◌∙◌, ℕ, length, refl, ap, sym, subst, arith, true, false, length-take, length-drop, ◌-◌, drop}
+use Rattle.std.proofs.Common.{rules, ◌≡◌, ◌∙◌, ℕ, length, refl, ap, sym, subst, arith, true, false, length-take, length-drop, ◌-◌, drop, ◌+◌}
 use Rattle.std.proofs.lemmas.Bool.{false≢true}
 use Rattle.std.proofs.lemmas.Result.{err_from_is_err_and}
 use Rattle.grep_lines.specs.Positions.{slice, IsLineStart}
 use Rattle.grep_matcher.specs.Lines.{lines}
 use Rattle.grep_definitions.specs.Searches.{ErrorMakers, MatcherFacts}
 use Rattle.grep_definitions.specs.Settings.{Settings}
-use Rattle.grep_definitions.specs.SinkRuns.{all_true, stopped}
+use Rattle.grep_definitions.specs.SinkRuns.{all_true, failed, stopped}
 use Rattle.grep_walk.specs.Walks.{is_over, line_end}
 use Rattle.grep_walk.proofs.SkipLemmas as skips
 use Rattle.grep_walk.proofs.WindowSearchLemmas as search
 use Rattle.grep_walk.proofs.WindowSearchLemmas.{ordered-next}
 use Rattle.grep_core.proofs.search.Search.search_window.Given.{Over}
+use Rattle.grep_definitions.specs.CallOrder.{of_call, of_question}
+use Rattle.grep_definitions.proofs.CallOrderLemmas.{called-none, called-then}
 use Rattle.grep_core.proofs.search.Search.search_window.Goals as goal
 
 -- under passthru there are no contexts
@@ -42,7 +44,7 @@ lines-init g c = record {
   known = λ lawful gone input first so_far. skips.known-nothing c.args.self.now.config (g.M.Matcher.meaning c.args.matcher.now)
       c.args.window.now c.args.start;
   searched = λ lawful gone input first so_far. so_far;
-  kept = λ name each. refl;
+  called = called-none g.C.Calls.step c.args.self.now.config c.args.sink.now;
   may_call = c.requires.may_call;
 }
 
@@ -173,6 +175,7 @@ lines-preserved g c =
     let over_is = c.is_over.ensures in
     let goes : c.in_ok-sink_line.field-0 ≡ true = search rules in
     let reported = rw goes at c.in_ok-sink_line.ensures.reported in
+    let here = rw goes at c.in_ok-sink_line.ensures.called in
     let on = ap (λ p. is_over c.args.self.now.config p c.in_ok-chosen.chosen) (sym next)
     ∙ rw over_is at c.if-is_over.false in
     let size = length-take (c.in-Some.end - c.skip-start.result) (drop c.skip-start.result c.args.window.now) in
@@ -207,15 +210,47 @@ lines-preserved g c =
           search.searched-next _ (errors g) (facts g c.args.matcher.now) _ _ _ _ _ bare _ _ _ _ turn.here c.in-Some.ensures.within.0
           c.in-Some.ensures.within.1 turn.line c.in_ok-chosen.chosen (value turn.agrees) _
           (reported gone input turn.here.inside) on;
-      kept = λ name each. c.in_ok-sink_line.ensures.kept name each ∙ c.lines.invariant.kept name each;
+      called = called-then g.C.Calls.step c.args.self.now.config c.args.sink.now c.lines.sink all_true c.sink_line.new.sink
+          c.lines.invariant.called (here 0);
       may_call = c.in_ok-sink_line.ensures.may_call;
     })
 
-pub returns-in_err-sink_line-clause-kept : goal.returns-in_err-sink_line-clause-kept
-returns-in_err-sink_line-clause-kept g c = λ name each. c.sink_line.ensures.kept name each ∙ c.lines.invariant.kept name each
+pub returns-in_err-ahead-clause-in_order : goal.returns-in_err-ahead-clause-in_order
+returns-in_err-ahead-clause-in_order g c =
+    let p = err_from_is_err_and c.from_residual.result c.from_residual.ensures.1 in
+    let fault = c.in_err-ahead.ensures.fault in
+    rw (p.1, p.2) (of_question _ fault.0 fault.2 fault.1 c.lines.invariant.called)
 
-pub returns-then-not-branch-clause-kept : goal.returns-then-not-branch-clause-kept
-returns-then-not-branch-clause-kept g c = λ name each. c.sink_line.ensures.kept name each ∙ c.lines.invariant.kept name each
+pub returns-in_err-chosen-clause-in_order : goal.returns-in_err-chosen-clause-in_order
+returns-in_err-chosen-clause-in_order g c =
+    let p = err_from_is_err_and c.from_residual-in_err-chosen.result c.from_residual-in_err-chosen.ensures.1 in
+    let fault = c.in_err-chosen.ensures.fault in
+    rw (p.1, p.2) (of_question _ fault.0 fault.2 fault.1 c.lines.invariant.called)
 
-pub returns-then-is_over-clause-kept : goal.returns-then-is_over-clause-kept
-returns-then-is_over-clause-kept g c = λ name each. c.sink_line.ensures.kept name each ∙ c.lines.invariant.kept name each
+pub returns-in_err-sink_line-clause-in_order : goal.returns-in_err-sink_line-clause-in_order
+returns-in_err-sink_line-clause-in_order g c =
+    let p = err_from_is_err_and c.from_residual-in_err-sink_line.result c.from_residual-in_err-sink_line.ensures.1 in
+    rw (p.1, p.2) (of_call (called-then g.C.Calls.step c.args.self.now.config c.args.sink.now c.lines.sink (failed _)
+    c.sink_line.new.sink c.lines.invariant.called (c.in_err-sink_line.ensures.called 0)))
+
+pub returns-then-not-branch-clause-in_order : goal.returns-then-not-branch-clause-in_order
+returns-then-not-branch-clause-in_order g c =
+    let stops : c.in_ok-sink_line.field-0 ≡ false = search rules in
+    let here = rw stops at c.in_ok-sink_line.ensures.called in
+    record {
+      outcome = stopped (c.skip-start.new.walk.offset + length (slice c.args.window.now c.skip-start.result c.in-Some.end));
+      ends = refl;
+      called = called-then g.C.Calls.step c.args.self.now.config c.args.sink.now c.lines.sink (stopped _) c.sink_line.new.sink
+          c.lines.invariant.called (here _);
+    }
+
+pub returns-then-is_over-clause-in_order : goal.returns-then-is_over-clause-in_order
+returns-then-is_over-clause-in_order g c =
+    let goes : c.in_ok-sink_line.field-0 ≡ true = search rules in
+    let here = rw goes at c.in_ok-sink_line.ensures.called in
+    record {
+      outcome = all_true;
+      ends = tt;
+      called = called-then g.C.Calls.step c.args.self.now.config c.args.sink.now c.lines.sink all_true c.sink_line.new.sink
+          c.lines.invariant.called (here 0);
+    }

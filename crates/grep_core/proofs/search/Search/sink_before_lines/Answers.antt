@@ -1,9 +1,11 @@
 use Rattle.std.proofs.Common.{rules, arith, ◌≡◌, ◌-◌, subst, drop, length-take, length-drop, true, false, ◌∙◌}
 use Rattle.std.proofs.lemmas.Result.{err_from_is_err_and}
-use Rattle.grep_definitions.specs.LineTurns.{pending_turns}
+use Rattle.grep_definitions.specs.LineTurns.{number_of, pending_turns}
 use Rattle.grep_definitions.specs.SinkRuns.{AreReported, all_true, stopped, failed}
 use Rattle.grep_walk.proofs.BeforeContextLemmas as before
 use Rattle.grep_walk.proofs.WindowLemmas as windows
+use Rattle.grep_lines.specs.Positions.{slice}
+use Rattle.grep_definitions.proofs.CallOrderLemmas.{called-before, called-then}
 use Rattle.grep_core.proofs.search.Search.sink_before_lines.Goals as goal
 
 pub returns-in_err-sink_before_line-clause-reported : goal.returns-in_err-sink_before_line-clause-reported
@@ -80,6 +82,27 @@ loop-at-preserved g c =
           (c.loop-at.invariant.at gone from) line
           c.loop-at.invariant.same c.loop-at.invariant.low (c.loop-at.invariant.reported gone input inside from end)
           all_true (here end);
-      kept = λ name each. c.in_ok-sink_before_line.ensures.kept name each ∙ c.loop-at.invariant.kept name each;
+      called = called-then g.C.Calls.step k c.args.sink.now c.loop-at.sink all_true c.sink_before_line.new.sink
+          c.loop-at.invariant.called (called-before g.C.Calls.step k w.reported_through c.loop-at.at w.line (number_of k c.loop-at.at)
+          c.loop-at.offset 0 (slice window c.loop-at.position c.in-Some.next) c.loop-at.sink all_true c.sink_before_line.new.sink
+          (here 0));
       may_call = c.in_ok-sink_before_line.ensures.may_call;
     }
+
+pub returns-in_err-sink_before_line-clause-called : goal.returns-in_err-sink_before_line-clause-called
+returns-in_err-sink_before_line-clause-called g c =
+    let p = err_from_is_err_and c.from_residual.result c.from_residual.ensures.1 in
+    rw (p.1, p.2) (λ end. called-then g.C.Calls.step c.args.self.now.config c.args.sink.now c.loop-at.sink (failed _)
+    c.sink_before_line.new.sink c.loop-at.invariant.called (called-before g.C.Calls.step c.args.self.now.config
+    c.args.walk.now.reported_through c.loop-at.at c.args.walk.now.line (number_of c.args.self.now.config c.loop-at.at) c.loop-at.offset
+    end (slice c.args.window.now c.loop-at.position c.in-Some.next) c.loop-at.sink _ c.sink_before_line.new.sink
+    (c.in_err-sink_before_line.ensures.reported end)))
+
+pub returns-then-not-branch-clause-called : goal.returns-then-not-branch-clause-called
+returns-then-not-branch-clause-called g c = λ end.
+    let stops : c.in_ok-sink_before_line.field-0 ≡ false = search rules in
+    let here = rw stops at c.in_ok-sink_before_line.ensures.reported in
+    called-then g.C.Calls.step c.args.self.now.config c.args.sink.now c.loop-at.sink (stopped end)
+    c.sink_before_line.new.sink c.loop-at.invariant.called (called-before g.C.Calls.step c.args.self.now.config
+    c.args.walk.now.reported_through c.loop-at.at c.args.walk.now.line (number_of c.args.self.now.config c.loop-at.at) c.loop-at.offset
+    end (slice c.args.window.now c.loop-at.position c.in-Some.next) c.loop-at.sink (stopped end) c.sink_before_line.new.sink (here end))

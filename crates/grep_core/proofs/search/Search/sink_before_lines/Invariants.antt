@@ -1,8 +1,8 @@
 use Rattle.std.proofs.Common.{◌≡◌, ℕ, List, length, ◌+◌, ◌-◌, ◌≤◌}
+use Rattle.grep_definitions.specs.CallOrder.{HasCalled}
 use Rattle.grep_definitions.specs.SinkRuns.{AreReported, all_true}
 use Rattle.grep_definitions.specs.LineTurns.{pending_turns}
 use Rattle.grep_walk.specs.Windows.{IsInWindow, IsLineIn}
-use Rattle.grep_walk.specs.Walks.{IsKept}
 use Rattle.grep_core.proofs.search.Search.sink_before_lines.Given as goal
 
 abbrev pub invariant-loop-at : goal.invariant-loop-at
@@ -16,7 +16,7 @@ invariant-loop-at g l = record {
       → IsLineIn l.self.config gone l.window l.first l.index
       → (end : ℕ) → AreReported g.C.Calls.step l.self.config l.fn.sink
       (pending_turns l.self.config input l.walk.reported_through l.walk.line end l.index (l.at - l.index)) all_true l.sink;
-  kept : IsKept g.C.Calls.step l.self.config l.fn.sink l.sink;
+  called : HasCalled g.C.Calls.step l.self.config l.fn.sink all_true l.sink;
   may_call : g.C.Calls.may_call l.sink;
 }
 

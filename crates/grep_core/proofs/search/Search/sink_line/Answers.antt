@@ -1,10 +1,11 @@
-use Rattle.std.proofs.Common.{rules, ◌≡◌, ◌-◌, true, false}
+use Rattle.std.proofs.Common.{rules, ◌≡◌, ◌-◌, true, false, refl}
 use Rattle.std.proofs.lemmas.Result.{err_from_is_err_and}
 use Rattle.grep_lines.specs.Positions.{slice}
 use Rattle.grep_definitions.specs.LineTurns.{pending_turns, match_turns}
 use Rattle.grep_definitions.specs.SinkRuns.{failed, stopped, outcome_of}
 use Rattle.grep_definitions.proofs.SinkRunLemmas.{AreReported-append, AreReported-ended}
 use Rattle.grep_walk.specs.Walks.{line_end}
+use Rattle.grep_definitions.proofs.CallOrderLemmas.{called-match, called-one, called-then}
 use Rattle.grep_core.proofs.search.Search.sink_line.Goals as goal
 
 pub returns-in_err-sink_before_context-clause-reported : goal.returns-in_err-sink_before_context-clause-reported
@@ -42,3 +43,28 @@ returns-then-chosen-clause-reported g c =
     (pending_turns c.args.self.now.config input w.reported_through w.line stop w.reported_through (w.line - w.reported_through))
     (match_turns c.args.self.now.config w.reported_through w.line w.offset stop here) c.args.sink.now c.sink_before_context.new.sink
     (outcome_of stop c.sink_matched.result) c.sink_matched.new.sink (reported gone input inside stop) (c.sink_matched.ensures.reported stop))
+
+pub returns-then-not-branch-clause-called : goal.returns-then-not-branch-clause-called
+returns-then-not-branch-clause-called g c =
+    let stops : c.in_ok-sink_before_context.field-0 ≡ false = search rules in
+    rw stops at c.in_ok-sink_before_context.ensures.called
+
+pub returns-then-chosen-clause-called : goal.returns-then-chosen-clause-called
+returns-then-chosen-clause-called g c = λ stop.
+    let w = c.args.walk.now in
+    let goes : c.in_ok-sink_before_context.field-0 ≡ true = search rules in
+    let first = rw goes at c.in_ok-sink_before_context.ensures.called in
+    called-then g.C.Calls.step c.args.self.now.config c.args.sink.now c.sink_before_context.new.sink (outcome_of stop c.sink_matched.result)
+    c.sink_matched.new.sink (first stop) (called-match g.C.Calls.step c.args.self.now.config w.reported_through w.line
+    w.offset stop (slice c.args.window.now c.args.start c.args.end) c.sink_before_context.new.sink (outcome_of stop c.sink_matched.result)
+    c.sink_matched.new.sink (c.sink_matched.ensures.reported stop))
+
+pub returns-then-walk-gt0-clause-called : goal.returns-then-walk-gt0-clause-called
+returns-then-walk-gt0-clause-called g c = λ stop.
+    called-one g.C.Calls.step c.args.self.now.config _ stop c.args.sink.now c.sink_context.result c.sink_context.new.sink
+    c.sink_context.ensures.step refl
+
+pub returns-then-self-clause-called : goal.returns-then-self-clause-called
+returns-then-self-clause-called g c = λ stop.
+    called-one g.C.Calls.step c.args.self.now.config _ stop c.args.sink.now c.sink_context-then-self.result
+    c.sink_context-then-self.new.sink c.sink_context-then-self.ensures.step refl

@@ -1,8 +1,21 @@
 use Rattle.std.specs.Prelude.{Result, Ok, Err, IfErr}
 use Rattle.grep_definitions.specs.FileSearches.{IsFileRead}
-use Rattle.grep_definitions.proofs.ReaderViewLemmas.{IsReaderSearched-seen, IsUnread-seen}
+use Rattle.grep_definitions.proofs.ReaderViewLemmas.{IsReaderSearched-seen, IsReadingError-seen, IsUnread-seen}
 use Rattle.grep_searcher.specs.declared.searcher.files.Opened.{Opened}
+use Rattle.grep_definitions.specs.Searches.{errors_by, facts_by}
+use Rattle.grep_definitions.proofs.CallOrderLemmas.{order-each}
 use Rattle.grep_searcher.proofs.searcher.Searcher.search_file.Goals as goal
+
+
+pub returns-clause-in_order : goal.returns-clause-in_order
+returns-clause-in_order g c = λ allowed.
+    let errors = errors_by g.S.Error.SinkError.is_message g.S.Error.SinkError.is_io g.S.Error.SinkError.is_config in
+    let facts = facts_by g.M.Matcher.meaning g.M.Matcher.fails g.M.Matcher.is_lawful g.M.Error.Display.output c.args.matcher in
+    order-each g.S.Sink.step c.args.self.now.settings errors facts _ _
+    (IsReadingError-seen (λ (reader : Opened g.row.F.Denot). reader.file.now) (λ reader. reader.file.ghost_name)
+    g.F.Read.remaining _ (IsFileRead g.F.Read.remaining) (λ s result t read. read)
+    c.args.self.now _ c.search_reader.new.reader c.file-1.given.0 c.file-1.given.1)
+    c.args.sink.now c.search_reader.result c.search_reader.new.sink (c.search_reader.ensures.in_order allowed)
 
 pub returns-clause-searched : goal.returns-clause-searched
 returns-clause-searched g c =

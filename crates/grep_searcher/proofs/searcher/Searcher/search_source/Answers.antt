@@ -3,6 +3,9 @@ use Rattle.grep_definitions.specs.Questions.{IsLawfulFor}
 use Rattle.grep_definitions.specs.ReaderSearches.{of_buffers}
 use Rattle.grep_definitions.specs.Searches.{ErrorMakers, MatcherFacts}
 use Rattle.grep_searcher.proofs.SourceSearchLemmas.{fault-buffers, searched-same, unread-same}
+use Rattle.std.proofs.Common.{inl, inr, refl}
+use Rattle.grep_definitions.specs.CallOrder.{IsReadingError, RunsInOrder, of_reading}
+use Rattle.grep_definitions.specs.Searches.{errors_by, facts_by}
 use Rattle.grep_searcher.proofs.searcher.Searcher.search_source.Goals as goal
 
 pub returns-in-Err-clause-searched : goal.returns-in-Err-clause-searched
@@ -65,3 +68,15 @@ returns-clause-succeeds g c = λ never infallible lawful.
     c.args.reader.now c.search_reader-result.result c.search_reader-result.new.reader same
     (c.search_reader-result.ensures.succeeds never infallible
     (subst (λ k. IsLawfulFor k facts.meaning facts.is_lawful) (sym same) lawful))
+
+pub returns-in-Err-clause-in_order : goal.returns-in-Err-clause-in_order
+returns-in-Err-clause-in_order g c =
+    of_reading c.in-Err.error (inr (inr (inr c.in-Err.ensures.memory))) c.error_io.ensures (inl refl)
+
+pub returns-clause-in_order : goal.returns-clause-in_order
+returns-clause-in_order g c =
+    let errors = errors_by g.S.Error.SinkError.is_message g.S.Error.SinkError.is_io g.S.Error.SinkError.is_config in
+    let facts = facts_by g.M.Matcher.meaning g.M.Matcher.fails g.M.Matcher.is_lawful g.M.Error.Display.output c.args.matcher.now in
+    let same = sym c.search-search.ensures.configured.same ∙ c.in-Ok.ensures.settings in
+    subst (λ k. RunsInOrder g.S.Sink.step k errors facts (IsReadingError g.R.Source.remaining g.R.Source.step c.args.reader.now c.search_reader-result.new.reader)
+    c.args.sink.now c.search_reader-result.result c.search_reader-result.new.sink) same c.search_reader-result.ensures.in_order
