@@ -125,11 +125,13 @@ module _ {S E : Type 0} (step : Steps S E) (k : Settings) where
     where
       next : DetectsNoted new
       next = λ offset is. detects offset (sym same ∙ is)
+
       by_result : (result : Result Bool E) → HasCalled step k old.sink.now (outcome_of end result) new.sink.now
           → NotedPasses old result end new
       by_result (Ok true) called = (next, called)
       by_result (Ok false) called = stopped-to old.sink.now new.sink.now end called
       by_result (Err e) called = called
+
       go : (before after : Option ℕ) → after ≡ called_with new
           → noted step (old.sink.now, before) k call result (new.sink.now, after)
           → HasCalled step k old.sink.now (outcome_of end result) new.sink.now
@@ -262,9 +264,10 @@ module _ {S E : Type 0} (step : Steps S E) (k : Settings) where
     quits-one (context kind number from bytes) end old result new inner none (name, byte, made) =
         looked-at (position_of old.byte bytes) from (context kind number from bytes) end old result new refl none made
     quits-one breaks end old result new inner none (name, byte, (held, goes)) =
-        subst (λ r. QuitPasses old r end new) (sym goes)
-        (ap (λ w. w.found) held ∙ none,
-        subst (λ s. HasCalled step k old.sink.now all_true s) (sym (ap (λ w. w.sink) held)) (order.called-none step k old.sink.now))
+        subst (λ r. QuitPasses old r end new) (sym goes) (
+          ap (λ w. w.found) held ∙ none,
+          subst (λ s. HasCalled step k old.sink.now all_true s) (sym (ap (λ w. w.sink) held)) (order.called-none step k old.sink.now),
+        )
     quits-one (binary_data offset) end old result new inner none (name, byte, (same, unbroken, made)) =
         clear old result end new (same ∙ none)
         (call-passes old.sink.now new.sink.now (binary_data offset) end result inner made)
@@ -286,6 +289,7 @@ module _ {S E : Type 0} (step : Steps S E) (k : Settings) where
             → RunsInOrder step k errors matcher IsOfReading old result new
         by_result (Ok u) run = run
         by_result (Err e) run = of_run run
+
         go : (outcome : Outcome E) → AreReported step k old (one_turn begins 0) outcome run.mid
             → IsEndedAt step k offset 0 outcome run.mid result new → IsOrderedRun step k old result new
         go all_true reported called =

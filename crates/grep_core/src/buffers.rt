@@ -1,6 +1,6 @@
 //! The buffers of a search.
-ghost use Rattle.std.specs.Prelude.{IfOk};
-ghost use Rattle.grep_core.specs.SearchBuffers.{AreFitting};
+ghost use Rattle.std.specs.Prelude.{◌≡◌, IfOk, vec_capacity};
+ghost use Rattle.grep_core.specs.SearchBuffers.{AreFitting, least_size};
 
 use grep_decode::Decoder;
 use grep_line_buffer::{Detection, LineBuffer};
@@ -22,9 +22,14 @@ pub struct Buffers<A: Allocator> {
 }
 
 impl<A: Allocator + Copy> Buffers<A> {
-    /// Buffers for searches with this configuration. An error says that there was no memory for them.
+    /// Buffers for searches with this configuration: a line buffer of 65,536 bytes, or of the heap limit if that is
+    /// lower, a decoder's 8,192, and none yet for contents. An error says that there was no memory for them.
     pub fn new(alloc: A, config: &Config) -> Result<Buffers<A>, AllocError>
         ensures fitting { IfOk result (λ buffers. AreFitting config.now buffers) }
+        ensures lines { IfOk result (λ buffers.
+            buffers.lines.size ≡ least_size config.now.heap_limit) }
+        ensures decoder { IfOk result (λ buffers. buffers.decoder.capacity ≡ 8192) }
+        ensures contents { IfOk result (λ buffers. vec_capacity buffers.contents ≡ 0) }
     {
         let limit = config.heap_limit;
         let capacity = match limit {

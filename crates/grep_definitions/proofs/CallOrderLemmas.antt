@@ -35,9 +35,8 @@ pub inner-before : (k : Settings) (v j i : ℕ) (number : Option ℕ) (offset en
     → AreInner k (before_turns k v j i number offset end line)
 inner-before k v j i number offset end line =
     elim (nat_le (i - j) k.before_context) as (λ near. AreInner k
-    (if near then broken_turns (is_gap k v j i) (context Before number offset line) end else []))
-    [
-      true ↦ inner-broken k (is_gap k v j i) (context Before number offset line) end refl
+    (if near then broken_turns (is_gap k v j i) (context Before number offset line) end else [])) [
+      | true ↦ inner-broken k (is_gap k v j i) (context Before number offset line) end refl
       | false ↦ All-nil (IsInner k)
     ]
 

@@ -295,10 +295,10 @@ fills-preserved g c =
       calls = order.called-then g.C.Calls.step k c.args.sink.now.sink.now c.passes_binary.new.sink.sink.now all_true
           c.search_shown.new.sink.sink.now first later.1;
       same_sink = (order.goes-keeps (Notes g.C.Calls.step) c.args.self.now.config
-    (errors_by g.C.Error.SinkError.is_message g.C.Error.SinkError.is_io g.C.Error.SinkError.is_config)
-    (facts_by g.M.Matcher.meaning g.M.Matcher.fails g.M.Matcher.is_lawful g.M.Error.Display.output c.args.matcher.now)
-    (λ n. n.sink.ghost_name) (λ s call result t passes. passes.0) c.passes_binary.new.sink c.search_shown.result
-    c.search_shown.new.walk.offset c.search_shown.new.sink c.search_shown.ensures.in_order)
+          (errors_by g.C.Error.SinkError.is_message g.C.Error.SinkError.is_io g.C.Error.SinkError.is_config)
+          (facts_by g.M.Matcher.meaning g.M.Matcher.fails g.M.Matcher.is_lawful g.M.Error.Display.output c.args.matcher.now)
+          (λ n. n.sink.ghost_name) (λ s call result t passes. passes.0) c.passes_binary.new.sink c.search_shown.result
+          c.search_shown.new.walk.offset c.search_shown.new.sink c.search_shown.ensures.in_order)
           ∙ (c.passes_binary.ensures.same_sink ∙ c.fills.invariant.same_sink);
       noted = λ lawful. kept
           ∙ (ends.noted-passed g.C.Calls.step k c.fills.lines.binary c.fill.new.self.binary _ c.fills.sink c.passes_binary.new.sink

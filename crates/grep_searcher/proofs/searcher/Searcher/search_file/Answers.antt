@@ -6,7 +6,6 @@ use Rattle.grep_definitions.specs.Searches.{errors_by, facts_by}
 use Rattle.grep_definitions.proofs.CallOrderLemmas.{order-each}
 use Rattle.grep_searcher.proofs.searcher.Searcher.search_file.Goals as goal
 
-
 pub returns-clause-in_order : goal.returns-clause-in_order
 returns-clause-in_order g c = λ allowed.
     let errors = errors_by g.S.Error.SinkError.is_message g.S.Error.SinkError.is_io g.S.Error.SinkError.is_config in

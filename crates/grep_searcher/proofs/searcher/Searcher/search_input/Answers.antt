@@ -93,8 +93,7 @@ returns-clause-in_order g c =
 pub returns-clause-decoded : goal.returns-clause-decoded
 returns-clause-decoded g c = λ _ allowed.
     let errors = errors_by g.S.Error.SinkError.is_message g.S.Error.SinkError.is_io g.S.Error.SinkError.is_config in
-    let facts = facts_by g.M.Matcher.meaning g.M.Matcher.fails g.M.Matcher.is_lawful g.M.Error.Display.output c.args.matcher.now in
-    (
+    let facts = facts_by g.M.Matcher.meaning g.M.Matcher.fails g.M.Matcher.is_lawful g.M.Error.Display.output c.args.matcher.now in (
       c.search_source.new.reader.now,
       IsReaderSearched-seen (λ (slice : Bor (List ℕ)). slice.now) (λ slice. tt) (λ all. Some all) _ IsSliceRead slice-read
           c.args.self.now _ c.search_source.new.reader c.search_source.new.reader.now (λ same. refl) g.S.Sink.step errors facts

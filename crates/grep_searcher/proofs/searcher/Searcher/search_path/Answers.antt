@@ -5,7 +5,6 @@ use Rattle.grep_definitions.specs.Searches.{errors_by, facts_by}
 use Rattle.grep_definitions.proofs.CallOrderLemmas.{order-each}
 use Rattle.grep_searcher.proofs.searcher.Searcher.search_path.Goals as goal
 
-
 pub returns-in-Ok-clause-in_order : goal.returns-in-Ok-clause-in_order
 returns-in-Ok-clause-in_order g c = λ allowed.
     let errors = errors_by g.S.Error.SinkError.is_message g.S.Error.SinkError.is_io g.S.Error.SinkError.is_config in
