@@ -10,19 +10,10 @@ use Rattle.grep_definitions.specs.LineTurns.{one_turn}
 use Rattle.grep_definitions.specs.QuitPoints.{holds_byte, call_at, calls_before, offset_at, quit_in_reports, IsEndedAt, IsRunTo}
 use Rattle.grep_definitions.specs.Settings.{Settings}
 use Rattle.grep_definitions.specs.SinkCalls.{Call, Turn, begins, matches, context, breaks, binary_data, finishes}
-use Rattle.grep_definitions.specs.SinkCalls.{is_break, reported_bytes, reported_from}
+use Rattle.grep_definitions.specs.SinkCalls.{is_break, is_report, reported_bytes, reported_from}
 use Rattle.grep_definitions.specs.SinkRuns.{Steps, Outcome, all_true, stopped, failed, AreReported, IsFinished, IsRun, finish_result}
 use Rattle.grep_core.specs.QuittingSinks.{Watch, quitting, ended, IsLookedAt, IsMadeAfter, count_to}
 use Rattle.grep_core.proofs.FirstPositionLemmas as first
-
--- calls that report lines
-abbrev pub is_report : Call → Bool
-is_report begins = false
-is_report (matches number from bytes) = true
-is_report (context kind number from bytes) = true
-is_report breaks = false
-is_report (binary_data offset) = false
-is_report (finishes count binary) = false
 
 -- each break is followed by a report with the same end
 pub data AreJoined : List Turn → Type 0 where

@@ -10,7 +10,7 @@ use Rattle.grep_definitions.specs.Settings.{Settings}
 use Rattle.grep_definitions.specs.SinkCalls.{Turn, begins, binary_data, is_finish}
 use Rattle.grep_definitions.specs.SinkRuns.{Steps, Outcome, all_true, AreReported}
 use Rattle.grep_definitions.specs.LineSearch.{turns, turns_before}
-use Rattle.grep_definitions.proofs.BreakLemmas.{AreBreaksPaired, paired-before, paired-last}
+use Rattle.grep_definitions.proofs.BreakLemmas.{AreBreaksPaired, paired-before, paired-alone}
 use Rattle.grep_definitions.proofs.SinkViewLemmas.{AreReported-seen}
 use Rattle.grep_core.specs.declared.noted.Noted.{Noted}
 use Rattle.grep_decode.specs.DecoderStates.{DecoderState}
@@ -55,7 +55,7 @@ module _ {S E : Type 0} (step : Steps S E) (k : Settings) where
           subst (λ x. noted step (first.sink.now, None) k turn.call (Ok true) (last.sink.now, x)) (sym found) (
             refl,
             All-head (λ turn. is_finish turn.call ≡ false) turn [] before,
-            paired-last (turn ∷ []) paired,
+            paired-alone turn paired,
             All-head (λ turn. reported_to turn.call ≤ o) turn [] low,
             (next.sink.now, plain, subst (λ s. step s k (binary_data o) (Ok true) last.sink.now) same_now called),
           ),

@@ -18,7 +18,7 @@ use Rattle.grep_definitions.specs.Searches.{ErrorMakers, MatcherFacts, IsFaultIn
 use Rattle.grep_definitions.specs.Searches.{of_sink, of_matcher, of_quit_sink, of_quit_matcher}
 use Rattle.grep_definitions.specs.SearchTurns.{calls_if}
 use Rattle.grep_definitions.specs.Settings.{Settings}
-use Rattle.grep_definitions.specs.SinkCalls.{Call, Turn, begins, matches, context, breaks, binary_data, finishes, is_break, ends_in_break}
+use Rattle.grep_definitions.specs.SinkCalls.{Call, Turn, begins, matches, context, breaks, binary_data, finishes, is_break, is_report}
 use Rattle.grep_definitions.specs.SinkRuns.{Steps, Outcome, all_true, stopped, failed}
 use Rattle.grep_definitions.specs.SinkRuns.{AreReported, IsFinished, IsRun, NeverFails, finish_result}
 use Rattle.grep_definitions.proofs.BreakLemmas as pairs
@@ -30,7 +30,7 @@ use Rattle.grep_core.specs.QuittingSinks.{Watch, Quits, quitting, watch_of, IsMa
 use Rattle.grep_walk.specs.Walks.{Counted}
 use Rattle.grep_walk.proofs.FinishLemmas.{run-finish}
 use Rattle.grep_core.proofs.QuittingLemmas as quitting_calls
-use Rattle.grep_core.proofs.QuittingLemmas.{AreJoined, no_turns, joined_report, joined_break, is_report}
+use Rattle.grep_core.proofs.QuittingLemmas.{AreJoined, no_turns, joined_report, joined_break}
 
 -- a break or a report
 abbrev pub is_of_line : Call → Bool
@@ -75,11 +75,6 @@ lines-append (turn ∷ front) back (is, rest) lines = (is, lines-append front ba
 lines-joined : (f : ℕ → List Turn) (i n : ℕ) → ((j : ℕ) → AreOfLines (f j)) → AreOfLines (joined_from f i n)
 lines-joined f i zero each = tt
 lines-joined f i (suc n) each = lines-append (f i) (joined_from f (i + 1) n) (each i) (lines-joined f (i + 1) n each)
-
-lines-take : (n : ℕ) (turns : List Turn) → AreOfLines turns → AreOfLines (take n turns)
-lines-take zero turns lines = tt
-lines-take (suc n) [] lines = tt
-lines-take (suc n) (turn ∷ later) (line, lines) = (line, lines-take n later lines)
 
 lines-through : (offset : ℕ) (turns : List Turn) → AreOfLines turns → AreOfLines (filter (λ turn. nat_le turn.end offset) turns)
 lines-through offset [] lines = tt
@@ -280,28 +275,33 @@ module _ {S E F : Type 0} (step : Steps S E) (may_call : S → Type 0) (errors :
       (rw none (subst (λ l. quit_in_reports b l ≡ None) (sym begun) (rw all.0 refl)))
       (subst (λ l. AreReported step k old.sink.now l all_true new.sink.now) (sym begun) all.1)
 
+  -- those whose turn ends at or before some offset
+  through : (across : Bool) (turns : List Turn) → AreBreaksPaired turns → AreOfLines turns → (offset : ℕ)
+      → (haystack : List ℕ) (error : F) (made : List Turn) (e : E) (new : Quitting S)
+      → made ≡ filter (λ turn. nat_le turn.end offset) (record { call = begins; end = 0 } ∷ turns)
+      → (calls_if k matcher.meaning across).IsAsked bytes haystack made → matcher.fails haystack error
+      → errors.is_message (matcher.text_of error) e → AreReported (Quits step may_call) k old made all_true new
+      → IsQuitFault step errors matcher (calls_if k matcher.meaning across) b k bytes old.sink.now e new.sink.now
+  through across turns paired lines offset haystack error made e new before asked fails message reported =
+      let later : List Turn = filter (λ turn. nat_le turn.end offset) turns in
+      let begun : made ≡ record { call = begins; end = 0 } ∷ later = before ∙ (rw (le-leb 0 offset (omega arith)) refl) in
+      fault-made across haystack error made later e new begun
+      (joined-of later (pairs.paired-through offset turns paired) (lines-through offset turns lines))
+      asked fails message reported
+
   -- a search that ended in an error before
   pub fault-until : (across : Bool) (e : E) (new : Quitting S)
       → IsFaultIn (Quits step may_call) errors matcher (calls_if k matcher.meaning across) k bytes old e new
       → IsQuitFault step errors matcher (calls_if k matcher.meaning across) b k bytes old.sink.now e new.sink.now
   fault-until across e new (of_sink run) = of_quit_sink (searched-until across (Err e) new run)
-  fault-until true e new (of_matcher haystack error made (asked, (count, taken), last) fails message reported) =
-      let turns = (calls_if k matcher.meaning true).turns bytes in
-      let whole_made : ends_in_break (take (suc count) turns) ≡ false = ap ends_in_break (sym taken) ∙ last in
-      let paired = pairs.paired-take (suc count) turns (pairs.paired-across k matcher.meaning bytes) whole_made in
-      let joined = joined-of (take count (unit_turns k matcher.meaning bytes)) paired.1
-      (lines-take count (unit_turns k matcher.meaning bytes) (lines-across k matcher.meaning bytes)) in
-      fault-made true haystack error made (take count (unit_turns k matcher.meaning bytes)) e new taken joined
-      (asked, (count, taken), last) fails message reported
+  fault-until true e new (of_matcher haystack error made asked fails message reported) =
+      through true (unit_turns k matcher.meaning bytes) (pairs.paired-across k matcher.meaning bytes).1
+      (lines-across k matcher.meaning bytes) (LineSearch.start k matcher.meaning bytes asked.index)
+      haystack error made e new asked.before asked fails message reported
   fault-until false e new (of_matcher haystack error made asked fails message reported) =
-      let offset = LineSearch.start k matcher.meaning bytes asked.index in
-      let later : List Turn = filter (λ turn. nat_le turn.end offset) (line_turns k matcher.meaning bytes) in
-      let begun : made ≡ record { call = begins; end = 0 } ∷ later =
-      asked.before ∙ (rw (le-leb 0 offset (omega arith)) refl) in
-      let joined : AreJoined later = joined-of later
-      (pairs.paired-through offset (line_turns k matcher.meaning bytes) (pairs.paired-by_line k matcher.meaning bytes).1)
-      (lines-through offset (line_turns k matcher.meaning bytes) (lines-by_line k matcher.meaning bytes)) in
-      fault-made false haystack error made later e new begun joined asked fails message reported
+      through false (line_turns k matcher.meaning bytes) (pairs.paired-by_line k matcher.meaning bytes).1
+      (lines-by_line k matcher.meaning bytes) (LineSearch.start k matcher.meaning bytes asked.index)
+      haystack error made e new asked.before asked fails message reported
 
   -- `finish` ends what was counted
   pub until-finished : (across : Bool) (count : ℕ) (outcome : Outcome E) (mid : Quitting S) (result : Result (Unit {0}) E)

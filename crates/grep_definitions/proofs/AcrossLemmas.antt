@@ -1,30 +1,32 @@
 -- What the calls across lines report.
-use Rattle.std.proofs.Common.{◌≡◌, ℕ, ◌-◌, ◌<◌, ◌≤◌, Bool, true, false, not, ◌&&◌, List, [], ◌∷◌, length}
-use Rattle.std.proofs.Common.{refl, ap, arith, ◌⊎◌, ⊎_elim, inl, inr, Option, Some, None, if◌then◌else◌}
+use Rattle.std.proofs.Common.{◌≡◌, ℕ, ◌+◌, ◌-◌, ◌<◌, ◌≤◌, Bool, true, false, not, ◌&&◌, List, [], ◌∷◌, length}
+use Rattle.std.proofs.Common.{refl, sym, ap, ◌∙◌, arith, ◌⊎◌, ⊎_elim, inl, inr, Option, Some, None, if◌then◌else◌}
 use Rattle.std.proofs.Math.Bool.{and-false}
-use Rattle.std.proofs.lemmas.Bool.{cases_Bool}
+use Rattle.std.proofs.lemmas.Bool.{cases_Bool, le-leb}
 use Rattle.std.proofs.lemmas.List.{length-take}
 use Rattle.std.specs.Prelude.{nat_lt}
 use Rattle.std.specs.List.{list_any}
-use Rattle.std.specs.List.Sorted.{IsStrictlyIncreasing}
 use Rattle.grep_matcher.specs.Terminators.{byte_of}
 use Rattle.grep_matcher.specs.Matching.{Meaning}
 use Rattle.grep_lines.specs.Blocks.{block_start, block_end}
-use Rattle.grep_lines.specs.LineLaws.{LinesJoin}
+use Rattle.grep_lines.proofs.LawLemmas.{AreLines-lines}
+use Rattle.grep_report.specs.declared.sink_context.SinkContextKind.TheVariants.{After}
 use Rattle.grep_definitions.specs.Settings.{Settings}
-use Rattle.grep_definitions.specs.SinkCalls.{Turn, breaks}
+use Rattle.grep_definitions.specs.SinkCalls.{Turn, matches, context, breaks}
 use Rattle.grep_definitions.specs.Below.{count_below, is_below}
-use Rattle.grep_definitions.specs.LineSearch.{Kind, matched, in_context, line_count, start}
+use Rattle.grep_definitions.specs.LineSearch.{Kind, matched, in_context, line_count, line, number, start}
 use Rattle.grep_definitions.specs.SuccessiveMatches.{all_matches, matches_up_to}
 use Rattle.grep_definitions.specs.AcrossLines
 use Rattle.grep_definitions.specs.AcrossLines.{touches, is_touched, is_free, is_selected, continues_unit, turns_at}
-use Rattle.grep_definitions.specs.SearchLaws.{report_offsets}
+use Rattle.grep_definitions.specs.SearchLaws.{AreInOrder, report_calls}
 use Rattle.grep_definitions.proofs.BoolLemmas.{both_true, and-both, or-cases, or-first, or-second}
-use Rattle.grep_definitions.proofs.BelowLemmas.{count_below-none, count_below-once, count_below-either}
+use Rattle.grep_definitions.proofs.BelowLemmas.{some_below-some, count_below-none, count_below-once, count_below-either}
 use Rattle.grep_definitions.proofs.RunLemmas.{begins_run, begins_run-either, is_inside-run}
-use Rattle.grep_definitions.proofs.LineStartLemmas.{line_start-ascends}
+use Rattle.grep_definitions.proofs.LineStartLemmas.{line_start-ascends, line_start-more}
+use Rattle.grep_definitions.proofs.ReportLemmas.{IsReported, in_order-joined, report_calls-broken}
 use Rattle.grep_definitions.proofs.TurnEndLemmas.{line_start-le}
-use Rattle.grep_definitions.proofs.SearchLawLemmas.{offsets-joined, matches_in, matches-joined, kind-matched}
+use Rattle.grep_definitions.proofs.UnitLemmas.{unit-lines}
+use Rattle.grep_definitions.proofs.SearchLawLemmas.{matches_in, matches-joined, kind-matched}
 use Rattle.grep_definitions.proofs.SearchLawLemmas.{count_below-weaker, count_below-limited}
 
 module _ (k : Settings) (meaning : Meaning) (bytes : List ℕ) where
@@ -123,16 +125,6 @@ module _ (k : Settings) (meaning : Meaning) (bytes : List ℕ) where
           ap (λ o. count_below (begins_run (held o)) m) is in
           omega (arith, together)
 
-  -- the offset of a line's report is its start
-  offsets-report : (i : ℕ) (kind : Option Kind) → (report_offsets (AcrossLines.report k meaning bytes i kind) ≡ [])
-      ⊎ (report_offsets (AcrossLines.report k meaning bytes i kind) ≡ at i ∷ [])
-  offsets-report i None = inl refl
-  offsets-report i (Some matched) = ⊎_elim
-      (λ yes. inl (rw yes refl))
-      (λ no. inr (rw no refl))
-      (cases_Bool (continues_unit k meaning bytes i))
-  offsets-report i (Some (in_context c)) = inr refl
-
   -- the calls of a line, with its break or without
   abbrev broken : ℕ → Bool → List Turn
   broken i b =
@@ -141,18 +133,71 @@ module _ (k : Settings) (meaning : Meaning) (bytes : List ℕ) where
       ∷ AcrossLines.report k meaning bytes i (AcrossLines.kind k meaning bytes i)
       else AcrossLines.report k meaning bytes i (AcrossLines.kind k meaning bytes i)
 
-  -- a line has one report at most, at its start
-  offsets-line : (i : ℕ) → (report_offsets (T i) ≡ []) ⊎ (report_offsets (T i) ≡ at i ∷ [])
-  offsets-line i = go (AcrossLines.breaks_before k meaning bytes i)
+  -- a selected line that is in the unit of the line before it has no report
+  unreported : (i : ℕ) → selected i ≡ true → continues_unit k meaning bytes i ≡ true → report_calls (T i) ≡ []
+  unreported i here goes_on =
+      let kind : AcrossLines.kind k meaning bytes i ≡ Some matched = rw here refl in
+      report_calls-broken (AcrossLines.breaks_before k meaning bytes i) _ _
+      ∙ (ap (λ o. report_calls (AcrossLines.report k meaning bytes i o)) kind ∙ (rw goes_on refl))
+
+  -- a line has one report at most, of its bytes or of those of the unit that begins there
+  reported-line : (i : ℕ) → i < n → (report_calls (T i) ≡ []) ⊎ IsReported T at i
+  reported-line i inside =
+      go (AcrossLines.kind k meaning bytes i) refl (report_calls-broken (AcrossLines.breaks_before k meaning bytes i) _ _)
     where
-      go : (b : Bool) → (report_offsets (broken i b) ≡ []) ⊎ (report_offsets (broken i b) ≡ at i ∷ [])
-      go true = offsets-report i (AcrossLines.kind k meaning bytes i)
-      go false = offsets-report i (AcrossLines.kind k meaning bytes i)
+      above : at i < at (i + 1)
+      above = line_start-ascends AreLines-lines (byte_of k.line_terminator) bytes i inside
+
+      go : (o : Option Kind) → AcrossLines.kind k meaning bytes i ≡ o
+          → report_calls (T i) ≡ report_calls (AcrossLines.report k meaning bytes i o)
+          → (report_calls (T i) ≡ []) ⊎ IsReported T at i
+      go None kind is = inl is
+      go (Some matched) kind is =
+          let here = kind-matched (selected i) (AcrossLines.follows_selected k meaning bytes i)
+          (AcrossLines.precedes_selected k meaning bytes i) k.passthru kind in
+          ⊎_elim
+          (λ (goes_on : continues_unit k meaning bytes i ≡ true). inl (unreported i here goes_on))
+          (λ (first : continues_unit k meaning bytes i ≡ false).
+          let unit = unit-lines k meaning bytes i inside here in
+          inr (record {
+            call = matches (number k meaning bytes i) (at i) (AcrossLines.unit k meaning bytes i);
+            next = AcrossLines.unit_end k meaning bytes i;
+            reports = is ∙ (rw first refl);
+            later = unit.later;
+            above = omega (
+              arith,
+              above,
+              line_start-le (byte_of k.line_terminator) bytes (i + 1)
+                  (AcrossLines.unit_end k meaning bytes i) (omega (arith, unit.later)),
+            );
+            from = refl;
+            to = unit.size;
+            alone = λ j low high. unreported j (unit.hits j low high).0 (unit.hits j low high).1;
+          }))
+          (cases_Bool (continues_unit k meaning bytes i))
+      go (Some (in_context c)) kind is = inr (record {
+        call = context c (number k meaning bytes i) (at i) (line k meaning bytes i);
+        next = i + 1;
+        reports = is;
+        later = omega arith;
+        above = above;
+        from = refl;
+        to = sym (line_start-more (byte_of k.line_terminator) bytes i inside);
+        alone = λ j low high. absurd (omega (arith, low, high));
+      })
 
   -- the reports ascend
-  pub offsets-across : LinesJoin → IsStrictlyIncreasing (report_offsets (AcrossLines.turns k meaning bytes))
-  offsets-across join =
-      (offsets-joined T at n (line_start-ascends join (byte_of k.line_terminator) bytes) offsets-line 0 n (omega arith)).0
+  pub in_order-across : AreInOrder (report_calls (AcrossLines.turns k meaning bytes))
+  in_order-across = in_order-joined T at n (line_start-ascends AreLines-lines (byte_of k.line_terminator) bytes) reported-line
+
+  -- a line after a selected one that isn't selected itself is reported as the line after it
+  pub turns_at-follows : (i j : ℕ) → selected i ≡ false → selected j ≡ true → j < i → i - j ≤ k.after_context
+      → T i ≡ record { call = context After (number k meaning bytes i) (at i) (line k meaning bytes i); end = at (i + 1) } ∷ []
+  turns_at-follows i j misses hit less close =
+      let near = le-leb (i - j) k.after_context close in
+      let follows : AcrossLines.follows_selected k meaning bytes i ≡ true = some_below-some _ i j less (rw (near, hit) refl) in
+      let kind : AcrossLines.kind k meaning bytes i ≡ Some (in_context After) = rw (misses, follows) refl in
+      rw (kind, and-false (nat_lt 0 (k.after_context + k.before_context))) refl
 
   -- a match is reported at a line only if a unit begins there
   matches-report : (i : ℕ) (kind : Option Kind) → AcrossLines.kind k meaning bytes i ≡ kind

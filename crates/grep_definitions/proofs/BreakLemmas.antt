@@ -1,6 +1,6 @@
 -- A break is directly followed by a report, and their turns end alike.
 use Rattle.std.proofs.Common.{◌≡◌, ℕ, zero, suc, ◌+◌, ◌-◌, Bool, true, false, not, ◌&&◌, List, [], ◌∷◌, ◌++◌, Option, Some, None}
-use Rattle.std.proofs.Common.{refl, sym, ◌∙◌, ◌<◌, ◌≤◌, ap, arith, subst, take, ⊎_elim, if◌then◌else◌}
+use Rattle.std.proofs.Common.{refl, sym, ◌∙◌, ◌<◌, ◌≤◌, ap, arith, subst, ⊎_elim, if◌then◌else◌}
 use Rattle.std.proofs.lemmas.Bool.{cases_Bool, lt-ltb, ltb-true}
 use Rattle.std.specs.Prelude.{nat_le, nat_lt, filter, is_some}
 use Rattle.grep_matcher.specs.Matching.{Meaning}
@@ -11,7 +11,7 @@ use Rattle.grep_definitions.specs.LineSearch
 use Rattle.grep_definitions.specs.LineSearch.{Kind, matched, in_context}
 use Rattle.grep_definitions.specs.Questions.{IsAskedByLine}
 use Rattle.grep_definitions.specs.Settings.{Settings}
-use Rattle.grep_definitions.specs.SinkCalls.{Turn, begins, breaks, is_break, ends_in_break}
+use Rattle.grep_definitions.specs.SinkCalls.{Turn, breaks, is_break}
 use Rattle.grep_definitions.proofs.BoolLemmas.{clash, not_false}
 
 -- some calls begin with one that is no break, whose turn ends there
@@ -24,24 +24,13 @@ abbrev pub AreBreaksPaired : List Turn → Type 0
 AreBreaksPaired [] = Unit {0}
 AreBreaksPaired (turn ∷ later) = (is_break turn.call ≡ true → BeginsWithReport turn.end later) × AreBreaksPaired later
 
--- so the last of them is no break
-pub paired-last : (turns : List Turn) → AreBreaksPaired turns → ends_in_break turns ≡ false
-paired-last [] paired = refl
-paired-last (turn ∷ []) (here, paired) = go (is_break turn.call) refl
+-- so a call alone is no break
+pub paired-alone : (turn : Turn) → AreBreaksPaired (turn ∷ []) → is_break turn.call ≡ false
+paired-alone turn (here, paired) = go (is_break turn.call) refl
   where
     go : (c : Bool) → is_break turn.call ≡ c → c ≡ false
     go true is = absurd (here is)
     go false is = refl
-paired-last (turn ∷ next ∷ later) (here, paired) = paired-last (next ∷ later) paired
-
--- some first ones of which the last is no break
-pub paired-take : (n : ℕ) (turns : List Turn) → AreBreaksPaired turns → ends_in_break (take n turns) ≡ false
-    → AreBreaksPaired (take n turns)
-paired-take zero turns paired whole = tt
-paired-take (suc n) [] paired whole = tt
-paired-take (suc zero) (turn ∷ later) paired whole = (λ is. absurd (clash is whole), tt)
-paired-take (suc (suc n)) (turn ∷ []) paired whole = (λ is. absurd (clash is whole), tt)
-paired-take (suc (suc n)) (turn ∷ next ∷ later) (here, paired) whole = (here, paired-take (suc n) (next ∷ later) paired whole)
 
 begins-append : (end : ℕ) (front back : List Turn) → BeginsWithReport end front → BeginsWithReport end (front ++ back)
 begins-append end [] back report = absurd report
@@ -163,15 +152,10 @@ module _ (k : Settings) (meaning : Meaning) (bytes : List ℕ) where
   report-across i (Some (in_context c)) true can whole = (λ is. (refl, refl), (λ is. absurd (clash is refl), tt))
   report-across i (Some (in_context c)) false can whole = (λ is. absurd (clash is refl), tt)
 
-  -- the calls of some first lines
-  pub paired-front : (i : ℕ) → i ≤ AcrossLines.turn_count k meaning bytes
-      → AreBreaksPaired (record { call = begins; end = 0 } ∷ joined_from (AcrossLines.turns_at k meaning bytes) 0 i)
-  paired-front i few = (
-    λ is. absurd (clash is refl),
-    paired-joined (AcrossLines.turns_at k meaning bytes) 0 i
-        (λ j low high. report-across j (AcrossLines.kind k meaning bytes j) (AcrossLines.breaks_before k meaning bytes j)
-        (λ is. (breaks-need _ _ _ _ is).0) (unit-unbroken j (omega (arith, high, few)))),
-  )
-
   pub paired-across : AreBreaksPaired (AcrossLines.turns k meaning bytes)
-  paired-across = paired-front (AcrossLines.turn_count k meaning bytes) (omega arith)
+  paired-across = (
+    λ is. absurd (clash is refl),
+    paired-joined (AcrossLines.turns_at k meaning bytes) 0 (AcrossLines.turn_count k meaning bytes)
+        (λ j low high. report-across j (AcrossLines.kind k meaning bytes j) (AcrossLines.breaks_before k meaning bytes j)
+        (λ is. (breaks-need _ _ _ _ is).0) (unit-unbroken j (omega (arith, high)))),
+  )

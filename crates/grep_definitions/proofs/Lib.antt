@@ -21,6 +21,7 @@ pub mod TurnEndLemmas
 pub mod LineReportLemmas
 pub mod FirstLineLemmas
 pub mod FirstTurnLemmas
+pub mod ReportLemmas
 pub mod SearchLawLemmas
 pub mod MatchCallLemmas
 pub mod SuccessiveMatchLemmas
@@ -30,6 +31,7 @@ pub mod RunLemmas
 pub mod AcrossLemmas
 pub mod UnitLemmas
 pub mod AcrossWalkLemmas
+pub mod AcrossTurnEndLemmas
 pub mod AsByLineLemmas
 pub mod BinaryLawLemmas
 pub mod DecodedLemmas

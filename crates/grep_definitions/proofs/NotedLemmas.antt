@@ -3,7 +3,7 @@ use Rattle.std.proofs.Common.{◌≡◌, ◌⊎◌, ℕ, ◌≤◌, ◌<◌, inl
 use Rattle.std.proofs.Common.{Result, Ok, Err, refl, sym, ap, subst, arith}
 use Rattle.std.proofs.lemmas.List.Elements.{All-head, All-tail}
 use Rattle.std.specs.declared.io.Error.{Error}
-use Rattle.grep_definitions.proofs.BreakLemmas.{AreBreaksPaired, paired-last}
+use Rattle.grep_definitions.proofs.BreakLemmas.{AreBreaksPaired, paired-alone}
 use Rattle.grep_definitions.specs.NotedSinks.{noted, reported_to}
 use Rattle.grep_definitions.specs.Searches.{ErrorMakers, MatcherFacts, IsClearFault, IsFaultIn, IsLineFault, HasReportedIn}
 use Rattle.grep_definitions.specs.Searches.{of_sink, of_matcher}
@@ -80,7 +80,7 @@ module _ {S E : Type 0} (step : Steps S E) (k : Settings) where
         (
           refl,
           All-head (λ turn. is_finish turn.call ≡ false) turn [] before,
-          paired-last (turn ∷ []) paired,
+          paired-alone turn paired,
           All-head (λ turn. reported_to turn.call ≤ o) turn [] low,
           (next, goes, subst (λ s. step s k (binary_data o) (Ok true) last) (ap (λ (s : S × Option ℕ). s.0) same) called),
         ),

@@ -1,5 +1,5 @@
 -- What the calls of a line, and of the lines together, tell.
-use Rattle.std.proofs.Common.{◌≡◌, ℕ, zero, suc, ◌+◌, ◌-◌, ◌<◌, ◌≤◌, Bool, true, false, List, [], ◌∷◌, ◌++◌, length, slice_index, refl, sym, ap, subst, ◌∙◌, arith, ◌⊎◌, ⊎_elim, inl, inr, Option, Some, None, append_assoc, if◌then◌else◌}
+use Rattle.std.proofs.Common.{◌≡◌, ℕ, zero, suc, ◌+◌, ◌-◌, ◌<◌, ◌≤◌, Bool, true, false, List, [], ◌∷◌, length, slice_index, refl, sym, ap, subst, ◌∙◌, arith, ◌⊎◌, inl, inr, Option, Some, None, if◌then◌else◌}
 use Rattle.std.proofs.Math.Bool.{and-false}
 use Rattle.std.proofs.lemmas.Bool.{le-leb, ltb-true}
 use Rattle.std.proofs.lemmas.List.Sums.{sum_by-append}
@@ -10,14 +10,15 @@ use Rattle.grep_matcher.specs.Matching.{Meaning}
 use Rattle.grep_lines.specs.LineLaws.{LinesJoin}
 use Rattle.grep_report.specs.declared.sink_context.SinkContextKind.TheVariants.{Before, After, Other}
 use Rattle.grep_definitions.specs.Settings.{Settings}
-use Rattle.grep_definitions.specs.SinkCalls.{Turn, context, breaks}
-use Rattle.grep_definitions.specs.SearchLaws.{report_offsets, is_match, offset_of}
+use Rattle.grep_definitions.specs.SinkCalls.{Call, Turn, context, breaks, reported_bytes, reported_from}
+use Rattle.grep_definitions.specs.SearchLaws.{AreInOrder, is_match, report_calls}
 use Rattle.grep_definitions.specs.Below.{count_below, at_most, joined_from}
 use Rattle.grep_definitions.specs.LineSearch
 use Rattle.grep_definitions.specs.LineSearch.{turns_at, Kind, matched, in_context}
 use Rattle.grep_definitions.proofs.BelowLemmas.{some_below-some, joined_from-more}
-use Rattle.grep_definitions.proofs.LineStartLemmas.{line_start-ascends}
+use Rattle.grep_definitions.proofs.LineStartLemmas.{line_start-ascends, line_start-more}
 use Rattle.grep_definitions.proofs.BoolLemmas.{both_true}
+use Rattle.grep_definitions.proofs.ReportLemmas.{IsReported, in_order-joined, report_calls-broken}
 
 -- a bound never gives more
 pub at_most-le : (o : Option ℕ) (n : ℕ) → at_most o n ≤ n
@@ -43,30 +44,9 @@ IsStrictlyIncreasing-cons x xs rises above zero below = above (omega arith)
 IsStrictlyIncreasing-cons x xs rises above (suc i) below = let next : suc i + 1 ≡ suc (i + 1) = omega arith in
     rw next (rises i (omega arith))
 
--- the offsets of some calls, and then those of the later calls
-pub report_offsets-append : (front back : List Turn) → report_offsets (front ++ back) ≡ report_offsets front ++ report_offsets back
-report_offsets-append [] back = refl
-report_offsets-append (turn ∷ front) back =
-    ap (λ rest. offset_of turn.call ++ rest) (report_offsets-append front back)
-    ∙ sym (append_assoc (offset_of turn.call) (report_offsets front) (report_offsets back))
-
 -- offsets that ascend, from a bound on
 abbrev pub AscendFrom : ℕ → List ℕ → Type 0
 AscendFrom low offsets = IsStrictlyIncreasing offsets × (0 < length offsets → low ≤ slice_index offsets 0)
-
--- the reports of some lines ascend, if each line has one at most, at its start
-pub offsets-joined : (f : ℕ → List Turn) (start : ℕ → ℕ) (n : ℕ) → ((i : ℕ) → i < n → start i < start (i + 1))
-    → ((i : ℕ) → (report_offsets (f i) ≡ []) ⊎ (report_offsets (f i) ≡ start i ∷ [])) → (i m : ℕ) → i + m ≤ n
-    → AscendFrom (start i) (report_offsets (joined_from f i m))
-offsets-joined f start n rises one i zero inside = (λ j below. absurd (omega arith), λ some. absurd (omega arith))
-offsets-joined f start n rises one i (suc m) inside =
-    let later = offsets-joined f start n rises one (i + 1) m (omega arith) in
-    let here : start i < start (i + 1) = rises i (omega arith) in
-    rw (report_offsets-append (f i) (joined_from f (i + 1) m))
-    (⊎_elim
-    (λ none. rw none (later.0, λ some. let low = later.1 some in omega arith))
-    (λ at. rw at (IsStrictlyIncreasing-cons (start i) _ later.0 (λ some. let low = later.1 some in omega arith), λ some. omega arith))
-    (one i))
 
 -- how many matches some calls report
 abbrev pub matches_in : List Turn → ℕ
@@ -159,31 +139,34 @@ module _ (k : Settings) (meaning : Meaning) (bytes : List ℕ) where
       let kind : LineSearch.kind k meaning bytes i ≡ Some (in_context After) = rw (misses, follows) refl in
       rw (kind, and-false (nat_lt 0 (k.after_context + k.before_context))) refl
 
-  -- the offset of a line's report is its start
-  offsets-report : (i : ℕ) (kind : Option Kind) → (report_offsets (LineSearch.report k meaning bytes i kind) ≡ [])
-      ⊎ (report_offsets (LineSearch.report k meaning bytes i kind) ≡ start i ∷ [])
-  offsets-report i None = inl refl
-  offsets-report i (Some matched) = inr refl
-  offsets-report i (Some (in_context c)) = inr refl
-
-  -- a line has one report at most, at its start
-  pub offsets-line : (i : ℕ) → (report_offsets (T i) ≡ []) ⊎ (report_offsets (T i) ≡ start i ∷ [])
-  offsets-line i = go (LineSearch.breaks_before k meaning bytes i)
+  -- a line has one report at most, of its bytes
+  reported-line : LinesJoin → (i : ℕ) → i < n → (report_calls (T i) ≡ []) ⊎ IsReported T start i
+  reported-line join i inside = go (LineSearch.kind k meaning bytes i) (report_calls-broken (LineSearch.breaks_before k meaning bytes i) _ _)
     where
-      go : (b : Bool) → (report_offsets
-          (if b then record { call = breaks; end = LineSearch.turn_end k meaning bytes i (LineSearch.kind k meaning bytes i) }
-          ∷ LineSearch.report k meaning bytes i (LineSearch.kind k meaning bytes i) else LineSearch.report k meaning bytes i
-          (LineSearch.kind k meaning bytes i)) ≡ [])
-          ⊎ (report_offsets (if b then record
-          { call = breaks; end = LineSearch.turn_end k meaning bytes i (LineSearch.kind k meaning bytes i) } ∷ LineSearch.report k meaning
-          bytes i (LineSearch.kind k meaning bytes i) else LineSearch.report k meaning bytes i (LineSearch.kind k meaning bytes i))
-          ≡ start i ∷ [])
-      go true = offsets-report i (LineSearch.kind k meaning bytes i)
-      go false = offsets-report i (LineSearch.kind k meaning bytes i)
+      one : (call : Call) → report_calls (T i) ≡ call ∷ [] → reported_from call ≡ start i
+          → reported_bytes call ≡ LineSearch.line k meaning bytes i → IsReported T start i
+      one call is from own = record {
+        call = call;
+        next = i + 1;
+        reports = is;
+        later = omega arith;
+        above = line_start-ascends join (byte_of k.line_terminator) bytes i inside;
+        from = from;
+        to = omega (arith, from, ap length own, line_start-more (byte_of k.line_terminator) bytes i inside);
+        alone = λ j above below. absurd (omega (arith, above, below));
+      }
 
-  -- the reports of some lines ascend
-  pub offsets-ascend : LinesJoin → (i m : ℕ) → i + m ≤ n → AscendFrom (start i) (report_offsets (joined_from T i m))
-  offsets-ascend join = offsets-joined T start n (line_start-ascends join (byte_of k.line_terminator) bytes) offsets-line
+      go : (o : Option Kind) → report_calls (T i) ≡ report_calls (LineSearch.report k meaning bytes i o)
+          → (report_calls (T i) ≡ []) ⊎ IsReported T start i
+      go None is = inl is
+      go (Some matched) is = inr (one _ is refl refl)
+      go (Some (in_context c)) is = inr (one _ is refl refl)
+
+  -- the reports ascend
+  pub in_order-by_line : LinesJoin → AreInOrder (report_calls (LineSearch.turns k meaning bytes))
+  in_order-by_line join = in_order-joined T start (LineSearch.turn_count k meaning bytes)
+      (λ i below. line_start-ascends join (byte_of k.line_terminator) bytes i (omega (arith, below, turn_count-le)))
+      (λ i below. reported-line join i (omega (arith, below, turn_count-le)))
 
   -- a report tells one match at most, and only where its line is chosen
   matches-report : (i : ℕ) (kind : Option Kind) → LineSearch.kind k meaning bytes i ≡ kind

@@ -2,7 +2,7 @@
 use Rattle.std.proofs.Common.{◌≡◌, ℕ, zero, suc, ◌+◌, ◌-◌, ◌<◌, ◌≤◌, Bool, true, false, not, ◌&&◌, List, [], ◌∷◌, ◌++◌, length, take, drop}
 use Rattle.std.proofs.Common.{refl, sym, ap, subst, ◌∙◌, arith, ⊎_elim, Option, Some, None, if◌then◌else◌}
 use Rattle.std.proofs.Math.Seq.{take-add}
-use Rattle.std.proofs.lemmas.Bool.{cases_Bool}
+use Rattle.std.proofs.lemmas.Bool.{cases_Bool, cases_lt, lt-ltb}
 use Rattle.std.proofs.lemmas.Grind.{flat_map-append}
 use Rattle.std.proofs.lemmas.List.{append-nil, drop-drop, length-take, length-drop}
 use Rattle.std.specs.Prelude.{nat_lt}
@@ -23,8 +23,9 @@ use Rattle.grep_definitions.specs.AcrossLines
 use Rattle.grep_definitions.specs.AcrossLines.{is_selected, continues_unit, turns_at}
 use Rattle.grep_definitions.specs.AcrossLaws.{report_bytes, report_edges}
 use Rattle.grep_definitions.proofs.BelowLemmas.{joined_from-equal}
+use Rattle.grep_definitions.proofs.BoolLemmas.{clash}
 use Rattle.grep_definitions.proofs.RunLemmas.{run_end, IsRunEnd-run_end, continues, joined-runs, edges, edges-rise}
-use Rattle.grep_definitions.proofs.LineStartLemmas.{line_start-ascends, line_start-within}
+use Rattle.grep_definitions.proofs.LineStartLemmas.{line_start-ascends, line_start-more, line_start-within}
 use Rattle.grep_definitions.proofs.SearchLawLemmas.{kind-matched}
 use Rattle.grep_definitions.proofs.TurnEndLemmas.{line_start-le}
 
@@ -189,6 +190,48 @@ module _ (k : Settings) (meaning : Meaning) (bytes : List ℕ) where
         line_start-le (byte_of k.line_terminator) bytes i (run_end selected n i) run.low,
         line_start-within AreLines-lines (byte_of k.line_terminator) bytes (run_end selected n i),
       )
+
+  -- the lines of the unit that begins at a selected line, and where its bytes end
+  pub record IsUnitOf (i : ℕ) : Type 0 where
+    pub later : i < AcrossLines.unit_end k meaning bytes i
+    pub size : at i + length (AcrossLines.unit k meaning bytes i) ≡ at (AcrossLines.unit_end k meaning bytes i)
+    pub hits : (j : ℕ) → i < j → j < AcrossLines.unit_end k meaning bytes i → (selected j ≡ true) × (goes_on j ≡ true)
+
+  pub unit-lines : (i : ℕ) → i < n → selected i ≡ true → IsUnitOf i
+  unit-lines i inside here = ⊎_elim
+      (λ (inverted : k.invert_match ≡ true).
+      let end : AcrossLines.unit_end k meaning bytes i ≡ i + 1 = ap (λ b. if b then i + 1 else run_end selected n i) inverted in
+      record {
+        later = omega (arith, end);
+        size = omega (
+          arith,
+          ap (λ e. length (slice bytes (at i) (at e))) end,
+          ap at end,
+          ap length (line-slice i inside),
+          line_start-more (byte_of k.line_terminator) bytes i inside,
+        );
+        hits = λ j low high. absurd (omega (arith, low, high, end));
+      })
+      (λ (plain : k.invert_match ≡ false).
+      let end : AcrossLines.unit_end k meaning bytes i ≡ run_end selected n i =
+      ap (λ b. if b then i + 1 else run_end selected n i) plain in
+      let run = IsRunEnd-run_end selected n i inside here in
+      record {
+        later = ⊎_elim
+            (λ less. omega (arith, less, end))
+            (λ over.
+            let same : run_end selected n i ≡ i = omega (arith, over, run.low) in
+            absurd (clash here (ap selected (sym same) ∙ run.closed (omega (arith, same, inside)))))
+            (cases_lt i (run_end selected n i));
+        size = unit-end i inside here plain ∙ ap at (sym end);
+        hits = λ j low high.
+            let before = run.inner (j - 1) (omega (arith, low)) (omega (arith, high, end)) in
+            let above = lt-ltb 0 j (omega (arith, low)) in (
+              run.inner j (omega (arith, low)) (omega (arith, high, end)),
+              ap (λ b. not b && nat_lt 0 j && selected (j - 1)) plain ∙ (rw (above, before) refl),
+            );
+      })
+      (cases_Bool k.invert_match)
 
   -- each report ends before the next one begins
   pub edges-turns : k.invert_match ≡ false

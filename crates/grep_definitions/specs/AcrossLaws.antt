@@ -1,21 +1,22 @@
 -- Laws of the defined calls across lines, and of the mode.
-use Rattle.std.specs.Prelude.{◌≡◌, ℕ, ◌+◌, ◌<◌, ◌≤◌, Bool, true, false, not, ◌&&◌, ◌⊎◌}
+use Rattle.std.specs.Prelude.{◌≡◌, ℕ, ◌+◌, ◌-◌, ◌<◌, ◌≤◌, Bool, true, false, not, ◌&&◌, ◌⊎◌}
 use Rattle.std.specs.Prelude.{if◌then◌else◌, nat_lt}
 use Rattle.std.specs.Prelude.{List, [], ◌∷◌, length, count_by, Some, None}
 use Rattle.std.specs.List.{flat_map}
 use Rattle.std.specs.List.Sorted.{IsStrictlyIncreasing}
 use Rattle.grep_matcher.specs.Lawful.{ExcludesTerminator, HoldsPosition}
 use Rattle.grep_matcher.specs.Matching.{Meaning}
+use Rattle.grep_report.specs.declared.sink_context.SinkContextKind.TheVariants.{After}
 use Rattle.grep_definitions.specs.Settings.{Settings}
 use Rattle.grep_definitions.specs.SinkCalls.{Call, begins, matches, context, breaks}
 use Rattle.grep_definitions.specs.SinkCalls.{binary_data, finishes}
 use Rattle.grep_definitions.specs.Below.{joined_from}
 use Rattle.grep_definitions.specs.LineSearch
-use Rattle.grep_definitions.specs.LineSearch.{line_count, line, start}
+use Rattle.grep_definitions.specs.LineSearch.{line_count, line, number, start}
 use Rattle.grep_definitions.specs.AcrossLines
-use Rattle.grep_definitions.specs.AcrossLines.{turns, byte_count, is_selected, touches}
+use Rattle.grep_definitions.specs.AcrossLines.{turns, turns_at, turn_count, byte_count, is_selected, touches}
 use Rattle.grep_definitions.specs.SuccessiveMatches.{matches_from, all_matches}
-use Rattle.grep_definitions.specs.SearchLaws.{report_offsets, is_match}
+use Rattle.grep_definitions.specs.SearchLaws.{AreInOrder, is_match, report_calls}
 use Rattle.grep_definitions.specs.SearchTurns.{search_turns, search_turn_count, search_byte_count}
 
 -- without `multi_line`, or with a matcher that excludes the terminator, a search is by line
@@ -70,11 +71,26 @@ InversionComplements =
     → is_selected (record settings { invert_match = not settings.invert_match }) meaning bytes i
     ≡ not (is_selected settings meaning bytes i)
 
--- the reports ascend, and no line begins two of them
+-- the reports ascend, and no byte is reported twice
 abbrev pub ReportsAscend : Type 0
 ReportsAscend =
     (settings : Settings) (meaning : Meaning) (bytes : List ℕ)
-    → IsStrictlyIncreasing (report_offsets (turns settings meaning bytes))
+    → AreInOrder (report_calls (turns settings meaning bytes))
+
+-- a line that isn't selected and is in reach of an earlier selected line is reported as the line after it, even if it
+-- is also before a later one
+abbrev pub AfterWins : Type 0
+AfterWins =
+    (settings : Settings) (meaning : Meaning) (bytes : List ℕ) (i j : ℕ)
+    → i < turn_count settings meaning bytes
+    → is_selected settings meaning bytes i ≡ false → is_selected settings meaning bytes j ≡ true
+    → j < i → i - j ≤ settings.after_context
+    → turns_at settings meaning bytes i
+    ≡ record {
+      call = context After (number settings meaning bytes i) (start settings meaning bytes i)
+          (line settings meaning bytes i);
+      end = start settings meaning bytes (i + 1);
+    } ∷ []
 
 -- no more matches are reported than the limit has, also if the lines of many matches are one report
 abbrev pub AtMostLimit : Type 0

@@ -2,7 +2,7 @@
 -- and distances alone. The lines are those of a search by line. They are counted from 0 here, and the numbers that are
 -- reported from 1.
 use Rattle.std.specs.Prelude.{ℕ, ◌+◌, ◌-◌, Bool, not, ◌&&◌, if◌then◌else◌, nat_lt, nat_le}
-use Rattle.std.specs.Prelude.{List, [], ◌∷◌, Option, Some, None, is_some}
+use Rattle.std.specs.Prelude.{List, [], ◌∷◌, filter, Option, Some, None, is_some}
 use Rattle.std.specs.List.{list_any}
 use Rattle.std.specs.Option.{option_map, unwrap_or}
 use Rattle.grep_matcher.specs.Terminators.{byte_of}
@@ -137,6 +137,10 @@ module _ (settings : Settings) (meaning : Meaning) (bytes : List ℕ) where
   -- the calls before the last: `begin`, and those of all lines, in order
   abbrev pub turns : List Turn
   turns = record { call = begins; end = 0 } ∷ joined_from turns_at 0 turn_count
+
+  -- those calls whose turn ends at or before an offset
+  abbrev pub turns_through : ℕ → List Turn
+  turns_through offset = filter (λ turn. nat_le turn.end offset) turns
 
   -- the byte count if every call returns true
   abbrev pub byte_count : ℕ

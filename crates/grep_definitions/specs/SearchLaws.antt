@@ -1,14 +1,17 @@
 -- Laws of the defined calls.
 use Rattle.std.specs.Prelude.{◌≡◌, ℕ, ◌+◌, ◌-◌, ◌<◌, ◌≤◌, Bool, true, false, not, if◌then◌else◌}
 use Rattle.std.specs.Prelude.{List, [], ◌∷◌, ◌++◌, length, slice_index, count_by, filter, map, slice_get, Some, None}
+use Rattle.std.specs.Prelude.{All}
+use Rattle.std.specs.List.{AllPairs}
 use Rattle.std.specs.Option.{option_map}
-use Rattle.std.specs.List.Sorted.{IsStrictlyIncreasing}
 use Rattle.grep_decode.specs.Marks.{marked}
 use Rattle.grep_matcher.specs.Terminators.{byte_of}
 use Rattle.grep_matcher.specs.Matching.{Meaning, plain}
 use Rattle.grep_report.specs.declared.sink_context.SinkContextKind.TheVariants.{After}
 use Rattle.grep_definitions.specs.Settings.{Settings}
+use Rattle.grep_definitions.specs.NotedSinks.{reported_to}
 use Rattle.grep_definitions.specs.SinkCalls.{Call, Turn, begins, matches, context, breaks, binary_data, finishes}
+use Rattle.grep_definitions.specs.SinkCalls.{is_report, reported_bytes, reported_from}
 use Rattle.grep_definitions.specs.Below.{count_below, first_below, joined_from}
 use Rattle.grep_definitions.specs.LineTurns.{number_of}
 use Rattle.grep_definitions.specs.LineSearch.{turns, turns_at, turn_count, line_count, byte_count}
@@ -35,18 +38,15 @@ UnmarkedIsUnchanged =
     (settings : Settings) (input : List ℕ) → settings.encoding ≡ None → marked input ≡ None
     → is_searched_unchanged settings input ≡ true
 
--- where the line of a report begins; the other calls have no offset
-abbrev pub offset_of : Call → List ℕ
-offset_of begins = []
-offset_of (matches number offset line) = offset ∷ []
-offset_of (context kind number offset line) = offset ∷ []
-offset_of breaks = []
-offset_of (binary_data offset) = []
-offset_of (finishes count binary) = []
+-- the calls that report lines, in order
+abbrev pub report_calls : List Turn → List Call
+report_calls turns = filter is_report (map (λ turn. turn.call) turns)
 
-abbrev pub report_offsets : List Turn → List ℕ
-report_offsets [] = []
-report_offsets (turn ∷ later) = offset_of turn.call ++ report_offsets later
+-- each of some reports has a byte, and ends by the offset of each later one
+abbrev pub AreInOrder : List Call → Type 0
+AreInOrder reports =
+    All (λ report. 0 < length (reported_bytes report)) reports
+    × AllPairs (λ report later. reported_to report ≤ reported_from later) reports
 
 abbrev pub is_match : Call → Bool
 is_match begins = false
@@ -60,11 +60,11 @@ is_match (finishes count binary) = false
 abbrev pub match_calls : List Turn → List Call
 match_calls turns = filter is_match (map (λ turn. turn.call) turns)
 
--- the reports ascend, and no line is reported twice
+-- the reports ascend, and no byte is reported twice
 abbrev pub ReportsAscend : Type 0
 ReportsAscend =
     (settings : Settings) (meaning : Meaning) (bytes : List ℕ)
-    → IsStrictlyIncreasing (report_offsets (turns settings meaning bytes))
+    → AreInOrder (report_calls (turns settings meaning bytes))
 
 -- a line that has a turn, isn't selected and is in reach of an earlier selected line is reported as the line
 -- after it, even if it is also before a later one

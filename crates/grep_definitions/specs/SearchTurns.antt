@@ -1,8 +1,8 @@
 -- The calls of a search, by line or across lines, as the settings and the matcher say.
-use Rattle.std.specs.Prelude.{◌≡◌, ℕ, suc, Bool, true, false, List, take}
+use Rattle.std.specs.Prelude.{ℕ, Bool, true, false, List}
 use Rattle.grep_matcher.specs.Matching.{Meaning}
 use Rattle.grep_definitions.specs.Settings.{Settings}
-use Rattle.grep_definitions.specs.SinkCalls.{Turn, ends_in_break}
+use Rattle.grep_definitions.specs.SinkCalls.{Turn}
 use Rattle.grep_definitions.specs.LineSearch
 use Rattle.grep_definitions.specs.AcrossLines
 use Rattle.grep_definitions.specs.AcrossQuestions.{IsAskedAcross}
@@ -34,17 +34,13 @@ module _ (settings : Settings) (meaning : Meaning) where
     view = λ bytes. bytes;
   }
 
-  -- across lines, `begin` and some calls after it were made before a question, and the last of them is no break
   abbrev pub calls_across : SearchCalls
   calls_across = record {
     across = true;
     turns = AcrossLines.turns settings meaning;
     turn_count = AcrossLines.turn_count settings meaning;
     byte_count = AcrossLines.byte_count settings meaning;
-    IsAsked = λ bytes haystack made.
-        IsAskedAcross settings meaning bytes haystack
-        × ((count : ℕ) × (made ≡ take (suc count) (AcrossLines.turns settings meaning bytes)))
-        × (ends_in_break made ≡ false);
+    IsAsked = IsAskedAcross settings meaning;
     view = λ bytes. bytes;
   }
 

@@ -1,5 +1,5 @@
 -- The calls that a search makes of its sink.
-use Rattle.std.specs.Prelude.{ℕ, Bool, true, false, List, [], ◌∷◌, Option}
+use Rattle.std.specs.Prelude.{ℕ, Bool, true, false, List, [], Option}
 use Rattle.grep_report.specs.declared.sink_context.SinkContextKind.{SinkContextKind}
 use Rattle.grep_report.specs.SinkReports.{MatchReport, ContextReport, FinishReport, match_bytes}
 
@@ -48,6 +48,15 @@ reported_from breaks = 0
 reported_from (binary_data offset) = 0
 reported_from (finishes count binary) = 0
 
+-- whether a call reports lines
+abbrev pub is_report : Call → Bool
+is_report begins = false
+is_report (matches number offset bytes) = true
+is_report (context kind number offset bytes) = true
+is_report breaks = false
+is_report (binary_data offset) = false
+is_report (finishes count binary) = false
+
 abbrev pub is_break : Call → Bool
 is_break begins = false
 is_break (matches number offset bytes) = false
@@ -55,12 +64,6 @@ is_break (context kind number offset bytes) = false
 is_break breaks = true
 is_break (binary_data offset) = false
 is_break (finishes count binary) = false
-
--- whether the last of some calls is a break
-abbrev pub ends_in_break : List Turn → Bool
-ends_in_break [] = false
-ends_in_break (turn ∷ []) = is_break turn.call
-ends_in_break (turn ∷ next ∷ later) = ends_in_break (next ∷ later)
 
 abbrev pub is_finish : Call → Bool
 is_finish begins = false

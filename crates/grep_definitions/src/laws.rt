@@ -25,7 +25,7 @@ pub fn unchanged_is_searched()
     unchanged_is_decoded();
 }
 
-/// The reports ascend, and no line is reported twice.
+/// The reports ascend, and no byte is reported twice: each report has a byte, and ends by the offset of each later one.
 pub fn reports_ascend()
     ensures { ReportsAscend }
 {
@@ -133,12 +133,16 @@ pub fn inversion_complements_across()
     ensures { AcrossLaws.InversionComplements }
 {}
 
-/// Across lines too, the reports ascend, and no line begins two of them.
+/// Across lines too, the reports ascend, and no byte is reported twice.
 pub fn reports_ascend_across()
     ensures { AcrossLaws.ReportsAscend }
-{
-    lines_join();
-}
+{}
+
+/// Across lines too, a line in reach of an earlier selected line is reported as the line after it, even if it is also
+/// before a later one.
+pub fn after_wins_across()
+    ensures { AcrossLaws.AfterWins }
+{}
 
 /// Across lines too, no more matches are reported than the limit has.
 pub fn at_most_limit_across()

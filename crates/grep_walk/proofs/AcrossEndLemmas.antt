@@ -1,31 +1,35 @@
 -- How the calls of a walk across lines end, against those that are defined.
-use Rattle.std.proofs.Common.{◌≡◌, ℕ, suc, ◌+◌, ◌-◌, ◌≤◌, true, List, ◌++◌, length, drop, take, inl, inr}
-use Rattle.std.proofs.Common.{refl, sym, ◌∙◌, ap, subst, arith, ⊎_elim, length-take, length-drop}
-use Rattle.std.proofs.lemmas.Bool.{cases_lt}
-use Rattle.std.specs.Prelude.{Ok, Err, false}
+use Rattle.std.proofs.Common.{◌≡◌, ℕ, ◌+◌, ◌-◌, ◌≤◌, true, List, ◌++◌, length, drop, inl, inr}
+use Rattle.std.proofs.Common.{refl, sym, ◌∙◌, ap, subst, arith, ⊎_elim, length-take, length-drop, None, if◌then◌else◌}
+use Rattle.std.proofs.Math.Bool.{and-false}
+use Rattle.std.proofs.lemmas.Bool.{cases_lt, cases_Bool}
+use Rattle.std.specs.Prelude.{Ok, Err, false, not, ◌&&◌, All}
 use Rattle.grep_lines.specs.Positions.{slice}
 use Rattle.grep_lines.proofs.LawLemmas.{AreLines-lines}
 use Rattle.grep_matcher.specs.Lines.{lines}
 use Rattle.grep_matcher.specs.Matching.{Meaning}
 use Rattle.grep_matcher.specs.Terminators.{byte_of}
 use Rattle.grep_definitions.specs.AcrossLines.{byte_count, turns, turns_at}
-use Rattle.grep_definitions.specs.AcrossQuestions.{IsAskedAcross}
-use Rattle.grep_definitions.specs.Below.{joined_from}
+use Rattle.grep_definitions.specs.AcrossQuestions.{IsAskedAt, match_limit}
+use Rattle.grep_definitions.specs.Below.{is_at, is_below, joined_from}
 use Rattle.grep_definitions.specs.LineSearch.{start}
 use Rattle.grep_definitions.specs.Searches.{ErrorMakers, MatcherFacts, IsFaultIn, of_sink, of_matcher}
 use Rattle.grep_definitions.specs.SearchTurns.{calls_across}
 use Rattle.grep_definitions.specs.Settings.{Settings}
-use Rattle.grep_definitions.specs.SinkCalls.{Turn, begins, ends_in_break}
+use Rattle.grep_definitions.specs.SinkCalls.{Turn, begins}
 use Rattle.grep_definitions.specs.SinkRuns.{Steps, Outcome, all_true, stopped, failed, AreReported}
-use Rattle.grep_definitions.proofs.BreakLemmas.{paired-front, paired-last}
+use Rattle.grep_definitions.proofs.AcrossTurnEndLemmas.{through-is}
+use Rattle.grep_definitions.proofs.BelowLemmas.{below_none}
+use Rattle.grep_definitions.proofs.BoolLemmas.{clash, not_false}
 use Rattle.grep_definitions.proofs.LineStartLemmas.{line_start-ascends, line_start-within}
 use Rattle.grep_definitions.proofs.SinkRunLemmas.{AreReported-append, AreReported-ended}
 use Rattle.grep_walk.specs.declared.walk.Walk.{Walk}
-use Rattle.grep_walk.specs.AcrossWalks.{IsAcross, turns_before}
+use Rattle.grep_walk.specs.AcrossWalks.{IsAcross, is_done, turns_before}
 use Rattle.grep_walk.specs.Walks.{Counted, walk_past}
 use Rattle.grep_definitions.proofs.AcrossWalkLemmas as calls
 use Rattle.grep_walk.proofs.AcrossStepLemmas as steps
-use Rattle.grep_walk.proofs.AcrossUnitLemmas.{IsNext}
+use Rattle.grep_walk.proofs.AcrossUnitLemmas.{IsNext, limit-some}
+use Rattle.grep_walk.proofs.QuestionLemmas.{asked-inside}
 
 module _ (k : Settings) (meaning : Meaning) (bytes : List ℕ) where
   abbrev n : ℕ
@@ -39,13 +43,6 @@ module _ (k : Settings) (meaning : Meaning) (bytes : List ℕ) where
 
   passed-few : (w : Walk) → IsAcross k meaning bytes w → w.reported_through ≤ n
   passed-few w across = omega (arith, across.placed.low, across.placed.at.listed)
-
-  -- the last of the calls so far is no break
-  front-whole : (w : Walk) → IsAcross k meaning bytes w
-      → ends_in_break (take (length (front w.reported_through)) (turns k meaning bytes)) ≡ false
-  front-whole w across =
-      ap ends_in_break (calls.front-first k meaning bytes w.reported_through (passed-few w across))
-      ∙ paired-last (front w.reported_through) (paired-front k meaning bytes w.reported_through (passed-few w across))
 
   module _ {State E : Type 0} (step : Steps State E) (first : State) where
     abbrev IsCounted : ℕ → Outcome E → State → Type 0
@@ -120,14 +117,6 @@ module _ (k : Settings) (meaning : Meaning) (bytes : List ℕ) where
         subst (λ count. IsCounted count all_true new) size
         (counted-end (walk_past k w (slice bytes p q)) new past (size ∙ end) reported)
 
-    -- the calls so far are some first calls
-    pub taken : (w : Walk) (now : State) → IsAcross k meaning bytes w
-        → AreReported step k first (front w.reported_through) all_true now
-        → AreReported step k first (take (length (front w.reported_through)) (turns k meaning bytes)) all_true now
-    taken w now across reported =
-        subst (λ ts. AreReported step k first ts all_true now)
-        (sym (calls.front-first k meaning bytes w.reported_through (passed-few w across))) reported
-
 -- how it ends in a fault
 module _ {State E F : Type 0} (step : Steps State E) (errors : ErrorMakers E) (matcher : MatcherFacts F) (k : Settings)
     (bytes : List ℕ) (first : State) where
@@ -144,12 +133,50 @@ module _ {State E F : Type 0} (step : Steps State E) (errors : ErrorMakers E) (m
       → AreReported step k first (turns_before k matcher.meaning bytes w.reported_through) (failed e) new → IsFaulty e new
   fault-sink w e new across reported = failed-run e new (failed-whole k matcher.meaning bytes step first w e new across reported)
 
+  -- a question at the line that a walk is at
   pub fault-matcher : (w : Walk) (now : State) → IsAcross k matcher.meaning bytes w
       → AreReported step k first (turns_before k matcher.meaning bytes w.reported_through) all_true now
-      → (haystack : List ℕ) (error : F) (e : E) → IsAskedAcross k matcher.meaning bytes haystack → matcher.fails haystack error
+      → (haystack : List ℕ) (error : F) (e : E) → IsAskedAt k matcher.meaning bytes w.line haystack
+      → is_done k w ≡ false → matcher.fails haystack error → errors.is_message (matcher.text_of error) e → IsFaulty e now
+  fault-matcher w now across reported haystack error e asked goes fails message =
+      of_matcher haystack error (turns_before k matcher.meaning bytes w.reported_through)
+      (record {
+        index = w.line;
+        question = asked;
+        room = λ inverted.
+            (across.limited inverted).below
+            ∙ ap not (sym (ap (λ b. b && is_at w.match_count k.max_matches) inverted) ∙ goes);
+        before = sym (through-is k matcher.meaning bytes w.reported_through w.line w.after_context_left across.near
+            (asked-inside k matcher.meaning bytes w.line haystack asked)
+            (subst (λ o. All (λ turn. turn.end ≤ o) (turns_before k matcher.meaning bytes w.reported_through))
+            (sym across.placed.at.begins) across.ended));
+      })
+      fails message reported
+
+  -- the first question
+  pub fault-first : (now : State) → step first k begins (Ok true) now → (haystack : List ℕ) (error : F) (e : E)
+      → IsAskedAt k matcher.meaning bytes 0 haystack → matcher.fails haystack error
       → errors.is_message (matcher.text_of error) e → IsFaulty e now
-  fault-matcher w now across reported haystack error e asked fails message =
-      let later = joined_from (turns_at k matcher.meaning bytes) 0 w.reported_through in
-      of_matcher haystack error (take (suc (length later)) (turns k matcher.meaning bytes))
-      (asked, (length later, refl), front-whole k matcher.meaning bytes w across) fails message
-      (taken k matcher.meaning bytes step first w now across reported)
+  fault-first now begun haystack error e asked fails message =
+      fault-matcher start now (steps.across-start k matcher.meaning bytes)
+      (reported-begin k matcher.meaning bytes step first now begun) haystack error e asked goes fails message
+    where
+      start : Walk
+      start = record { offset = 0; line = 0; reported_through = 0; after_context_left = 0; match_count = 0 }
+
+      limited : k.invert_match ≡ true → is_below 0 k.max_matches ≡ false → ⊥
+      limited inverted none =
+          let all : match_limit k ≡ k.max_matches =
+          ap (λ b. if b then None else k.max_matches) (ap (λ b. k.invert_match && b) none ∙ and-false k.invert_match) in
+          clash (limit-some k matcher.meaning bytes _ (sym (ap (is_below (length asked.found)) all) ∙ asked.question.room)) none
+
+      goes : is_done k start ≡ false
+      goes = ⊎_elim
+          (λ inverted. ⊎_elim
+          (λ some.
+          let at : is_at 0 k.max_matches ≡ false = not_false _ (sym (below_none k.max_matches) ∙ some) in
+          ap (λ b. k.invert_match && b) at ∙ and-false k.invert_match)
+          (λ none. absurd (limited inverted none))
+          (cases_Bool (is_below 0 k.max_matches)))
+          (λ plain. ap (λ b. b && is_at 0 k.max_matches) plain)
+          (cases_Bool k.invert_match)

@@ -3,7 +3,8 @@ use Rattle.std.proofs.Common.{◌≡◌, ℕ, zero, suc, ◌+◌, ◌-◌, ◌<�
 use Rattle.std.proofs.Common.{refl, sym, ◌∙◌, ap, subst, arith, ⊎_elim, if◌then◌else◌, length-take, length-drop}
 use Rattle.std.proofs.Math.Path.{ap₂}
 use Rattle.std.proofs.lemmas.Bool.{cases_Bool}
-use Rattle.std.specs.Prelude.{nat_lt}
+use Rattle.std.proofs.lemmas.List.Elements.{All-weaker}
+use Rattle.std.specs.Prelude.{nat_lt, All}
 use Rattle.grep_matcher.specs.Lines.{lines, line_start}
 use Rattle.grep_matcher.specs.Matching.{Meaning}
 use Rattle.grep_matcher.specs.Terminators.{byte_of}
@@ -22,7 +23,7 @@ use Rattle.grep_walk.specs.Walks.{line_end, line_turns, next_walk, walk_past}
 use Rattle.grep_definitions.proofs.AcrossWalkLemmas as calls
 use Rattle.grep_walk.proofs.AcrossUnitLemmas.{IsChosen, IsNext, selected-inverted}
 use Rattle.grep_walk.proofs.LineRangeLemmas.{lines-between}
-use Rattle.grep_walk.proofs.WalkLemmas.{placed-next, placed-start, start-after, start_walk}
+use Rattle.grep_walk.proofs.WalkLemmas.{ended-next, ended-start, placed-next, placed-start, start-after, start_walk}
 
 -- one more number
 count-next : (p : ℕ → Bool) (i : ℕ) → count_below p (i + 1) ≡ (if p i then count_below p i + 1 else count_below p i)
@@ -102,6 +103,7 @@ module _ (k : Settings) (meaning : Meaning) (bytes : List ℕ) where
     placed = placed-start k meaning bytes;
     near = calls.near-none k meaning bytes;
     limited = λ inverted. record { below = below_none k.max_matches; counted = λ room. refl };
+    ended = ended-start k meaning bytes;
   }
 
   module _ (w : Walk) (p q : ℕ) (same : w.offset ≡ p) (across : IsAcross k meaning bytes w) where
@@ -146,17 +148,12 @@ module _ (k : Settings) (meaning : Meaning) (bytes : List ℕ) where
                 (subst (λ l. calls.Near k meaning bytes w.reported_through next.last l) (sym none) near);
             limited = λ inverted. limited-lines inverted (length (lines t here)) w.line w.match_count (across.limited inverted)
                 (λ j low high. next.missed j low (omega (arith, high, count)));
+            ended = All-weaker (λ turn. turn.end ≤ w.offset) (λ turn. turn.end ≤ w.offset + length here)
+                (λ turn low. omega (arith, low)) (front w.reported_through) across.ended;
           }
 
     -- a line that isn't chosen
     module _ (bare : Bare) (line : IsLine t bytes w.line p q) (missed : S w.line ≡ false) where
-      pub across-missed : IsAcross k meaning bytes (next_walk k w here false)
-      across-missed = record {
-        placed = placed-next k meaning bytes w p q same line across.placed false;
-        near = calls.near-missed k meaning bytes bare w.reported_through w.line w.after_context_left across.near line.listed missed;
-        limited = λ inverted. limited-missed inverted w.line w.match_count (across.limited inverted) missed;
-      }
-
       pub front-missed : front (next_walk k w here false).reported_through ≡ front w.reported_through ++ line_turns k bytes w here false
       front-missed =
           calls.front-missed k meaning bytes bare w.reported_through w.line w.after_context_left across.near line.listed missed
@@ -165,6 +162,15 @@ module _ (k : Settings) (meaning : Meaning) (bytes : List ℕ) where
           ∙ (ap (λ e. line-turns w.offset e (slice bytes (starts w.line) (starts (w.line + 1))))
           (start-after k meaning bytes w p q same line)
           ∙ ap₂ (λ a b. line-turns w.offset (line_end w here) (slice bytes a b)) line.begins line.ends))
+
+      pub across-missed : IsAcross k meaning bytes (next_walk k w here false)
+      across-missed = record {
+        placed = placed-next k meaning bytes w p q same line across.placed false;
+        near = calls.near-missed k meaning bytes bare w.reported_through w.line w.after_context_left across.near line.listed missed;
+        limited = λ inverted. limited-missed inverted w.line w.match_count (across.limited inverted) missed;
+        ended = subst (All (λ turn. turn.end ≤ line_end w here)) (sym front-missed)
+            (ended-next k bytes w here false (front w.reported_through) across.ended);
+      }
 
     -- a chosen line, or a unit of them
     module _ (below : p < q) (within : q ≤ length bytes) (chosen : IsChosen k meaning bytes w q) where
@@ -196,6 +202,16 @@ module _ (k : Settings) (meaning : Meaning) (bytes : List ℕ) where
           go true is = ap walk-to (sym (chosen.single is))
           go false is = ap walk-to count-chosen
 
+      pub front-chosen : front (walk_after k w here true).reported_through ≡ front w.reported_through ++ line_turns k bytes w here true
+      front-chosen =
+          ap (λ (next : Walk). front next.reported_through) walk-is
+          ∙ (calls.front-unit k meaning bytes w.reported_through w.line w.after_context_left chosen.last across.near chosen.some
+          chosen.at.listed chosen.hits chosen.closed chosen.single chosen.first
+          ∙ ap (λ turns. front w.reported_through ++ turns)
+          (ap (λ e. unit-turns (starts w.line) e (slice bytes (starts w.line) (starts chosen.last))) (chosen.at.begins ∙ sym unit-end)
+          ∙ (ap (λ o. unit-turns o (line_end w here) (slice bytes (starts w.line) (starts chosen.last))) across.placed.at.begins
+          ∙ ap₂ (λ a b. unit-turns w.offset (line_end w here) (slice bytes a b)) (across.placed.at.begins ∙ same) chosen.at.begins)))
+
       across-to : IsAcross k meaning bytes (walk-to chosen.last)
       across-to = record {
         placed = record {
@@ -208,17 +224,10 @@ module _ (k : Settings) (meaning : Meaning) (bytes : List ℕ) where
         limited = λ inverted. subst (λ e. Limited e (w.match_count + 1)) (sym (chosen.single inverted))
             (limited-hit inverted w.line w.match_count (across.limited inverted) (chosen.room inverted)
             (chosen.hits w.line (omega arith) chosen.some));
+        ended = subst (All (λ turn. turn.end ≤ line_end w here))
+            (sym (sym (ap (λ (next : Walk). front next.reported_through) walk-is) ∙ front-chosen))
+            (ended-next k bytes w here true (front w.reported_through) across.ended);
       }
 
       pub across-chosen : IsAcross k meaning bytes (walk_after k w here true)
       across-chosen = subst (IsAcross k meaning bytes) (sym walk-is) across-to
-
-      pub front-chosen : front (walk_after k w here true).reported_through ≡ front w.reported_through ++ line_turns k bytes w here true
-      front-chosen =
-          ap (λ (next : Walk). front next.reported_through) walk-is
-          ∙ (calls.front-unit k meaning bytes w.reported_through w.line w.after_context_left chosen.last across.near chosen.some
-          chosen.at.listed chosen.hits chosen.closed chosen.single chosen.first
-          ∙ ap (λ turns. front w.reported_through ++ turns)
-          (ap (λ e. unit-turns (starts w.line) e (slice bytes (starts w.line) (starts chosen.last))) (chosen.at.begins ∙ sym unit-end)
-          ∙ (ap (λ o. unit-turns o (line_end w here) (slice bytes (starts w.line) (starts chosen.last))) across.placed.at.begins
-          ∙ ap₂ (λ a b. unit-turns w.offset (line_end w here) (slice bytes a b)) (across.placed.at.begins ∙ same) chosen.at.begins)))

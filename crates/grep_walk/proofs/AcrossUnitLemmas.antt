@@ -54,18 +54,28 @@ module _ (k : Settings) (meaning : Meaning) (bytes : List ℕ) where
   selected-plain plain j =
       ap (λ b. if b then free j && is_below (count_below free j) k.max_matches
       else is_touched k meaning bytes (matches_up_to meaning bytes k.max_matches) j) plain
-      ∙ ap (λ b. is_touched k meaning bytes (matches_up_to meaning bytes (if b then None else k.max_matches)) j) (sym plain)
+      ∙ ap (λ b. is_touched k meaning bytes
+      (matches_up_to meaning bytes (if b && is_below 0 k.max_matches then None else k.max_matches)) j) (sym plain)
 
   pub selected-inverted : k.invert_match ≡ true → (j : ℕ) → S j ≡ (free j && is_below (count_below free j) k.max_matches)
   selected-inverted inverted j =
       ap (λ b. if b then free j && is_below (count_below free j) k.max_matches
       else is_touched k meaning bytes (matches_up_to meaning bytes k.max_matches) j) inverted
 
-  free-is : k.invert_match ≡ true → (j : ℕ) → j < n → free j ≡ not (is_hit k meaning bytes j)
-  free-is inverted j inside =
+  -- if the limit isn't 0
+  free-is : k.invert_match ≡ true → is_below 0 k.max_matches ≡ true → (j : ℕ) → j < n → free j ≡ not (is_hit k meaning bytes j)
+  free-is inverted some j inside =
       let test = lt-ltb j n inside in
       ap (λ b. b && not (is_touched k meaning bytes (all_matches meaning bytes) j)) test
-      ∙ ap (λ b. not (is_touched k meaning bytes (matches_up_to meaning bytes (if b then None else k.max_matches)) j)) (sym inverted)
+      ∙ ap (λ b. not (is_touched k meaning bytes (matches_up_to meaning bytes (if b then None else k.max_matches)) j))
+      (sym (and-both k.invert_match _ inverted some))
+
+  -- as it isn't if more lines may be chosen
+  pub limit-some : (m : ℕ) → is_below m k.max_matches ≡ true → is_below 0 k.max_matches ≡ true
+  limit-some m below = ⊎_elim
+      (λ some. some)
+      (λ none. absurd (clash below (is_below-le k.max_matches 0 m (omega arith) none)))
+      (cases_Bool (is_below 0 k.max_matches))
 
   -- the next unit, which is looked for at the end of the last one
   module _ (start i low : ℕ) (unit : ℕ × ℕ) (some : start < length bytes) (at : IsLineStart t bytes start i) (same : start ≡ low)
@@ -243,8 +253,9 @@ module _ (k : Settings) (meaning : Meaning) (bytes : List ℕ) where
                     higher (j + 1) here.is_unit.last (omega (arith, high)),
                     here.is_unit.ends.begins,
                   )) in
+                  let room = limit-some _ ((across.limited is_b).below ∙ ap not is_c) in
                   selected-inverted is_b j
-                  ∙ ap (λ b. b && is_below (count_below free j) k.max_matches) (free-is is_b j inside ∙ ap not hit);
+                  ∙ ap (λ b. b && is_below (count_below free j) k.max_matches) (free-is is_b room j inside ∙ ap not hit);
             }
 
     -- past the lines that aren't chosen the walk comes to the unit, or has passed it
@@ -396,7 +407,7 @@ module _ (k : Settings) (meaning : Meaning) (bytes : List ℕ) where
             (omega (arith, line.begins, ltb-true start unit.0 is_d)) in
             let is_open = (across.limited is_b).below ∙ ap not is_c in
             let hit = selected-inverted is_b w.line
-            ∙ and-both (free w.line) _ (free-is is_b w.line line.listed ∙ ap not missed) is_open in
+            ∙ and-both (free w.line) _ (free-is is_b (limit-some _ is_open) w.line line.listed ∙ ap not missed) is_open in
             record {
               last = w.line + 1;
               at = record { listed = omega (arith, line.listed); begins = line.ends };

@@ -5,7 +5,7 @@ use Rattle.std.proofs.lemmas.Bool.{lt-ltb, ltb-true}
 use Rattle.std.specs.Option.{option_map}
 use Rattle.grep_matcher.specs.Matching.{Meaning, IsWithin}
 use Rattle.grep_definitions.specs.Below.{is_below}
-use Rattle.grep_definitions.specs.AcrossQuestions.{IsAskedAcross, match_limit}
+use Rattle.grep_definitions.specs.AcrossQuestions.{IsAskedAfter, match_limit}
 use Rattle.grep_definitions.specs.Settings.{Settings}
 use Rattle.grep_definitions.specs.SuccessiveMatches.{position_after, match_from, matches_left}
 use Rattle.grep_definitions.proofs.SuccessiveMatchLemmas.{matches_left-start, matches_left-found, matches_left-none, matches_left-end, position_past-last}
@@ -62,11 +62,10 @@ module _ (k : Settings) (meaning : Meaning) (bytes : List ℕ) where
 
   -- what is asked for the next match
   pub asked-next : (position : ℕ) (left : Option ℕ) (found : List (ℕ × ℕ)) → AreFound k meaning bytes position left found
-      → position < length bytes → is_below 0 left ≡ true → IsAskedAcross k meaning bytes (drop position bytes)
+      → position < length bytes → is_below 0 left ≡ true → IsAskedAfter k meaning bytes found (drop position bytes)
   asked-next position left found so_far below room = record {
-    asked = found;
     later = matches_left meaning bytes position left;
-    found = so_far.all;
+    all = so_far.all;
     room = left_of-below (match_limit k) (length found) (rw (← so_far.room) room);
     inside = omega (arith, so_far.at below, below);
     rest = ap (λ p. drop p bytes) (sym (so_far.at below));

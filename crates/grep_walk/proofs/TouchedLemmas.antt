@@ -23,6 +23,7 @@ use Rattle.grep_definitions.proofs.BlockLemmas.{block_start-part, block_end-part
 use Rattle.grep_definitions.proofs.BoolLemmas.{and-both, both_true}
 use Rattle.grep_definitions.proofs.LineStartLemmas.{line_start-within, line_start-last}
 use Rattle.grep_definitions.proofs.TouchLemmas.{rises}
+use Rattle.grep_definitions.proofs.TurnEndLemmas.{line_start-le}
 use Rattle.grep_definitions.proofs.SuccessiveMatchLemmas.{position_after-start}
 use Rattle.grep_walk.specs.Units.{is_in, is_hit, IsPart, IsUnit, AreTouched}
 
@@ -102,9 +103,19 @@ module _ (k : Settings) (meaning : Meaning) (bytes : List ℕ) where
       (All-weaker (λ m. from j < block_start t bytes m) (λ m. touches k meaning bytes j m ≡ false)
       (λ m low. and_left _ _ (lt-leb (block_start t bytes m) (from j) low)) later after)
 
+  -- a line that was touched is touched by one match more
+  touched-still : (found : List (ℕ × ℕ)) (m : ℕ × ℕ) (j : ℕ) → j < n → touched_of found j ≡ true
+      → touched_of (found ++ m ∷ []) j ≡ true
+  touched-still found m j inside is = touches-more found m j inside ∙ or_left _ _ is
+
   -- no line is touched if there are no matches
-  pub touched-none : (end position : ℕ) → AreTouched k meaning bytes end position [] None
-  touched-none end position = record { same = λ j inside low. refl; range = tt; later = tt }
+  pub touched-none : (position : ℕ) → AreTouched k meaning bytes 0 position [] None
+  touched-none position = record {
+    same = λ j inside low. refl;
+    range = tt;
+    before = λ some j inside at. absurd (omega (arith, rises t bytes j inside, at));
+    later = tt;
+  }
 
   -- after the range no line is touched
   pub touched-passed : (low position next : ℕ) (found : List (ℕ × ℕ)) (u : ℕ × ℕ) → AreTouched k meaning bytes low position found (Some u)
@@ -113,6 +124,19 @@ module _ (k : Settings) (meaning : Meaning) (bytes : List ℕ) where
     same = λ j inside past. touched.same j inside (omega (arith, past, touched.range.after, touched.range.ordered))
         ∙ not-in u (from j) (λ _ less. omega (arith, less, past));
     range = tt;
+    before = λ below j inside at. ⊎_elim
+        (λ early.
+        let here = touched.range.some (omega (arith, below, touched.range.ordered)) in
+        let order = λ (less : touched.range.first < j + 1).
+        line_start-le t bytes touched.range.first j (omega (arith, less)) in
+        absurd (⊎_elim
+        (λ less. omega (arith, early, touched.range.begins.begins, order less))
+        (λ over. omega (arith, at, here, touched.range.begins.begins, line_start-le t bytes (j + 1) touched.range.first over))
+        (cases_lt touched.range.first (j + 1))))
+        (λ late.
+        touched.same j inside (omega (arith, late, touched.range.after))
+        ∙ in-range u (from j) late (omega (arith, rises t bytes j inside, at)))
+        (cases_lt (from j) u.0);
     later = tt;
   }
 
@@ -144,6 +168,7 @@ module _ (k : Settings) (meaning : Meaning) (bytes : List ℕ) where
               (omega (arith, below, start_is)) in
               omega (arith, less, start_is, end_is);
         };
+        before = λ below j inside at. touched-still found m j inside (touched.before below j inside at);
         later = omega (
           arith,
           start_is,
@@ -176,6 +201,7 @@ module _ (k : Settings) (meaning : Meaning) (bytes : List ℕ) where
           touched.same j inside over ∙ in-range u (from j) (omega (arith, starts-later, parts.0)) (early j inside parts.1))
           ∙ touched.same j inside over);
       range = touched.range;
+      before = λ below j inside at. touched-still found m j inside (touched.before below j inside at);
       later = still-later;
     }
 
@@ -206,6 +232,7 @@ module _ (k : Settings) (meaning : Meaning) (bytes : List ℕ) where
             apart = touched.range.apart;
             some = λ below. omega (arith, touched.range.some below, ends);
           };
+          before = λ below j inside at. touched-still found m j inside (touched.before below j inside at);
           later = still-later;
         }
 
@@ -275,6 +302,7 @@ module _ (k : Settings) (meaning : Meaning) (bytes : List ℕ) where
   touched-end low position found touched = record {
     same = λ j inside over. absurd (omega (arith, over, starts-inside j inside));
     range = tt;
+    before = λ below. absurd (omega (arith, below));
     later = tt;
   }
 

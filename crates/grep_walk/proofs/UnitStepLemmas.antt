@@ -41,7 +41,8 @@ module _ (k : Settings) (meaning : Meaning) (bytes : List ℕ) where
     left-start-none b' more next_is end_is = record {
       asked = [];
       found = more.found [] none_found;
-      touched = subst (AreTouched k meaning bytes b'.end b'.position []) (sym next_is) (touched-none k meaning bytes b'.end b'.position);
+      touched = subst (AreTouched k meaning bytes b'.end b'.position []) (sym next_is)
+          (subst (λ e. AreTouched k meaning bytes e b'.position [] None) (sym end_is) (touched-none k meaning bytes b'.position));
       none = subst (λ o. IfNone o (matches_left meaning bytes b'.position b'.left ≡ [])) (sym next_is) more.still;
       line = 0;
       ends = record { listed = omega arith; begins = sym end_is };
@@ -55,7 +56,7 @@ module _ (k : Settings) (meaning : Meaning) (bytes : List ℕ) where
         let from_end : m.1 - 0 ≡ m.1 = omega arith in
         let start : p.0 ≡ block_start t bytes m = omega (arith, part.begins, ap (λ x. block_start t bytes (x, m.1 - 0)) from_start) in
         let end : p.1 ≡ block_end t bytes m = omega (arith, part.ends, ap₂ (λ x y. block_end t bytes (x, y)) from_start from_end) in
-        let touched = touched-first k meaning bytes 0 0 [] m p (touched-none k meaning bytes 0 0) (ap₂ (λ x y. (x, y)) start end)
+        let touched = touched-first k meaning bytes 0 0 [] m p (touched-none k meaning bytes 0) (ap₂ (λ x y. (x, y)) start end)
         (omega arith) (λ some. absurd (omega (arith, some))) (part.before (omega arith)) found.ordered part.past part.within in
         record {
           asked = m ∷ [];

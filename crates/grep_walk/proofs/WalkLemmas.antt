@@ -34,6 +34,31 @@ use Rattle.grep_walk.specs.Walks.{IsPlaced, IsWalk, HasReported, line_end, line_
 use Rattle.grep_definitions.proofs.BoolLemmas.{above_zero, both_true, clash, neither, not_false, or-cases}
 use Rattle.grep_definitions.proofs.ListLemmas.{All-joined_from, filter-all, filter-none}
 
+-- if the turns so far have ended where a walk is, those with the calls of its line have ended where the line ends
+pub ended-next : (k : Settings) (window : List ℕ) (w : Walk) (line : List ℕ) (chosen : Bool) (made : List Turn)
+    → All (λ turn. turn.end ≤ w.offset) made
+    → All (λ turn. turn.end ≤ line_end w line) (made ++ line_turns k window w line chosen)
+ended-next k window w line chosen made ended =
+    All-append (λ turn. turn.end ≤ line_end w line) made (line_turns k window w line chosen)
+    (All-weaker (λ turn. turn.end ≤ w.offset) (λ turn. turn.end ≤ line_end w line) (λ turn low. omega (arith, low)) made ended)
+    (All-weaker E (λ turn. turn.end ≤ line_end w line) (λ turn is. omega (arith, is)) (line_turns k window w line chosen)
+    (go chosen (nat_lt 0 w.after_context_left) k.passthru))
+  where
+    E : Turn → Type 0
+    E turn = turn.end ≡ line_end w line
+
+    go : (b a p : Bool) → All E (if b
+        then pending_turns k window w.reported_through w.line (line_end w line) w.reported_through (w.line - w.reported_through)
+        ++ match_turns k w.reported_through w.line w.offset (line_end w line) line
+        else (if a then context_turns After (number_of k w.line) w.offset (line_end w line) line
+        else (if p then context_turns Other (number_of k w.line) w.offset (line_end w line) line else [])))
+    go true a p = All-append E _ _
+        (ends-pending k window w.reported_through w.line (line_end w line) w.reported_through (w.line - w.reported_through))
+        (ends-match k window w.reported_through w.line (line_end w line) w.offset line)
+    go false true p = ends-one (context After (number_of k w.line) w.offset line) (line_end w line)
+    go false false true = ends-one (context Other (number_of k w.line) w.offset line) (line_end w line)
+    go false false false = All-nil E
+
 module _ (k : Settings) (meaning : Meaning) (bytes : List ℕ) where
   abbrev pub t : ℕ
   t = byte_of k.line_terminator
@@ -68,12 +93,16 @@ module _ (k : Settings) (meaning : Meaning) (bytes : List ℕ) where
     few = omega arith;
   }
 
+  -- the turn of `begin` has ended
+  pub ended-start : All (λ turn. turn.end ≤ 0) (front 0)
+  ended-start = All-cons (λ turn. turn.end ≤ 0) (record { call = begins; end = 0 }) [] (omega arith) (All-nil (λ turn. turn.end ≤ 0))
+
   walk-start : (k.passthru ≡ false → is_at 0 k.max_matches ≡ true → ⊥) → IsWalk k meaning bytes start_walk
   walk-start busy = record {
     placed = placed-start;
     near = IsNear-none k meaning bytes;
     opened = IsOpen-none k meaning bytes busy;
-    ended = All-cons (λ turn. turn.end ≤ 0) (record { call = begins; end = 0 }) [] (omega arith) (All-nil (λ turn. turn.end ≤ 0));
+    ended = ended-start;
   }
 
   front-through : (v i : ℕ) → v ≤ i → front i ≡ front v ++ joined_from T v (i - v)
@@ -111,26 +140,6 @@ module _ (k : Settings) (meaning : Meaning) (bytes : List ℕ) where
         few : (b : Bool) → (if b then w.match_count + 1 else w.match_count) ≤ w.line + 1
         few true = omega (arith, placed.few)
         few false = omega (arith, placed.few)
-
-    -- the line's calls end with it
-    ends-line : (chosen : Bool) → All (λ turn. turn.end ≤ line_end w here) (line_turns k bytes w here chosen)
-    ends-line chosen = All-weaker (λ turn. turn.end ≡ line_end w here) (λ turn. turn.end ≤ line_end w here) (λ turn is. omega (arith, is))
-        (line_turns k bytes w here chosen) (go chosen (nat_lt 0 w.after_context_left) k.passthru)
-      where
-        E : Turn → Type 0
-        E turn = turn.end ≡ line_end w here
-
-        go : (b a p : Bool) → All E (if b
-            then pending_turns k bytes w.reported_through w.line (line_end w here) w.reported_through (w.line - w.reported_through)
-            ++ match_turns k w.reported_through w.line w.offset (line_end w here) here
-            else (if a then context_turns After (number_of k w.line) w.offset (line_end w here) here
-            else (if p then context_turns Other (number_of k w.line) w.offset (line_end w here) here else [])))
-        go true a p = All-append E _ _
-            (ends-pending k bytes w.reported_through w.line (line_end w here) w.reported_through (w.line - w.reported_through))
-            (ends-match k bytes w.reported_through w.line (line_end w here) w.offset here)
-        go false true p = ends-one (context After (number_of k w.line) w.offset here) (line_end w here)
-        go false false true = ends-one (context Other (number_of k w.line) w.offset here) (line_end w here)
-        go false false false = All-nil E
 
     -- what is known of the line, by whether it is chosen
     module _ (bare : Bare) (walk : IsWalk k meaning bytes w) where
@@ -239,10 +248,7 @@ module _ (k : Settings) (meaning : Meaning) (bytes : List ℕ) where
         near = near-next chosen is;
         opened = open-next chosen is goes;
         ended = subst (All (λ turn. turn.end ≤ line_end w here)) (sym (front-step chosen is))
-            (All-append (λ turn. turn.end ≤ line_end w here) (front w.reported_through) (line_turns k bytes w here chosen)
-            (All-weaker (λ turn. turn.end ≤ w.offset) (λ turn. turn.end ≤ line_end w here) (λ turn low. omega (arith, low))
-            (front w.reported_through) walk.ended)
-            (ends-line chosen));
+            (ended-next k bytes w here chosen (front w.reported_through) walk.ended);
       }
 
       pub done-next : (chosen : Bool) → LineSearch.is_chosen k meaning bytes w.line ≡ chosen

@@ -1,7 +1,7 @@
 -- The walk of a search across lines: what it knows of the lines before it and of the unit that it comes to, and how
 -- lines move it on. No contract of grep_searcher cites these definitions.
 use Rattle.std.specs.Prelude.{◌≡◌, ℕ, ◌+◌, ◌-◌, ◌<◌, ◌≤◌, Bool, true, false, not, ◌&&◌, nat_lt}
-use Rattle.std.specs.Prelude.{if◌then◌else◌, List, ◌∷◌, length}
+use Rattle.std.specs.Prelude.{if◌then◌else◌, List, ◌∷◌, length, All}
 use Rattle.grep_matcher.specs.Lines.{lines}
 use Rattle.grep_matcher.specs.Matching.{Meaning}
 use Rattle.grep_matcher.specs.Terminators.{byte_of}
@@ -64,6 +64,7 @@ module _ (settings : Settings) (meaning : Meaning) (bytes : List ℕ) where
         (line_count settings meaning bytes) (line_count settings meaning bytes)
         w.reported_through w.line w.after_context_left
     pub limited : settings.invert_match ≡ true → IsLimited w.line w.match_count
+    pub ended : All (λ turn. turn.end ≤ w.offset) (turns_before w.reported_through)
 
   -- a walk at `start` comes to a unit or is in it: without inversion it comes to it. No match touches the line before
   -- the unit

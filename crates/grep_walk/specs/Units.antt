@@ -104,6 +104,10 @@ module _ (settings : Settings) (meaning : Meaning) (bytes : List ℕ) where
         → list_any (touches settings meaning bytes j) asked
         ≡ is_in unit (start settings meaning bytes j)
     pub range : IfSome unit (IsRange end)
+    -- they touch the line before that position too, if it isn't the first line's start
+    pub before : end < length bytes → (j : ℕ) → j < line_count settings meaning bytes
+        → start settings meaning bytes (j + 1) ≡ end
+        → list_any (touches settings meaning bytes j) asked ≡ true
     pub later : IfSome unit
         (λ u. u.0 ≤ block_start (byte_of settings.line_terminator) bytes (position, position))
 

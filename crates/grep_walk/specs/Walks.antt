@@ -104,11 +104,3 @@ module _ (settings : Settings) (meaning : Meaning) (bytes : List ℕ) where
     pub walk : IsWalk w
     pub reported : AreReported step settings first
         (turns_before settings meaning bytes w.reported_through) all_true now
-
--- a number that each call of a sink keeps is kept
-abbrev pub IsKept : {S E : Type 0} → Steps S E → Settings → S → S → Type 0
-IsKept {S} {E} step settings old new =
-    (name : S → ℕ)
-    → ((s : S) (call : Call) (result : Result Bool E) (t : S) → step s settings call result t
-    → name t ≡ name s)
-    → name new ≡ name old

@@ -2,8 +2,9 @@
 ghost use Rattle.std.specs.Prelude.{◌≡◌, ◌≤◌, ◌<◌, ◌+◌, ◌-◌, ◌^◌, ℕ, true, false, List, length};
 ghost use Rattle.std.specs.Prelude.{IfOk, IfErr, IfSome, IfNone};
 ghost use Rattle.std.specs.Option.{option_map};
+ghost use Rattle.grep_lines.specs.Positions.{IsLineStart};
 ghost use Rattle.grep_matcher.specs.Terminators.{byte_of};
-ghost use Rattle.grep_definitions.specs.AcrossQuestions.{IsAskedAcross, match_limit};
+ghost use Rattle.grep_definitions.specs.AcrossQuestions.{IsAskedAfter, IsAskedAt, match_limit};
 ghost use Rattle.grep_definitions.specs.Below.{is_below};
 ghost use Rattle.grep_definitions.specs.SuccessiveMatches.{position_after};
 ghost use Rattle.grep_walk.specs.Units.{AreFound, AreLeft, IsFound, HasNoMore, IsPart, IsUnit};
@@ -39,7 +40,7 @@ impl Config {
         ensures left { IfOk result (AreLeft self.now (M.meaning matcher.now) bytes.now) }
         ensures end { IfOk result (λ blocks. blocks.end ≡ 0) }
         ensures fault { IfErr result (λ e. (haystack : List ℕ) × (error : M.Error)
-            × IsAskedAcross self.now (M.meaning matcher.now) bytes.now haystack
+            × IsAskedAt self.now (M.meaning matcher.now) bytes.now 0 haystack
             × M.fails matcher.now haystack error × E.is_message (M.Error.output error) e) }
     {
         let mut blocks = Blocks {
@@ -55,11 +56,12 @@ impl Config {
         Ok(blocks)
     }
 
-    // How many matches count, if there is a limit: under inversion the limit is one of lines.
+    // How many matches count, if there is a limit: under inversion the limit is one of lines, and all count unless it
+    // is 0.
     fn match_limit(&self) -> Option<u64>
         ensures { result ≡ match_limit self.now }
     {
-        if self.invert_match {
+        if self.invert_match && has_room(self.max_matches) {
             return None;
         }
         self.max_matches
@@ -80,8 +82,10 @@ impl Config {
         ensures end { IfOk result (λ unit. blocks.new.end ≡ unit.1) }
         ensures left { IfOk result (λ unit.
             AreLeft self.now (M.meaning matcher.now) bytes.now blocks.new) }
-        ensures fault { IfErr result (λ e. (haystack : List ℕ) × (error : M.Error)
-            × IsAskedAcross self.now (M.meaning matcher.now) bytes.now haystack
+        ensures fault { IfErr result (λ e. (i : ℕ)
+            → IsLineStart (byte_of self.now.line_terminator) bytes.now blocks.old.end i
+            → (haystack : List ℕ) × (error : M.Error)
+            × IsAskedAt self.now (M.meaning matcher.now) bytes.now i haystack
             × M.fails matcher.now haystack error × E.is_message (M.Error.output error) e) }
     {
         let Some(mut unit) = blocks.next.take() else {
@@ -120,11 +124,12 @@ impl Config {
             (HasNoMore self.now (M.meaning matcher.now) bytes.now blocks.old blocks.new)) }
         ensures end { blocks.new.end ≡ blocks.old.end }
         ensures next { blocks.new.next ≡ blocks.old.next }
-        ensures fault { IfErr result (λ e. (asked : List (ℕ × ℕ))
+        ensures inside { IfErr result (λ e. blocks.old.position < length bytes.now) }
+        ensures fault { IfErr result (λ e. (found : List (ℕ × ℕ))
             → AreFound self.now (M.meaning matcher.now) bytes.now
-            blocks.old.position blocks.old.left asked
+            blocks.old.position blocks.old.left found
             → (haystack : List ℕ) × (error : M.Error)
-            × IsAskedAcross self.now (M.meaning matcher.now) bytes.now haystack
+            × IsAskedAfter self.now (M.meaning matcher.now) bytes.now found haystack
             × M.fails matcher.now haystack error × E.is_message (M.Error.output error) e) }
     {
         if blocks.position >= bytes.len() || !has_room(blocks.left) {

@@ -86,6 +86,7 @@ impl Config {
             → IsKnown self.now (M.meaning matcher.now) window.now start ahead
             → IsKnown self.now (M.meaning matcher.now) window.now start next) }
         ensures some { IfErr result (λ e. start < length window.now) }
+        ensures unknown { IfErr result (λ e. ahead.hits ≤ start) }
         ensures allowed { IfErr result
             (λ e. MayAskAhead self.now (M.meaning matcher.now) walk.now) }
         ensures fault { IfErr result (λ e. (error : M.Error) × E.is_message (M.Error.output error) e

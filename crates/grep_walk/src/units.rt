@@ -2,7 +2,7 @@
 ghost use Rattle.std.specs.Prelude.{◌≡◌, ◌≤◌, ◌<◌, ◌+◌, ◌^◌, ℕ, true, false, List, length, IfOk, IfErr};
 ghost use Rattle.grep_matcher.specs.Terminators.{byte_of};
 ghost use Rattle.grep_lines.specs.Positions.{IsLine, IsLineStart};
-ghost use Rattle.grep_definitions.specs.AcrossQuestions.{IsAskedAcross};
+ghost use Rattle.grep_definitions.specs.AcrossQuestions.{IsAskedAt};
 ghost use Rattle.grep_walk.specs.AcrossWalks.{is_done, is_joined, next_chosen, walk_after};
 ghost use Rattle.grep_walk.specs.AcrossWalks.{IsReady};
 ghost use Rattle.grep_walk.specs.Walks.{IsOrdered};
@@ -40,8 +40,9 @@ impl Config {
             walk.now next blocks.new) }
         ensures ahead { IfOk result (λ next.
             is_done self.now walk.now ≡ false → start < next.1) }
+        ensures open { IfErr result (λ e. is_done self.now walk.now ≡ false) }
         ensures fault { IfErr result (λ e. (haystack : List ℕ) × (error : M.Error)
-            × IsAskedAcross self.now (M.meaning matcher.now) bytes.now haystack
+            × IsAskedAt self.now (M.meaning matcher.now) bytes.now walk.now.line haystack
             × M.fails matcher.now haystack error × E.is_message (M.Error.output error) e) }
     {
         if start < unit.end() || self.invert_match && self.is_full(walk) {

@@ -1,7 +1,7 @@
 //! A walk over the lines of some bytes: how far it has come, which line comes next, whether that is chosen, and whether
 //! more lines have a turn.
 ghost use Rattle.std.specs.Prelude.{◌≡◌, ◌≤◌, ◌<◌, ◌+◌, ◌^◌, ◌&&◌, ℕ, not, false, length};
-ghost use Rattle.std.specs.Prelude.{IfOk, IfErr, IfSome, IfNone, MatchBool};
+ghost use Rattle.std.specs.Prelude.{IfOk, IfErr, IfSome, IfNone, MatchBool, None};
 ghost use Rattle.grep_matcher.specs.Terminators.{byte_of};
 ghost use Rattle.grep_matcher.specs.Lines.{lines, strip};
 ghost use Rattle.grep_lines.specs.Positions.{IsLine, IsLineStart};
@@ -130,6 +130,7 @@ impl Config {
             self.now.invert_match)) }
         ensures open { IfErr result
             (λ e. is_at walk.now.match_count self.now.max_matches ≡ false) }
+        ensures unknown { IfErr result (λ e. known ≡ None) }
         ensures fault { IfErr result (λ e. (error : M.Error) × E.is_message (M.Error.output error) e
             × M.fails matcher.now (strip self.now.line_terminator line.now) error) }
     {

@@ -21,11 +21,8 @@ pub returns-in_err-blocks-clause-fault : goal.returns-in_err-blocks-clause-fault
 returns-in_err-blocks-clause-fault g c =
     let p = err_from_is_err_and c.from_residual.result c.from_residual.ensures.1 in
     let fault = c.in_err-blocks.ensures.fault in
-    rw (p.1, p.2) (λ first begun. ends.fault-matcher g.C.Calls.step _ _ c.args.self.now.config c.args.bytes.now first _ c.args.sink.now
-    (steps.across-start c.args.self.now.config (g.M.Matcher.meaning c.args.matcher.now) c.args.bytes.now)
-    (ends.reported-begin c.args.self.now.config (g.M.Matcher.meaning c.args.matcher.now) c.args.bytes.now g.C.Calls.step first
-    c.args.sink.now begun)
-    fault.0 fault.1 _ fault.2 fault.3 fault.4)
+    rw (p.1, p.2) (λ first begun. ends.fault-first g.C.Calls.step _ _ c.args.self.now.config c.args.bytes.now first c.args.sink.now
+    begun fault.0 fault.1 _ fault.2 fault.3 fault.4)
 
 pub returns-in_err-unit-clause-fault : goal.returns-in_err-unit-clause-fault
 returns-in_err-unit-clause-fault g c =
@@ -33,7 +30,7 @@ returns-in_err-unit-clause-fault g c =
     let fault = c.in_err-unit.ensures.fault in
     rw (p.1, p.2) (λ first begun. ends.fault-matcher g.C.Calls.step _ _ c.args.self.now.config c.args.bytes.now first c.lines.walk
     c.lines.sink c.lines.invariant.walk (c.lines.invariant.reported first begun)
-    fault.0 fault.1 _ fault.2 fault.3 fault.4)
+    fault.0 fault.1 _ fault.2 c.in_err-unit.ensures.open fault.3 fault.4)
 
 pub returns-then-next-bytes-clause-reported : goal.returns-then-next-bytes-clause-reported
 returns-then-next-bytes-clause-reported g c = λ first begun.

@@ -2,15 +2,18 @@ use Rattle.std.proofs.Common.{[], subst}
 use Rattle.std.proofs.lemmas.Result.{err_from_is_err_and}
 use Rattle.std.specs.Prelude.{IfSome, IfNone}
 use Rattle.grep_walk.specs.Units.{IsFound, HasNoMore}
+use Rattle.grep_walk.proofs.QuestionLemmas.{asked-first}
 use Rattle.grep_walk.proofs.UnitStepLemmas.{starts, none_found, left-start-none, left-start}
 use Rattle.grep_walk.proofs.config.Config.first_block.Goals as goal
 
 pub returns-in_err-found-clause-fault : goal.returns-in_err-found-clause-fault
 returns-in_err-found-clause-fault g c =
     let p = err_from_is_err_and c.from_residual.result c.from_residual.ensures.1 in
-    rw (p.1, p.2) (c.in_err-found.ensures.fault []
-    (none_found c.args.self.now (g.M.Matcher.meaning c.args.matcher.now) c.args.bytes.now
-    c.match_limit.result c.match_limit.ensures))
+    let settings = c.args.self.now in
+    let meaning = g.M.Matcher.meaning c.args.matcher.now in
+    let bytes = c.args.bytes.now in
+    let fault = c.in_err-found.ensures.fault [] (none_found settings meaning bytes c.match_limit.result c.match_limit.ensures) in
+    rw (p.1, p.2) (fault.0, fault.1, asked-first settings meaning bytes fault.0 fault.2, fault.3, fault.4)
 
 pub returns-in_default-clause-left : goal.returns-in_default-clause-left
 returns-in_default-clause-left g c =

@@ -1,4 +1,6 @@
 use Rattle.std.proofs.Common.{◌∙◌, sym, arith}
+use Rattle.std.proofs.lemmas.Result.{err_from_is_err_and}
+use Rattle.grep_walk.proofs.QuestionLemmas.{asked-unit}
 use Rattle.grep_walk.proofs.UnitStepLemmas.{unit-last, left-last, unit-done, left-done, unit-apart, left-apart}
 use Rattle.grep_walk.proofs.UnitStepLemmas.{reached-inside, reached-joined}
 use Rattle.grep_walk.proofs.config.Config.next_unit.Goals as goal
@@ -9,6 +11,20 @@ returns-in_default-clause-unit g c = rw c.zero.ensures (unit-last _ _ _ _ c.requ
 pub returns-in_default-clause-left : goal.returns-in_default-clause-left
 returns-in_default-clause-left g c =
     rw c.take.ensures.after (left-last _ _ _ _ c.requires (sym c.take.ensures.value ∙ c.in_default.is))
+
+pub returns-in_err-found-clause-fault : goal.returns-in_err-found-clause-fault
+returns-in_err-found-clause-fault g c =
+    let p = err_from_is_err_and c.from_residual.result c.from_residual.ensures.1 in
+    let reached = c.matches.invariant.reached in
+    let fault = c.in_err-found.ensures.fault reached.asked reached.found in
+    rw (p.1, p.2) (λ i at. (
+      fault.0,
+      fault.1,
+      asked-unit c.args.self.now (g.M.Matcher.meaning c.args.matcher.now) c.args.bytes.now c.args.blocks.now.end
+          c.matches.blocks.position reached.asked c.matches.unit reached.touched c.in_err-found.ensures.inside i at fault.0 fault.2,
+      fault.3,
+      fault.4,
+    ))
 
 pub matches-preserved-then-is_passed : goal.matches-preserved-then-is_passed
 matches-preserved-then-is_passed g c =

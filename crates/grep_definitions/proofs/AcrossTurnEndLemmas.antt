@@ -1,0 +1,176 @@
+-- Where the turns of the calls across lines end, against where lines start.
+use Rattle.std.proofs.Common.{◌≡◌, ◌⊎◌, ℕ, ◌+◌, ◌-◌, ◌<◌, ◌≤◌, Bool, true, false, ◌&&◌, List, [], ◌∷◌, ◌++◌, Option, Some, None}
+use Rattle.std.proofs.Common.{refl, sym, ◌∙◌, ap, subst, arith, ⊎_elim, inl, inr, append-nil, if◌then◌else◌}
+use Rattle.std.proofs.Math.Bool.{and-false}
+use Rattle.std.proofs.lemmas.Bool.{ltb-true, le-leb, lt-leb, cases_lt, cases_Bool}
+use Rattle.std.proofs.lemmas.List.Elements.{All-nil, All-cons, All-weaker, filter-append}
+use Rattle.std.specs.Prelude.{filter, nat_le, nat_lt, All}
+use Rattle.std.specs.Option.{option_map, unwrap_or}
+use Rattle.grep_lines.proofs.LawLemmas.{AreLines-lines}
+use Rattle.grep_matcher.specs.Matching.{Meaning}
+use Rattle.grep_matcher.specs.Terminators.{byte_of}
+use Rattle.grep_report.specs.declared.sink_context.SinkContextKind.TheVariants.{Before, After, Other}
+use Rattle.grep_definitions.specs.AcrossLines
+use Rattle.grep_definitions.specs.AcrossLines.{turn_end, turns_at, turns_through, unit_end}
+use Rattle.grep_definitions.specs.Below.{first_below, joined_from}
+use Rattle.grep_definitions.specs.LineSearch.{Kind, matched, in_context}
+use Rattle.grep_definitions.specs.Settings.{Settings}
+use Rattle.grep_definitions.specs.SinkCalls.{Turn, breaks}
+use Rattle.grep_definitions.proofs.AcrossWalkLemmas.{Near, front, front-through, n, S, starts, T}
+use Rattle.grep_definitions.proofs.BelowLemmas.{first_below-none, first_below-of, some_below-find, some_below-some}
+use Rattle.grep_definitions.proofs.BoolLemmas.{both_true, clash}
+use Rattle.grep_definitions.proofs.LineStartLemmas.{line_start-ascends}
+use Rattle.grep_definitions.proofs.ListLemmas.{All-joined_from, filter-all, filter-none}
+use Rattle.grep_definitions.proofs.SearchLawLemmas.{kind-matched}
+use Rattle.grep_definitions.proofs.TurnEndLemmas.{line_start-le}
+use Rattle.grep_definitions.proofs.UnitLemmas.{unit-lines}
+
+module _ (k : Settings) (meaning : Meaning) (bytes : List ℕ) where
+  abbrev at : ℕ → ℕ
+  at = starts k meaning bytes
+
+  abbrev selected : ℕ → Bool
+  selected = S k meaning bytes
+
+  abbrev count : ℕ
+  count = n k meaning bytes
+
+  higher : (i j : ℕ) → i ≤ j → at i ≤ at j
+  higher = line_start-le (byte_of k.line_terminator) bytes
+
+  -- the selected lines after line j are those from line i on
+  abbrev SelectsFrom : ℕ → ℕ → Type 0
+  SelectsFrom i j = (q : ℕ) → j < q → q < count → selected q ≡ true → i ≤ q
+
+  -- the next unit after line j ends after line i, if line j isn't before that, or if there is such a unit
+  next-late : (i j : ℕ) → SelectsFrom i j → (i ≤ j) ⊎ (AcrossLines.precedes_selected k meaning bytes j ≡ true)
+      → i < AcrossLines.lines_through_next k meaning bytes j
+  next-late i j from some = go (first_below later count) refl
+    where
+      later : ℕ → Bool
+      later q = nat_lt j q && selected q
+
+      nearer : ℕ → Bool
+      nearer q = nat_lt j q && nat_le (q - j) k.before_context && selected q
+
+      weaker : (q : ℕ) → nearer q ≡ true → later q ≡ true
+      weaker q is =
+          let both = both_true (nat_lt j q && nat_le (q - j) k.before_context) (selected q) is in
+          let above = (both_true (nat_lt j q) (nat_le (q - j) k.before_context) both.0).0 in
+          let here = both.1 in
+          rw (above, here) refl
+
+      go : (o : Option ℕ) → first_below later count ≡ o → i < unwrap_or (option_map (unit_end k meaning bytes) o) (j + 1)
+      go None is = ⊎_elim
+          (λ low. omega (arith, low))
+          (λ precedes.
+          let found = some_below-find nearer count precedes in
+          absurd (clash (some_below-some later count found.0 found.1 (weaker found.0 found.2)) (first_below-none later count is)))
+          some
+      go (Some q) is =
+          let found = first_below-of later count q is in
+          let both = both_true (nat_lt j q) (selected q) found.1 in
+          omega (
+            arith,
+            from q (ltb-true j q both.0) found.0 both.1,
+            (unit-lines k meaning bytes q found.0 both.1).later,
+          )
+
+  -- if the turn of a line ends after some offset, each of its calls does so
+  ends-turns_at : (bound j : ℕ)
+      → ((kind : Kind) → AcrossLines.kind k meaning bytes j ≡ Some kind → bound ≤ turn_end k meaning bytes j (Some kind))
+      → All (λ turn. bound ≤ turn.end) (turns_at k meaning bytes j)
+  ends-turns_at bound j late = go (AcrossLines.kind k meaning bytes j) refl
+    where
+      P : Turn → Type 0
+      P turn = bound ≤ turn.end
+
+      choose : (b : Bool) (turn : Turn) (rest : List Turn) → P turn → All P rest → All P (if b then turn ∷ rest else rest)
+      choose true turn rest low all = All-cons P turn rest low all
+      choose false turn rest low all = all
+
+      skip : (b : Bool) (turn : Turn) → P turn → All P (if b then [] else turn ∷ [])
+      skip true turn low = All-nil P
+      skip false turn low = All-cons P turn [] low (All-nil P)
+
+      report : (kind : Kind) → bound ≤ turn_end k meaning bytes j (Some kind)
+          → All P (AcrossLines.report k meaning bytes j (Some kind))
+      report matched low = skip _ _ low
+      report (in_context c) low = All-cons P _ [] low (All-nil P)
+
+      go : (kind : Option Kind) → AcrossLines.kind k meaning bytes j ≡ kind → All P (turns_at k meaning bytes j)
+      go None is = rw (is, and-false (nat_lt 0 (k.after_context + k.before_context))) (All-nil P)
+      go (Some kind) is =
+          let low = late kind is in
+          rw is (choose _ (record { call = breaks; end = turn_end k meaning bytes j (Some kind) })
+          (AcrossLines.report k meaning bytes j (Some kind)) low (report kind low))
+
+  -- a line that a walk at line i passed unreported, or has still to come to, has a turn that ends after line i
+  module _ (v i left : ℕ) (near : Near k meaning bytes v i left) where
+    from-here : (j : ℕ) → v ≤ j → SelectsFrom i j
+    from-here j low q less inside hit = ⊎_elim
+        (λ early. absurd (clash hit (near.passed q (omega (arith, low, less)) early).0))
+        (λ over. over)
+        (cases_lt q i)
+
+    ends-late : (j : ℕ) → v ≤ j → j < count → All (λ turn. at (i + 1) ≤ turn.end) (T k meaning bytes j)
+    ends-late j low inside = ends-turns_at (at (i + 1)) j (λ kind is. go kind is (cases_lt j i))
+      where
+        after : i ≤ j → at (i + 1) ≤ at (j + 1)
+        after over = higher (i + 1) (j + 1) (omega (arith, over))
+
+        next : (i ≤ j) ⊎ (AcrossLines.precedes_selected k meaning bytes j ≡ true)
+            → at (i + 1) ≤ at (AcrossLines.lines_through_next k meaning bytes j)
+        next some = higher (i + 1) _ (omega (arith, next-late i j (from-here j low) some))
+
+        go : (kind : Kind) → AcrossLines.kind k meaning bytes j ≡ Some kind → (j < i) ⊎ (i ≤ j)
+            → at (i + 1) ≤ turn_end k meaning bytes j (Some kind)
+        go matched is (inl less) =
+            absurd (clash (kind-matched (selected j) (AcrossLines.follows_selected k meaning bytes j)
+            (AcrossLines.precedes_selected k meaning bytes j) k.passthru is) (near.passed j low less).0)
+        go matched is (inr over) =
+            let here = kind-matched (selected j) (AcrossLines.follows_selected k meaning bytes j)
+            (AcrossLines.precedes_selected k meaning bytes j) k.passthru is in
+            higher (i + 1) (unit_end k meaning bytes j) (omega (arith, over, (unit-lines k meaning bytes j inside here).later))
+        go (in_context After) is (inr over) = after over
+        go (in_context Other) is (inr over) = after over
+        go (in_context Before) is (inr over) = next (inl over)
+        go (in_context c) is (inl less) =
+            let misses : selected j ≡ false = (near.passed j low less).0 in
+            let alone : AcrossLines.follows_selected k meaning bytes j ≡ false = (near.passed j low less).1 in
+            ⊎_elim
+            (λ (precedes : AcrossLines.precedes_selected k meaning bytes j ≡ true).
+            let before : AcrossLines.kind k meaning bytes j ≡ Some (in_context Before) = rw (misses, alone, precedes) refl in
+            let same : in_context c ≡ in_context Before = let e = sym is ∙ before in cc in
+            subst (λ o. at (i + 1) ≤ turn_end k meaning bytes j (Some o)) (sym same) (next (inr precedes)))
+            (λ (last : AcrossLines.precedes_selected k meaning bytes j ≡ false).
+            let plain : k.passthru ≡ false = ⊎_elim (λ yes. absurd (omega (arith, near.bare yes, low, less))) (λ no. no)
+            (cases_Bool k.passthru) in
+            let none : AcrossLines.kind k meaning bytes j ≡ None = rw (misses, alone, last, plain) refl in
+            absurd (let e = sym none ∙ is in cc))
+            (cases_Bool (AcrossLines.precedes_selected k meaning bytes j))
+
+    -- just the calls so far end at or before the start of line i, if their turns have ended by then
+    pub through-is : i < count → All (λ turn. turn.end ≤ at i) (front k meaning bytes v)
+        → turns_through k meaning bytes (at i) ≡ front k meaning bytes v
+    through-is inside ended =
+        let split = ap (filter passes) (front-through k meaning bytes v count (omega (arith, near.low, inside)))
+        ∙ filter-append passes (front k meaning bytes v) later in
+        let early = filter-all passes (front k meaning bytes v) (All-weaker (λ turn. turn.end ≤ at i) (λ turn. passes turn ≡ true)
+        (λ turn low. le-leb turn.end (at i) low) (front k meaning bytes v) ended) in
+        let late = filter-none passes later
+        (All-joined_from (λ turn. passes turn ≡ false) (T k meaning bytes) v (count - v)
+        (λ j low high. All-weaker (λ turn. at (i + 1) ≤ turn.end) (λ turn. passes turn ≡ false) fails (T k meaning bytes j)
+        (ends-late j low (omega (arith, high, near.low, inside))))) in
+        split ∙ (ap (λ xs. xs ++ filter passes later) early
+        ∙ (ap (λ xs. front k meaning bytes v ++ xs) late ∙ append-nil (front k meaning bytes v)))
+      where
+        passes : Turn → Bool
+        passes turn = nat_le turn.end (at i)
+
+        later : List Turn
+        later = joined_from (T k meaning bytes) v (count - v)
+
+        fails : (turn : Turn) → at (i + 1) ≤ turn.end → passes turn ≡ false
+        fails turn low = lt-leb turn.end (at i)
+            (omega (arith, low, line_start-ascends AreLines-lines (byte_of k.line_terminator) bytes i inside))
