@@ -5,7 +5,8 @@ use Rattle.std.proofs.lemmas.Bool.{false≢true}
 use Rattle.std.proofs.lemmas.List.Elements.{All-weaker}
 use Rattle.std.specs.declared.io.Error.{Error}
 use Rattle.grep_decode.specs.declared.mode.Mode.TheVariants.{Passing}
-use Rattle.grep_decode.specs.DecoderStates.{DecoderState, Decodes, IsDone, IsSettled, TakesAtMost, started, still_to_give}
+use Rattle.grep_decode.specs.Decoded.{IsIncomplete}
+use Rattle.grep_decode.specs.DecoderStates.{DecoderState, Decodes, IsDone, IsSettled, LooksForMark, started, still_to_give}
 use Rattle.grep_decode.specs.Source.{ReadResult}
 use Rattle.grep_line_buffer.specs.Contents.{IsBelow, ContentsFail, FailsAfter}
 use Rattle.grep_line_buffer.specs.Fills.{IfRead, UnlessRead}
@@ -23,7 +24,6 @@ use Rattle.grep_definitions.specs.InputFronts.{IsFront, IsTooLong}
 use Rattle.grep_definitions.specs.ReaderSearches.{Taken, IsContentsSearched, IsUnreadIn, IsReaderFaultIn}
 use Rattle.grep_definitions.specs.ReaderSearches.{of_contents, of_failed_read, of_reading, of_search}
 use Rattle.grep_definitions.specs.ReadingFaults.{CutsContents, IsBelowLimit, of_full, of_no_memory}
-use Rattle.grep_definitions.specs.SearchLaws.{UnchangedIsInput}
 use Rattle.grep_definitions.specs.SearchTurns.{SearchCalls, calls_across}
 use Rattle.grep_definitions.specs.Searches.{ErrorMakers, MatcherFacts, IsFaultIn, IsQuitFault, IsRunUntil, of_sink}
 use Rattle.grep_definitions.specs.Settings.{Settings, SearcherState}
@@ -169,24 +169,23 @@ module _ {R : Type 0} (remaining : R → Option (List ℕ)) (read_step : R → R
 pub unread-failed : {R : Type 0} (remaining : R → Option (List ℕ)) (read_step : R → ReadResult → R → Type 0) (k : Settings)
     (capacity : ℕ) (reader : R) (given : List ℕ) (d : DecoderState) (mid : R)
     (reads : Decodes remaining read_step (started capacity k.encoding k.bom_sniffing) reader given d mid)
-    → UnchangedIsInput → (view : List ℕ → List ℕ) (has_buffers : Bool) (meaning : Meaning) (error : Error) (reader' : R)
+    → ((d : DecoderState) (more : List ℕ) → IsDone d → still_to_give d more ≡ [])
+    → (view : List ℕ → List ℕ) (has_buffers : Bool) (meaning : Meaning) (error : Error) (reader' : R)
     → IsBelow k.heap_limit (length given)
     → d.has_ended ≡ false → read_step mid (Err error) reader' → d.ready ≡ [] → (d.mode ≡ Passing → d.held ≡ [])
-    → IsSettled d.mode ⊎ TakesAtMost (remaining reader) (remaining reader') 2
+    → IsSettled d.mode ⊎ LooksForMark d.mode × (length d.held ≤ 2) → (IsSettled d.mode → IsIncomplete (still_to_give d []))
     → IsUnreadIn remaining read_step true view (record { settings = k; has_buffers = has_buffers }) meaning reader None error reader'
-unread-failed remaining read_step k capacity reader given d mid reads unchanged view has_buffers meaning error reader' below unended ends
-    ready held few =
-    of_failed_read refl mid (reading.taken remaining read_step k capacity reader given d mid reads) unended ends
-    (λ limit is same_bytes more.
-    let settled = ⊎_elim (λ is. is) (λ two. absurd (more two)) few in
-    let all = reading.taken-all remaining read_step k capacity reader given d mid reads unchanged same_bytes settled ready held in
-    subst (λ xs. length xs < limit) (sym all) (subst (λ l. IsBelow l (length given)) is below))
+unread-failed remaining read_step k capacity reader given d mid reads none view has_buffers meaning error reader' below unended ends
+    ready held few incomplete =
+    of_failed_read refl mid (reading.taken remaining read_step k capacity reader given d mid reads) unended ends given
+    (reading.decoded-so_far remaining read_step k capacity reader given d mid reads none unended ready held few incomplete)
+    (λ limit is. subst (λ l. IsBelow l (length given)) is below)
 
 -- why not all was read, by the error
 module _ {R : Type 0} (remaining : R → Option (List ℕ)) (read_step : R → ReadResult → R → Type 0) (k : Settings)
     (capacity : ℕ) (d : DecoderState) (start : d ≡ started capacity k.encoding k.bom_sniffing) (reader : R) (given : List ℕ)
     (d' : DecoderState) (reader' : R) (none : (d : DecoderState) (more : List ℕ) → IsDone d → still_to_give d more ≡ [])
-    (unchanged : UnchangedIsInput) (view : List ℕ → List ℕ) (has_buffers : Bool) (meaning : Meaning) where
+    (view : List ℕ → List ℕ) (has_buffers : Bool) (meaning : Meaning) where
   abbrev Unread : Error → Type 0
   Unread error =
       IsUnreadIn remaining read_step true view (record { settings = k; has_buffers = has_buffers }) meaning reader None error reader'
@@ -195,19 +194,20 @@ module _ {R : Type 0} (remaining : R → Option (List ℕ)) (read_step : R → R
       → UnlessRead {X = Unit {0}} (Err e) (Decodes remaining read_step d reader given d' reader')
       → IfRead {X = Unit {0}} (Err e) (λ io. FailsAfter remaining read_step io d reader given d' reader')
       → IfRead {X = Unit {0}} (Err e) (λ _. d'.mode ≡ Passing → d'.held ≡ []) → IfRead {X = Unit {0}} (Err e) (λ _. d'.ready ≡ [])
-      → IfRead {X = Unit {0}} (Err e) (λ _. IsSettled d'.mode ⊎ TakesAtMost (remaining reader) (remaining reader') 2)
+      → IfRead {X = Unit {0}} (Err e) (λ _. IsSettled d'.mode ⊎ LooksForMark d'.mode × (length d'.held ≤ 2))
+      → IfRead {X = Unit {0}} (Err e) (λ _. IsSettled d'.mode → IsIncomplete (still_to_give d' []))
       → Unread error
-  unread-read (Read io) error made size below reads fails held ready few =
+  unread-read (Read io) error made size below reads fails held ready few incomplete =
       let fails' = subst (λ from. FailsAfter remaining read_step io from reader given d' reader') start fails in
       subst Unread (sym made)
-      (unread-failed remaining read_step k capacity reader given d' fails'.mid fails'.decodes unchanged view has_buffers meaning io reader'
-      below fails'.unended fails'.failed ready held few)
-  unread-read HeapLimit error made size full reads fails held ready few =
+      (unread-failed remaining read_step k capacity reader given d' fails'.mid fails'.decodes none view has_buffers meaning io reader'
+      below fails'.unended fails'.failed ready held few incomplete)
+  unread-read HeapLimit error made size full reads fails held ready few incomplete =
       unread-contents remaining read_step k capacity reader given d' reader'
       (subst (λ from. Decodes remaining read_step from reader given d' reader') start reads) none view has_buffers meaning error
       (λ bytes enough. of_full (length given) full made enough)
-  unread-read Offset error made size never reads fails held ready few = absurd never
-  unread-read Memory error made size lacks reads fails held ready few =
+  unread-read Offset error made size never reads fails held ready few incomplete = absurd never
+  unread-read Memory error made size lacks reads fails held ready few incomplete =
       unread-contents remaining read_step k capacity reader given d' reader'
       (subst (λ from. Decodes remaining read_step from reader given d' reader') start reads) none view has_buffers meaning error
       (λ bytes enough. of_no_memory made)

@@ -25,7 +25,6 @@ use Rattle.grep_definitions.specs.ReaderSearches.{is_idle, IsLineUnread, IsReade
 use Rattle.grep_definitions.specs.InputFronts.{IsClosed, IsFront}
 use Rattle.grep_definitions.specs.Searches.{ErrorMakers, MatcherFacts, IsClearFault, IsLineFault}
 use Rattle.grep_definitions.specs.Settings.{Settings}
-use Rattle.grep_definitions.specs.SearchLaws.{UnchangedIsInput}
 use Rattle.grep_definitions.specs.SinkCalls.{begins, binary_data}
 use Rattle.grep_definitions.specs.SinkRuns.{Steps, Outcome, all_true, stopped, failed, AreReported}
 use Rattle.grep_definitions.specs.StreamSearches.{IsNotedFor, stream_calls}
@@ -223,11 +222,11 @@ module _ {R : Type 0} (remaining : R → Option (List ℕ)) (read_step : R → R
           (done : (old.has_ended ≡ true → is_cut old ≡ false → IsDone d) → new.has_ended ≡ true → is_cut new ≡ false → IsDone d') where
         -- it came to its end
         pub counted-shown : (w' : Walk) (last : Noted S) → HasNoted last → last.binary ≡ new.binary
-            → HasEnded (Notes step) k meaning new w sink w' last → UnchangedIsInput → IsSettled d'.mode
+            → HasEnded (Notes step) k meaning new w sink w' last → IsSettled d'.mode
             → (d'.mode ≡ Passing → (length d'.ready ≤ 3) × (d'.held ≡ []))
             → HasCounted (noted step) k meaning remaining read_step reader (first, None) w'.offset last.binary r'
             (last.sink.now, last.binary)
-        counted-shown w' last called known ended unchanged settled passing =
+        counted-shown w' last called known ended settled passing =
             subst (λ found. HasCounted (noted step) k meaning remaining read_step reader (first, None) w'.offset last.binary r'
             (last.sink.now, found)) (called-known last called)
             (subst (λ found. HasCounted (noted step) k meaning remaining read_step reader (first, None) w'.offset found r' (noted_of last))
@@ -235,7 +234,7 @@ module _ {R : Type 0} (remaining : R → Option (List ℕ)) (read_step : R → R
             (has_counted-seen step k meaning remaining read_step reader (From first base sink.binary) w'.offset new.binary r' last
             (rolling.counted-filled remaining read_step join append (Notes step) k meaning busy capacity reader decoder begun
             (From first base sink.binary) old new d d' r r' w sink so_far fitting same fills held_now uncut filled room within none done
-            w' last ended unchanged settled passing)))
+            w' last ended settled passing)))
 
         -- or it ended in an error
         module _ {F : Type 0} (errors : ErrorMakers E) (matcher : MatcherFacts F) (e : E) (last : Noted S)
@@ -305,10 +304,10 @@ module _ {R : Type 0} (remaining : R → Option (List ℕ)) (read_step : R → R
       -- no line may have a turn: the search ends once the first bytes are read
       pub counted-idle : is_idle k ≡ true → is_cut new ≡ false → length (held new) ≤ new.size → IsWithin new.limit new.size
           → IsFitting k.heap_limit t old → HasNoted sink → sink.binary ≡ new.binary
-          → UnchangedIsInput → IsSettled d'.mode → (d'.mode ≡ Passing → (length d'.ready ≤ 3) × (d'.held ≡ []))
+          → IsSettled d'.mode → (d'.mode ≡ Passing → (length d'.ready ≤ 3) × (d'.held ≡ []))
           → HasCounted (noted step) k meaning remaining read_step reader (first, None) w.offset sink.binary r'
           (sink.sink.now, sink.binary)
-      counted-idle idle uncut room within fitting called known unchanged settled passing =
+      counted-idle idle uncut room within fitting called known settled passing =
           let unread = so_far.between.idle idle in
           let calls : noted step (first, None) k begins (Ok true) (sink.sink.now, sink.binary) =
           subst (λ found. noted step (first, None) k begins (Ok true) (sink.sink.now, found)) (called-known sink called)
@@ -333,8 +332,8 @@ module _ {R : Type 0} (remaining : R → Option (List ℕ)) (read_step : R → R
             over_all = λ bytes input. over (view_of k bytes);
             all = λ bytes input all. turns-seen join append k meaning [] (view_of k bytes) (λ some. rolls.nothing)
                 (omega (arith, (over (view_of k bytes)).is_count));
-            ahead = λ limit is same_bytes.
-                let few = reading.taken-few remaining read_step k capacity reader raw d' r' from_start unchanged same_bytes
+            ahead = λ limit is passes.
+                let few = reading.taken-few remaining read_step k capacity reader raw d' r' from_start passes
                 settled passing in
                 let view = holding.view-there remaining read_step k so_far.gone raw old new decoder d'
                 reader r' held_now.1 so_far.detects ends_at same uncut in
@@ -359,7 +358,7 @@ module _ {R : Type 0} (remaining : R → Option (List ℕ)) (read_step : R → R
       -- it found the first binary byte, and the search ends there
       module _ (fitting : IsFitting k.heap_limit t old) (room : length (held new) ≤ new.size)
           (tight : is_cut new ≡ true → length (held new) < new.size) (within : IsWithin new.limit new.size)
-          (more_is : held_now.0 ≡ fills.given) (unchanged : UnchangedIsInput) (settled : IsSettled d'.mode)
+          (more_is : held_now.0 ≡ fills.given) (settled : IsSettled d'.mode)
           (passing : d'.mode ≡ Passing → (length d'.ready ≤ 3) × (d'.held ≡ []))
           (known : sink.binary ≡ old.binary) (unknown : sink.binary ≡ None) (offset : ℕ) (is : new.binary ≡ Some offset) where
         holds-is : so_far.gone ++ held new ≡ detected (detection_of k.binary_detection) t raw
@@ -445,9 +444,9 @@ module _ {R : Type 0} (remaining : R → Option (List ℕ)) (read_step : R → R
                 );
               };
           counted = omega (arith, so_far.between.at, length-append so_far.gone old.shown);
-          ahead = λ limit is_limit same_bytes.
+          ahead = λ limit is_limit passes.
               let from_start = reads so_far.gone raw old new d' r' held_now.1 so_far.detects ends_at same in
-              let few = reading.taken-few remaining read_step k capacity reader raw d' r' from_start unchanged same_bytes
+              let few = reading.taken-few remaining read_step k capacity reader raw d' r' from_start passes
               settled passing in
               omega (arith, few, raw-fits, limit-within limit is_limit, length-append so_far.gone old.shown);
           reported = unnoted-so_far unknown;
@@ -457,7 +456,7 @@ module _ {R : Type 0} (remaining : R → Option (List ℕ)) (read_step : R → R
 
       module _ (fitting : IsFitting k.heap_limit t old) (room : length (held new) ≤ new.size)
           (tight : is_cut new ≡ true → length (held new) < new.size) (within : IsWithin new.limit new.size)
-          (more_is : held_now.0 ≡ fills.given) (unchanged : UnchangedIsInput) (settled : IsSettled d'.mode)
+          (more_is : held_now.0 ≡ fills.given) (settled : IsSettled d'.mode)
           (passing : d'.mode ≡ Passing → (length d'.ready ≤ 3) × (d'.held ≡ []))
           (known : sink.binary ≡ old.binary) where
         -- `binary_data` returned false, or the search is one that ends at the byte
@@ -468,7 +467,7 @@ module _ {R : Type 0} (remaining : R → Option (List ℕ)) (read_step : R → R
           outcome_of returned w.offset,
           now_known,
           outcome-count E returned w.offset,
-          cut-here fitting room tight within more_is unchanged settled passing known unknown offset is (outcome_of returned w.offset)
+          cut-here fitting room tight within more_is settled passing known unknown offset is (outcome_of returned w.offset)
               sink'.sink.now
               (outcome-called step k sink.sink.now offset w.offset returned sink'.sink.now called)
               (ends-there k.binary_detection returned w.offset goes),
@@ -483,7 +482,7 @@ module _ {R : Type 0} (remaining : R → Option (List ℕ)) (read_step : R → R
         fault-cut errors facts has_buffers e sink' (offset, is, unknown, fails) = inr
             (cut-ended step errors (record facts { meaning = meaning }) remaining read_step k has_buffers reader first w.offset r'
             offset (failed e) sink'.sink.now (Err e) sink'.sink.now
-            (cut-here fitting room tight within more_is unchanged settled passing known unknown offset is (failed e) sink'.sink.now
+            (cut-here fitting room tight within more_is settled passing known unknown offset is (failed e) sink'.sink.now
             (inr (inr (e, refl, fails)))
             (λ all. absurd (cc))) (refl, refl))
 

@@ -1,20 +1,21 @@
 -- What a decoder gave, against the bytes that are searched.
-use Rattle.std.proofs.Common.{◌≡◌, ℕ, ◌+◌, ◌≤◌, ◌&&◌, Bool, true, false, not, List, [], ◌++◌, length, Option, Some}
-use Rattle.std.proofs.Common.{None, refl, sym, ◌∙◌, ap, arith, append-nil, length-append}
+use Rattle.std.proofs.Common.{◌≡◌, ◌⊎◌, ℕ, ◌+◌, ◌<◌, ◌≤◌, Bool, true, false, List, [], ◌++◌, length, Option, Some}
+use Rattle.std.proofs.Common.{None, inl, inr, refl, sym, subst, ◌∙◌, ap, arith, append-nil, length-append}
+use Rattle.std.proofs.lemmas.Bool.{false≢true}
 use Rattle.std.specs.List.{concat}
-use Rattle.std.specs.Prelude.{is_some}
 use Rattle.grep_decode.specs.declared.label.Label.{Label}
+use Rattle.grep_decode.specs.declared.label.Label.TheVariants.{Utf8, Utf16Le, Utf16Be}
 use Rattle.grep_decode.specs.declared.mode.Mode.{Mode}
 use Rattle.grep_decode.specs.declared.mode.Mode.TheVariants.{Fresh, Passing, Decoding}
-use Rattle.grep_decode.specs.Decoded.{decoded, found_mark}
-use Rattle.grep_decode.specs.DecoderStates.{DecoderState, Decodes, IsDone, IsSettled, decode_by, mode_after, mode_of}
+use Rattle.grep_decode.specs.Decoded.{IsIncomplete, decoded, found_mark}
+use Rattle.grep_decode.specs.DecoderStates.{DecoderState, Decodes, IsDone, IsSettled, LooksForMark, decode_by, mode_after, mode_of}
 use Rattle.grep_decode.specs.DecoderStates.{started, still_to_give, unread}
 use Rattle.grep_decode.specs.Source.{ReadResult}
 use Rattle.grep_matcher.specs.Terminators.{byte_of}
 use Rattle.grep_definitions.specs.BinaryBytes.{view_of}
-use Rattle.grep_definitions.specs.DecodedInputs.{IsInput, searched_bytes, is_searched_unchanged}
+use Rattle.grep_definitions.specs.DecodedInputs.{IsDecodedSoFar, IsInput, looks_for_mark, passes_after, passes_unchanged}
+use Rattle.grep_definitions.specs.DecodedInputs.{searched_bytes}
 use Rattle.grep_definitions.specs.ReaderSearches.{Taken}
-use Rattle.grep_definitions.specs.SearchLaws.{UnchangedIsInput}
 use Rattle.grep_definitions.specs.Settings.{Settings}
 use Rattle.grep_core.proofs.StreamViewLemmas.{view-none}
 
@@ -29,11 +30,19 @@ mode-stays (Fresh label sniff) input settled = absurd settled
 mode-stays Passing input settled = refl
 mode-stays (Decoding label) input settled = refl
 
--- without a label and a mark the bytes pass
-mode-passing : (label mark : Option Label) → (not (is_some label) && not (is_some mark)) ≡ true → mode_of mark label ≡ Passing
+-- without a label and a mark the bytes pass, and after the mark of UTF-8
+mode-passing : (label mark : Option Label) → passes_after mark label ≡ true → mode_of mark label ≡ Passing
+mode-passing label (Some Utf8) unchanged = refl
+mode-passing label (Some Utf16Le) unchanged = absurd (false≢true unchanged)
+mode-passing label (Some Utf16Be) unchanged = absurd (false≢true unchanged)
 mode-passing None None unchanged = refl
-mode-passing None (Some mark) unchanged = absurd (cc)
-mode-passing (Some label) mark unchanged = absurd (cc)
+mode-passing (Some label) None unchanged = absurd (false≢true unchanged)
+
+-- a decoder that looks for a mark hasn't settled
+looks-unsettled : (mode : Mode) → LooksForMark mode → IsSettled mode → ⊥
+looks-unsettled (Fresh label sniff) looks settled = settled
+looks-unsettled Passing looks settled = looks
+looks-unsettled (Decoding label) looks settled = looks
 
 module _ {R : Type 0} (remaining : R → Option (List ℕ)) (step : R → ReadResult → R → Type 0) (settings : Settings) (capacity : ℕ)
     (reader : R) (given : List ℕ) (d : DecoderState) (reader' : R)
@@ -69,10 +78,14 @@ module _ {R : Type 0} (remaining : R → Option (List ℕ)) (step : R → ReadRe
         λ done. ap (view_of settings) (text.2 done) ∙ view-none settings.binary_detection (byte_of settings.line_terminator),
       )
 
-  module _ (same : UnchangedIsInput) (unchanged : is_searched_unchanged settings (concat reads.pieces) ≡ true)
-      (settled : IsSettled d.mode) where
+  -- the bytes that are searched, if the input ended here
+  decoded-is : searched_bytes settings (concat reads.pieces) ≡ given ++ still_to_give d []
+  unfolding searched_bytes
+  decoded-is = ap (decoded settings.encoding settings.bom_sniffing) (sym (append-nil (concat reads.pieces))) ∙ reads.gives [] (λ _. refl)
+
+  module _ (unchanged : passes_unchanged settings (concat reads.pieces) ≡ true) (settled : IsSettled d.mode) where
     pub passes : d.mode ≡ Passing
-    unfolding is_searched_unchanged
+    unfolding passes_unchanged
     passes =
         let none = mode-passing settings.encoding (found_mark settings.encoding settings.bom_sniffing (concat reads.pieces)) unchanged in
         let now = reads.settles [] (λ _. refl) in
@@ -80,31 +93,35 @@ module _ {R : Type 0} (remaining : R → Option (List ℕ)) (step : R → ReadRe
         ∙ (ap (λ xs. mode_of (found_mark settings.encoding settings.bom_sniffing xs) settings.encoding) (append-nil (concat reads.pieces))
         ∙ none))
 
-    -- bytes that pass were given, but those that are ready and held
-    pub pieces-are : concat reads.pieces ≡ given ++ (d.ready ++ d.held)
-    unfolding searched_bytes
-    pieces-are =
-        let left : still_to_give d [] ≡ d.ready ++ d.held =
-        ap (λ m. d.ready ++ decode_by m (d.held ++ unread d.has_ended [])) passes
-        ∙ (ap (λ xs. d.ready ++ (d.held ++ xs)) (unread-nothing d.has_ended) ∙ ap (λ xs. d.ready ++ xs) (append-nil d.held)) in
-        sym (same settings (concat reads.pieces) unchanged)
-        ∙ (ap (decoded settings.encoding settings.bom_sniffing) (sym (append-nil (concat reads.pieces)))
-        ∙ (reads.gives [] (λ _. refl) ∙ ap (λ xs. given ++ xs) left))
-
     -- at most three bytes more were taken than given
     pub taken-few : (d.mode ≡ Passing → (length d.ready ≤ 3) × (d.held ≡ [])) → length (concat reads.pieces) ≤ length given + 3
-    taken-few few =
-        let held = few passes in
-        omega (
-          arith,
-          ap length pieces-are,
-          length-append given (d.ready ++ d.held),
-          length-append d.ready d.held,
-          held.0,
-          ap length held.1,
-        )
+    taken-few few = omega (arith, reads.ahead passes, ap length (few passes).1)
 
-    -- none more if nothing is ready and held
-    pub taken-all : d.ready ≡ [] → (d.mode ≡ Passing → d.held ≡ []) → concat reads.pieces ≡ given
-    taken-all ready held =
-        pieces-are ∙ (ap (λ xs. given ++ (xs ++ d.held)) ready ∙ (ap (λ xs. given ++ xs) (held passes) ∙ append-nil given))
+    -- all is given if nothing is ready and held
+    decoded-all : d.ready ≡ [] → (d.mode ≡ Passing → d.held ≡ []) → given ≡ searched_bytes settings (concat reads.pieces)
+    decoded-all ready held =
+        let left : still_to_give d [] ≡ [] =
+        ap (λ xs. xs ++ decode_by d.mode (d.held ++ unread d.has_ended [])) ready
+        ∙ (ap (λ m. decode_by m (d.held ++ unread d.has_ended [])) passes
+        ∙ (ap (λ xs. xs ++ unread d.has_ended []) (held passes) ∙ unread-nothing d.has_ended)) in
+        sym (decoded-is ∙ (ap (λ xs. given ++ xs) left ∙ append-nil given))
+
+  -- a decoder that looks for a mark holds all that was taken
+  pub settled-enough : IsSettled d.mode ⊎ LooksForMark d.mode × (length d.held ≤ 2)
+      → (looks_for_mark settings ≡ true → 2 < length (concat reads.pieces)) → IsSettled d.mode
+  settled-enough (inl settled) enough = settled
+  settled-enough (inr (looks, few)) enough =
+      let waits = reads.unsettled (looks-unsettled d.mode looks) in
+      absurd (omega (arith, enough (subst LooksForMark waits.0 looks), few, ap length waits.2))
+
+  -- what was decoded when the reader failed
+  pub decoded-so_far : ((d : DecoderState) (more : List ℕ) → IsDone d → still_to_give d more ≡ []) → d.has_ended ≡ false
+      → d.ready ≡ [] → (d.mode ≡ Passing → d.held ≡ []) → IsSettled d.mode ⊎ LooksForMark d.mode × (length d.held ≤ 2)
+      → (IsSettled d.mode → IsIncomplete (still_to_give d [])) → IsDecodedSoFar settings reads.pieces given
+  decoded-so_far none unended ready held few incomplete = record {
+    begins = λ bytes input.
+        let text = input-is none bytes (input.0, (λ ended. absurd (false≢true (sym unended ∙ ended))), input.2) in
+        (text.0, text.1);
+    all = λ enough. (still_to_give d [], decoded-is, incomplete (settled-enough few enough));
+    whole = λ enough unchanged. decoded-all unchanged (settled-enough few enough) ready held;
+  }

@@ -23,7 +23,6 @@ use Rattle.grep_definitions.specs.DecodedInputs.{IsInput}
 use Rattle.grep_definitions.specs.InputFronts.{IsClosed, IsFront}
 use Rattle.grep_definitions.specs.LineSearch
 use Rattle.grep_definitions.specs.ReaderSearches.{IsReaderFaultIn, Taken, is_idle, reads_lines, of_search}
-use Rattle.grep_definitions.specs.SearchLaws.{UnchangedIsInput}
 use Rattle.grep_definitions.specs.Searches.{ErrorMakers, MatcherFacts, IsClearFault, IsFaultIn, IsLineFault, of_matcher, of_sink}
 use Rattle.grep_definitions.specs.StreamSearches.{stream_calls}
 use Rattle.grep_definitions.specs.Settings.{Settings}
@@ -94,7 +93,6 @@ module _ {R : Type 0} (remaining : R → Option (List ℕ)) (read_step : R → R
     };
     detects = detects;
     uncut = ap (λ b. is_quit buffer.detection && is_some b) binary ∙ never buffer.detection;
-    settled = inr refl;
   }
     where
       nothing-held : (d : Detection) → detected d buffer.terminator [] ≡ []
@@ -258,9 +256,9 @@ module _ {R : Type 0} (remaining : R → Option (List ℕ)) (read_step : R → R
         high : w'.offset ≤ length shown
         high = omega (arith, ended.high, same.offset, between.offset, length-append gone new.shown)
 
-        pub has-counted : UnchangedIsInput → IsSettled d'.mode → (d'.mode ≡ Passing → (length d'.ready ≤ 3) × (d'.held ≡ []))
+        pub has-counted : IsSettled d'.mode → (d'.mode ≡ Passing → (length d'.ready ≤ 3) × (d'.held ≡ []))
             → HasCounted step k meaning remaining read_step reader first w'.offset new.binary reader' now'
-        has-counted unchanged settled passing = record {
+        has-counted settled passing = record {
           taken = taken;
           seen = shown;
           outcome = ended.outcome;
@@ -275,8 +273,8 @@ module _ {R : Type 0} (remaining : R → Option (List ℕ)) (read_step : R → R
               subst (λ xs. LineSearch.turn_count k meaning xs ≤ length (lines t shown)) (sym text)
               (turns-seen join append k meaning shown (after bytes input) (front bytes input).closed
               (subst (λ xs. LineSearch.byte_count k meaning xs ≤ length shown) text (omega (arith, count, high))));
-          ahead = λ limit is same_bytes.
-              let few = reading.taken-few remaining read_step k capacity reader raw d' reader' reads unchanged same_bytes
+          ahead = λ limit is passes.
+              let few = reading.taken-few remaining read_step k capacity reader raw d' reader' reads passes
               settled passing in
               omega (
                 arith,
@@ -355,7 +353,7 @@ module _ {R : Type 0} (remaining : R → Option (List ℕ)) (read_step : R → R
       cleared-filled = cleared capacity reader r' d d' so_far.gone old new first w now so_far.between fitting same busy appended
           fills.appended shows_whole room within raw shows from_start is_found unquit none done_then
 
-      pub counted-filled : (w' : Walk) (now' : S) → HasEnded step k meaning new w now w' now' → UnchangedIsInput → IsSettled d'.mode
+      pub counted-filled : (w' : Walk) (now' : S) → HasEnded step k meaning new w now w' now' → IsSettled d'.mode
           → (d'.mode ≡ Passing → (length d'.ready ≤ 3) × (d'.held ≡ []))
           → HasCounted step k meaning remaining read_step reader first w'.offset new.binary r' now'
       counted-filled = has-counted capacity reader r' d d' so_far.gone old new first w now so_far.between fitting same busy appended
@@ -363,9 +361,8 @@ module _ {R : Type 0} (remaining : R → Option (List ℕ)) (read_step : R → R
 
       pub rolling-next : (w' : Walk) (moved : BufferState) (now' : S) → HasMovedOn step k meaning new w now moved w' now'
           → ((count : ℕ) → so_far.gone ++ held new ≡ (so_far.gone ++ take count new.shown) ++ (drop count new.shown ++ new.rest))
-          → IsSettled d'.mode
           → IsRolling step k meaning remaining read_step decoder reader first moved d' r' w' now'
-      rolling-next w' moved now' on consumed settled = record {
+      rolling-next w' moved now' on consumed = record {
         gone = so_far.gone ++ take on.count new.shown;
         between = rolls.between-next join append step k meaning so_far.gone old first w now so_far.between new appended fills.appended
             fitting.terminator busy shows_whole same.offset (omega (arith, room, length-append new.shown new.rest))
@@ -384,7 +381,6 @@ module _ {R : Type 0} (remaining : R → Option (List ℕ)) (read_step : R → R
             });
         detects = ap (λ b. b.detection) on.moved ∙ (same.detection ∙ so_far.detects);
         uncut = ap is_cut on.moved ∙ uncut;
-        settled = inl settled;
       }
 
 -- buffers that fit a configuration do so after a fill

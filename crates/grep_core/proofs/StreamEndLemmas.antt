@@ -175,7 +175,6 @@ module _ {S E : Type 0} (step : Steps S E) (k : Settings) where
             holds = so_far.holds;
             detects = so_far.detects;
             uncut = so_far.uncut;
-            settled = so_far.settled;
           })
 
   -- a search that goes on has a buffer that isn't cut

@@ -8,7 +8,8 @@ use Rattle.std.proofs.lemmas.List.Elements.{All-append}
 use Rattle.std.specs.Prelude.{All, IfSome}
 use Rattle.std.specs.declared.io.Error.{Error}
 use Rattle.grep_decode.specs.declared.mode.Mode.TheVariants.{Passing}
-use Rattle.grep_decode.specs.DecoderStates.{DecoderState, Decodes, IsDone, IsSettled, TakesAtMost, started, still_to_give}
+use Rattle.grep_decode.specs.Decoded.{IsIncomplete}
+use Rattle.grep_decode.specs.DecoderStates.{DecoderState, Decodes, IsDone, IsSettled, LooksForMark, started, still_to_give}
 use Rattle.grep_decode.specs.Source.{ReadResult}
 use Rattle.grep_line_buffer.specs.declared.fill_error.FillError.{FillError}
 use Rattle.grep_line_buffer.specs.declared.fill_error.FillError.TheVariants.{Read, HeapLimit, Offset, Memory}
@@ -23,7 +24,6 @@ use Rattle.grep_definitions.specs.BinaryBytes.{before_quit, view_of}
 use Rattle.grep_definitions.specs.InputFronts.{GoesOnAfter, IsCrowded}
 use Rattle.grep_definitions.specs.ReaderSearches.{IsLineUnread, of_cut, of_reader}
 use Rattle.grep_definitions.specs.ReadingFaults.{CutsShort, of_limit, of_memory, of_offset}
-use Rattle.grep_definitions.specs.SearchLaws.{UnchangedIsInput}
 use Rattle.grep_definitions.specs.Settings.{Settings}
 use Rattle.grep_definitions.specs.SinkRuns.{Steps}
 use Rattle.grep_walk.specs.declared.walk.Walk.{Walk}
@@ -78,7 +78,7 @@ module _ {R : Type 0} (remaining : R → Option (List ℕ)) (read_step : R → R
   module _ (capacity : ℕ) (reader reader' : R) (d' : DecoderState) (gone : List ℕ) (old new : BufferState) (first : S) (w : Walk) (now : S)
       (between : IsBetween step k meaning gone old first w now) (fitting : IsFitting k.heap_limit t old) (same : IsSameBuffer old new)
       (has_buffers : Bool) (grows : GrowsIfFull old new) (within : IsWithin new.limit new.size) (allowed : is_at 0 k.heap_limit ≡ false)
-      (unchanged : UnchangedIsInput) (none : (d : DecoderState) (more : List ℕ) → IsDone d → still_to_give d more ≡ [])
+      (none : (d : DecoderState) (more : List ℕ) → IsDone d → still_to_give d more ≡ [])
       (given : List ℕ) (whole : held new ≡ held old ++ given) where
     abbrev seen : List ℕ
     seen = gone ++ old.shown
@@ -177,24 +177,21 @@ module _ {R : Type 0} (remaining : R → Option (List ℕ)) (read_step : R → R
           → (reads : Decodes remaining read_step (started capacity k.encoding k.bom_sniffing) reader raw d' mid)
           → HasNoLine old new → length (held new) < new.size → d'.has_ended ≡ false
           → read_step mid (Err error) reader' → d'.ready ≡ [] → (d'.mode ≡ Passing → d'.held ≡ [])
-          → IsSettled d'.mode ⊎ TakesAtMost (remaining reader) (remaining reader') 2 → IsUnreadBy error
-      unread-read error mid shows reads no_line room unended failed ready held_none few = of_reader refl unquit-seen mid
+          → IsSettled d'.mode ⊎ LooksForMark d'.mode × (length d'.held ≤ 2) → (IsSettled d'.mode → IsIncomplete (still_to_give d' [])) → IsUnreadBy error
+      unread-read error mid shows reads no_line room unended failed ready held_none few incomplete = of_reader refl unquit-seen mid
           (reading.taken remaining read_step k capacity reader raw d' mid reads) unended failed
           (λ bytes input.
           let text = reading.front-is remaining read_step k capacity reader raw d' mid reads none (view_of k) (gone ++ held new)
           fronts bytes input in
           goes-on bytes text.0 text.1)
-          (λ same_bytes more.
-          let settled = ⊎_elim (λ is. is) (λ two. absurd (more two)) few in
-          let all = reading.taken-all remaining read_step k capacity reader raw d' mid reads unchanged same_bytes settled
-          ready held_none in
-          let came = ap (view_of k) all ∙ shows in
-          record {
+          raw
+          (reading.decoded-so_far remaining read_step k capacity reader raw d' mid reads none unended ready held_none few incomplete)
+          (record {
             rest = old.rest ++ given;
-            whole = came ∙ seen-is;
+            whole = shows ∙ seen-is;
             unended = unended-is no_line;
             room = λ limit is. omega (arith, subst (λ m. IsWithin m new.size) (limit-is ∙ is) within, room, room-is);
-            unquit = ap (before_quit k.binary_detection) came ∙ (unquit ∙ sym came);
+            unquit = ap (before_quit k.binary_detection) shows ∙ (unquit ∙ sym shows);
           })
 
   -- a fill that failed of a search that reads on
@@ -206,7 +203,7 @@ module _ {R : Type 0} (remaining : R → Option (List ℕ)) (read_step : R → R
       → (more : List ℕ) × HoldsGiven remaining read_step so_far.gone old.detection old.terminator new decoder reader
       (so_far.given ++ more) d' r2)
       (has_buffers : Bool) (grows : GrowsIfFull old new) (within : IsWithin new.limit new.size) (allowed : is_at 0 k.heap_limit ≡ false)
-      (unchanged : UnchangedIsInput) (none : (d : DecoderState) (more : List ℕ) → IsDone d → still_to_give d more ≡ []) where
+      (none : (d : DecoderState) (more : List ℕ) → IsDone d → still_to_give d more ≡ []) where
     abbrev IsUnreadAt : Error → Type 0
     IsUnreadAt error = IsLineUnread remaining read_step (record { settings = k; has_buffers = has_buffers }) meaning reader
         (Some (so_far.gone ++ old.shown)) error r'
@@ -240,7 +237,7 @@ module _ {R : Type 0} (remaining : R → Option (List ℕ)) (read_step : R → R
         → Fills remaining read_step old d r new d' r' → IsUnreadAt io
     cut-by error io made fails other fills =
         unread-cut capacity reader r' d' so_far.gone old new first w now so_far.between fitting same has_buffers grows within allowed
-        unchanged none (detected old.detection old.terminator fills.given) fills.appended (raw r' fills) (fronts r' fills)
+        none (detected old.detection old.terminator fills.given) fills.appended (raw r' fills) (fronts r' fills)
         (befores r' fills) (unquit r' fills) error io made fails other (from_start r' fills)
 
     -- why the input wasn't searched to its end
@@ -250,18 +247,15 @@ module _ {R : Type 0} (remaining : R → Option (List ℕ)) (read_step : R → R
         → IfRead {X = Bool} (Err error) (λ _. is_cut new ≡ false)
         → IfRead {X = Bool} (Err error) (λ _. d'.mode ≡ Passing → d'.held ≡ [])
         → IfRead {X = Bool} (Err error) (λ _. d'.ready ≡ [])
-        → IfRead {X = Bool} (Err error) (λ _. IsSettled d'.mode ⊎ TakesAtMost (remaining r) (remaining r') 2)
-        → (IsSettled d.mode → d'.mode ≡ d.mode) → IsUnreadAt io
-    unread-filled (Read e) io made fails cut read uncut passed empty few stays =
-        let ahead = ⊎_elim
-        (λ settled. inl (subst IsSettled (sym (stays settled)) settled))
-        (λ first_read. subst (λ x. IsSettled d'.mode ⊎ TakesAtMost (remaining x) (remaining r') 2) first_read few)
-        so_far.settled in
+        → IfRead {X = Bool} (Err error) (λ _. IsSettled d'.mode ⊎ LooksForMark d'.mode × (length d'.held ≤ 2))
+        → IfRead {X = Bool} (Err error) (λ _. IsSettled d'.mode → IsIncomplete (still_to_give d' [])) → IsUnreadAt io
+    unread-filled (Read e) io made fails cut read uncut passed empty few incomplete =
         subst IsUnreadAt (sym made)
         (unread-read capacity reader r' d' so_far.gone old new first w now so_far.between fitting same has_buffers grows within allowed
-        unchanged none (detected old.detection old.terminator read.fills.given) read.fills.appended (raw read.mid read.fills)
+        none (detected old.detection old.terminator read.fills.given) read.fills.appended (raw read.mid read.fills)
         (fronts read.mid read.fills) (befores read.mid read.fills) (unquit read.mid read.fills) e read.mid
-        (view-is read.mid read.fills uncut) (from_start read.mid read.fills) fails.0 fails.1 read.unended read.failed empty passed ahead)
-    unread-filled HeapLimit io made fails cut read uncut passed empty few stays = cut-by HeapLimit io made fails (λ e is. cc) cut
-    unread-filled Offset io made fails cut read uncut passed empty few stays = cut-by Offset io made fails (λ e is. cc) cut
-    unread-filled Memory io made fails cut read uncut passed empty few stays = cut-by Memory io made fails (λ e is. cc) cut
+        (view-is read.mid read.fills uncut) (from_start read.mid read.fills) fails.0 fails.1 read.unended read.failed empty passed few
+        incomplete)
+    unread-filled HeapLimit io made fails cut read uncut passed empty few incomplete = cut-by HeapLimit io made fails (λ e is. cc) cut
+    unread-filled Offset io made fails cut read uncut passed empty few incomplete = cut-by Offset io made fails (λ e is. cc) cut
+    unread-filled Memory io made fails cut read uncut passed empty few incomplete = cut-by Memory io made fails (λ e is. cc) cut

@@ -3,7 +3,7 @@
 use Rattle.std.specs.Prelude.{◌≡◌, ◌⊎◌, ℕ, ◌+◌, ◌-◌, ◌<◌, ◌≤◌, ◌^◌, ◌&&◌, Bool, true, false, Ok, List, [], ◌++◌}
 use Rattle.std.specs.Prelude.{length, take, drop, All, Option, Some, None}
 use Rattle.std.specs.List.{concat}
-use Rattle.grep_decode.specs.DecoderStates.{DecoderState, IsSettled}
+use Rattle.grep_decode.specs.DecoderStates.{DecoderState}
 use Rattle.grep_decode.specs.Source.{ReadResult}
 use Rattle.grep_line_buffer.specs.BufferStates.{BufferState, is_cut, Lacks}
 use Rattle.grep_core.specs.HeldViews.{HoldsGiven}
@@ -12,7 +12,7 @@ use Rattle.grep_matcher.specs.Lines.{lines}
 use Rattle.grep_matcher.specs.Matching.{Meaning}
 use Rattle.grep_report.specs.declared.binary_detection.BinaryDetection.TheVariants.{Quit}
 use Rattle.grep_definitions.specs.BinaryBytes.{is_detecting, view_of}
-use Rattle.grep_definitions.specs.DecodedInputs.{IsInput, is_searched_unchanged}
+use Rattle.grep_definitions.specs.DecodedInputs.{IsInput, passes_unchanged}
 use Rattle.grep_definitions.specs.InputFronts.{IsClosed, IsFront, IsTooLong}
 use Rattle.grep_definitions.specs.LineSearch.{turns, turn_count, byte_count}
 use Rattle.grep_definitions.specs.LineTurns.{one_turn}
@@ -120,7 +120,6 @@ module _ {S E : Type 0} (step : Steps S E) (settings : Settings) (meaning : Mean
           decoder' reader'
       pub detects : buffer.detection ≡ detection_of settings.binary_detection
       pub uncut : is_cut buffer ≡ false
-      pub settled : IsSettled decoder'.mode ⊎ (reader' ≡ reader)
 
     -- a search of a reader came to its end with this count, and with the offset of the first binary byte if
     -- `binary_data` was called: that of the lines that were seen, and of the view of every input that begins with what
@@ -141,7 +140,7 @@ module _ {S E : Type 0} (step : Steps S E) (settings : Settings) (meaning : Mean
           → turn_count settings meaning (view_of settings bytes)
           ≤ length (lines (byte_of settings.line_terminator) seen)
       pub ahead : (limit : ℕ) → settings.heap_limit ≡ Some limit
-          → is_searched_unchanged settings (concat taken.pieces) ≡ true
+          → passes_unchanged settings (concat taken.pieces) ≡ true
           → length (concat taken.pieces) ≤ count + limit + 3
       pub noted_for : (bytes : List ℕ) → IsInput settings taken.ended taken.pieces bytes
           → IsNotedFor settings bytes found
@@ -162,7 +161,7 @@ module _ {S E : Type 0} (step : Steps S E) (settings : Settings) (meaning : Mean
           → IsCutAt settings meaning bytes seen offset
       pub counted : count ≡ length seen
       pub ahead : (limit : ℕ) → settings.heap_limit ≡ Some limit
-          → is_searched_unchanged settings (concat taken.pieces) ≡ true
+          → passes_unchanged settings (concat taken.pieces) ≡ true
           → length (concat taken.pieces) ≤ length seen + limit + 3
       pub reported : AreReported step settings first (turns settings meaning seen) all_true mid
       pub called : AreReported step settings mid (one_turn (binary_data offset) count) outcome last

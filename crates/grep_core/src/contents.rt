@@ -16,7 +16,6 @@ use crate::read_by_line::io_error;
 use crate::search::Search;
 use grep_decode::laws::{done_gives_nothing, reads_continue};
 use grep_decode::{Decoder, Source};
-use grep_definitions::laws::unchanged_is_searched;
 use grep_line_buffer::read_contents;
 use grep_lines::laws::lines_join;
 use grep_matcher::Matcher;
@@ -58,7 +57,6 @@ impl<'c, A: Allocator + Copy, T> Search<'c, A, T> {
             reader.old seen error reader.new × C.Error.is_io error e) }
         ensures may_call { C.may_call sink.new }
     {
-        unchanged_is_searched();
         reads_continue::<R>();
         done_gives_nothing();
         lines_join();

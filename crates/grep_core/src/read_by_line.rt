@@ -29,7 +29,6 @@ use crate::noted::{Noted, NotedCalls};
 use crate::search::Search;
 use grep_decode::laws::{done_gives_nothing, reads_continue};
 use grep_decode::{Decoder, Source};
-use grep_definitions::laws::unchanged_is_searched;
 use grep_line_buffer::laws::fills_continue;
 use grep_line_buffer::{Detection, FillError, LineBuffer};
 use grep_lines::laws::{lines_append, lines_are_few, lines_are_numbered, lines_join};
@@ -255,7 +254,6 @@ impl<'c, A: Allocator + Copy, T> Search<'c, A, T> {
         ensures may_call { C.may_call sink.new.sink.now }
         ensures same_sink { sink.new.sink.ghost_name ≡ sink.old.sink.ghost_name }
     {
-        unchanged_is_searched();
         reads_continue::<R>();
         fills_continue::<R>();
         done_gives_nothing();

@@ -1,7 +1,7 @@
 -- What reads of a decoder do, one after the other.
 use Rattle.std.proofs.Common.{◌≡◌, ℕ, suc, ◌-◌, ◌<◌, ◌≤◌, ◌==◌, Bool, true, false, List, [], ◌∷◌, ◌++◌, Option, Some}
 use Rattle.std.proofs.Common.{None, Result, Ok, Err, IfSome, IfOk, IfErr, OnErr, take, ◌+◌, refl, sym, subst, ap, ◌∙◌}
-use Rattle.std.proofs.Common.{append-nil, append_assoc, arith, length, length-append, length-take, min}
+use Rattle.std.proofs.Common.{append-nil, append_assoc, arith, length, length-append, length-take, min, ◌⊎◌, ⊎_elim, inl, inr}
 use Rattle.std.proofs.lemmas.Bool.{false≢true}
 use Rattle.std.proofs.lemmas.Bool.Decides.{nat_tests}
 use Rattle.std.proofs.lemmas.List.Folds.{concat-append}
@@ -19,7 +19,7 @@ use Rattle.grep_decode.specs.Decoded.{decoded, units_of, has_odd_byte, scalars_o
 use Rattle.grep_decode.specs.UndecodedBytes.{UndecodedBytes, Grows, holding}
 use Rattle.grep_decode.specs.Source.{ReadResult, Pulls, FailsWith}
 use Rattle.grep_decode.specs.DecoderStates.{DecoderState, Calls, Decodes, FailsToDecode, FitsMode, IsDecoded, IsDone}
-use Rattle.grep_decode.specs.DecoderStates.{LooksForMark, TakesAtMost, decode_by, mode_after, still_to_give}
+use Rattle.grep_decode.specs.DecoderStates.{IsSettled, LooksForMark, TakesAtMost, decode_by, mode_after, still_to_give}
 use Rattle.grep_decode.specs.DecoderStates.{next_mode, started, unread, yet}
 use Rattle.grep_decode.proofs.RunLemmas.{Calls-none, Calls-append, Calls-nothing, FailsWith-after}
 
@@ -63,10 +63,19 @@ module _ {R : Type 0} (remaining : R → Option (List ℕ)) (step : R → ReadRe
     takes = Consumes-nil (remaining r);
     gives = λ more end. refl;
     settles = λ more end. refl;
+    stays = λ settled. refl;
+    unsettled = λ fresh. (refl, refl, sym (append-nil d.held));
+    passes = λ passing. omega arith;
+    ahead = λ passing. omega arith;
   }
 
   joined : (first second : List (List ℕ)) (more : List ℕ) → concat (first ++ second) ++ more ≡ concat first ++ (concat second ++ more)
   joined first second more = ap (λ l. l ++ more) (concat-append first second) ∙ append_assoc (concat first) (concat second) more
+
+  settled-or : (mode : Mode) → IsSettled mode ⊎ (IsSettled mode → ⊥)
+  settled-or (Fresh label sniff) = inr (λ settled. settled)
+  settled-or Passing = inl tt
+  settled-or (Decoding label) = inl tt
 
   pub Decodes-append : (d d1 d2 : DecoderState) (r r1 r2 : R) (given later : List ℕ) → Decodes remaining step d r given d1 r1
       → Decodes remaining step d1 r1 later d2 r2 → Decodes remaining step d r (given ++ later) d2 r2
@@ -82,18 +91,57 @@ module _ {R : Type 0} (remaining : R → Option (List ℕ)) (step : R → ReadRe
     settles = λ more end. ap (next_mode d) (joined first.pieces second.pieces more)
         ∙ (first.settles (concat second.pieces ++ more)
         (Calls-nothing remaining step d1.has_ended d2.has_ended r1 r2 second.pieces more second.calls end) ∙ second.settles more end);
+    stays = λ settled. second.stays (subst IsSettled (sym (first.stays settled)) settled) ∙ first.stays settled;
+    unsettled = λ fresh.
+        let later_held = second.unsettled fresh in
+        let first_held = first.unsettled (λ settled. fresh (subst IsSettled (sym (second.stays settled)) settled)) in (
+          later_held.0 ∙ first_held.0,
+          ap (λ xs. xs ++ later) first_held.1 ∙ later_held.1,
+          later_held.2 ∙ (ap (λ xs. xs ++ concat second.pieces) first_held.2
+              ∙ (append_assoc d.held (concat first.pieces) (concat second.pieces)
+              ∙ ap (λ xs. d.held ++ xs) (sym (concat-append first.pieces second.pieces)))),
+        );
+    passes = λ passing.
+        let mid : d1.mode ≡ Passing = first.stays (subst IsSettled (sym passing) tt) ∙ passing in
+        omega (arith, first.passes passing, second.passes mid, taken, length-append given later);
+    ahead = λ passing. ⊎_elim
+        (λ settled. omega (
+          arith,
+          first.ahead (sym (second.stays settled) ∙ passing),
+          second.passes (sym (second.stays settled) ∙ passing),
+          taken,
+          length-append given later,
+        ))
+        (λ fresh. omega (
+          arith,
+          ap length (first.unsettled fresh).2,
+          length-append d.held (concat first.pieces),
+          second.ahead passing,
+          taken,
+          length-append given later,
+        ))
+        (settled-or d1.mode);
   }
+    where
+      taken : length (concat (first.pieces ++ second.pieces)) ≡ length (concat first.pieces) + length (concat second.pieces)
+      taken = ap length (concat-append first.pieces second.pieces) ∙ length-append (concat first.pieces) (concat second.pieces)
 
   -- without a call of the reader
   pub Decodes-within : (d d1 : DecoderState) (r : R) (given : List ℕ) → d1.has_ended ≡ d.has_ended
       → ((rest : List ℕ) → still_to_give d rest ≡ given ++ still_to_give d1 rest) → ((rest : List ℕ) → next_mode d rest ≡ next_mode d1 rest)
+      → IsSettled d1.mode → (IsSettled d.mode → (d1.mode ≡ d.mode) × (length d.held ≤ length given + length d1.held))
+      → (d1.mode ≡ Passing → length d.held ≤ length given + length d1.held + 3)
       → Decodes remaining step d r given d1 r
-  Decodes-within d d1 r given ended same next = record {
+  Decodes-within d d1 r given ended same next settled kept few = record {
     pieces = [];
     calls = subst (λ b. Calls remaining step d.has_ended b r [] r) (sym ended) (Calls-none remaining step d.has_ended r);
     takes = Consumes-nil (remaining r);
     gives = λ more end. same more;
     settles = λ more end. next more;
+    stays = λ was. (kept was).0;
+    unsettled = λ fresh. absurd (fresh settled);
+    passes = λ passing. omega (arith, (kept (subst IsSettled (sym passing) tt)).1);
+    ahead = λ passing. omega (arith, few passing);
   }
 
   same-unread : (is : Bool) (more : List ℕ) → (is ≡ true → more ≡ []) → unread is more ≡ more
@@ -105,8 +153,10 @@ module _ {R : Type 0} (remaining : R → Option (List ℕ)) (step : R → ReadRe
       → Consumes (remaining r) (remaining r1) piece
       → ((more : List ℕ) → (d1.has_ended ≡ true → more ≡ []) → still_to_give d (piece ++ more) ≡ given ++ still_to_give d1 more)
       → ((more : List ℕ) → (d1.has_ended ≡ true → more ≡ []) → next_mode d (piece ++ more) ≡ next_mode d1 more)
+      → d1.mode ≡ d.mode → ((IsSettled d1.mode → ⊥) → (given ≡ []) × (d1.held ≡ d.held ++ piece))
+      → length d.held + length piece ≤ length given + length d1.held
       → Decodes remaining step d r given d1 r1
-  call-by d d1 r r1 given piece true ended was last some called takes gives settles =
+  call-by d d1 r r1 given piece true ended was last some called takes gives settles stays fresh few =
       let none : piece ≡ [] = (last refl).0 in
       record {
         pieces = [];
@@ -114,13 +164,21 @@ module _ {R : Type 0} (remaining : R → Option (List ℕ)) (step : R → ReadRe
         takes = subst (λ p. Consumes (remaining r) (remaining r1) p) none takes;
         gives = λ more end. ap (λ p. still_to_give d (p ++ more)) (sym none) ∙ gives more end;
         settles = λ more end. ap (λ p. next_mode d (p ++ more)) (sym none) ∙ settles more end;
+        stays = λ settled. stays;
+        unsettled = λ is. (stays, (fresh is).0, (fresh is).1 ∙ ap (λ p. d.held ++ p) none);
+        passes = λ passing. omega (arith, few, ap length none);
+        ahead = λ passing. omega (arith, few, ap length none);
       }
-  call-by d d1 r r1 given piece false ended was last some called takes gives settles = record {
+  call-by d d1 r r1 given piece false ended was last some called takes gives settles stays fresh few = record {
     pieces = piece ∷ [];
     calls = rw (was, ended) (some refl, (r1, called, refl));
     takes = subst (λ p. Consumes (remaining r) (remaining r1) p) (sym (append-nil piece)) takes;
     gives = λ more end. ap (λ p. still_to_give d (p ++ more)) (append-nil piece) ∙ gives more end;
     settles = λ more end. ap (λ p. next_mode d (p ++ more)) (append-nil piece) ∙ settles more end;
+    stays = λ settled. stays;
+    unsettled = λ is. (stays, (fresh is).0, (fresh is).1 ∙ ap (λ p. d.held ++ p) (sym (append-nil piece)));
+    passes = λ passing. omega (arith, few, ap length (append-nil piece));
+    ahead = λ passing. omega (arith, few, ap length (append-nil piece));
   }
 
   is-zero : (count : ℕ) → (count == 0) ≡ true → count ≡ 0
@@ -145,6 +203,7 @@ module _ {R : Type 0} (remaining : R → Option (List ℕ)) (step : R → ReadRe
       (λ none. (is-none count grows.piece grows.counted none, grows.ended (is-zero count none)))
       (λ some. is-some count grows.piece grows.counted some) grows.called grows.takes
       (λ more end. ap (decode_by mode) (input more end)) (λ more end. ap (mode_after mode) (input more end))
+      refl (λ fresh. (refl, grows.appended)) (omega (arith, ap length grows.appended, length-append old.bytes grows.piece))
 
   grown : (b : Bool) (old new : UndecodedBytes) (r r1 : R) (count most : ℕ) → new.has_ended ≡ b → length old.bytes < most
       → Grows remaining step old r count new r1 → calls_left b (most - length new.bytes) < suc (most - length old.bytes)
@@ -180,7 +239,7 @@ module _ {R : Type 0} (remaining : R → Option (List ℕ)) (step : R → ReadRe
       call-by (holding Passing old) (holding Passing new) r r1 piece piece (count == 0) ended was
       (λ zero. (is-none count piece counted zero, last (is-zero count zero))) (λ some. is-some count piece counted some) called takes
       (λ more end. before (piece ++ more) ∙ ap (λ l. piece ++ l) (sym (after more ∙ same-unread new.has_ended more end)))
-      (λ more end. refl)
+      (λ more end. refl) refl (λ fresh. absurd (fresh tt)) (omega (arith, ap length empty))
 
   -- a call of the reader failed
   pub FailsToDecode-now : (d : DecoderState) (r r1 : R) (e : Error) → d.has_ended ≡ false → step r (Err e) r1
@@ -188,15 +247,15 @@ module _ {R : Type 0} (remaining : R → Option (List ℕ)) (step : R → ReadRe
   FailsToDecode-now d r r1 e was failed = record { mid = r; decodes = Decodes-none d r; unended = was; failed = failed }
 
   -- bytes that were ready are given
-  pub Decodes-ready : (ready given later held : List ℕ) (mode : Mode) (ended : Bool) (capacity : ℕ) (r : R) → ready ≡ given ++ later
-      → Decodes remaining step (record { ready = ready; held = held; mode = mode; has_ended = ended; capacity = capacity }) r given
+  pub Decodes-ready : (ready given later held : List ℕ) (mode : Mode) (ended : Bool) (capacity : ℕ) (r : R) → IsSettled mode
+      → ready ≡ given ++ later → Decodes remaining step (record { ready = ready; held = held; mode = mode; has_ended = ended; capacity = capacity }) r given
       (record { ready = later; held = held; mode = mode; has_ended = ended; capacity = capacity }) r
-  Decodes-ready ready given later held mode ended capacity r same =
+  Decodes-ready ready given later held mode ended capacity r settled same =
       let before : DecoderState = record { ready = ready; held = held; mode = mode; has_ended = ended; capacity = capacity } in
       let after : DecoderState = record { ready = later; held = held; mode = mode; has_ended = ended; capacity = capacity } in
       Decodes-within before after r given refl
       (λ rest. let text = decode_by mode (held ++ unread ended rest) in ap (λ l. l ++ text) same ∙ append_assoc given later text)
-      (λ rest. refl)
+      (λ rest. refl) settled (λ was. (refl, omega arith)) (λ passing. omega arith)
 
   -- the same of a decoder that has nothing ready
   pub Decodes-held : (ready : List ℕ) (mode : Mode) (old new : UndecodedBytes) (r r1 : R) (given : List ℕ) → ready ≡ []

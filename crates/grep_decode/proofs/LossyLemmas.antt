@@ -1,10 +1,11 @@
 -- `utf8_lossy` from the front of some bytes on.
 use Rattle.std.proofs.Common.{◌≡◌, ℕ, ◌+◌, ◌-◌, ◌<◌, ◌≤◌, List, [], ◌∷◌, ◌++◌, length, take, drop, slice_index, None, Some, unwrap_or}
-use Rattle.std.proofs.Common.{IsUtf8, encode_utf8_all, sym, ap, subst, ◌∙◌, arith, length-append, length-drop, append_assoc, append-nil}
+use Rattle.std.proofs.Common.{IsUtf8, encode_utf8_all, inl, inr, refl, sym, ap, subst, ◌∙◌, arith, length-append, length-drop, append_assoc, append-nil}
 use Rattle.std.proofs.lemmas.Bool.Decides.{nat_tests}
 use Rattle.std.proofs.lemmas.List.{get_or_append_left, drop-append-le, drop-drop, length-take-le, take-append-le, take_rest}
 use Rattle.std.proofs.lemmas.List.{take-append-drop}
-use Rattle.std.proofs.lemmas.Str.{encodes-append}
+use Rattle.std.proofs.lemmas.Str.{encodes-append, utf8_lossy_empty}
+use Rattle.grep_decode.specs.Decoded.{IsIncomplete}
 use Rattle.std.specs.Str.{IsValidUpTo}
 use Rattle.std.specs.Str.Lossy.{utf8_error_len, utf8_lossy, replacement_bytes}
 use Rattle.bstr.specs.Utf8.{Decoded, decoded, bad, second, continues, or_replacement, lossy_chars}
@@ -96,6 +97,22 @@ utf8_lossy-incomplete bs more valid size front fault no_more whole =
     ap utf8_lossy nothing ∙ utf8_lossy-bad rest size (omega arith) is
     ∙ ap (λ t. replacement_bytes ++ utf8_lossy t)
     (drop-drop size valid bs ∙ sym (ap (λ t. drop (valid + size) bs ++ t) no_more ∙ append-nil _))
+
+-- with no more bytes they are one U+FFFD
+pub utf8_lossy-ended : (bs : List ℕ) (valid : ℕ) → IsValidUpTo bs valid → utf8_error_len (drop valid bs) ≡ None
+    → IsIncomplete (utf8_lossy (drop valid bs))
+utf8_lossy-ended bs valid front fault =
+    let size = length bs - valid in
+    let after = drop (valid + size) bs ++ [] in
+    let short = front.short in
+    let none : length after ≡ 0 = omega (arith, length-append (drop (valid + size) bs) [], length-drop (valid + size) bs) in
+    inr (ap utf8_lossy (sym (append-nil (drop valid bs)))
+    ∙ (utf8_lossy-incomplete bs [] valid size front fault refl (omega arith)
+    ∙ (ap (λ t. replacement_bytes ++ t) (utf8_lossy_empty after none) ∙ append-nil replacement_bytes)))
+
+-- once all are taken, none is left
+pub utf8_lossy-taken : (bs : List ℕ) → IsIncomplete (utf8_lossy (drop (length bs) bs))
+utf8_lossy-taken bs = inl (utf8_lossy_empty (drop (length bs) bs) (omega (arith, length-drop (length bs) bs)))
 
 -- bytes that are cut at `room`
 cut : (bs more : List ℕ) (room k : ℕ) → k ≤ room → room ≤ length bs → drop k bs ++ more ≡ drop k (take room bs) ++ (drop room bs ++ more)

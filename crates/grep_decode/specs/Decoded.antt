@@ -1,8 +1,8 @@
 -- The decoded bytes of an input.
-use Rattle.std.specs.Prelude.{◌≡◌, ℕ, ◌+◌, ◌*◌, Bool, true, false, ◌&&◌, ◌||◌, not, List, [], ◌∷◌}
+use Rattle.std.specs.Prelude.{◌≡◌, ◌⊎◌, ℕ, ◌+◌, ◌*◌, Bool, true, false, ◌&&◌, ◌||◌, not, List, [], ◌∷◌}
 use Rattle.std.specs.Prelude.{drop, length, Option, None, Some, is_some, encode_utf8_all}
 use Rattle.std.specs.Prelude.{if◌then◌else◌}
-use Rattle.std.specs.Str.Lossy.{utf8_lossy}
+use Rattle.std.specs.Str.Lossy.{replacement_bytes, utf8_lossy}
 use Rattle.std.specs.Char.Utf16.{is_low_surrogate, is_high_surrogate, surrogate_pair_char}
 use Rattle.grep_decode.specs.declared.byte_order.ByteOrder.{ByteOrder}
 use Rattle.grep_decode.specs.declared.byte_order.ByteOrder.TheVariants.{Little, Big}
@@ -113,6 +113,10 @@ found_mark label sniff input = if sniff || is_some label then marked input else 
 -- the decoded bytes of an input
 abbrev pub decoded : Option Label → Bool → List ℕ → List ℕ
 decoded label sniff input = by_mark (found_mark label sniff input) label input
+
+-- what the first bytes of a character become if no other follows: one U+FFFD, and nothing if there are none
+abbrev pub IsIncomplete : List ℕ → Type 0
+IsIncomplete text = (text ≡ []) ⊎ (text ≡ replacement_bytes)
 
 -- no label is set, and no mark is found: the decoded bytes are the input
 abbrev pub is_unchanged : Option Label → Bool → List ℕ → Bool

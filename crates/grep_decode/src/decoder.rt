@@ -9,7 +9,7 @@ ghost use Rattle.grep_decode.specs.DecoderStates.{DecoderState, Decodes, FailsTo
 ghost use Rattle.grep_decode.specs.DecoderStates.{HasNoMark, IsDone, IsSettled, LooksForMark};
 ghost use Rattle.grep_decode.specs.DecoderStates.{TakesAtMost, mode_of, next_mode, runs_ahead};
 ghost use Rattle.grep_decode.specs.DecoderStates.{started, still_to_give, yet};
-ghost use Rattle.grep_decode.specs.Decoded.{found_mark};
+ghost use Rattle.grep_decode.specs.Decoded.{IsIncomplete, found_mark};
 ghost use Rattle.grep_decode.specs.Marks.{marked, mark_length};
 
 use crate::label::{Label, label_of_mark};
@@ -115,9 +115,13 @@ impl<A: Allocator> Decoder<A> {
             (count + runs_ahead self.old.mode)) }
         ensures passing { self.new.mode ≡ Mode.Passing → (length self.new.ready ≤ 3)
             × (self.new.held ≡ []) }
-        ensures few { OnErr result (IsSettled self.new.mode ⊎ TakesAtMost (R.remaining reader.old)
-            (R.remaining reader.new) 2) }
+
+        // after an error nothing is ready, and what is held would at most be one U+FFFD if the reader had ended
         ensures empty { OnErr result (self.new.ready ≡ []) }
+        ensures few { OnErr result (IsSettled self.new.mode
+            ⊎ LooksForMark self.new.mode × (length self.new.held ≤ 2)) }
+        ensures incomplete { OnErr result (IsSettled self.new.mode
+            → IsIncomplete (still_to_give self.new [])) }
     {
         let result = self.read_some(reader, buffer);
         self.holds_few();
@@ -157,9 +161,11 @@ impl<A: Allocator> Decoder<A> {
         ensures ahead { IfOk result (λ count. self.new.mode ≡ Mode.Passing
             → TakesAtMost (R.remaining reader.old) (R.remaining reader.new)
             (count + runs_ahead self.old.mode)) }
-        ensures few { OnErr result (IsSettled self.new.mode ⊎ TakesAtMost (R.remaining reader.old)
-            (R.remaining reader.new) 2) }
         ensures empty { OnErr result (self.new.ready ≡ []) }
+        ensures few { OnErr result (IsSettled self.new.mode
+            ⊎ LooksForMark self.new.mode × (length self.new.held ≤ 2)) }
+        ensures incomplete { OnErr result (IsSettled self.new.mode
+            → IsIncomplete (still_to_give self.new [])) }
     {
         if buffer.is_empty() {
             return Ok(0);
@@ -194,6 +200,7 @@ impl<A: Allocator> Decoder<A> {
         ensures ahead { IfOk result (λ count. self.new.mode ≡ Mode.Passing
             → TakesAtMost (R.remaining reader.old) (R.remaining reader.new) count) }
         ensures empty { OnErr result (self.new.ready ≡ []) }
+        ensures incomplete { OnErr result (IsIncomplete (still_to_give self.new [])) }
     {
         if !self.ready.is_empty() {
             return Ok(self.ready.give(buffer));
@@ -223,6 +230,7 @@ impl<A: Allocator> Decoder<A> {
             → R.step reader.old (read_result result buffer.new) reader.new }
         ensures ahead { IfOk result (λ count.
             TakesAtMost (R.remaining reader.old) (R.remaining reader.new) count) }
+        ensures incomplete { OnErr result (IsIncomplete (still_to_give self.new [])) }
     {
         self.held.pass(reader, buffer)
     }
@@ -246,9 +254,8 @@ impl<A: Allocator> Decoder<A> {
             → self.new.mode ≡ Mode.Passing → self.new.ready ≡ take 3 input)) }
         ensures failed { IfErr result (λ e.
             FailsToDecode R.remaining R.step self.old reader.old e self.new reader.new) }
-        ensures few { OnErr result
-            (TakesAtMost (R.remaining reader.old) (R.remaining reader.new) 2) }
         ensures empty { OnErr result (self.new.ready ≡ []) }
+        ensures few { OnErr result (LooksForMark self.new.mode × (length self.new.held ≤ 2)) }
     {
         if sniff || label.is_some() {
             match self.held.fill(reader) {
@@ -302,6 +309,7 @@ impl<A: Allocator> Decoder<A> {
         ensures failed { IfErr result (λ e.
             FailsToDecode R.remaining R.step self.old reader.old e self.new reader.new) }
         ensures empty { OnErr result (self.new.ready ≡ []) }
+        ensures incomplete { OnErr result (IsIncomplete (still_to_give self.new [])) }
     {
         if buffer.len() >= 4 {
             return self.held.read(reader, label, buffer);

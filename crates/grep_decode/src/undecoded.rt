@@ -5,6 +5,7 @@ ghost use Rattle.std.specs.Io.{ReadsAtMost};
 ghost use Rattle.std.specs.Io.KnownBytes.{Keeps};
 ghost use Rattle.grep_decode.specs.DecoderStates.{Decodes, FailsToDecode, IsDone, TakesAtMost};
 ghost use Rattle.grep_decode.specs.DecoderStates.{still_to_give};
+ghost use Rattle.grep_decode.specs.Decoded.{IsIncomplete, text_of};
 ghost use Rattle.grep_decode.specs.Source.{read_result};
 ghost use Rattle.grep_decode.specs.UndecodedBytes.{UndecodedBytes, Grows, holding};
 
@@ -111,6 +112,7 @@ impl<A: Allocator> Undecoded<A> {
         ensures stays { result ≡ 0 → self.new ≡ self.old }
         ensures stops { result ≡ 0 → length self.new.bytes < 4 }
         ensures all { result ≡ 0 → self.new.has_ended ≡ true → self.new.bytes ≡ [] }
+        ensures incomplete { result ≡ 0 → IsIncomplete (text_of label self.new.bytes) }
         ensures capacity { self.new.capacity ≡ self.old.capacity }
         ensures ended { self.new.has_ended ≡ self.old.has_ended }
     {
@@ -169,8 +171,7 @@ impl<A: Allocator> Undecoded<A> {
         ensures failed { (mode : Mode) → IfErr result (λ e.
             FailsToDecode R.remaining R.step (holding mode self.old) reader.old e
             (holding mode self.new) reader.new) }
-        ensures few_came { OnErr result
-            (TakesAtMost (R.remaining reader.old) (R.remaining reader.new) 2) }
+        ensures missing { OnErr result (length self.new.bytes ≤ 2) }
     {
         while self.bytes().len() < LONGEST_MARK && !self.has_ended() {
             let missing = LONGEST_MARK - self.bytes().len();
@@ -202,6 +203,7 @@ impl<A: Allocator> Undecoded<A> {
         ensures failed { IfErr result (λ e. FailsToDecode R.remaining R.step
             (holding (Mode.Decoding label) self.old) reader.old
             e (holding (Mode.Decoding label) self.new) reader.new) }
+        ensures incomplete { OnErr result (IsIncomplete (text_of label self.new.bytes)) }
     {
         loop {
             let count = self.decode(label, output);

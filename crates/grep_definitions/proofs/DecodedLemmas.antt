@@ -1,11 +1,12 @@
 -- Which inputs are searched as they are.
-use Rattle.std.proofs.Common.{◌≡◌, ℕ, Bool, true, false, not, ◌||◌, List, Option, None, refl}
+use Rattle.std.proofs.Common.{◌≡◌, ℕ, Bool, true, false, not, ◌||◌, ◌&&◌, List, ◌++◌, Option, Some, None, refl, ap}
 use Rattle.std.specs.Prelude.{is_some, if◌then◌else◌}
-use Rattle.grep_decode.specs.Decoded.{decoded, is_unchanged}
-use Rattle.grep_decode.specs.Marks.{marked}
+use Rattle.grep_decode.specs.Decoded.{by_mark, decoded, found_mark, is_unchanged}
+use Rattle.grep_decode.specs.Marks.{mark_of, marked}
 use Rattle.grep_decode.specs.declared.label.Label.{Label}
-use Rattle.grep_definitions.specs.DecodedInputs.{searched_bytes, is_searched_unchanged}
-use Rattle.grep_definitions.specs.SearchLaws.{UnchangedIsInput, UnsniffedIsUnchanged, UnmarkedIsUnchanged}
+use Rattle.grep_decode.specs.declared.label.Label.TheVariants.{Utf8}
+use Rattle.grep_definitions.specs.DecodedInputs.{searched_bytes, is_searched_unchanged, passes_after, passes_unchanged}
+use Rattle.grep_definitions.specs.SearchLaws.{MarkedPasses, UnchangedIsInput, UnchangedPasses, UnsniffedIsUnchanged, UnmarkedIsUnchanged}
 
 pub unchanged-input : ((label : Option Label) (sniff : Bool) (bytes : List ℕ) → is_unchanged label sniff bytes ≡ true
     → decoded label sniff bytes ≡ bytes) → UnchangedIsInput
@@ -24,3 +25,20 @@ pub unmarked-unchanged : UnmarkedIsUnchanged
 unfolding is_searched_unchanged
 unmarked-unchanged settings input unlabelled unmarked =
     rw unlabelled (none-found settings.bom_sniffing (marked input) unmarked)
+
+passes-without : (label mark : Option Label) → (not (is_some label) && not (is_some mark)) ≡ true → passes_after mark label ≡ true
+passes-without None None unchanged = refl
+passes-without None (Some mark) unchanged = absurd (cc)
+passes-without (Some label) mark unchanged = absurd (cc)
+
+pub unchanged-passes : UnchangedPasses
+unfolding is_searched_unchanged passes_unchanged
+unchanged-passes settings input is =
+    passes-without settings.encoding (found_mark settings.encoding settings.bom_sniffing input) is
+
+pub marked-passes : MarkedPasses
+unfolding searched_bytes passes_unchanged
+marked-passes settings input looks = (
+  ap (λ b. passes_after (if b then Some Utf8 else None) settings.encoding) looks,
+  ap (λ b. by_mark (if b then Some Utf8 else None) settings.encoding (mark_of Utf8 ++ input)) looks,
+)

@@ -86,10 +86,10 @@ module _ {R T N : Type 0} (view : R → T) (name : R → N) (remaining : T → O
         named : (lines : Option (List ℕ)) (error : Error) (after : R)
             → IsUnreadIn (λ s. remaining (view s)) read across shown state meaning reader lines error after → name reader ≡ name after
         named (Some lines) error after (of_cut by_line unquit taken cut) = Taken-named reader after taken
-        named (Some lines) error after (of_reader by_line unquit mid taken unended failed goes_on came) =
+        named (Some lines) error after (of_reader by_line unquit mid taken unended failed goes_on came so_far unended_line) =
             Taken-named reader mid taken ∙ sym (seen mid (Err error) after failed).0
         named None error after (of_contents is_across taken cut) = Taken-named reader after taken
-        named None error after (of_failed_read is_across mid taken unended failed few) =
+        named None error after (of_failed_read is_across mid taken unended failed came so_far below) =
             Taken-named reader mid taken ∙ sym (seen mid (Err error) after failed).0
         named None error after (of_buffers none memory) = refl
 
@@ -97,11 +97,13 @@ module _ {R T N : Type 0} (view : R → T) (name : R → N) (remaining : T → O
             → IsUnreadIn (λ s. remaining (view s)) read across shown state meaning reader lines error after
             → IsUnreadIn remaining seen_read across shown state meaning (view reader) lines error (view after)
         whole (Some lines) error after (of_cut by_line unquit taken cut) = of_cut by_line unquit (Taken-seen reader after taken) cut
-        whole (Some lines) error after (of_reader by_line unquit mid taken unended failed goes_on came) =
+        whole (Some lines) error after (of_reader by_line unquit mid taken unended failed goes_on came so_far unended_line) =
             of_reader by_line unquit (view mid) (Taken-seen reader mid taken) unended (seen mid (Err error) after failed).1 goes_on came
+            so_far unended_line
         whole None error after (of_contents is_across taken cut) = of_contents is_across (Taken-seen reader after taken) cut
-        whole None error after (of_failed_read is_across mid taken unended failed few) =
-            of_failed_read is_across (view mid) (Taken-seen reader mid taken) unended (seen mid (Err error) after failed).1 few
+        whole None error after (of_failed_read is_across mid taken unended failed came so_far below) =
+            of_failed_read is_across (view mid) (Taken-seen reader mid taken) unended (seen mid (Err error) after failed).1
+            came so_far below
         whole None error after (of_buffers none memory) = of_buffers none memory
 
     pub IsReadingError-seen : (error : Error) → IsReadingError (λ s. remaining (view s)) read reader reader' error

@@ -7,7 +7,7 @@ use Rattle.std.specs.Io.KnownBytes.{Consumes}
 use Rattle.std.specs.IoError.{error_kind}
 use Rattle.std.specs.declared.io.Error.{Error}
 use Rattle.std.specs.declared.io.ErrorKind.TheVariants.{OutOfMemory}
-use Rattle.grep_decode.specs.DecoderStates.{Calls, TakesAtMost}
+use Rattle.grep_decode.specs.DecoderStates.{Calls}
 use Rattle.grep_decode.specs.Source.{ReadResult}
 use Rattle.grep_matcher.specs.Lines.{lines}
 use Rattle.grep_matcher.specs.Matching.{Meaning}
@@ -16,7 +16,7 @@ use Rattle.grep_report.specs.declared.config_error.ConfigError.{ConfigError}
 use Rattle.grep_definitions.specs.Below.{is_at}
 use Rattle.grep_definitions.specs.BinaryBytes.{Look, nowhere, in_contents, on_stream, look_of}
 use Rattle.grep_definitions.specs.BinaryBytes.{before_quit, is_detecting, view_of}
-use Rattle.grep_definitions.specs.DecodedInputs.{IsInput, is_searched_unchanged}
+use Rattle.grep_definitions.specs.DecodedInputs.{IsDecodedSoFar, IsInput, passes_unchanged}
 use Rattle.grep_definitions.specs.InputFronts.{GoesOnAfter, HasOpenLine, IsFront}
 use Rattle.grep_definitions.specs.NotedSinks.{noted}
 use Rattle.grep_definitions.specs.ReadingFaults.{CutsShort, CutsContents, IsBelowLimit}
@@ -68,20 +68,19 @@ module _ {R : Type 0} (remaining : R → Option (List ℕ))
         × CutsShort state.settings meaning
         (before_quit state.settings.binary_detection (view bytes)) seen error)
         → IsUnreadIn across view state meaning reader (Some seen) error reader'
-    -- the reader's last call failed. If what came before is searched unchanged, and more than two bytes were taken,
-    -- all lines that came whole were seen, and no byte that came ends the search
+    -- the reader's last call failed. Of what was decoded before, all lines that came whole were seen, fewer bytes than
+    -- the heap limit came after them, and none ends the search
     of_reader : {seen : List ℕ} {error : Error} {reader' : R} → across ≡ false
         → before_quit state.settings.binary_detection seen ≡ seen
         → (mid : R) (taken : Taken reader mid)
         → taken.ended ≡ false → read_step mid (Err error) reader'
         → ((bytes : List ℕ) → IsInput state.settings taken.ended taken.pieces bytes
         → GoesOnAfter state.settings meaning (view bytes) seen)
-        → (is_searched_unchanged state.settings (concat taken.pieces) ≡ true
-        → (TakesAtMost (remaining reader) (remaining reader') 2 → ⊥)
-        → HasOpenLine state.settings (view (concat taken.pieces)) seen)
+        → (came : List ℕ) → IsDecodedSoFar state.settings taken.pieces came
+        → HasOpenLine state.settings (view came) seen
         → IsUnreadIn across view state meaning reader (Some seen) error reader'
-    -- across lines all is read before `begin`: there was no room for it, or the reader's last call failed, before as
-    -- many bytes came as the heap limit, if they are searched unchanged and more than two were taken
+    -- across lines all is read before `begin`: there was no room for it, or the reader's last call failed, and fewer
+    -- bytes were decoded before than the heap limit
     of_contents : {error : Error} {reader' : R} → across ≡ true → (taken : Taken reader reader')
         → ((bytes : List ℕ) → IsInput state.settings taken.ended taken.pieces bytes
         → CutsContents state.settings bytes error)
@@ -89,10 +88,8 @@ module _ {R : Type 0} (remaining : R → Option (List ℕ))
     of_failed_read : {error : Error} {reader' : R} → across ≡ true
         → (mid : R) (taken : Taken reader mid)
         → taken.ended ≡ false → read_step mid (Err error) reader'
-        → ((limit : ℕ) → state.settings.heap_limit ≡ Some limit
-        → is_searched_unchanged state.settings (concat taken.pieces) ≡ true
-        → (TakesAtMost (remaining reader) (remaining reader') 2 → ⊥)
-        → length (concat taken.pieces) < limit)
+        → (came : List ℕ) → IsDecodedSoFar state.settings taken.pieces came
+        → IsBelowLimit state.settings came
         → IsUnreadIn across view state meaning reader None error reader'
     -- there were no buffers, and no memory for them
     of_buffers : {error : Error} → state.has_buffers ≡ false → error_kind error ≡ OutOfMemory
@@ -140,9 +137,10 @@ module _ {R : Type 0} (remaining : R → Option (List ℕ))
       pub below : calls.across ≡ true → (bytes : List ℕ)
           → IsInput settings taken.ended taken.pieces bytes
           → IsBelowLimit settings bytes
-      -- how far the reader is ahead of the byte count, under a heap limit, if what came is searched unchanged
+      -- how far the reader is ahead of the byte count, under a heap limit, if what came passes unchanged: the three
+      -- bytes are those that are read to look for a mark, or a mark that is dropped
       pub ahead : calls.across ≡ false → (limit : ℕ) → settings.heap_limit ≡ Some limit
-          → is_searched_unchanged settings (concat taken.pieces) ≡ true
+          → passes_unchanged settings (concat taken.pieces) ≡ true
           → length (concat taken.pieces) ≤ count_of outcome (calls.byte_count seen) + limit + 3
 
     -- how a search with these calls that isn't refused ends in an error
@@ -246,7 +244,7 @@ module _ {R : Type 0} (remaining : R → Option (List ℕ)) (read_step : R → R
         (IsInput settings taken.ended taken.pieces) old result new
     -- how far the reader is ahead of the byte count, as after any search that ends in `Ok`
     pub ahead : (limit : ℕ) → settings.heap_limit ≡ Some limit
-        → is_searched_unchanged settings (concat taken.pieces) ≡ true
+        → passes_unchanged settings (concat taken.pieces) ≡ true
         → length (concat taken.pieces) ≤ length run.seen + limit + 3
 
   abbrev pub IsStreamSearched : SearcherState → R → S → Result (Unit {0}) E → R → S → Type 0

@@ -4,7 +4,8 @@ use Rattle.std.specs.Prelude.{List, [], ◌∷◌, ◌++◌, length, slice_index
 use Rattle.std.specs.Prelude.{All}
 use Rattle.std.specs.List.{AllPairs}
 use Rattle.std.specs.Option.{option_map}
-use Rattle.grep_decode.specs.Marks.{marked}
+use Rattle.grep_decode.specs.declared.label.Label.TheVariants.{Utf8}
+use Rattle.grep_decode.specs.Marks.{mark_of, marked}
 use Rattle.grep_matcher.specs.Terminators.{byte_of}
 use Rattle.grep_matcher.specs.Matching.{Meaning, plain}
 use Rattle.grep_report.specs.declared.sink_context.SinkContextKind.TheVariants.{After}
@@ -18,7 +19,7 @@ use Rattle.grep_definitions.specs.LineSearch.{turns, turns_at, turn_count, line_
 use Rattle.grep_definitions.specs.LineSearch.{number, start, line, is_selected}
 use Rattle.grep_definitions.specs.Modes.{is_across}
 use Rattle.grep_definitions.specs.SearchTurns.{search_turns}
-use Rattle.grep_definitions.specs.DecodedInputs.{searched_bytes, is_searched_unchanged}
+use Rattle.grep_definitions.specs.DecodedInputs.{searched_bytes, is_searched_unchanged, looks_for_mark, passes_unchanged}
 
 -- without a label and a mark that is found, what is searched is the input
 abbrev pub UnchangedIsInput : Type 0
@@ -37,6 +38,19 @@ abbrev pub UnmarkedIsUnchanged : Type 0
 UnmarkedIsUnchanged =
     (settings : Settings) (input : List ℕ) → settings.encoding ≡ None → marked input ≡ None
     → is_searched_unchanged settings input ≡ true
+
+-- such an input passes unchanged, and so does one that begins with a mark of UTF-8, if a mark is looked for: what is
+-- searched is what comes after it
+abbrev pub UnchangedPasses : Type 0
+UnchangedPasses =
+    (settings : Settings) (input : List ℕ) → is_searched_unchanged settings input ≡ true
+    → passes_unchanged settings input ≡ true
+
+abbrev pub MarkedPasses : Type 0
+MarkedPasses =
+    (settings : Settings) (input : List ℕ) → looks_for_mark settings ≡ true
+    → (passes_unchanged settings (mark_of Utf8 ++ input) ≡ true)
+    × (searched_bytes settings (mark_of Utf8 ++ input) ≡ input)
 
 -- the calls that report lines, in order
 abbrev pub report_calls : List Turn → List Call

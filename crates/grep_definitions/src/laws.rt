@@ -1,6 +1,7 @@
 //! Laws of the calls that a search makes, over their definition alone: each is the contract of a function that does
 //! nothing.
 ghost use Rattle.grep_definitions.specs.SearchLaws.{UnchangedIsInput, UnsniffedIsUnchanged, UnmarkedIsUnchanged};
+ghost use Rattle.grep_definitions.specs.SearchLaws.{UnchangedPasses, MarkedPasses};
 ghost use Rattle.grep_definitions.specs.SearchLaws.{ReportsAscend, AfterWins, InversionComplements};
 ghost use Rattle.grep_definitions.specs.SearchLaws.{FirstLinesBegin, AtMostLimit, WholeCount};
 ghost use Rattle.grep_definitions.specs.SearchLaws.{LinesAreNumbered, MatchesAreSelected, MatchesDecide};
@@ -16,11 +17,14 @@ ghost use Rattle.grep_definitions.specs.BinaryLaws.{SeenLinesAreClear, SeenLines
 use grep_decode::laws::unchanged_is_decoded;
 use grep_lines::laws::{lines_append, lines_are_few, lines_join};
 
-/// An input without a label, and without a mark that is looked for and found, is searched as it is.
+/// An input without a label, and without a mark that is looked for and found, is searched as it is. After a mark of
+/// UTF-8 that is looked for, what comes after it is searched as it is.
 pub fn unchanged_is_searched()
     ensures input { UnchangedIsInput }
     ensures unsniffed { UnsniffedIsUnchanged }
     ensures unmarked { UnmarkedIsUnchanged }
+    ensures passes { UnchangedPasses }
+    ensures marked { MarkedPasses }
 {
     unchanged_is_decoded();
 }

@@ -483,7 +483,6 @@ module _ {R : Type 0} (remaining : R → Option (List ℕ)) (step : R → ReadRe
     pub read : FailsToFill remaining step e old d r new d' r'
     pub stream : KeepsStream old new (yet d (remaining r)) (yet d' (remaining r'))
     pub stays : IsSettled d.mode → d'.mode ≡ d.mode
-    pub few : IsSettled d'.mode ⊎ TakesAtMost (remaining r) (remaining r') 2
     pub line : HasNoLine old new
     pub room : length (held new) < new.size
     pub unended : new.has_ended ≡ false
@@ -517,7 +516,6 @@ module _ {R : Type 0} (remaining : R → Option (List ℕ)) (step : R → ReadRe
         };
         stream = stream-filled old now now d d1 r r1 f _ appended refl f.same.detection f.same.terminator out.gives;
         stays = out.stays;
-        few = out.few;
         line = record { shown = f.shown; none = before.none; unended = f.unended };
         room = omega (arith, f.rolled);
         unended = f.unended;

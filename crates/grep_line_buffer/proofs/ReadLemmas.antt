@@ -65,20 +65,11 @@ module _ {R : Type 0} (remaining : R → Option (List ℕ)) (step : R → ReadRe
     capacity = capacity ∙ before.capacity;
   }
 
-  -- at most two bytes came before an error, or the mode is settled
-  few-more : (d d1 d2 : DecoderState) (r r1 r2 : R) (given : List ℕ) (e : Error) → FailsToRead remaining step d1 r1 e d2 r2
-      → IsSettled d1.mode ⊎ ((d1 ≡ d) × (r1 ≡ r) × (given ≡ [])) → IsSettled d2.mode ⊎ TakesAtMost (remaining r1) (remaining r2) 2
-      → IsSettled d2.mode ⊎ TakesAtMost (remaining r) (remaining r2) 2
-  few-more d d1 d2 r r1 r2 given e failed begins (inl settled) = inl settled
-  few-more d d1 d2 r r1 r2 given e failed (inl settled) (inr few) = inl (subst (λ m. IsSettled m) (sym (failed.stays settled)) settled)
-  few-more d d1 d2 r r1 r2 given e failed (inr first) (inr few) = inr (subst (λ x. TakesAtMost (remaining x) (remaining r2) 2) first.1 few)
-
   -- Reads of a decoder, none or some, gave these bytes, and then one failed.
   pub record HasFailed (d : DecoderState) (r : R) (given : List ℕ) (e : Error) (d' : DecoderState) (r' : R) : Type 0 where
     pub after : FailsAfter remaining step e d r given d' r'
     pub gives : Consumes (yet d (remaining r)) (yet d' (remaining r')) given
     pub stays : IsSettled d.mode → d'.mode ≡ d.mode
-    pub few : IsSettled d'.mode ⊎ TakesAtMost (remaining r) (remaining r') 2
     pub capacity : d'.capacity ≡ d.capacity
 
   pub HasRead-failed : (d d1 d2 : DecoderState) (r r1 r2 : R) (given : List ℕ) (e : Error) → Continues → HasRead d r given d1 r1
@@ -93,6 +84,5 @@ module _ {R : Type 0} (remaining : R → Option (List ℕ)) (step : R → ReadRe
     };
     gives = Consumes-kept _ _ _ given before.gives failed.keeps;
     stays = λ settled. failed.stays (subst (λ m. IsSettled m) (sym (before.stays settled)) settled) ∙ before.stays settled;
-    few = few-more d d1 d2 r r1 r2 given e failed before.begins failed.few;
     capacity = capacity ∙ before.capacity;
   }

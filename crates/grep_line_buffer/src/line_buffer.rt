@@ -8,7 +8,9 @@ ghost use Rattle.std.specs.Io.{ReadsAtMost};
 ghost use lib.Seq.{paste};
 ghost use Rattle.grep_decode.specs.Source.{FailsWith};
 ghost use Rattle.grep_decode.specs.declared.mode.Mode.TheVariants.{Passing};
-ghost use Rattle.grep_decode.specs.DecoderStates.{IsDone, IsSettled, TakesAtMost, runs_ahead, yet};
+ghost use Rattle.grep_decode.specs.Decoded.{IsIncomplete};
+ghost use Rattle.grep_decode.specs.DecoderStates.{IsDone, IsSettled, LooksForMark, TakesAtMost, runs_ahead};
+ghost use Rattle.grep_decode.specs.DecoderStates.{still_to_give, yet};
 ghost use Rattle.grep_lines.specs.Positions.{slice};
 ghost use Rattle.grep_line_buffer.specs.BufferStates.{BufferState, empty_buffer, held, Lacks, IsWithin, IsSameBuffer};
 ghost use Rattle.grep_line_buffer.specs.BufferStates.{GrowsIfFull, ShowsLine, IsFilled, HasNoLine, KeepsStream};
@@ -241,7 +243,9 @@ impl<A: Allocator> LineBuffer<A> {
         ensures stays { IsSettled decoder.old.mode → decoder.new.mode ≡ decoder.old.mode }
         ensures empty { IfRead result (λ _. decoder.new.ready ≡ []) }
         ensures few { IfRead result (λ _. IsSettled decoder.new.mode
-            ⊎ TakesAtMost (R.remaining reader.old) (R.remaining reader.new) 2) }
+            ⊎ LooksForMark decoder.new.mode × (length decoder.new.held ≤ 2)) }
+        ensures incomplete { IfRead result (λ _. IsSettled decoder.new.mode
+            → IsIncomplete (still_to_give decoder.new [])) }
     {
         reads_continue::<R>();
         reads_fail::<R>();

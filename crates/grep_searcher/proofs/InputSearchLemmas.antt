@@ -85,12 +85,12 @@ module _ {R : Type 0} (remaining : R → Option (List ℕ)) (read_step : R → R
       let both = each (searched_bytes state.settings input)
       (taken-input remaining read_step state.settings input reader reader' all taken) in
       undecoded_cut by_line changed unquit both.0 both.1
-  undecoded-in across view meaning reader reader' all _ error (unread_reader by_line unquit mid taken unended fails on seen) =
+  undecoded-in across view meaning reader reader' all _ error (unread_reader by_line unquit mid taken unended fails on came so_far unended_line) =
       absurd (never mid error reader' fails)
   undecoded-in across view meaning reader reader' all _ error (unread_contents whole taken cut) =
       undecoded_contents whole changed (cut (searched_bytes state.settings input)
       (taken-input remaining read_step state.settings input reader reader' all taken))
-  undecoded-in across view meaning reader reader' all _ error (unread_failed whole mid taken unended fails few) =
+  undecoded-in across view meaning reader reader' all _ error (unread_failed whole mid taken unended fails came so_far below) =
       absurd (never mid error reader' fails)
   undecoded-in across view meaning reader reader' all _ error (unread_buffers none memory) = undecoded_buffers changed none memory
 

@@ -37,6 +37,7 @@ returns-in-Err g c =
       passed = if-read-full (Unit {0}) c.args.limit c.reads.len c.in-Err.e _ full.error;
       empty = if-read-full (Unit {0}) c.args.limit c.reads.len c.in-Err.e _ full.error;
       few = if-read-full (Unit {0}) c.args.limit c.reads.len c.in-Err.e _ full.error;
+      incomplete = if-read-full (Unit {0}) c.args.limit c.reads.len c.in-Err.e _ full.error;
     }
 
 pub returns-in-Ok-eq0 : goal.returns-in-Ok-eq0
@@ -77,6 +78,7 @@ returns-in-Ok-eq0 g c =
       passed = tt;
       empty = tt;
       few = tt;
+      incomplete = tt;
     }
 
 pub returns-in-Err-read_after : goal.returns-in-Err-read_after
@@ -115,7 +117,8 @@ returns-in-Err-read_after g c =
       stays = out.stays;
       passed = failed.passing;
       empty = failed.empty;
-      few = out.few;
+      few = failed.few;
+      incomplete = failed.incomplete;
     }
 
 pub reads-init : goal.reads-init

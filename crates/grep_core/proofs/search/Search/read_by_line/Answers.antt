@@ -90,9 +90,9 @@ returns-in-Err-clause-fault g c = λ lawful first begun has_buffers.
     (λ r2 fills. holding.held-next g.R.Source.remaining g.R.Source.step c.fills_continue.ensures.fills c.fills.lines
     c.fill.new.self c.args.decoder.now c.fills.decoder c.fill.new.decoder c.args.reader.now c.fills.reader r2 so_far.gone
     so_far.given so_far.between.offset so_far.uncut so_far.holds fills)
-    has_buffers c.fill.ensures.grows c.fill.ensures.within c.requires.allowed c.unchanged_is_searched.ensures.input
+    has_buffers c.fill.ensures.grows c.fill.ensures.within c.requires.allowed
     c.done_gives_nothing.ensures c.in-Err.error c.io_error.result c.io_error.ensures fill.error fill.reads fill.read fill.uncut
-    fill.passed fill.empty fill.few c.fill.ensures.stays)
+    fill.passed fill.empty fill.few fill.incomplete)
     c.error_io.ensures
 
 pub returns-in-Err-clause-succeeds : goal.returns-in-Err-clause-succeeds
@@ -109,9 +109,9 @@ returns-in-Err-clause-succeeds g c = λ _ _ lawful first begun has_buffers.
           (λ r2 fills. holding.held-next g.R.Source.remaining g.R.Source.step c.fills_continue.ensures.fills c.fills.lines
           c.fill.new.self c.args.decoder.now c.fills.decoder c.fill.new.decoder
           c.args.reader.now c.fills.reader r2 so_far.gone so_far.given so_far.between.offset so_far.uncut so_far.holds fills)
-          has_buffers c.fill.ensures.grows c.fill.ensures.within c.requires.allowed c.unchanged_is_searched.ensures.input
+          has_buffers c.fill.ensures.grows c.fill.ensures.within c.requires.allowed
           c.done_gives_nothing.ensures c.in-Err.error c.io_error.result c.io_error.ensures fill.error fill.reads fill.read fill.uncut
-          fill.passed fill.empty fill.few c.fill.ensures.stays,
+          fill.passed fill.empty fill.few fill.incomplete,
       c.error_io.ensures,
     )
 
@@ -135,7 +135,7 @@ returns-in_err-passes_binary-clause-fault g c =
     first c.args.sink.now c.fills.lines c.fills.decoder c.fills.reader c.fills.walk c.fills.sink so_far
     c.fills.invariant.fitting.terminator c.fill.new.self c.fill.new.decoder c.fill.new.reader same fill.reads held_now
     c.fills.invariant.fitting c.binary_byte_offset.ensures.room c.binary_byte_offset.ensures.cut c.fill.ensures.within
-    refl c.unchanged_is_searched.ensures.input (fill.settled so_far.between.unended so_far.uncut)
+    refl (fill.settled so_far.between.unended so_far.uncut)
     (fill.passing so_far.between.unended so_far.uncut) (c.fills.invariant.noted lawful)
     errors facts has_buffers c.in_err-passes_binary.field-0.0 c.passes_binary.new.sink
     (subst (λ b. FailsAtBinary g.C.Calls.step k b c.fills.sink c.in_err-passes_binary.field-0.0 c.passes_binary.new.sink) exact
@@ -157,7 +157,7 @@ returns-then-not-branch-clause-counted g c = λ lawful first begun.
     first c.args.sink.now c.fills.lines c.fills.decoder c.fills.reader c.fills.walk c.fills.sink so_far
     c.fills.invariant.fitting.terminator c.fill.new.self c.fill.new.decoder c.fill.new.reader same fill.reads held_now
     c.fills.invariant.fitting c.binary_byte_offset.ensures.room c.binary_byte_offset.ensures.cut c.fill.ensures.within
-    refl c.unchanged_is_searched.ensures.input (fill.settled so_far.between.unended so_far.uncut)
+    refl (fill.settled so_far.between.unended so_far.uncut)
     (fill.passing so_far.between.unended so_far.uncut) (c.fills.invariant.noted lawful)
     c.passes_binary.new.sink
     (subst (λ b. PassesBinary g.C.Calls.step k b c.fills.sink false c.passes_binary.new.sink) exact
@@ -216,7 +216,7 @@ returns-then-is_idle-clause-counted g c = λ lawful first begun.
     first c.args.sink.now c.fills.lines c.fills.decoder c.fills.reader c.fills.walk c.passes_binary.new.sink there.rolling
     c.fills.invariant.fitting.terminator c.fill.new.self c.fill.new.decoder c.fill.new.reader same fill.reads there.held_now
     idle there.uncut c.binary_byte_offset.ensures.room c.fill.ensures.within
-    c.fills.invariant.fitting there.called there.known c.unchanged_is_searched.ensures.input
+    c.fills.invariant.fitting there.called there.known
     (fill.settled so_far.between.unended so_far.uncut) (fill.passing so_far.between.unended so_far.uncut))
 
 pub returns-then-not-branch-2-clause-counted : goal.returns-then-not-branch-2-clause-counted
@@ -245,7 +245,7 @@ returns-then-not-branch-2-clause-counted g c = λ lawful first begun.
     c.fills.invariant.fitting.terminator c.fill.new.self c.fill.new.decoder c.fill.new.reader same fill.reads there.held_now
     busy c.fills.invariant.fitting there.uncut fill.filled c.search_shown.ensures.room c.fill.ensures.within c.fill.ensures.done
     c.search_shown.new.walk c.search_shown.new.sink c.search_shown.ensures.may_call.1 (kept ∙ there.known)
-    (c.in_ok-search_shown.ensures.ends lawful c.if-not-branch-2.true) c.unchanged_is_searched.ensures.input
+    (c.in_ok-search_shown.ensures.ends lawful c.if-not-branch-2.true)
     (fill.settled so_far.between.unended so_far.uncut) (fill.passing so_far.between.unended so_far.uncut))
 
 pub fills-preserved : goal.fills-preserved
@@ -324,7 +324,7 @@ fills-preserved g c =
           c.done_gives_nothing.ensures c.fill.ensures.done
           c.search_shown.new.walk c.search_shown.new.lines c.search_shown.new.sink
           (c.in_ok-search_shown.ensures.goes_on lawful moves)
-          (c.fills_continue.ensures.consumed c.fill.new.self there.rolling.gone) (fill.settled so_far.between.unended so_far.uncut) in
+          (c.fills_continue.ensures.consumed c.fill.new.self there.rolling.gone) in
           subst (λ binary. IsRolling (Notes g.C.Calls.step) k meaning g.R.Source.remaining g.R.Source.step
           c.args.decoder.now c.args.reader.now
           (record { sink = record c.args.sink.now.sink { now = first }; binary = binary; has_called = false })

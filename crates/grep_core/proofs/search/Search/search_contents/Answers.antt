@@ -40,12 +40,12 @@ unread : (g : Over) (c : goal.After-error_io g) (has_buffers : Bool) (view : Lis
 unread g c has_buffers view =
     whole.unread-read g.R.Source.remaining g.R.Source.step c.args.self.now.config c.args.decoder.now.capacity c.args.decoder.now
     c.requires.started c.args.reader.now c.read_contents.new.contents.items c.read_contents.new.decoder c.read_contents.new.reader
-    c.done_gives_nothing.ensures c.unchanged_is_searched.ensures.input view has_buffers (g.M.Matcher.meaning c.args.matcher.now)
+    c.done_gives_nothing.ensures view has_buffers (g.M.Matcher.meaning c.args.matcher.now)
     c.in-Err.error c.io_error.result c.io_error.ensures (vec_capacity c.args.contents.now)
     (subst (λ limit. ContentsFail limit (vec_capacity c.args.contents.now) c.read_contents.new.contents.items c.in-Err.error)
     c.heap_limit.ensures c.in-Err.ensures.error)
     c.in-Err.ensures.reads c.in-Err.ensures.read
-    c.in-Err.ensures.passed c.in-Err.ensures.empty c.in-Err.ensures.few
+    c.in-Err.ensures.passed c.in-Err.ensures.empty c.in-Err.ensures.few c.in-Err.ensures.incomplete
 
 pub returns-in-Err-clause-searched : goal.returns-in-Err-clause-searched
 returns-in-Err-clause-searched g c = λ has_buffers.

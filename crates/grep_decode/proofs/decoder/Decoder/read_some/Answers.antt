@@ -6,6 +6,9 @@ use Rattle.grep_decode.proofs.DecoderLemmas.{result-first, result-ahead, takes-n
 use Rattle.grep_decode.proofs.decoder.Decoder.read_some.Goals as goal
 use Rattle.grep_decode.proofs.decoder.Decoder.read_some.Goals.{in-Fresh+in-Ok, in_default}
 
+pub returns-then-is_empty-clause-decodes : goal.returns-then-is_empty-clause-decodes
+returns-then-is_empty-clause-decodes g c = Decodes-none g.R.Source.remaining g.R.Source.step _ _
+
 pub returns-clause-decodes : goal.returns-clause-decodes
 returns-clause-decodes g c =
     let remaining = g.R.Source.remaining in

@@ -1,8 +1,8 @@
-use Rattle.std.proofs.Common.{◌≡◌, ◌||◌, true, [], ap, is_some, ◌∙◌, subst, sym}
+use Rattle.std.proofs.Common.{◌≡◌, ◌≤◌, ◌||◌, true, [], ap, is_some, length, ◌∙◌, subst, sym, arith}
 use Rattle.std.proofs.lemmas.Bool.{false≢true}
-use Rattle.grep_decode.specs.declared.mode.Mode.TheVariants.{Passing}
+use Rattle.grep_decode.specs.declared.mode.Mode.TheVariants.{Fresh, Passing}
 use Rattle.grep_decode.specs.Decoded.{found_mark}
-use Rattle.grep_decode.specs.DecoderStates.{Decodes, LooksForMark}
+use Rattle.grep_decode.specs.DecoderStates.{Decodes, IsSettled, LooksForMark}
 use Rattle.grep_decode.specs.UndecodedBytes.{holding}
 use Rattle.grep_decode.proofs.DecoderLemmas.{Decodes-append, Decodes-held, Decodes-none, Decodes-within, Decodes-yet, fits-fresh}
 use Rattle.grep_decode.proofs.MarkLemmas.{first-by, first-ready}
@@ -22,10 +22,19 @@ returns-clause-decodes g c =
           (w.in-Ok.ensures.decodes d.mode))
       | else-sniff+else-is_some w ↦ rw (w.self-is, w.reader-is) (Decodes-none remaining step c.args.self.now c.args.reader.now)
     ] in
+    let few : length c.if-sniff.self.held ≤ 3 = elim c.if-sniff.branch [
+      | then-sniff+in-Ok w ↦ rw w.self-is w.in-Ok.ensures.few
+      | else-sniff+else-is_some w ↦ rw (w.self-is, ← c.self.view_is) fits.1
+    ] in
+    let same_mode : c.if-sniff.self.mode ≡ Fresh c.args.label c.args.sniff = elim c.if-sniff.branch [
+      | then-sniff+in-Ok w ↦ rw w.self-is fresh
+      | else-sniff+else-is_some w ↦ rw w.self-is c.requires
+    ] in
     Decodes-append remaining step c.args.self.now c.if-sniff.self c.choose.new.self c.args.reader.now
     c.if-sniff.reader c.if-sniff.reader [] []
     ahead (Decodes-within remaining step c.if-sniff.self c.choose.new.self c.if-sniff.reader [] c.choose.ensures.ended c.choose.ensures.same
-    c.choose.ensures.next)
+    c.choose.ensures.next c.choose.ensures.settled (λ settled. absurd (subst IsSettled same_mode settled))
+    (λ passing. omega (arith, few)))
 
 pub returns-clause-first : goal.returns-clause-first
 returns-clause-first g c = λ none unended looks.

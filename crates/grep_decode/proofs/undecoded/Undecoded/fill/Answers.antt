@@ -1,12 +1,20 @@
-use Rattle.std.proofs.Common.{◌≡◌, ◌≤◌, ◌<◌, ◌+◌, ◌-◌, ◌++◌, length, ap, ◌∙◌, length-append, sym, subst, arith}
-use Rattle.std.proofs.KnownBytes.{Consumes-trans}
-use Rattle.grep_decode.proofs.DecoderLemmas.{Grows-smaller, hold-more}
+use Rattle.std.proofs.Common.{◌≡◌, ◌≤◌, ◌<◌, ◌+◌, ◌-◌, ◌++◌, [], refl, length, ap, ◌∙◌, length-append, sym, subst, arith}
+use Rattle.std.proofs.KnownBytes.{Consumes-nil, Consumes-trans}
+use Rattle.grep_decode.proofs.DecoderLemmas.{Decodes-none, Grows-smaller, hold-more}
 use Rattle.grep_decode.proofs.undecoded.Undecoded.fill.Goals as goal
 
 pub loop-self-smaller : goal.loop-self-smaller
 loop-self-smaller g c =
     let few : length c.loop-self.self.bytes < 3 = subst (λ l. length l < 3) c.bytes.ensures c.loop-self-test.true in
     Grows-smaller g.R.Source.remaining g.R.Source.step _ _ _ _ _ 3 (sym c.if-not-has_ended.ensures) few c.in-Ok.ensures.grows
+
+pub loop-self-init : goal.loop-self-init
+loop-self-init g c = record {
+  capacity = refl;
+  few = c.requires.few;
+  decodes = λ mode. Decodes-none g.R.Source.remaining g.R.Source.step _ _;
+  came = ([], omega arith, Consumes-nil _);
+}
 
 pub loop-self-preserved : goal.loop-self-preserved
 loop-self-preserved g c =

@@ -1,7 +1,15 @@
 use Rattle.std.proofs.Common.{take, ap, refl, sym, ◌∙◌, arith}
 use Rattle.std.proofs.lemmas.List.{places}
-use Rattle.grep_decode.proofs.DecoderLemmas.{Decodes-pass}
+use Rattle.grep_decode.proofs.DecoderLemmas.{Decodes-none, Decodes-pass, FailsToDecode-now}
 use Rattle.grep_decode.proofs.undecoded.Undecoded.pass.Goals as goal
+
+pub returns-then-self-clause-decodes : goal.returns-then-self-clause-decodes
+returns-then-self-clause-decodes g c = Decodes-none g.R.Source.remaining g.R.Source.step _ _
+
+pub returns-in-Err-clause-failed : goal.returns-in-Err-clause-failed
+returns-in-Err-clause-failed g c =
+    FailsToDecode-now g.R.Source.remaining g.R.Source.step _ _ _ _
+    (sym (ap (λ u. u.has_ended) c.self.view_is) ∙ c.if-self.false) c.in-Err.ensures.step
 
 pub returns-in-Ok-clause-decodes : goal.returns-in-Ok-clause-decodes
 returns-in-Ok-clause-decodes g c =

@@ -1,9 +1,16 @@
-use Rattle.std.proofs.Common.{[], ◌∙◌, sym, subst, arith}
+use Rattle.std.proofs.Common.{[], refl, ◌∙◌, sym, subst, arith}
 use Rattle.grep_decode.specs.declared.mode.Mode.TheVariants.{Decoding}
 use Rattle.grep_decode.specs.DecoderStates.{Decodes}
 use Rattle.grep_decode.specs.UndecodedBytes.{UndecodedBytes, holding}
-use Rattle.grep_decode.proofs.DecoderLemmas.{hold-more}
+use Rattle.grep_decode.proofs.DecoderLemmas.{Decodes-none, hold-more}
 use Rattle.grep_decode.proofs.undecoded.Undecoded.read.Goals as goal
+
+pub loop-label-init : goal.loop-label-init
+loop-label-init g c = record {
+  capacity = refl;
+  room = c.requires.room;
+  decodes = Decodes-none g.R.Source.remaining g.R.Source.step _ _;
+}
 
 pub loop-label-preserved : goal.loop-label-preserved
 loop-label-preserved g c =

@@ -43,6 +43,7 @@ returns-then-has_ended g c =
       stays = out.stays;
       empty = tt;
       few = tt;
+      incomplete = tt;
     }
 
 pub returns-then-not-has_offsets : goal.returns-then-not-has_offsets
@@ -83,6 +84,7 @@ returns-then-not-has_offsets g c =
       stays = out.stays;
       empty = tt;
       few = tt;
+      incomplete = tt;
     }
 
 pub returns-in-Err : goal.returns-in-Err
@@ -118,6 +120,7 @@ returns-in-Err g c =
       stays = out.stays;
       empty = if-read-full Bool c.reads.self.limit c.reads.self.size c.in-Err.e _ full.2;
       few = if-read-full Bool c.reads.self.limit c.reads.self.size c.in-Err.e _ full.2;
+      incomplete = if-read-full Bool c.reads.self.limit c.reads.self.size c.in-Err.e _ full.2;
     }
 
 pub returns-in-Err-read : goal.returns-in-Err-read
@@ -153,7 +156,8 @@ returns-in-Err-read g c =
       settled = tt;
       stays = out.stays;
       empty = failed.empty;
-      few = out.few;
+      few = failed.few;
+      incomplete = failed.incomplete;
     }
 
 pub returns-then-count-eq0 : goal.returns-then-count-eq0
@@ -192,6 +196,7 @@ returns-then-count-eq0 g c =
       stays = out.stays;
       empty = tt;
       few = tt;
+      incomplete = tt;
     }
 
 pub returns-then-not-has_offsets-2 : goal.returns-then-not-has_offsets-2
@@ -229,6 +234,7 @@ returns-then-not-has_offsets-2 g c =
       stays = out.stays;
       empty = tt;
       few = tt;
+      incomplete = tt;
     }
 
 pub returns-then-show_lines : goal.returns-then-show_lines
@@ -269,6 +275,7 @@ returns-then-show_lines g c =
       stays = out.stays;
       empty = tt;
       few = tt;
+      incomplete = tt;
     }
 
 pub reads-init : goal.reads-init
@@ -326,6 +333,7 @@ returns-then-is_cut-2 g c =
       stays = out.stays;
       empty = tt;
       few = tt;
+      incomplete = tt;
     }
 
 pub returns-then-is_cut-clause-reads : goal.returns-then-is_cut-clause-reads
