@@ -1,10 +1,11 @@
 //! What the arguments, the runs and the errors of `lgrep` come to.
 use crate::paths::temporary_path;
 use grep_searcher::{SearchError, Source};
-use lgrep_cli::{Options, OptionsFault, USAGE, Writing, run, run_path, status};
+use lgrep_cli::{Options, OptionsFault, Output, USAGE, Writing, run, run_arguments, run_path};
 use std::alloc::{AllocError, Global};
 use std::io::Write;
 use std::path::Path;
+use std::process::ExitCode;
 use std::test::Fail;
 use std::{fs, io};
 
@@ -47,6 +48,8 @@ fn refuses_arguments(rt: HostRuntime) {
         "-B x a",
         "-m a",
         "-A",
+        "-B",
+        "-m",
         "-x a",
         "-U",
         "-v",
@@ -63,6 +66,21 @@ fn refuses_arguments(rt: HostRuntime) {
     assert!(rt;
         USAGE == "usage: lgrep [-v] [-A N] [-B N] [-m N] [-U] [--passthru] [-c] LITERAL [PATH]"
     );
+}
+
+// Whether a fault is displayed as this text.
+fn displays(alloc: Global, fault: OptionsFault, text: &str) -> bool {
+    match format!(in alloc; "{fault}") {
+        Ok(display) => display.as_str() == text,
+        Err(_) => false,
+    }
+}
+
+#[test]
+fn texts_of_faults(rt: HostRuntime) {
+    let usage = "the arguments are not as the usage says";
+    assert!(rt; displays(rt.alloc(), OptionsFault::Usage, usage));
+    assert!(rt; displays(rt.alloc(), OptionsFault::Memory, "out of memory"));
 }
 
 // A line, and its options: `invert`, `multi_line`, `after`, `before`, `passthru`, `max`, `literal`
@@ -296,6 +314,59 @@ fn returns_the_error_of_the_writer(rt: HostRuntime) {
     }
 }
 
+// Fails at its first call, and counts its calls.
+#[derive(Drop)]
+struct Counted {
+    kind: io::ErrorKind,
+    calls: u64,
+}
+
+impl Counted {
+    fn call(&mut self) -> io::Result<()> {
+        self.calls = self.calls.saturating_add(1);
+        if self.calls == 1 {
+            return Err(io::Error::from(self.kind));
+        }
+        Ok(())
+    }
+}
+
+impl Write for Counted {
+    fn write(&mut self, buffer: &[u8]) -> io::Result<usize> {
+        self.call()?;
+        Ok(buffer.len())
+    }
+
+    fn flush(&mut self) -> io::Result<()> {
+        self.call()
+    }
+}
+
+// Whether such a writer is called once for each call of a `Writing`.
+fn is_asked_once(kind: io::ErrorKind) -> bool {
+    let mut writer = Writing::new(Counted { kind, calls: 0 });
+    let is_first_error = writer.write(b"a").is_err();
+    let is_flushed = writer.flush().is_ok();
+    let mut flushing = Writing::new(Counted { kind, calls: 0 });
+    let is_flush_error = flushing.flush().is_err();
+    is_first_error
+        && is_flushed
+        && is_flush_error
+        && writer.into_inner().calls == 2
+        && flushing.into_inner().calls == 1
+}
+
+#[test]
+fn a_standard_writer_is_asked_once(rt: HostRuntime) {
+    for kind in [
+        io::ErrorKind::Interrupted,
+        io::ErrorKind::WouldBlock,
+        io::ErrorKind::BrokenPipe,
+    ] {
+        assert!(rt; is_asked_once(kind), "{kind:?}");
+    }
+}
+
 // Gives a matching line and the front of another, and then fails.
 #[derive(Drop)]
 struct Cut {
@@ -392,17 +463,41 @@ fn reads_a_large_file_to_its_end(rt: HostRuntime) -> Result<(), Fail> {
     Ok(())
 }
 
-// Whether a search of the file at a path finds no file, exits with 2, and writes nothing.
+// Whether a search of the file at a path finds no file, and writes nothing.
 fn finds_no_file(rt: &HostRuntime, path: Path<'_>) -> bool {
     let mut writer = Writing::new(Vec::new(rt.alloc()));
     let ended = search_path(rt, "-v a", path, &mut writer);
-    let is_failed = status(&ended) == 2;
-    is_failed && is_fault(ended, io::ErrorKind::NotFound) && writer.into_inner().is_empty()
+    is_fault(ended, io::ErrorKind::NotFound) && writer.into_inner().is_empty()
 }
 
 #[test]
 fn returns_the_error_of_opening(rt: HostRuntime) -> Result<(), Fail> {
     let path = temporary_path(&rt, "missing")?;
     assert!(rt; finds_no_file(&rt, path.as_path()));
+    Ok(())
+}
+
+// The arguments of the program, what it writes of `a` without a line feed, and its exit status. There is no file `-`.
+const PROGRAM_ROWS: &[(&str, &str, u8)] = &[
+    ("a", "1:a\n", 0),
+    ("--passthru z", "1-a\n", 1),
+    ("-m", "", 2),
+    ("a -", "", 2),
+];
+
+// Whether the program writes this and exits so.
+fn exits(rt: &HostRuntime, line: &str, text: &str, code: u8) -> Result<bool, AllocError> {
+    let arguments = arguments(rt.alloc(), line)?;
+    let mut input = b"a".as_slice();
+    let mut writer = Writing::new(Vec::new(rt.alloc()));
+    let ended = run_arguments(rt, rt.alloc(), &arguments, &mut input, &mut writer);
+    Ok(ended == ExitCode::from(code) && writer.into_inner().as_slice() == text.as_bytes())
+}
+
+#[test]
+fn exits_with_a_status(rt: HostRuntime) -> Result<(), Fail> {
+    for (line, text, code) in PROGRAM_ROWS {
+        assert!(rt; exits(&rt, line, text, *code)?, "at {line}");
+    }
     Ok(())
 }

@@ -1,6 +1,7 @@
 //! All decoded bytes of a reader.
 use grep_decode::{Decoder, Source};
 use grep_line_buffer::{FillError, read_contents};
+use std::alloc::Global;
 use std::io;
 use std::io::ErrorKind;
 use std::process::Abort;
@@ -111,4 +112,27 @@ fn room(rt: HostRuntime) -> Result<(), Fail> {
     assert!(rt; read_many(&rt, 200_001)? == (200_000, 200_001, 5));
     assert!(rt; read_many(&rt, 200_000)? == (0, 200_000, 4));
     Ok(())
+}
+
+// Whether an error is displayed as this text.
+fn displays(alloc: Global, error: FillError, text: &str) -> bool {
+    match format!(in alloc; "{error}") {
+        Ok(display) => display.as_str() == text,
+        Err(_) => false,
+    }
+}
+
+#[test]
+fn texts_of_errors(rt: HostRuntime) {
+    let cut = FillError::Read(io::Error::new(ErrorKind::Other, "the line was cut"));
+    assert!(rt; displays(rt.alloc(), cut, "the line was cut"));
+    assert!(rt;
+        displays(
+            rt.alloc(),
+            FillError::HeapLimit,
+            "the heap limit was reached"
+        )
+    );
+    assert!(rt; displays(rt.alloc(), FillError::Offset, "an offset is above 2^64 - 1"));
+    assert!(rt; displays(rt.alloc(), FillError::Memory, "out of memory"));
 }

@@ -1,7 +1,7 @@
--- What contracts see of a standard reader as a source: the reader, and whether the last call
--- failed.
-use Rattle.std.specs.Prelude.{Bool}
+-- What contracts see of a standard reader as a source: the reader, and what its last call returned.
+use Rattle.std.specs.Prelude.{ℕ, Option, Result}
+use Rattle.std.specs.declared.io.Error.{Error}
 
 pub record Reader (R : Type 0) : Type 0 where
   pub inner : R
-  pub failed : Bool
+  pub last : Option (Result ℕ Error)

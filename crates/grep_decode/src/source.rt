@@ -1,6 +1,6 @@
 //! Sources of bytes for a search.
-ghost use Rattle.std.specs.Prelude.{◌≡◌, ◌++◌, ℕ, List, Option, None, Some, Result, Ok, Err, true};
-ghost use Rattle.std.specs.Prelude.{false, MatchResult};
+ghost use Rattle.std.specs.Prelude.{◌≡◌, ◌++◌, ℕ, List, length, Option, None, Some, Result, Ok, Err};
+ghost use Rattle.std.specs.Prelude.{MatchResult};
 ghost use Rattle.std.specs.Io.{ReadsAtMost};
 ghost use Rattle.std.specs.Io.KnownBytes.{ReadConsumes, Consumes, Keeps};
 ghost use Rattle.std.specs.declared.io.Error.{Error};
@@ -58,11 +58,11 @@ impl Source for &[u8] {
 }
 
 /// A standard reader as a source. It says as much of the remaining bytes as the reader does, and
-/// keeps whether the last call failed.
+/// keeps what the last call returned.
 #[derive(Drop)]
 pub struct Reading<R> {
     inner: R,
-    failed: bool,
+    last: Option<io::Result<usize>>,
 }
 
 impl<R> Model for Reading<R> {
@@ -70,26 +70,23 @@ impl<R> Model for Reading<R> {
 
     ghost Value = { Reader R };
 
-    ghost view = { λ r. record { inner = r.inner; failed = r.failed } };
+    ghost view = { λ r. record { inner = r.inner; last = r.last } };
 }
 
 impl<R> Reading<R> {
-    /// The reader as a source, of which no call has failed.
+    /// The reader as a source, before any call.
     pub fn new(inner: R) -> Reading<R>
         ensures inner { result.inner ≡ inner }
-        ensures failed { result.failed ≡ false }
+        ensures last { result.last ≡ None }
     {
-        Reading {
-            inner,
-            failed: false,
-        }
+        Reading { inner, last: None }
     }
 
     /// The reader back.
     pub fn into_inner(self) -> R
         ensures { result ≡ self.inner }
     {
-        let Reading { inner, failed: _ } = self;
+        let Reading { inner, last: _ } = self;
         inner
     }
 }
@@ -98,8 +95,9 @@ impl<R: Read> Source for Reading<R> {
     ghost remaining = { λ s. R.remaining s.inner };
 
     ghost step = { λ s result t. MatchResult result
-        (λ bytes. (t.failed ≡ false) × Consumes (R.remaining s.inner) (R.remaining t.inner) bytes)
-        (λ _. (t.failed ≡ true) × Keeps (R.remaining s.inner) (R.remaining t.inner)) };
+        (λ bytes. (t.last ≡ Some (Ok (length bytes)))
+        × Consumes (R.remaining s.inner) (R.remaining t.inner) bytes)
+        (λ e. (t.last ≡ Some (Err e)) × Keeps (R.remaining s.inner) (R.remaining t.inner)) };
 
     ghost gives = { λ s t bytes h. h.1 };
 
@@ -107,7 +105,7 @@ impl<R: Read> Source for Reading<R> {
 
     fn pull(&mut self, buffer: &mut [u8]) -> io::Result<usize> {
         let result = self.inner.read(buffer);
-        self.failed = result.is_err();
+        self.last = Some(result);
         result
     }
 }

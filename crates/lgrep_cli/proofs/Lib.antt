@@ -4,4 +4,4 @@ pub mod PrintLemmas
 pub mod NumeralLemmas
 pub mod PrinterLemmas
 pub mod SearchLemmas
-pub mod WritingLemmas
+pub mod OutputLemmas

@@ -4,65 +4,65 @@ use Rattle.std.specs.Prelude.{decimal, Option, Some, Result, Ok, Err}
 use Rattle.std.specs.declared.io.Error.{Error}
 use Rattle.std.proofs.lemmas.List.{append-nil}
 use Rattle.lgrep_cli.specs.Texts.{ended, numbered, next_number, match_text}
-use Rattle.lgrep_cli.specs.Writing.{Writer, Writes}
-use Rattle.lgrep_cli.proofs.WritingLemmas.{Writes-none, Writes-more, Writes-cut}
+use Rattle.lgrep_cli.specs.Outputs.{OutputCall, Writes}
+use Rattle.lgrep_cli.proofs.OutputLemmas.{Writes-none, Writes-more, Writes-cut}
 
-module _ {W : Type 0} (contents : W → Option (List ℕ)) where
+module _ {W : Type 0} (write_step : W → OutputCall → W → Type 0) where
   -- what is written so far, and the lines to come, make the text of all lines
-  pub record IsPrinting (old now : Writer W) (first : Option ℕ) (all : List (List ℕ)) (number : Option ℕ)
+  pub record IsPrinting (old now : W) (first : Option ℕ) (all : List (List ℕ)) (number : Option ℕ)
       (later : List (List ℕ)) : Type 0 where
     pub text : List ℕ
-    pub written : Writes contents old text (Ok tt) now
+    pub written : Writes write_step old text (Ok tt) now
     pub whole : match_text first all ≡ text ++ match_text number later
 
-  pub printing-none : (writer : Writer W) (number : Option ℕ) (all : List (List ℕ)) → IsPrinting writer writer number all number all
-  printing-none writer number all = record { text = []; written = Writes-none contents writer; whole = refl }
+  pub printing-none : (writer : W) (number : Option ℕ) (all : List (List ℕ)) → IsPrinting writer writer number all number all
+  printing-none writer number all = record { text = []; written = Writes-none write_step writer; whole = refl }
 
   -- one more line
-  pub printing-more : (old now new : Writer W) (first number : Option ℕ) (all later : List (List ℕ)) (line : List ℕ)
-      → IsPrinting old now first all number (line ∷ later) → Writes contents now (numbered number 58 line) (Ok tt) new
+  pub printing-more : (old now new : W) (first number : Option ℕ) (all later : List (List ℕ)) (line : List ℕ)
+      → IsPrinting old now first all number (line ∷ later) → Writes write_step now (numbered number 58 line) (Ok tt) new
       → IsPrinting old new first all (next_number number) later
   printing-more old now new first number all later line printing wrote = record {
     text = printing.text ++ numbered number 58 line;
-    written = Writes-more contents old now new printing.text (numbered number 58 line) (Ok tt) printing.written wrote;
+    written = Writes-more write_step old now new printing.text (numbered number 58 line) (Ok tt) printing.written wrote;
     whole = printing.whole ∙ sym (append_assoc printing.text (numbered number 58 line) (match_text (next_number number) later));
   }
 
   -- a line that isn't written whole
-  pub printing-cut : (old now new : Writer W) (first number : Option ℕ) (all later : List (List ℕ)) (line : List ℕ) (error : Error)
-      → IsPrinting old now first all number (line ∷ later) → Writes contents now (numbered number 58 line) (Err error) new
-      → Writes contents old (match_text first all) (Err error) new
+  pub printing-cut : (old now new : W) (first number : Option ℕ) (all later : List (List ℕ)) (line : List ℕ) (error : Error)
+      → IsPrinting old now first all number (line ∷ later) → Writes write_step now (numbered number 58 line) (Err error) new
+      → Writes write_step old (match_text first all) (Err error) new
   printing-cut old now new first number all later line error printing wrote =
-      subst (λ text. Writes contents old text (Err error) new) (sym printing.whole)
-      (Writes-more contents old now new printing.text (numbered number 58 line ++ match_text (next_number number) later)
+      subst (λ text. Writes write_step old text (Err error) new) (sym printing.whole)
+      (Writes-more write_step old now new printing.text (numbered number 58 line ++ match_text (next_number number) later)
       (Err error) printing.written
-      (Writes-cut contents now new (numbered number 58 line) (match_text (next_number number) later) error wrote))
+      (Writes-cut write_step now new (numbered number 58 line) (match_text (next_number number) later) error wrote))
 
   -- no line is left
-  pub printing-whole : (old new : Writer W) (first number : Option ℕ) (all : List (List ℕ)) → IsPrinting old new first all number []
-      → Writes contents old (match_text first all) (Ok tt) new
+  pub printing-whole : (old new : W) (first number : Option ℕ) (all : List (List ℕ)) → IsPrinting old new first all number []
+      → Writes write_step old (match_text first all) (Ok tt) new
   printing-whole old new first number all printing =
-      subst (λ text. Writes contents old text (Ok tt) new) (sym (printing.whole ∙ append-nil printing.text)) printing.written
+      subst (λ text. Writes write_step old text (Ok tt) new) (sym (printing.whole ∙ append-nil printing.text)) printing.written
 
   -- a line that ends without a line feed
-  pub ended-more : (old mid new : Writer W) (line : List ℕ) (result : Result (Unit {0}) Error) → ended line ≡ line ++ 10 ∷ []
-      → Writes contents old line (Ok tt) mid → Writes contents mid (10 ∷ []) result new → Writes contents old (ended line) result new
+  pub ended-more : (old mid new : W) (line : List ℕ) (result : Result (Unit {0}) Error) → ended line ≡ line ++ 10 ∷ []
+      → Writes write_step old line (Ok tt) mid → Writes write_step mid (10 ∷ []) result new → Writes write_step old (ended line) result new
   ended-more old mid new line result is first later =
-      subst (λ text. Writes contents old text result new) (sym is) (Writes-more contents old mid new line (10 ∷ []) result first later)
+      subst (λ text. Writes write_step old text result new) (sym is) (Writes-more write_step old mid new line (10 ∷ []) result first later)
 
   -- a number that isn't written whole
-  pub numbered-cut : (old new : Writer W) (number : Option ℕ) (n mark : ℕ) (line : List ℕ) (error : Error) → number ≡ Some n
-      → Writes contents old (decimal n ++ mark ∷ []) (Err error) new → Writes contents old (numbered number mark line) (Err error) new
+  pub numbered-cut : (old new : W) (number : Option ℕ) (n mark : ℕ) (line : List ℕ) (error : Error) → number ≡ Some n
+      → Writes write_step old (decimal n ++ mark ∷ []) (Err error) new → Writes write_step old (numbered number mark line) (Err error) new
   numbered-cut old new number n mark line error is wrote =
-      subst (λ o. Writes contents old (numbered o mark line) (Err error) new) (sym is)
-      (subst (λ text. Writes contents old text (Err error) new) (append_assoc (decimal n) (mark ∷ []) (ended line))
-      (Writes-cut contents old new (decimal n ++ mark ∷ []) (ended line) error wrote))
+      subst (λ o. Writes write_step old (numbered o mark line) (Err error) new) (sym is)
+      (subst (λ text. Writes write_step old text (Err error) new) (append_assoc (decimal n) (mark ∷ []) (ended line))
+      (Writes-cut write_step old new (decimal n ++ mark ∷ []) (ended line) error wrote))
 
   -- a number, and then its line
-  pub numbered-more : (old mid new : Writer W) (number : Option ℕ) (n mark : ℕ) (line : List ℕ) (result : Result (Unit {0}) Error)
-      → number ≡ Some n → Writes contents old (decimal n ++ mark ∷ []) (Ok tt) mid → Writes contents mid (ended line) result new
-      → Writes contents old (numbered number mark line) result new
+  pub numbered-more : (old mid new : W) (number : Option ℕ) (n mark : ℕ) (line : List ℕ) (result : Result (Unit {0}) Error)
+      → number ≡ Some n → Writes write_step old (decimal n ++ mark ∷ []) (Ok tt) mid → Writes write_step mid (ended line) result new
+      → Writes write_step old (numbered number mark line) result new
   numbered-more old mid new number n mark line result is first later =
-      subst (λ o. Writes contents old (numbered o mark line) result new) (sym is)
-      (subst (λ text. Writes contents old text result new) (append_assoc (decimal n) (mark ∷ []) (ended line))
-      (Writes-more contents old mid new (decimal n ++ mark ∷ []) (ended line) result first later))
+      subst (λ o. Writes write_step old (numbered o mark line) result new) (sym is)
+      (subst (λ text. Writes write_step old text result new) (append_assoc (decimal n) (mark ∷ []) (ended line))
+      (Writes-more write_step old mid new (decimal n ++ mark ∷ []) (ended line) result first later))

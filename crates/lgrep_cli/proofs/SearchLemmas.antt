@@ -1,8 +1,9 @@
 -- What a search of a reader with a printer has written.
 use Rattle.std.proofs.Common.{◌≡◌, ℕ, List, [], ◌++◌, refl, sym, ap, ◌∙◌, subst}
+use Rattle.std.proofs.lemmas.List.{append-nil}
 use Rattle.std.specs.Prelude.{Bool, true, false, ◌||◌, Option, Some, None, Result, Ok, Err, IfErr, OnOk, string_bytes}
 use Rattle.std.specs.Global.{Global}
-use Rattle.std.specs.Io.KnownBytes.{Keeps, Consumes, IsAtEnd}
+use Rattle.std.specs.Io.KnownBytes.{Appends, Consumes, IsAtEnd}
 use Rattle.std.specs.List.{concat}
 use Rattle.std.specs.declared.io.Error.{Error}
 use Rattle.grep_decode.specs.DecoderStates.{Calls}
@@ -20,14 +21,14 @@ use Rattle.grep_searcher.specs.Searches.{ErrorMakers, MatcherFacts, HasReportedI
 use Rattle.grep_searcher.specs.SearchTurns.{search_calls}
 use Rattle.lgrep_cli.specs.OptionSettings.{settings_of_options}
 use Rattle.lgrep_cli.specs.Printers.{Prints}
-use Rattle.lgrep_cli.specs.ProgramRuns.{searcher_of, meaning_of, calls_of, calls_over, Input, IsPrinted, IsPrintedWhole, IsProgramRun}
+use Rattle.lgrep_cli.specs.ProgramRuns.{searcher_of, meaning_of, calls_of, calls_over, Input, IsPrinted}
+use Rattle.lgrep_cli.specs.ProgramRuns.{IsPrintedAndFlushed, IsPrintedWhole, IsProgramRun}
 use Rattle.lgrep_cli.specs.ProgramRuns.{IsFailure, of_memory, of_reader, of_write}
 use Rattle.lgrep_cli.specs.Texts.{text, has_match}
-use Rattle.lgrep_cli.specs.Writing.{Writer, Writes}
+use Rattle.lgrep_cli.specs.Outputs.{OutputCall, flushes, taken_by, Writes}
 use Rattle.lgrep_cli.specs.declared.options.Options.{Options}
 use Rattle.lgrep_cli.specs.declared.printer.Printer.{Printer}
-use Rattle.lgrep_cli.specs.declared.writing.LastCall.TheVariants.{Flush}
-use Rattle.lgrep_cli.proofs.WritingLemmas.{Writes-kept}
+use Rattle.lgrep_cli.proofs.OutputLemmas.{Appends-more, written-appends}
 use Rattle.lgrep_cli.proofs.PrinterLemmas.{AreWritten, IsCut, written-none, reported-written, run-written, fault-written}
 
 -- an input with nothing after the pieces that came
@@ -45,8 +46,7 @@ same-error e a b first second = cc
 not-both : (b : Bool) → b ≡ true → b ≡ false → ⊥
 not-both b is isnt = let never : true ≡ false = sym is ∙ isnt in absurd (cc)
 
-module _ {R W : Type 0} (remaining : R → Option (List ℕ)) (read_step : R → ReadResult → R → Type 0) (contents : W
-    → Option (List ℕ)) where
+module _ {R W : Type 0} (remaining : R → Option (List ℕ)) (read_step : R → ReadResult → R → Type 0) (write_step : W → OutputCall → W → Type 0) where
   -- of a reader that says which bytes remain, whatever was taken
   whole-input : (settings : Settings) (input : List ℕ) (reader reader' : R) → remaining reader ≡ Some input
       → (taken : Taken remaining read_step reader reader')
@@ -63,54 +63,61 @@ module _ {R W : Type 0} (remaining : R → Option (List ℕ)) (read_step : R →
       go true pieces calls (Some rest) is takes = (rest, (λ ended. subst IsAtEnd is calls.3), ap (searched_bytes settings) takes)
 
   -- what is printed for each input that begins with what was taken is printed for the reader's whole input
-  printed-whole : (options : Options) (reader : R) (writer : Writer W) (found : Bool) (reader' : R) (writer' : Writer W)
-      → IsPrinted remaining read_step contents options reader writer found reader' writer'
+  printed-whole : (contents : W → Option (List ℕ))
+      → ((s t : W) (call : OutputCall) → write_step s call t → Appends (contents s) (contents t) (taken_by call))
+      → (options : Options) (reader : R) (writer : W) (found : Bool) (reader' : R) (writer' : W)
+      → IsPrintedAndFlushed remaining read_step write_step options reader writer found reader' writer'
       → IsPrintedWhole contents options (remaining reader) writer found writer'
-  printed-whole options reader writer found reader' writer' printed = go (remaining reader) refl
+  printed-whole contents grows options reader writer found reader' writer' flushed = go (remaining reader) refl
     where
       go : (left : Option (List ℕ)) → remaining reader ≡ left → IsPrintedWhole contents options left writer found writer'
       go None is = tt
       go (Some input) is =
-          let whole = whole-input (settings_of_options options) input reader reader' is printed.taken in (
-            printed.written (searched_bytes (settings_of_options options) input) whole,
-            printed.is_found (searched_bytes (settings_of_options options) input) whole,
+          let bytes = searched_bytes (settings_of_options options) input in
+          let whole = whole-input (settings_of_options options) input reader reader' is flushed.printed.taken in (
+            subst (λ xs. Appends (contents writer) (contents writer') xs) (append-nil (text (calls_of options bytes)))
+                (Appends-more (contents writer) (contents flushed.unflushed) (contents writer') (text (calls_of options bytes)) []
+                (written-appends write_step contents grows writer flushed.unflushed (text (calls_of options bytes))
+                (flushed.printed.written bytes whole))
+                (grows flushed.unflushed writer' (flushes (Ok tt)) flushed.flushed)),
+            flushed.printed.is_found bytes whole,
           )
 
-  -- a run that wrote all, and whose last call was a flush that succeeded
-  pub printed-run : (options : Options) (reader : R) (writer : Writer W) (found : Bool) (reader' : R) (writer' : Writer W)
-      → IsPrinted remaining read_step contents options reader writer found reader' writer' → writer'.last ≡ Flush (Ok tt)
-      → IsProgramRun remaining read_step contents options reader writer (Ok found) reader' writer'
-  printed-run options reader writer found reader' writer' printed flushed = record {
-    printed = printed;
-    whole = printed-whole options reader writer found reader' writer' printed;
-    flushed = flushed;
+  -- a run that wrote all, and then flushed the writer
+  pub printed-run : (contents : W → Option (List ℕ))
+      → ((s t : W) (call : OutputCall) → write_step s call t → Appends (contents s) (contents t) (taken_by call))
+      → (options : Options) (reader : R) (writer : W) (found : Bool) (reader' : R) (writer' : W)
+      → IsPrintedAndFlushed remaining read_step write_step options reader writer found reader' writer'
+      → IsProgramRun remaining read_step write_step contents options reader writer (Ok found) reader' writer'
+  printed-run contents grows options reader writer found reader' writer' flushed = record {
+    printed = flushed;
+    whole = printed-whole contents grows options reader writer found reader' writer' flushed;
     failed = tt;
   }
 
-module _ {R W : Type 0} (remaining : R → Option (List ℕ)) (read_step : R → ReadResult → R → Type 0) (contents : W
-    → Option (List ℕ)) (options : Options) (reader reader' : R) (old new : Printer W) where
+module _ {R W : Type 0} (remaining : R → Option (List ℕ)) (read_step : R → ReadResult → R → Type 0) (write_step : W → OutputCall → W → Type 0) (options : Options) (reader reader' : R) (old new : Printer W) where
   -- a run ends in an error, with the writer in this state
-  abbrev Fails : SearchError Global → Writer W → Type 0
-  Fails e writer = IsFailure remaining read_step contents options reader old.writer.now e reader' writer
+  abbrev Fails : SearchError Global → W → Type 0
+  Fails e writer = IsFailure remaining read_step write_step options reader old.writer.now e reader' writer
 
   -- what a search leaves: on an error the writer failed, or a flush may follow
   pub record IsSearched (result : Result (Unit {0}) (SearchError Global)) : Type 0 where
     pub same_writer : new.writer.ghost_name ≡ old.writer.ghost_name
-    pub printed : OnOk result (IsPrinted remaining read_step contents options reader old.writer.now new.found reader' new.writer.now)
+    pub printed : OnOk result (IsPrinted remaining read_step write_step options reader old.writer.now new.found reader' new.writer.now)
     pub of_writer : IfErr result (λ e. new.has_failed ≡ true → Fails e new.writer.now)
-    pub of_reading : IfErr result (λ e. new.has_failed ≡ false → (writer : Writer W) (flushed : Result (Unit {0}) Error)
-        → Keeps (contents new.writer.now.inner) (contents writer.inner) → writer.last ≡ Flush flushed → Fails e writer)
+    pub of_reading : IfErr result (λ e. new.has_failed ≡ false → (writer : W) (flushed : Result (Unit {0}) Error)
+        → write_step new.writer.now (flushes flushed) writer → Fails e writer)
 
   -- out of memory, before the reader and the writer had a call
   pub out_of_memory : (e : SearchError Global) → IsOutOfMemory e
-      → IsFailure remaining read_step contents options reader old.writer.now e reader old.writer.now
+      → IsFailure remaining read_step write_step options reader old.writer.now e reader old.writer.now
   out_of_memory e (error, io, kind) =
-      subst (λ x. IsFailure remaining read_step contents options reader old.writer.now x reader old.writer.now) (sym io) (of_memory kind)
+      subst (λ x. IsFailure remaining read_step write_step options reader old.writer.now x reader old.writer.now) (sym io) (of_memory kind)
 
   -- the writer failed, whatever follows what was taken
   cut : (e : SearchError Global) (taken : Taken remaining read_step reader reader')
       → ((bytes : List ℕ) → Input options taken bytes
-      → IsCut contents (settings_of_options options) old (calls_of options bytes) e new)
+      → IsCut write_step (settings_of_options options) old (calls_of options bytes) e new)
       → IsSearched (Err e)
   cut e taken all =
       let first = all (bytes_of (settings_of_options options) taken.pieces)
@@ -119,7 +126,7 @@ module _ {R W : Type 0} (remaining : R → Option (List ℕ)) (read_step : R →
         same_writer = first.same_writer;
         printed = tt;
         of_writer = λ failed. subst (λ x. Fails x new.writer.now) (sym first.is_io) (of_write taken (λ bytes input.
-            subst (λ error. Writes contents old.writer.now (text (calls_of options bytes)) (Err error) new.writer.now)
+            subst (λ error. Writes write_step old.writer.now (text (calls_of options bytes)) (Err error) new.writer.now)
             (same-error e (all bytes input).error first.error (all bytes input).is_io first.is_io) (all bytes input).written));
         of_reading = λ ok. absurd (not-both new.has_failed first.has_failed ok);
       }
@@ -127,13 +134,13 @@ module _ {R W : Type 0} (remaining : R → Option (List ℕ)) (read_step : R →
   -- the calls were made over the lines that were seen, and the input wasn't read to its end
   unread : (seen : Option (List ℕ)) (error : Error) (e : SearchError Global) → e ≡ Io error → old.has_failed ≡ false
       → IsUnread remaining read_step (searcher_of options) (meaning_of options) reader seen error reader'
-      → AreWritten contents (settings_of_options options) old (calls_over options seen) new → IsSearched (Err e)
+      → AreWritten write_step (settings_of_options options) old (calls_over options seen) new → IsSearched (Err e)
   unread seen error e io none fails written = record {
     same_writer = written.same_writer;
     printed = tt;
     of_writer = λ failed. absurd (not-both new.has_failed failed (written.has_failed ∙ none));
-    of_reading = λ ok writer flushed kept last. subst (λ x. Fails x writer) (sym io) (of_reader seen flushed fails
-        (Writes-kept contents old.writer.now new.writer.now writer (text (calls_over options seen)) written.written kept) last);
+    of_reading = λ ok writer flushed last. subst (λ x. Fails x writer) (sym io)
+        (of_reader seen flushed fails written.written last);
   }
 
   module _ {F : Type 0} (is_message : Option (List ℕ) → SearchError Global → Type 0)
@@ -152,18 +159,18 @@ module _ {R W : Type 0} (remaining : R → Option (List ℕ)) (read_step : R →
     }
 
     -- the calls over the lines that were seen, or none
-    reported : (seen : Option (List ℕ)) → HasReportedIn (Prints contents) errors (facts (string_bytes options.literal))
+    reported : (seen : Option (List ℕ)) → HasReportedIn (Prints write_step) errors (facts (string_bytes options.literal))
         (search_calls (settings_of_options options) (meaning_of options)) (settings_of_options options) seen old new
-        → AreWritten contents (settings_of_options options) old (calls_over options seen) new
-    reported None same = subst (AreWritten contents (settings_of_options options) old []) (sym same)
-        (written-none contents (settings_of_options options) old)
+        → AreWritten write_step (settings_of_options options) old (calls_over options seen) new
+    reported None same = subst (AreWritten write_step (settings_of_options options) old []) (sym same)
+        (written-none write_step (settings_of_options options) old)
     reported (Some seen) made =
-        reported-written contents (settings_of_options options) (calls_of options seen) old _ new made
+        reported-written write_step (settings_of_options options) (calls_of options seen) old _ new made
 
     -- the calls of a whole search
     run : (taken : Taken remaining read_step reader reader')
         → ((bytes : List ℕ) → Input options taken bytes
-        → AreWritten contents (settings_of_options options) old (calls_of options bytes) new)
+        → AreWritten write_step (settings_of_options options) old (calls_of options bytes) new)
         → old.found ≡ false → IsSearched (Ok tt)
     run taken all none = record {
       same_writer = (all (bytes_of (settings_of_options options) taken.pieces)
@@ -179,20 +186,20 @@ module _ {R W : Type 0} (remaining : R → Option (List ℕ)) (read_step : R →
 
     -- under the options' settings, with the matcher of their literal, no search is refused, and none looks for binary bytes
     searched : (result : Result (Unit {0}) (SearchError Global)) → old.found ≡ false → old.has_failed ≡ false
-        → IsReaderSearched remaining read_step (Prints contents) errors (facts (string_bytes options.literal))
+        → IsReaderSearched remaining read_step (Prints write_step) errors (facts (string_bytes options.literal))
         (searcher_of options) reader old result reader' new
         → IsSearched result
     searched (Ok u) none ok (is_valid, search) =
-        let whole : IsReaderRun remaining read_step (Prints contents) errors (facts (string_bytes options.literal))
+        let whole : IsReaderRun remaining read_step (Prints write_step) errors (facts (string_bytes options.literal))
         (settings_of_options options) reader old reader' new = search (λ _. tt) in
-        run whole.taken (λ bytes input. run-written contents (settings_of_options options) (calls_of options bytes) _ None old
+        run whole.taken (λ bytes input. run-written write_step (settings_of_options options) (calls_of options bytes) _ None old
         (Ok tt) new (whole.run bytes input)) none
     searched (Err e) none ok search = go (search (λ _. tt))
       where
-        go : IsReaderFault remaining read_step (Prints contents) errors (facts (string_bytes options.literal)) (searcher_of options)
+        go : IsReaderFault remaining read_step (Prints write_step) errors (facts (string_bytes options.literal)) (searcher_of options)
             reader old e reader' new → IsSearched (Err e)
         go (of_search taken seen ended fault all) =
-            cut e taken (λ bytes input. fault-written contents (settings_of_options options) errors
+            cut e taken (λ bytes input. fault-written write_step (settings_of_options options) errors
             (facts (string_bytes options.literal)) bytes (λ _ _ h. h) old e new (all bytes input).1)
         go (of_reading seen error fails io made) = unread seen error e io ok fails (reported seen made)
 
@@ -200,12 +207,12 @@ module _ {R W : Type 0} (remaining : R → Option (List ℕ)) (read_step : R →
     pub reader-searched : (state : SearcherState) (literal : List ℕ) (result : Result (Unit {0}) (SearchError Global))
         → state ≡ searcher_of options → literal ≡ string_bytes options.literal → old.found ≡ false
         → old.has_failed ≡ false
-        → IsReaderSearched remaining read_step (Prints contents) errors (facts literal) state reader old result reader' new
+        → IsReaderSearched remaining read_step (Prints write_step) errors (facts literal) state reader old result reader' new
         → IsSearched result
     reader-searched state literal result same_state same_literal none ok search =
         searched result none ok
-        (subst (λ l. IsReaderSearched remaining read_step (Prints contents) errors (facts l)
+        (subst (λ l. IsReaderSearched remaining read_step (Prints write_step) errors (facts l)
         (searcher_of options) reader old result reader' new)
         same_literal
-        (subst (λ s. IsReaderSearched remaining read_step (Prints contents) errors (facts literal) s reader old result reader' new)
+        (subst (λ s. IsReaderSearched remaining read_step (Prints write_step) errors (facts literal) s reader old result reader' new)
         same_state search))

@@ -1,5 +1,5 @@
 -- What a printer does at a call.
-use Rattle.std.specs.Prelude.{◌≡◌, ℕ, Bool, true, false, ◌||◌, List, Option, Result, Ok, Err}
+use Rattle.std.specs.Prelude.{◌≡◌, Bool, true, false, ◌||◌, Result, Ok, Err}
 use Rattle.std.specs.Global.{Global}
 use Rattle.std.specs.declared.io.Error.{Error}
 use Rattle.grep_searcher.specs.declared.SearchError.{SearchError}
@@ -9,7 +9,7 @@ use Rattle.grep_searcher.specs.SinkCalls.{Call, begins, matches, context, breaks
 use Rattle.grep_searcher.specs.SinkCalls.{finishes}
 use Rattle.grep_searcher.specs.SearchLaws.{is_match}
 use Rattle.lgrep_cli.specs.Texts.{call_text}
-use Rattle.lgrep_cli.specs.Writing.{Writes}
+use Rattle.lgrep_cli.specs.Outputs.{OutputCall, Writes}
 use Rattle.lgrep_cli.specs.declared.printer.Printer.{Printer}
 
 -- whether a call is written at all
@@ -21,13 +21,13 @@ is_written breaks = true
 is_written (binary_data offset) = false
 is_written (finishes count binary) = false
 
-module _ {W : Type 0} (contents : W → Option (List ℕ)) where
+module _ {W : Type 0} (write_step : W → OutputCall → W → Type 0) where
   -- a call returns true: its text is written, and whether a match was reported is kept
   pub record PrintsCall (old : Printer W) (call : Call) (goes_on : Bool) (new : Printer W)
       : Type 0 where
     pub same_writer : new.writer.ghost_name ≡ old.writer.ghost_name
     pub continues : goes_on ≡ true
-    pub written : Writes contents old.writer.now (call_text call) (Ok tt) new.writer.now
+    pub written : Writes write_step old.writer.now (call_text call) (Ok tt) new.writer.now
     pub found : new.found ≡ (old.found || is_match call)
     pub has_failed : new.has_failed ≡ old.has_failed
 
@@ -39,7 +39,7 @@ module _ {W : Type 0} (contents : W → Option (List ℕ)) where
     pub has_failed : new.has_failed ≡ true
     pub error : Error
     pub is_io : e ≡ Io error
-    pub written : Writes contents old.writer.now (call_text call) (Err error) new.writer.now
+    pub written : Writes write_step old.writer.now (call_text call) (Err error) new.writer.now
 
   -- what a printer does at a call
   abbrev pub Prints : Printer W → Settings → Call → Result Bool (SearchError Global)

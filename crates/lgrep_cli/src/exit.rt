@@ -1,13 +1,12 @@
 //! The status that a program exits with.
-ghost use Rattle.std.specs.Prelude.{◌≡◌, true, false, Ok, IsErr};
+ghost use Rattle.std.specs.Prelude.{◌≡◌};
+ghost use Rattle.lgrep_cli.specs.ProgramRuns.{status_of};
 
 use grep_searcher::SearchError;
 
 /// The exit status of a run: 0 if it reported a match, 1 if it reported none, 2 if it failed.
 pub fn status(outcome: &Result<bool, SearchError>) -> u8
-    ensures found { outcome.now ≡ Ok true → result ≡ 0 }
-    ensures none { outcome.now ≡ Ok false → result ≡ 1 }
-    ensures failed { IsErr outcome.now → result ≡ 2 }
+    ensures { result ≡ status_of outcome.now }
 {
     match outcome {
         Ok(true) => 0,

@@ -8,11 +8,15 @@
 
 mod exit;
 mod options;
+mod output;
 mod printer;
+mod program;
 mod search;
 mod writing;
 
 pub use exit::status;
 pub use options::{Options, OptionsFault, USAGE};
-pub use search::{run, run_path};
+pub use output::Output;
+pub use program::{FAILED, run_arguments};
+pub use search::{run, run_options, run_path};
 pub use writing::{LastCall, Writing};

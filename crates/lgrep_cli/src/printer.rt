@@ -2,27 +2,26 @@
 ghost use Rattle.std.specs.Prelude.{◌≡◌, ◌∷◌, ◌++◌, [], true, false, Ok, Err, MatchResult, decimal};
 ghost use Rattle.grep_matcher.specs.Lines.{lines};
 ghost use Rattle.lgrep_cli.specs.Texts.{ended, numbered, next_number, match_text};
-ghost use Rattle.lgrep_cli.specs.Writing.{Writes};
+ghost use Rattle.lgrep_cli.specs.Outputs.{Writes};
 
-use crate::writing::Writing;
+use crate::output::{Output, write_all};
 use grep_searcher::{LineIter, SearchError, Searcher, Sink, SinkContext, SinkFinish, SinkMatch};
 use itoa::write_digits;
 use std::alloc::Allocator;
 use std::io;
-use std::io::Write;
 
 // Writes the lines that are reported, and keeps whether one of them was a match, and whether the
 // writer failed.
 #[derive(Drop)]
 pub(crate) struct Printer<'w, W> {
-    pub(crate) writer: &'w mut Writing<W>,
+    pub(crate) writer: &'w mut W,
     pub(crate) found: bool,
     pub(crate) has_failed: bool,
 }
 
-impl<'w, W: Write> Printer<'w, W> {
+impl<'w, W: Output> Printer<'w, W> {
     // Nothing is reported yet.
-    pub(crate) fn new(writer: &'w mut Writing<W>) -> Printer<'w, W>
+    pub(crate) fn new(writer: &'w mut W) -> Printer<'w, W>
         ensures same_writer { result.writer.ghost_name ≡ writer.entry.ghost_name }
         ensures writer { result.writer.now ≡ writer.entry.now }
         ensures found { result.found ≡ false }
@@ -52,12 +51,12 @@ impl<'w, W: Write> Printer<'w, W> {
     }
 }
 
-impl<'w, W: Write> Sink for Printer<'w, W> {
+impl<'w, W: Output> Sink for Printer<'w, W> {
     type Error = SearchError;
 
     ghost use Rattle.lgrep_cli.specs.Printers.{Prints};
 
-    ghost step = { Prints W.contents };
+    ghost step = { Prints W.step };
 
     ghost may_call = { λ _. Unit {0} };
 
@@ -88,7 +87,7 @@ impl<'w, W: Write> Sink for Printer<'w, W> {
         &mut self,
         _searcher: &Searcher<A>,
     ) -> Result<bool, SearchError> {
-        let written = self.writer.write_all(b"--\n");
+        let written = write_all(self.writer, b"--\n");
         self.returned(written)
     }
 
@@ -110,12 +109,8 @@ impl<'w, W: Write> Sink for Printer<'w, W> {
 }
 
 // Writes the lines of a match, each after its number.
-fn write_lines<W: Write>(
-    writer: &mut Writing<W>,
-    number: Option<u64>,
-    bytes: &[u8],
-) -> io::Result<()>
-    ensures { Writes W.contents writer.old (match_text number (lines 10 bytes.now))
+fn write_lines<W: Output>(writer: &mut W, number: Option<u64>, bytes: &[u8]) -> io::Result<()>
+    ensures { Writes W.step writer.old (match_text number (lines 10 bytes.now))
         result writer.new }
 {
     let mut number = number;
@@ -134,13 +129,13 @@ fn next_number(number: Option<u64>) -> Option<u64>
 }
 
 // Writes a line after its number, if it has one, and a mark.
-fn write_line<W: Write>(
-    writer: &mut Writing<W>,
+fn write_line<W: Output>(
+    writer: &mut W,
     number: Option<u64>,
     mark: u8,
     line: &[u8],
 ) -> io::Result<()>
-    ensures { Writes W.contents writer.old (numbered number mark line.now) result writer.new }
+    ensures { Writes W.step writer.old (numbered number mark line.now) result writer.new }
 {
     if let Some(number) = number {
         write_number(writer, number, mark)?;
@@ -149,22 +144,22 @@ fn write_line<W: Write>(
 }
 
 // Writes a number and a mark.
-fn write_number<W: Write>(writer: &mut Writing<W>, number: u64, mark: u8) -> io::Result<()>
-    ensures { Writes W.contents writer.old (decimal number ++ mark ∷ []) result writer.new }
+fn write_number<W: Output>(writer: &mut W, number: u64, mark: u8) -> io::Result<()>
+    ensures { Writes W.step writer.old (decimal number ++ mark ∷ []) result writer.new }
 {
     // A number of 64 bits has 20 digits at most.
     let mut text = [mark; 21];
     let start = write_digits(number, &mut text, 20);
-    writer.write_all(&text[start..])
+    write_all(writer, &text[start..])
 }
 
 // Writes a line, and a line feed if it has none.
-fn write_ended<W: Write>(writer: &mut Writing<W>, line: &[u8]) -> io::Result<()>
-    ensures { Writes W.contents writer.old (ended line.now) result writer.new }
+fn write_ended<W: Output>(writer: &mut W, line: &[u8]) -> io::Result<()>
+    ensures { Writes W.step writer.old (ended line.now) result writer.new }
 {
-    writer.write_all(line)?;
+    write_all(writer, line)?;
     if line.last() == Some(&b'\n') {
         return Ok(());
     }
-    writer.write_all(b"\n")
+    write_all(writer, b"\n")
 }

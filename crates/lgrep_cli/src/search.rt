@@ -2,17 +2,16 @@
 ghost use Rattle.std.specs.Prelude.{◌≡◌, true, false, Ok, OnOk, IfOk, IfErr, string_bytes};
 ghost use Rattle.lgrep_cli.specs.OptionSettings.{settings_of_options};
 ghost use Rattle.grep_searcher.specs.SearchErrors.{IsOutOfMemory};
-ghost use Rattle.lgrep_cli.specs.ProgramRuns.{IsPrinted, IsFailure, IsProgramRun, IsPathRun};
+ghost use Rattle.lgrep_cli.specs.ProgramRuns.{IsPrinted, IsFailure, IsProgramRun, IsPathRun, IsRunAt};
 
 use crate::options::Options;
+use crate::output::Output;
 use crate::printer::Printer;
-use crate::writing::{LastCall, Writing};
 use grep_matcher::LiteralMatcher;
 use grep_searcher::{Reading, SearchError, Searcher, SearcherBuilder, Source};
 use std::alloc::Global;
 use std::fs::File;
 use std::io;
-use std::io::Write;
 use std::path::Path;
 use std::rt::Files;
 
@@ -30,13 +29,13 @@ use std::rt::Files;
 ///   error of reading is returned;
 /// - what the writer's last call returned, or of kind `WriteZero` if that call took nothing: at a
 ///   write, after some first bytes of the text, or at the flush, after all of it.
-pub fn run<R: Source, W: Write>(
+pub fn run<R: Source, W: Output>(
     alloc: Global,
     options: &Options,
     reader: &mut R,
-    writer: &mut Writing<W>,
+    writer: &mut W,
 ) -> Result<bool, SearchError>
-    ensures { IsProgramRun R.remaining R.step W.contents options.now
+    ensures { IsProgramRun R.remaining R.step W.step W.contents options.now
         reader.old writer.old result reader.new writer.new }
 {
     let mut printer = Printer::new(writer);
@@ -53,15 +52,15 @@ pub fn run<R: Source, W: Write>(
 ///
 /// If the file can't be opened, the error is a `SearchError::Io` with the error of opening it, and
 /// the writer has no call. Any other error is one of `run`.
-pub fn run_path<R: Files, W: Write>(
+pub fn run_path<R: Files, W: Output>(
     rt: &R,
     alloc: Global,
     options: &Options,
     path: Path<'_>,
-    writer: &mut Writing<W>,
+    writer: &mut W,
 ) -> Result<bool, SearchError>
     ensures { IsPathRun ⟦<Reading<R::File> as Source>⟧.remaining ⟦<Reading<R::File> as Source>⟧.step
-        W.contents options.now writer.old result writer.new }
+        W.step W.contents options.now writer.old result writer.new }
 {
     let file = match File::open(rt, path) {
         Ok(file) => file,
@@ -70,9 +69,28 @@ pub fn run_path<R: Files, W: Write>(
     run(alloc, options, &mut Reading::new(file), writer)
 }
 
+/// Searches the file at the options' path as `run_path` does or, if they have none, what `input` gives as `run` does. If
+/// they have a path, whatever it is, `input` has no call.
+pub fn run_options<F: Files, R: Source, W: Output>(
+    rt: &F,
+    alloc: Global,
+    options: &Options,
+    input: &mut R,
+    writer: &mut W,
+) -> Result<bool, SearchError>
+    ensures { IsRunAt ⟦<Reading<F::File> as Source>⟧.remaining ⟦<Reading<F::File> as Source>⟧.step
+        R.remaining R.step W.step W.contents options.now.path
+        options.now input.old writer.old result input.new writer.new }
+{
+    match &options.path {
+        Some(path) => run_path(rt, alloc, options, Path::new(path.as_str()), writer),
+        None => run(alloc, options, input, writer),
+    }
+}
+
 // Searches what a reader gives with a printer to which nothing is reported yet. After an error of
 // reading the writer is flushed.
-fn print<R: Source, W: Write>(
+fn print<R: Source, W: Output>(
     alloc: Global,
     options: &Options,
     reader: &mut R,
@@ -81,9 +99,9 @@ fn print<R: Source, W: Write>(
     requires found { printer.old.found ≡ false }
     requires has_failed { printer.old.has_failed ≡ false }
     ensures same_writer { printer.new.writer.ghost_name ≡ printer.old.writer.ghost_name }
-    ensures printed { OnOk result (IsPrinted R.remaining R.step W.contents options.now
+    ensures printed { OnOk result (IsPrinted R.remaining R.step W.step options.now
         reader.old printer.old.writer.now printer.new.found reader.new printer.new.writer.now) }
-    ensures failed { IfErr result (λ error. IsFailure R.remaining R.step W.contents options.now
+    ensures failed { IfErr result (λ error. IsFailure R.remaining R.step W.step options.now
         reader.old printer.old.writer.now error reader.new printer.new.writer.now) }
 {
     let mut searcher = searcher(alloc, options)?;

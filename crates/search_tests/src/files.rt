@@ -1,7 +1,7 @@
 //! Searches of files, and of paths.
 use grep_matcher::{LineTerminator, LiteralMatcher};
 use grep_searcher::{ConfigError, SearchError, Searcher, SearcherBuilder};
-use grep_testing::{Naming, Recorder};
+use grep_testing::{Naming, Pieces, Recorder};
 use std::alloc::Global;
 use std::fs::File;
 use std::io::{ErrorKind, Read};
@@ -62,8 +62,14 @@ fn files(rt: HostRuntime) -> Result<(), Fail> {
     Ok(())
 }
 
-// The error of a search of a path that doesn't exist, by a searcher that refuses each search, if the sink had no call.
-fn unopened(rt: &HostRuntime, path: Path<'_>) -> Result<Option<ErrorKind>, ConfigError> {
+// The system's numbers of the errors for a path that doesn't exist, and for one below a file.
+const NO_ENTRY: i32 = 2;
+
+const NOT_A_DIRECTORY: i32 = 20;
+
+// The system's number of the error of a search of a path that can't be opened, by a searcher that refuses each search,
+// if the sink had no call.
+fn unopened(rt: &HostRuntime, path: Path<'_>) -> Result<Option<i32>, ConfigError> {
     let mut searcher = SearcherBuilder::new()
         .heap_limit(Some(0))
         .build(rt.alloc())?;
@@ -71,7 +77,7 @@ fn unopened(rt: &HostRuntime, path: Path<'_>) -> Result<Option<ErrorKind>, Confi
     let matcher = LiteralMatcher::borrowed(b"a");
     let ended = searcher.search_path(rt, matcher, path, &mut recorder);
     match ended {
-        Err(SearchError::Io(error)) if recorder.text().is_empty() => Ok(Some(error.kind())),
+        Err(SearchError::Io(error)) if recorder.text().is_empty() => Ok(error.raw_os_error()),
         _ => Ok(None),
     }
 }
@@ -79,7 +85,7 @@ fn unopened(rt: &HostRuntime, path: Path<'_>) -> Result<Option<ErrorKind>, Confi
 #[test]
 fn opens_before_anything_else(rt: HostRuntime) -> Result<(), Fail> {
     let path = temporary_path(&rt, "nowhere")?;
-    assert!(rt; unopened(&rt, path.as_path())? == Some(ErrorKind::NotFound));
+    assert!(rt; unopened(&rt, path.as_path())? == Some(NO_ENTRY));
     Ok(())
 }
 
@@ -107,7 +113,24 @@ fn checks_after_opening(rt: HostRuntime) -> Result<(), Fail> {
     let error = unopened(&rt, below.as_path());
     fs::remove_file(&rt, path.as_path())?;
     assert!(rt; is_refused?);
-    assert!(rt; error? == Some(ErrorKind::NotADirectory));
+    assert!(rt; error? == Some(NOT_A_DIRECTORY));
+    Ok(())
+}
+
+// Whether a search of 131,072 bytes, whose lines end where the line buffer does, reads them in two reads, and is at the
+// end at the third.
+fn has_large_reads(alloc: Global) -> Result<bool, SearchError> {
+    let input = vec![in alloc; b'\n'; 1 << 17]?;
+    let mut searcher = SearcherBuilder::new().bom_sniffing(false).build(alloc)?;
+    let mut file = Pieces::new(&input, 0, None);
+    let mut recorder = Recorder::new(alloc, None, None);
+    searcher.search_file(LiteralMatcher::borrowed(b"a"), &mut file, &mut recorder)?;
+    Ok(file.reads() == 3 && recorder.text() == "begin;finish 131072 -;")
+}
+
+#[test]
+fn reads_as_much_as_there_is_room_for(rt: HostRuntime) -> Result<(), Fail> {
+    assert!(rt; has_large_reads(rt.alloc())?);
     Ok(())
 }
 

@@ -73,38 +73,39 @@ fn faults_of_standard_readers(rt: HostRuntime) {
     }
 }
 
-// What the reads of `abcde` in pieces of 2 give, of which the second fails.
-const READS: &[(Result<usize, ErrorKind>, [u8; 4])] = &[
-    (Ok(2), *b"ab--"),
-    (Err(ErrorKind::BrokenPipe), *b"----"),
-    (Ok(2), *b"cd--"),
-    (Ok(1), *b"e---"),
-    (Ok(0), *b"----"),
-];
-
-// Whether a read has this result, and leaves these bytes in its buffer.
-fn pulls(
-    reader: &mut Reading<Pieces<'_>>,
-    expected: Result<usize, ErrorKind>,
-    bytes: &[u8; 4],
-) -> bool {
-    let mut buffer = *b"----";
-    let is_same = match (reader.pull(&mut buffer), expected) {
+// Whether a read gives so many bytes, or fails with an error of some kind.
+fn pulls(reader: &mut Reading<Pieces<'_>>, expected: Result<usize, ErrorKind>) -> bool {
+    let mut buffer = *b"--------";
+    match (reader.pull(&mut buffer), expected) {
         (Ok(count), Ok(length)) => count == length,
         (Err(error), Err(kind)) => error.kind() == kind,
         _ => false,
-    };
-    is_same && buffer == *bytes
+    }
+}
+
+// Whether the reads of `abcde` in pieces of 2, of which the second fails, are made once each and passed on.
+fn is_asked_once(kind: ErrorKind) -> bool {
+    let fault = Some((2, io::Error::from(kind)));
+    let mut reader = Reading::new(Pieces::new(b"abcde", 2, fault));
+    for expected in [Ok(2), Err(kind), Ok(2), Ok(1), Ok(0)] {
+        if !pulls(&mut reader, expected) {
+            return false;
+        }
+    }
+    reader.into_inner().reads() == 5
 }
 
 #[test]
 fn a_standard_reader_is_asked_once(rt: HostRuntime) {
-    let error = io::Error::from(ErrorKind::BrokenPipe);
-    let mut reader = Reading::new(Pieces::new(b"abcde", 2, Some((2, error))));
-    for (result, bytes) in READS {
-        assert!(rt; pulls(&mut reader, *result, bytes), "{result:?}");
+    for kind in [
+        ErrorKind::Interrupted,
+        ErrorKind::WouldBlock,
+        ErrorKind::TimedOut,
+        ErrorKind::UnexpectedEof,
+        ErrorKind::Other,
+    ] {
+        assert!(rt; is_asked_once(kind), "{kind:?}");
     }
-    assert!(rt; reader.into_inner().reads() == 5);
 }
 
 // A heap limit in bytes, and how many matches there are at most.

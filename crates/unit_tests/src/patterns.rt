@@ -35,6 +35,44 @@ fn finds(matcher: &LiteralMatcher<'_>, haystack: &[u8], range: Option<(usize, us
     }
 }
 
+// Matches every haystack at its start, which `shortest_match` says and `find` fails to say.
+#[derive(Drop)]
+struct Shortest;
+
+impl Matcher for Shortest {
+    type Error = &'static str;
+
+    ghost use Rattle.std.specs.Prelude.{Some};
+    ghost use Rattle.grep_matcher.specs.Matching.{plain};
+
+    ghost meaning = { λ _. plain (λ _. Some (0, 0)) };
+
+    ghost fails = { λ _ _ _. Unit {0} };
+
+    ghost is_lawful = { λ _ _. Unit {0} };
+
+    fn find(&self, _haystack: &[u8]) -> Result<Option<Match>, &'static str> {
+        Err("find was asked")
+    }
+
+    fn shortest_match(&self, haystack: &[u8]) -> Result<Option<usize>, &'static str> {
+        Ok(Some(haystack.len()))
+    }
+
+    fn line_terminator(&self) -> Option<LineTerminator> {
+        None
+    }
+
+    fn non_matching_bytes(&self) -> Option<&ByteSet> {
+        None
+    }
+}
+
+#[test]
+fn the_default_is_match_asks_shortest_match(rt: HostRuntime) {
+    assert!(rt; matches!(Shortest.is_match(b"a"), Ok(true)));
+}
+
 // Whether the byte set of a literal's matcher has each byte that the literal lacks, and no other.
 fn lacks(matcher: &LiteralMatcher<'_>, literal: &[u8]) -> bool {
     let Some(absent) = matcher.non_matching_bytes() else {

@@ -5,13 +5,13 @@ use Rattle.lgrep_cli.proofs.printer.write_lines.Goals as goal
 pub loop-line-preserved : goal.loop-line-preserved
 loop-line-preserved g c =
     rw c.next_number-number.ensures
-    (print.printing-more g.W.Write.contents c.args.writer.now c.loop-line.writer c.write_line.new.writer c.args.number
+    (print.printing-more g.W.Output.step c.args.writer.now c.loop-line.writer c.write_line.new.writer c.args.number
     c.loop-line.number _ c.next.new.self c.in-Some.line.now
     (rw c.in-Some.ensures.steps at c.loop-line.invariant) c.in_ok-write_line.ensures)
 
 pub returns-in_err-write_line : goal.returns-in_err-write_line
 returns-in_err-write_line g c =
     let error = err_from_is_err_and c.from_residual.result c.from_residual.ensures.1 in
-    rw (error.1, error.2) (print.printing-cut g.W.Write.contents c.args.writer.now c.loop-line.writer c.write_line.new.writer
+    rw (error.1, error.2) (print.printing-cut g.W.Output.step c.args.writer.now c.loop-line.writer c.write_line.new.writer
     c.args.number c.loop-line.number _ c.next.new.self c.in-Some.line.now c.in_err-write_line.field-0.0
     (rw c.in-Some.ensures.steps at c.loop-line.invariant) c.in_err-write_line.ensures)

@@ -1,0 +1,162 @@
+-- Texts that are written one after another, and known bytes that grow by them.
+use Rattle.std.proofs.Common.{◌≡◌, ◌≢◌, ℕ, ◌<◌, ◌≤◌, List, [], ◌∷◌, ◌++◌, length, arith, refl, sym, ap, ◌∙◌, append_assoc, subst, take, drop}
+use Rattle.std.specs.Prelude.{Option, Some, None, Result, Ok, Err}
+use Rattle.std.specs.Io.KnownBytes.{Appends}
+use Rattle.std.specs.IoError.{error_kind}
+use Rattle.std.specs.Result.{IsErrAnd}
+use Rattle.std.specs.declared.io.Error.{Error}
+use Rattle.std.specs.declared.io.ErrorKind.TheVariants.{Interrupted}
+use Rattle.std.proofs.lemmas.List.{append-nil, length-take-le, take-append-drop}
+use Rattle.std.proofs.lemmas.List.Elements.{All-append, All-cons, All-nil}
+use Rattle.lgrep_cli.specs.Outputs.{OutputCall, writes, write_call, taken_by, taken_by_all, GoesOn, EndsIn, Calls, WritesAll}
+use Rattle.lgrep_cli.specs.Outputs.{Writes, Repeats}
+
+-- nothing more
+Appends-none : (known : Option (List ℕ)) → Appends known known []
+Appends-none None = tt
+Appends-none (Some xs) = sym (append-nil xs)
+
+-- one text after another
+pub Appends-more : (a b c : Option (List ℕ)) (xs ys : List ℕ) → Appends a b xs → Appends b c ys → Appends a c (xs ++ ys)
+Appends-more None b c xs ys first later = tt
+Appends-more (Some all) None c xs ys first later = absurd first
+Appends-more (Some all) (Some more) None xs ys first later = absurd later
+Appends-more (Some all) (Some more) (Some end) xs ys first later = later ∙ (ap (λ zs. zs ++ ys) first ∙ append_assoc all xs ys)
+
+-- some calls, and then others
+taken-more : (first later : List OutputCall) → taken_by_all (first ++ later) ≡ taken_by_all first ++ taken_by_all later
+taken-more [] later = refl
+taken-more (call ∷ first) later = ap (λ xs. taken_by call ++ xs) (taken-more first later)
+    ∙ sym (append_assoc (taken_by call) (taken_by_all first) (taken_by_all later))
+
+module _ {W : Type 0} (write_step : W → OutputCall → W → Type 0) where
+  Calls-more : (old mid new : W) (first later : List OutputCall) → Calls write_step old first mid → Calls write_step mid later new
+      → Calls write_step old (first ++ later) new
+  Calls-more old mid new [] later same made = subst (λ s. Calls write_step s later new) (sym same) made
+  Calls-more old mid new (call ∷ first) later (next, step, made) rest = (next, step, Calls-more next mid new first later made rest)
+
+  -- nothing is written
+  pub Writes-none : (writer : W) → WritesAll write_step writer [] writer
+  Writes-none writer = record { calls = []; made = refl; go_on = All-nil GoesOn; taken = refl }
+
+  -- a text, and then another one
+  all-more : (old mid new : W) (xs ys : List ℕ) → WritesAll write_step old xs mid → WritesAll write_step mid ys new
+      → WritesAll write_step old (xs ++ ys) new
+  all-more old mid new xs ys first later = record {
+    calls = first.calls ++ later.calls;
+    made = Calls-more old mid new first.calls later.calls first.made later.made;
+    go_on = All-append GoesOn first.calls later.calls first.go_on later.go_on;
+    taken = taken-more first.calls later.calls
+        ∙ (ap (λ zs. zs ++ taken_by_all later.calls) first.taken ∙ ap (λ zs. xs ++ zs) later.taken);
+  }
+
+  -- some bytes, and then those of one write
+  all-next : (old mid new : W) (xs : List ℕ) (call : OutputCall) → WritesAll write_step old xs mid → GoesOn call
+      → write_step mid call new → WritesAll write_step old (xs ++ taken_by call) new
+  all-next old mid new xs call first goes step = all-more old mid new xs (taken_by call) first
+      (record {
+        calls = call ∷ [];
+        made = (new, step, refl);
+        go_on = All-cons GoesOn call [] goes (All-nil GoesOn);
+        taken = append-nil (taken_by call);
+      })
+
+  pub Writes-more : (old mid new : W) (xs ys : List ℕ) (result : Result (Unit {0}) Error) → Writes write_step old xs (Ok tt) mid
+      → Writes write_step mid ys result new → Writes write_step old (xs ++ ys) result new
+  Writes-more old mid new xs ys (Ok u) first later = all-more old mid new xs ys first later
+  Writes-more old mid new xs ys (Err e) first later = record {
+    part = xs ++ later.part;
+    begins = (later.begins.0, ap (λ zs. xs ++ zs) later.begins.1 ∙ sym (append_assoc xs later.part later.begins.0));
+    mid = later.mid;
+    written = all-more old mid later.mid xs later.part first later.written;
+    call = later.call;
+    last = later.last;
+    ends_in = later.ends_in;
+  }
+
+  -- a text that isn't written whole, and one after it that isn't begun
+  pub Writes-cut : (old new : W) (xs ys : List ℕ) (error : Error) → Writes write_step old xs (Err error) new
+      → Writes write_step old (xs ++ ys) (Err error) new
+  Writes-cut old new xs ys error fails = record {
+    part = fails.part;
+    begins = (fails.begins.0 ++ ys, ap (λ zs. zs ++ ys) fails.begins.1 ∙ append_assoc fails.part fails.begins.0 ys);
+    mid = fails.mid;
+    written = fails.written;
+    call = fails.call;
+    last = fails.last;
+    ends_in = fails.ends_in;
+  }
+
+  -- some first bytes of a buffer are written, and these are left
+  pub record IsWriting (old now : W) (buffer left : List ℕ) : Type 0 where
+    pub bytes : List ℕ
+    pub split : buffer ≡ bytes ++ left
+    pub written : WritesAll write_step old bytes now
+
+  pub writing-none : (writer : W) (buffer : List ℕ) → IsWriting writer writer buffer buffer
+  writing-none writer buffer = record { bytes = []; split = refl; written = Writes-none writer }
+
+  -- all of it is written
+  pub writing-whole : (old new : W) (buffer : List ℕ) → IsWriting old new buffer [] → WritesAll write_step old buffer new
+  writing-whole old new buffer writing = subst (λ xs. WritesAll write_step old xs new)
+      (sym (writing.split ∙ append-nil writing.bytes)) writing.written
+
+  -- up to the last try of a write
+  tried : (old mid last : W) (xs : List ℕ) → WritesAll write_step old xs mid → WritesAll write_step mid [] last
+      → WritesAll write_step old xs last
+  tried old mid last xs first later = subst (λ zs. WritesAll write_step old zs last) (append-nil xs)
+      (all-more old mid last xs [] first later)
+
+  -- a write took some of them
+  pub writing-more : (old mid new : W) (buffer left : List ℕ) (count : ℕ) → IsWriting old mid buffer left
+      → count ≢ 0 → count ≤ length left → Repeats write_step mid (writes (Ok (take count left))) new
+      → IsWriting old new buffer (drop count left)
+  writing-more old mid new buffer left count writing some within (last, tries, step) = record {
+    bytes = writing.bytes ++ take count left;
+    split = writing.split ∙ (ap (λ xs. writing.bytes ++ xs) (sym (take-append-drop count left))
+        ∙ sym (append_assoc writing.bytes (take count left) (drop count left)));
+    written = all-next old last new writing.bytes (writes (Ok (take count left)))
+        (tried old mid last writing.bytes writing.written tries)
+        (subst (λ n. 0 < n) (sym (length-take-le count left within)) (omega arith)) step;
+  }
+
+  -- a write failed
+  pub writing-fails : (old mid new : W) (buffer left : List ℕ) (error : Error) (call : OutputCall) → IsWriting old mid buffer left
+      → Repeats write_step mid call new → EndsIn error call → Writes write_step old buffer (Err error) new
+  writing-fails old mid new buffer left error call writing (last, tries, step) ends = record {
+    part = writing.bytes;
+    begins = (left, writing.split);
+    mid = last;
+    written = tried old mid last writing.bytes writing.written tries;
+    call = call;
+    last = step;
+    ends_in = ends;
+  }
+
+  -- the first try
+  pub repeats-none : (old new : W) (call : OutputCall) → write_step old call new → Repeats write_step old call new
+  repeats-none old new call step = (old, Writes-none old, step)
+
+  -- a write was interrupted, and is made again
+  pub repeats-more : (old now new : W) (written : Result ℕ Error) (buffer : List ℕ) (call : OutputCall)
+      → IsErrAnd written (λ e. error_kind e ≡ Interrupted) → Repeats write_step old (write_call written buffer) now
+      → write_step now call new → Repeats write_step old call new
+  repeats-more old now new (Ok n) buffer call never tries step = absurd never
+  repeats-more old now new (Err e) buffer call interrupted (mid, tries, last) step =
+      (now, all-next old mid now [] (writes (Err e)) tries interrupted last, step)
+
+  -- what the output holds grows by a text that is written
+  calls-append : (contents : W → Option (List ℕ))
+      → ((s t : W) (call : OutputCall) → write_step s call t → Appends (contents s) (contents t) (taken_by call))
+      → (old new : W) (calls : List OutputCall) → Calls write_step old calls new
+      → Appends (contents old) (contents new) (taken_by_all calls)
+  calls-append contents grows old new [] same = subst (λ s. Appends (contents old) (contents s) []) same (Appends-none (contents old))
+  calls-append contents grows old new (call ∷ calls) (mid, step, made) =
+      Appends-more (contents old) (contents mid) (contents new) (taken_by call) (taken_by_all calls) (grows old mid call step)
+      (calls-append contents grows mid new calls made)
+
+  pub written-appends : (contents : W → Option (List ℕ))
+      → ((s t : W) (call : OutputCall) → write_step s call t → Appends (contents s) (contents t) (taken_by call))
+      → (old new : W) (text : List ℕ) → WritesAll write_step old text new → Appends (contents old) (contents new) text
+  written-appends contents grows old new text written = subst (λ xs. Appends (contents old) (contents new) xs) written.taken
+      (calls-append contents grows old new written.calls written.made)

@@ -1,0 +1,76 @@
+-- What an output of bytes does in a call, and in a run of calls.
+use Rattle.std.specs.Prelude.{◌≡◌, ℕ, ◌<◌, List, [], ◌∷◌, ◌++◌, length, take, Result, Ok, Err}
+use Rattle.std.specs.IoError.{error_kind}
+use Rattle.std.specs.List.{All}
+use Rattle.std.specs.declared.io.Error.{Error}
+use Rattle.std.specs.declared.io.ErrorKind.TheVariants.{Interrupted, WriteZero}
+
+-- a call, with the bytes that it took or the error
+pub data OutputCall : Type 0 where
+  writes : Result (List ℕ) Error → OutputCall
+  flushes : Result (Unit {0}) Error → OutputCall
+
+-- the call that returned how many bytes it took of the front of a buffer
+abbrev pub write_call : Result ℕ Error → List ℕ → OutputCall
+write_call (Ok n) buffer = writes (Ok (take n buffer))
+write_call (Err e) buffer = writes (Err e)
+
+-- the bytes that a call took
+abbrev pub taken_by : OutputCall → List ℕ
+taken_by (writes (Ok bytes)) = bytes
+taken_by (writes (Err e)) = []
+taken_by (flushes result) = []
+
+-- those that some calls took, in order
+abbrev pub taken_by_all : List OutputCall → List ℕ
+taken_by_all [] = []
+taken_by_all (call ∷ later) = taken_by call ++ taken_by_all later
+
+-- another write may follow: the call is a write that took some bytes, or was interrupted
+abbrev pub GoesOn : OutputCall → Type 0
+GoesOn (writes (Ok bytes)) = 0 < length bytes
+GoesOn (writes (Err e)) = error_kind e ≡ Interrupted
+GoesOn (flushes result) = ⊥
+
+-- the call is a write that ends in this error: it returned the error, or took no bytes
+abbrev pub EndsIn : Error → OutputCall → Type 0
+EndsIn error (writes (Ok bytes)) = (bytes ≡ []) × (error_kind error ≡ WriteZero)
+EndsIn error (writes (Err e)) = e ≡ error
+EndsIn error (flushes result) = ⊥
+
+-- some first bytes of a text
+abbrev pub Begins : List ℕ → List ℕ → Type 0
+Begins part text = (rest : List ℕ) × (text ≡ part ++ rest)
+
+module _ {S : Type 0} (step : S → OutputCall → S → Type 0) where
+  -- from the old state to the new one by these calls
+  abbrev pub Calls : S → List OutputCall → S → Type 0
+  Calls old [] new = old ≡ new
+  Calls old (call ∷ later) new = (mid : S) × step old call mid × Calls mid later new
+
+  -- from the old state to the new one by writes alone, which took these bytes. After each of them
+  -- another one may follow
+  pub record WritesAll (old : S) (bytes : List ℕ) (new : S) : Type 0 where
+    pub calls : List OutputCall
+    pub made : Calls old calls new
+    pub go_on : All GoesOn calls
+    pub taken : taken_by_all calls ≡ bytes
+
+  -- such writes took some first bytes of a text, and the next one ended in this error
+  pub record FailsToWrite (old : S) (text : List ℕ) (error : Error) (new : S) : Type 0 where
+    pub part : List ℕ
+    pub begins : Begins part text
+    pub mid : S
+    pub written : WritesAll old part mid
+    pub call : OutputCall
+    pub last : step mid call new
+    pub ends_in : EndsIn error call
+
+  -- a text is written, or the output fails before
+  abbrev pub Writes : S → List ℕ → Result (Unit {0}) Error → S → Type 0
+  Writes old text (Ok u) new = WritesAll old text new
+  Writes old text (Err error) new = FailsToWrite old text error new
+
+  -- a call, and before it no other than writes that were interrupted
+  abbrev pub Repeats : S → OutputCall → S → Type 0
+  Repeats old call new = (mid : S) × WritesAll old [] mid × step mid call new
