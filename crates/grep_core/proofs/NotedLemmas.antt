@@ -1,6 +1,6 @@
 -- A sink to which the first binary byte of a stream is noted, and the calls of the sink that it passes them on to.
-use Rattle.std.proofs.Common.{◌≡◌, ℕ, ◌+◌, Bool, true, false, Option, Some, None, Result, Ok}
-use Rattle.std.proofs.Common.{refl, sym, ◌∙◌, ap, subst, arith}
+use Rattle.std.proofs.Common.{◌≡◌, ℕ, Bool, true, false, Option, Some, None, Result, Ok}
+use Rattle.std.proofs.Common.{refl, sym, ◌∙◌, ap, subst}
 use Rattle.std.specs.Prelude.{is_some, if◌then◌else◌}
 use Rattle.grep_definitions.specs.NotedSinks.{noted}
 use Rattle.grep_definitions.specs.Settings.{Settings}

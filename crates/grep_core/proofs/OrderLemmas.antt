@@ -22,7 +22,7 @@ use Rattle.grep_definitions.proofs.CallOrderLemmas as order
 use Rattle.grep_definitions.proofs.SinkRunLemmas.{AreReported-append}
 use Rattle.grep_core.specs.declared.noted.Noted.{Noted}
 use Rattle.grep_core.specs.declared.quitting.Quitting.{Quitting}
-use Rattle.grep_core.specs.NotedCalls.{FailsAtBinary, Notes, PassesBinary, called_with, noted_of}
+use Rattle.grep_core.specs.NotedCalls.{FailsAtBinary, Notes, PassesBinary, called_with}
 use Rattle.grep_core.specs.SearchBuffers.{IsMadeOf, detection_of}
 use Rattle.grep_line_buffer.specs.BufferStates.{BufferState, held}
 use Rattle.grep_line_buffer.specs.Detections.{first_of, found_in}
@@ -32,7 +32,7 @@ use Rattle.grep_report.specs.declared.binary_detection.BinaryDetection.{BinaryDe
 use Rattle.grep_report.specs.declared.binary_detection.BinaryDetection.TheVariants.{None as no_detection, Quit, Convert}
 use Rattle.grep_line_buffer.specs.declared.fill_error.FillError.{FillError}
 use Rattle.grep_line_buffer.specs.declared.fill_error.FillError.TheVariants.{Read, HeapLimit, Offset, Memory}
-use Rattle.grep_core.specs.QuittingSinks.{IsLookedAt, IsMadeAfter, IsPassedOn, Quits, Watch, count_to, ended, quitting, watch_of}
+use Rattle.grep_core.specs.QuittingSinks.{IsLookedAt, IsMadeAfter, Quits, count_to, ended, watch_of}
 
 -- a buffer that looks for no byte finds none
 pub undetected : (d : BinaryDetection) (detection : Detection) (binary : Option ℕ) (f : ℕ → ℕ) (t : ℕ) (given : List ℕ)

@@ -1,6 +1,6 @@
 -- What a decoder gave, against the bytes that are searched.
 use Rattle.std.proofs.Common.{◌≡◌, ◌⊎◌, ℕ, ◌+◌, ◌<◌, ◌≤◌, Bool, true, false, List, [], ◌++◌, length, Option, Some}
-use Rattle.std.proofs.Common.{None, inl, inr, refl, sym, subst, ◌∙◌, ap, arith, append-nil, length-append}
+use Rattle.std.proofs.Common.{None, inl, inr, ⊎_elim, refl, sym, subst, ◌∙◌, ap, arith, append-nil}
 use Rattle.std.proofs.lemmas.Bool.{false≢true}
 use Rattle.std.specs.List.{concat}
 use Rattle.grep_decode.specs.declared.label.Label.{Label}
@@ -106,13 +106,24 @@ module _ {R : Type 0} (remaining : R → Option (List ℕ)) (step : R → ReadRe
         ∙ (ap (λ xs. xs ++ unread d.has_ended []) (held passes) ∙ unread-nothing d.has_ended)) in
         sym (decoded-is ∙ (ap (λ xs. given ++ xs) left ∙ append-nil given))
 
-  -- a decoder that looks for a mark holds all that was taken
-  pub settled-enough : IsSettled d.mode ⊎ LooksForMark d.mode × (length d.held ≤ 2)
-      → (looks_for_mark settings ≡ true → 2 < length (concat reads.pieces)) → IsSettled d.mode
-  settled-enough (inl settled) enough = settled
-  settled-enough (inr (looks, few)) enough =
+  -- a decoder that looks for a mark has given nothing, and holds all that was taken
+  unsettled : IsSettled d.mode ⊎ LooksForMark d.mode × (length d.held ≤ 2)
+      → IsSettled d.mode ⊎ (looks_for_mark settings ≡ true) × (given ≡ []) × (length (concat reads.pieces) < 3)
+  unsettled (inl settled) = inl settled
+  unsettled (inr (looks, few)) =
       let waits = reads.unsettled (looks-unsettled d.mode looks) in
-      absurd (omega (arith, enough (subst LooksForMark waits.0 looks), few, ap length waits.2))
+      inr (subst LooksForMark waits.0 looks, waits.1, omega (arith, few, ap length waits.2))
+
+  settled-enough : IsSettled d.mode ⊎ LooksForMark d.mode × (length d.held ≤ 2)
+      → (looks_for_mark settings ≡ true → 3 ≤ length (concat reads.pieces)) → IsSettled d.mode
+  settled-enough few enough = ⊎_elim (λ settled. settled) (λ waits. absurd (omega (arith, enough waits.0, waits.2))) (unsettled few)
+
+  given-none : IsSettled d.mode ⊎ LooksForMark d.mode × (length d.held ≤ 2) → d.has_ended ≡ false
+      → looks_for_mark settings ≡ true → length (concat reads.pieces) < 3 → given ≡ []
+  given-none few unended looks short = ⊎_elim
+      (λ settled. ⊎_elim (λ long. absurd (omega (arith, long, short))) (λ ended. absurd (false≢true (sym unended ∙ ended)))
+      (reads.enough looks settled))
+      (λ waits. waits.1) (unsettled few)
 
   -- what was decoded when the reader failed
   pub decoded-so_far : ((d : DecoderState) (more : List ℕ) → IsDone d → still_to_give d more ≡ []) → d.has_ended ≡ false
@@ -122,6 +133,7 @@ module _ {R : Type 0} (remaining : R → Option (List ℕ)) (step : R → ReadRe
     begins = λ bytes input.
         let text = input-is none bytes (input.0, (λ ended. absurd (false≢true (sym unended ∙ ended))), input.2) in
         (text.0, text.1);
+    none = given-none few unended;
     all = λ enough. (still_to_give d [], decoded-is, incomplete (settled-enough few enough));
     whole = λ enough unchanged. decoded-all unchanged (settled-enough few enough) ready held;
   }

@@ -21,7 +21,7 @@ use Rattle.grep_decode.specs.Source.{ReadResult, Pulls, FailsWith}
 use Rattle.grep_decode.specs.DecoderStates.{DecoderState, Calls, Decodes, FailsToDecode, FitsMode, IsDecoded, IsDone}
 use Rattle.grep_decode.specs.DecoderStates.{IsSettled, LooksForMark, TakesAtMost, decode_by, mode_after, still_to_give}
 use Rattle.grep_decode.specs.DecoderStates.{next_mode, started, unread, yet}
-use Rattle.grep_decode.proofs.RunLemmas.{Calls-none, Calls-append, Calls-nothing, FailsWith-after}
+use Rattle.grep_decode.proofs.RunLemmas.{Calls-none, Calls-append, Calls-ended, Calls-nothing, FailsWith-after}
 
 -- at most so many calls are left, until the reader has ended
 abbrev pub calls_left : Bool → ℕ → ℕ
@@ -55,6 +55,17 @@ nothing-left d ready held = rw (ready, held, unread-none d.has_ended) (decode-no
 pub done-gives : (d : DecoderState) (rest : List ℕ) → IsDone d → still_to_give d rest ≡ []
 done-gives d rest done = rw (done.ended, done.ready, done.held) (decode-nothing d.mode)
 
+-- a decoder that looks for a mark hasn't settled
+looks-unsettled : (mode : Mode) → LooksForMark mode → IsSettled mode → ⊥
+looks-unsettled (Fresh label sniff) looks settled = settled
+looks-unsettled Passing looks settled = looks
+looks-unsettled (Decoding label) looks settled = looks
+
+settled-or : (mode : Mode) → IsSettled mode ⊎ (IsSettled mode → ⊥)
+settled-or (Fresh label sniff) = inr (λ settled. settled)
+settled-or Passing = inl tt
+settled-or (Decoding label) = inl tt
+
 module _ {R : Type 0} (remaining : R → Option (List ℕ)) (step : R → ReadResult → R → Type 0) where
   pub Decodes-none : (d : DecoderState) (r : R) → Decodes remaining step d r [] d r
   Decodes-none d r = record {
@@ -65,17 +76,13 @@ module _ {R : Type 0} (remaining : R → Option (List ℕ)) (step : R → ReadRe
     settles = λ more end. refl;
     stays = λ settled. refl;
     unsettled = λ fresh. (refl, refl, sym (append-nil d.held));
+    enough = λ looks settled. absurd (looks-unsettled d.mode looks settled);
     passes = λ passing. omega arith;
     ahead = λ passing. omega arith;
   }
 
   joined : (first second : List (List ℕ)) (more : List ℕ) → concat (first ++ second) ++ more ≡ concat first ++ (concat second ++ more)
   joined first second more = ap (λ l. l ++ more) (concat-append first second) ∙ append_assoc (concat first) (concat second) more
-
-  settled-or : (mode : Mode) → IsSettled mode ⊎ (IsSettled mode → ⊥)
-  settled-or (Fresh label sniff) = inr (λ settled. settled)
-  settled-or Passing = inl tt
-  settled-or (Decoding label) = inl tt
 
   pub Decodes-append : (d d1 d2 : DecoderState) (r r1 r2 : R) (given later : List ℕ) → Decodes remaining step d r given d1 r1
       → Decodes remaining step d1 r1 later d2 r2 → Decodes remaining step d r (given ++ later) d2 r2
@@ -101,6 +108,19 @@ module _ {R : Type 0} (remaining : R → Option (List ℕ)) (step : R → ReadRe
               ∙ (append_assoc d.held (concat first.pieces) (concat second.pieces)
               ∙ ap (λ xs. d.held ++ xs) (sym (concat-append first.pieces second.pieces)))),
         );
+    enough = λ looks settled. ⊎_elim
+        (λ was. ⊎_elim
+        (λ long. inl (omega (arith, long, taken)))
+        (λ ended. inr (Calls-ended remaining step d2.has_ended r1 r2 second.pieces
+        (subst (λ b. Calls remaining step b d2.has_ended r1 second.pieces r2) ended second.calls)))
+        (first.enough looks was))
+        (λ fresh.
+        let waits = first.unsettled fresh in
+        ⊎_elim
+        (λ long. inl (omega (arith, long, taken, ap length waits.2, length-append d.held (concat first.pieces))))
+        (λ ended. inr ended)
+        (second.enough (subst LooksForMark (sym waits.0) looks) settled))
+        (settled-or d1.mode);
     passes = λ passing.
         let mid : d1.mode ≡ Passing = first.stays (subst IsSettled (sym passing) tt) ∙ passing in
         omega (arith, first.passes passing, second.passes mid, taken, length-append given later);
@@ -131,8 +151,9 @@ module _ {R : Type 0} (remaining : R → Option (List ℕ)) (step : R → ReadRe
       → ((rest : List ℕ) → still_to_give d rest ≡ given ++ still_to_give d1 rest) → ((rest : List ℕ) → next_mode d rest ≡ next_mode d1 rest)
       → IsSettled d1.mode → (IsSettled d.mode → (d1.mode ≡ d.mode) × (length d.held ≤ length given + length d1.held))
       → (d1.mode ≡ Passing → length d.held ≤ length given + length d1.held + 3)
+      → (LooksForMark d.mode → (3 ≤ length d.held) ⊎ (d1.has_ended ≡ true))
       → Decodes remaining step d r given d1 r
-  Decodes-within d d1 r given ended same next settled kept few = record {
+  Decodes-within d d1 r given ended same next settled kept few enough = record {
     pieces = [];
     calls = subst (λ b. Calls remaining step d.has_ended b r [] r) (sym ended) (Calls-none remaining step d.has_ended r);
     takes = Consumes-nil (remaining r);
@@ -140,6 +161,7 @@ module _ {R : Type 0} (remaining : R → Option (List ℕ)) (step : R → ReadRe
     settles = λ more end. next more;
     stays = λ was. (kept was).0;
     unsettled = λ fresh. absurd (fresh settled);
+    enough = λ looks now. ⊎_elim (λ long. inl (omega (arith, long))) (λ all. inr all) (enough looks);
     passes = λ passing. omega (arith, (kept (subst IsSettled (sym passing) tt)).1);
     ahead = λ passing. omega (arith, few passing);
   }
@@ -166,6 +188,7 @@ module _ {R : Type 0} (remaining : R → Option (List ℕ)) (step : R → ReadRe
         settles = λ more end. ap (λ p. next_mode d (p ++ more)) (sym none) ∙ settles more end;
         stays = λ settled. stays;
         unsettled = λ is. (stays, (fresh is).0, (fresh is).1 ∙ ap (λ p. d.held ++ p) none);
+        enough = λ looks settled. absurd (looks-unsettled d.mode looks (subst IsSettled stays settled));
         passes = λ passing. omega (arith, few, ap length none);
         ahead = λ passing. omega (arith, few, ap length none);
       }
@@ -177,6 +200,7 @@ module _ {R : Type 0} (remaining : R → Option (List ℕ)) (step : R → ReadRe
     settles = λ more end. ap (λ p. next_mode d (p ++ more)) (append-nil piece) ∙ settles more end;
     stays = λ settled. stays;
     unsettled = λ is. (stays, (fresh is).0, (fresh is).1 ∙ ap (λ p. d.held ++ p) (sym (append-nil piece)));
+    enough = λ looks settled. absurd (looks-unsettled d.mode looks (subst IsSettled stays settled));
     passes = λ passing. omega (arith, few, ap length (append-nil piece));
     ahead = λ passing. omega (arith, few, ap length (append-nil piece));
   }
@@ -255,7 +279,7 @@ module _ {R : Type 0} (remaining : R → Option (List ℕ)) (step : R → ReadRe
       let after : DecoderState = record { ready = later; held = held; mode = mode; has_ended = ended; capacity = capacity } in
       Decodes-within before after r given refl
       (λ rest. let text = decode_by mode (held ++ unread ended rest) in ap (λ l. l ++ text) same ∙ append_assoc given later text)
-      (λ rest. refl) settled (λ was. (refl, omega arith)) (λ passing. omega arith)
+      (λ rest. refl) settled (λ was. (refl, omega arith)) (λ passing. omega arith) (λ looks. absurd (looks-unsettled mode looks settled))
 
   -- the same of a decoder that has nothing ready
   pub Decodes-held : (ready : List ℕ) (mode : Mode) (old new : UndecodedBytes) (r r1 : R) (given : List ℕ) → ready ≡ []

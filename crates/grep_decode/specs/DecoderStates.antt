@@ -1,5 +1,5 @@
 -- What a decoder holds, what it has still to give, and what its reads do.
-use Rattle.std.specs.Prelude.{◌≡◌, ℕ, ◌+◌, ◌≤◌, Bool, true, false, ◌||◌, List, [], ◌++◌, length, Option}
+use Rattle.std.specs.Prelude.{◌≡◌, ◌⊎◌, ℕ, ◌+◌, ◌≤◌, Bool, true, false, ◌||◌, List, [], ◌++◌, length, Option}
 use Rattle.std.specs.Prelude.{None, Some, is_some, Ok, Err, IfSome, if◌then◌else◌}
 use Rattle.std.specs.List.{concat}
 use Rattle.std.specs.Option.{option_map}
@@ -137,10 +137,13 @@ module _ {R : Type 0} (remaining : R → Option (List ℕ)) (step : R → ReadRe
         → still_to_give old (concat pieces ++ more) ≡ given ++ still_to_give new more
     pub settles : (more : List ℕ) → (new.has_ended ≡ true → more ≡ [])
         → next_mode old (concat pieces ++ more) ≡ next_mode new more
-    -- a mark is looked for once. Until then nothing is given, and all that was taken is held
+    -- a mark is looked for once, in three bytes, or in fewer if they are all. Until then nothing is
+    -- given, and all that was taken is held
     pub stays : IsSettled old.mode → new.mode ≡ old.mode
     pub unsettled : (IsSettled new.mode → ⊥)
         → (new.mode ≡ old.mode) × (given ≡ []) × (new.held ≡ old.held ++ concat pieces)
+    pub enough : LooksForMark old.mode → IsSettled new.mode
+        → (3 ≤ length old.held + length (concat pieces)) ⊎ (new.has_ended ≡ true)
     -- how many more bytes were taken than given, if they pass unchanged: none but those that are
     -- held, and at most three more as a mark is looked for
     pub passes : old.mode ≡ Passing

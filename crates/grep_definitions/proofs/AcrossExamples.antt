@@ -1,11 +1,16 @@
 -- The defined calls across lines at some inputs, as the checker computes them.
-use Rattle.std.proofs.Common.{◌≡◌, ℕ, ◌+◌, true, false, List, [], ◌∷◌, length, Option, Some, None, refl, codes, if◌then◌else◌}
-use Rattle.std.specs.Prelude.{nat_eq, ◌==◌}
-use Rattle.std.specs.List.{starts_with}
+use Rattle.std.proofs.Common.{◌≡◌, ℕ, ◌+◌, ◌<◌, ◌≤◌, ◌&&◌, true, false, List, [], ◌∷◌, length, Option, Some, None, codes}
+use Rattle.std.proofs.Common.{refl, sym, ap, subst, ◌∙◌, arith, ⊎_elim, if◌then◌else◌}
+use Rattle.std.proofs.Math.Bool.{and-false}
+use Rattle.std.proofs.lemmas.Bool.{cases_lt, le-ltb}
+use Rattle.std.specs.Prelude.{nat_eq, nat_le, nat_lt, ◌==◌}
+use Rattle.std.specs.List.{list_any, starts_with}
 use Rattle.grep_matcher.specs.declared.line_terminator.LineTerminator.TheVariants.{Byte, Crlf}
 use Rattle.grep_matcher.specs.Literals.{literal_meaning}
 use Rattle.grep_matcher.specs.Matching.{Meaning, plain}
 use Rattle.grep_report.specs.declared.sink_context.SinkContextKind.TheVariants.{Before, After, Other}
+use Rattle.grep_definitions.specs.AcrossLines.{is_touched, touches}
+use Rattle.grep_definitions.specs.AcrossQuestions.{IsAskedAcross}
 use Rattle.grep_definitions.specs.Settings.{Settings, default_settings}
 use Rattle.grep_definitions.specs.SuccessiveMatches.{all_matches}
 use Rattle.grep_definitions.specs.Modes.{is_across}
@@ -180,3 +185,44 @@ stop_by_line = refl
 
 stop_across_lines : search_byte_count (record wide { stop_on_nonmatch = true }) has_a (codes "a\nb\nc\n") ≡ 6
 stop_across_lines = refl
+
+-- two matches with a line between them
+abbrev one_letter : Meaning
+one_letter = literal (codes "a")
+
+-- which lines after the first they touch
+touched_later : (j : ℕ) → 1 ≤ j → is_touched wide one_letter (codes "a\nx\na\n") ((0, 1) ∷ (4, 5) ∷ []) j
+    ≡ (nat_le 2 j && nat_lt j 3)
+touched_later j low = ⊎_elim
+    (λ (inside : j < 3). ⊎_elim
+    (λ (less : j < 2). let same : j ≡ 1 = omega arith in subst Touched (sym same) refl)
+    (λ (over : 2 ≤ j). let same : j ≡ 2 = omega arith in subst Touched (sym same) refl)
+    (cases_lt j 2))
+    (λ (past : 3 ≤ j).
+    let out = le-ltb j 3 past in
+    ap (λ b. b && list_any (touches wide one_letter (codes "a\nx\na\n") j) ((0, 1) ∷ (4, 5) ∷ [])) out
+    ∙ sym (ap (λ b. nat_le 2 j && b) out ∙ and-false (nat_le 2 j)))
+    (cases_lt j 3)
+  where
+    Touched : ℕ → Type 0
+    Touched j =
+        is_touched wide one_letter (codes "a\nx\na\n") ((0, 1) ∷ (4, 5) ∷ []) j ≡ (nat_le 2 j && nat_lt j 3)
+
+-- the matcher is asked at the line between for what comes after the second, once the first was reported
+asked_between : IsAskedAcross wide one_letter (codes "a\nx\na\n") (codes "\n") (begun ∷ match_turn 1 0 (codes "a\n") 2 ∷ [])
+asked_between = record {
+  index = 1;
+  question = record {
+    found = (0, 1) ∷ (4, 5) ∷ [];
+    question = record { later = []; all = refl; room = refl; inside = omega arith; rest = refl };
+    after = λ above. refl;
+    apart = λ above. refl;
+    first = 2;
+    last = 3;
+    low = omega arith;
+    some = λ any. omega arith;
+    run = touched_later;
+  };
+  room = λ inverted. refl;
+  before = refl;
+}

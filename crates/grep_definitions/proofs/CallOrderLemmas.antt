@@ -13,7 +13,7 @@ use Rattle.grep_definitions.specs.Settings.{Settings}
 use Rattle.grep_definitions.specs.SinkCalls.{Call, Turn, begins, breaks, context, finishes, matches}
 use Rattle.grep_definitions.specs.LineTurns.{before_turns, broken_turns, is_gap, match_turns, number_of, one_turn}
 use Rattle.grep_definitions.specs.SinkRuns.{Steps, Outcome, all_true, stopped, failed, outcome_of, finish_result}
-use Rattle.grep_definitions.specs.SinkRuns.{AreReported, IsFinished, IsRun}
+use Rattle.grep_definitions.specs.SinkRuns.{AreReported, IsFinished}
 use Rattle.grep_definitions.proofs.SinkRunLemmas.{AreReported-append, AreReported-one}
 
 -- a turn of a call between `begin` and `finish`

@@ -1,5 +1,5 @@
 -- The bytes that are searched.
-use Rattle.std.specs.Prelude.{ℕ, ◌<◌, Bool, true, false, not, ◌||◌, List, [], ◌≡◌, ◌++◌, length}
+use Rattle.std.specs.Prelude.{ℕ, ◌<◌, ◌≤◌, Bool, true, false, not, ◌||◌, List, [], ◌≡◌, ◌++◌, length}
 use Rattle.std.specs.Prelude.{Option, Some, None, is_some}
 use Rattle.std.specs.List.{concat}
 use Rattle.grep_decode.specs.declared.label.Label.{Label}
@@ -42,11 +42,12 @@ pub record IsDecodedSoFar (settings : Settings) (pieces : List (List ℕ)) (came
     : Type 0 where
   pub begins : (bytes : List ℕ) → IsInput settings false pieces bytes
       → (after : List ℕ) × (bytes ≡ came ++ after)
-  -- all that came is decoded but the first bytes of a character, unless a mark is looked for and fewer than three bytes
-  -- came. Of bytes that pass unchanged it is all
-  pub all : (looks_for_mark settings ≡ true → 2 < length (concat pieces))
+  -- nothing while a mark is looked for in fewer than three bytes. Else all that came but the first bytes of a
+  -- character, and of bytes that pass unchanged it is all
+  pub none : looks_for_mark settings ≡ true → length (concat pieces) < 3 → came ≡ []
+  pub all : (looks_for_mark settings ≡ true → 3 ≤ length (concat pieces))
       → (rest : List ℕ) × (searched_bytes settings (concat pieces) ≡ came ++ rest)
       × IsIncomplete rest
-  pub whole : (looks_for_mark settings ≡ true → 2 < length (concat pieces))
+  pub whole : (looks_for_mark settings ≡ true → 3 ≤ length (concat pieces))
       → passes_unchanged settings (concat pieces) ≡ true
       → came ≡ searched_bytes settings (concat pieces)

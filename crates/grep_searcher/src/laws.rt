@@ -13,14 +13,13 @@ use crate::sink::Sink;
 use crate::sinks::{Bytes, Lossy, UTF8};
 use grep_decode::Source;
 pub use grep_definitions::laws::{
-    after_wins, after_wins_across, at_most_limit, at_most_limit_across,
-    counted_reports_are_clear, first_lines_begin, first_match_is_first, inversion_complements,
-    inversion_complements_across, lines_are_numbered, matches_are_all, matches_are_counted,
-    matches_are_few, matches_are_selected, matches_decide, matches_touch_their_lines,
-    quit_reports_are_clear, reports_are_apart_across, reports_are_as_by_line, reports_ascend,
-    reports_ascend_across, searches_across_lines, searches_by_line, seen_lines_begin,
-    selected_are_reported_across, stop_is_ignored_across, unchanged_is_searched, whole_count,
-    whole_count_across,
+    after_wins, after_wins_across, at_most_limit, at_most_limit_across, counted_reports_are_clear,
+    first_lines_begin, first_match_is_first, inversion_complements, inversion_complements_across,
+    lines_are_numbered, matches_are_all, matches_are_counted, matches_are_few,
+    matches_are_selected, matches_decide, matches_touch_their_lines, quit_reports_are_clear,
+    reports_are_apart_across, reports_are_as_by_line, reports_ascend, reports_ascend_across,
+    searches_across_lines, searches_by_line, seen_lines_begin, selected_are_reported_across,
+    stop_is_ignored_across, unchanged_is_searched, whole_count, whole_count_across,
 };
 use grep_matcher::Matcher;
 use grep_report::SinkError;

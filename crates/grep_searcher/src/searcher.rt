@@ -1,5 +1,6 @@
 //! The searcher and its builder.
-ghost use Rattle.std.specs.Prelude.{◌≡◌, ℕ, true, false, List, Option, None, Some, Ok, IfOk, IfErr, OnOk, OnErr, IsOk, Result};
+ghost use Rattle.std.specs.Prelude.{◌≡◌, ℕ, true, false, List, Option, None, Some, Result, Ok};
+ghost use Rattle.std.specs.Prelude.{IfOk, IfErr, IsOk, OnOk, OnErr};
 ghost use Rattle.std.specs.IoError.{error_kind};
 ghost use Rattle.std.specs.declared.io.Error.{Error};
 ghost use Rattle.std.specs.declared.io.ErrorKind.{ErrorKind};
@@ -114,7 +115,9 @@ impl<A: Allocator + Copy> Searcher<A> {
     /// that turn. It ends in the sink's error, or in an error made of the matcher's; then `finish` isn't called.
     ///
     /// If the search may ask the matcher about many lines at once, these calls are promised of a matcher that is lawful
-    /// for the searcher's terminator. With any other matcher the search is safe and returns.
+    /// for the searcher's terminator. With any other matcher the search is safe and returns, and the calls are some in
+    /// this order: `begin`, reports and breaks, and `finish`, of which nothing follows an error and `finish` alone a
+    /// false.
     ///
     /// What is searched are the decoded bytes. If a label is set, or a mark is looked for and is there, the bytes
     /// are searched as a reader's are, as `search_reader` says, with its errors but the reader's own. Any other
@@ -195,7 +198,7 @@ impl<A: Allocator + Copy> Searcher<A> {
     /// buffer has it, before the lines that were read with it are searched. `BinaryDetection::Quit` ends the search
     /// there, and so does a false; `BinaryDetection::Convert` goes on, and each binary byte is searched as the line
     /// terminator's byte. `finish` has that offset then. A byte that ends lines isn't converted, nor reported as
-    /// binary. Such a search reads even if no line may have a turn.
+    /// binary.
     ///
     /// A search across lines (`multi_line_with_matcher`) first reads the reader to its end, and keeps all decoded bytes
     /// in memory. If an error of reading comes then, the sink has no call: the reader's error; one of kind `Other`,

@@ -1,15 +1,15 @@
 -- Texts that are written one after another, and known bytes that grow by them.
-use Rattle.std.proofs.Common.{◌≡◌, ◌≢◌, ℕ, ◌<◌, ◌≤◌, List, [], ◌∷◌, ◌++◌, length, arith, refl, sym, ap, ◌∙◌, append_assoc, subst, take, drop}
+use Rattle.std.proofs.Common.{◌≡◌, ◌≢◌, ℕ, ◌+◌, ◌-◌, ◌^◌, ◌<◌, ◌≤◌, List, [], ◌∷◌, ◌++◌, length, arith, refl, sym, ap, ◌∙◌, append_assoc, subst, take, drop}
 use Rattle.std.specs.Prelude.{Option, Some, None, Result, Ok, Err}
 use Rattle.std.specs.Io.KnownBytes.{Appends}
 use Rattle.std.specs.IoError.{error_kind}
 use Rattle.std.specs.Result.{IsErrAnd}
 use Rattle.std.specs.declared.io.Error.{Error}
 use Rattle.std.specs.declared.io.ErrorKind.TheVariants.{Interrupted}
-use Rattle.std.proofs.lemmas.List.{append-nil, length-take-le, take-append-drop}
+use Rattle.std.proofs.lemmas.List.{append-nil, length-append, length-take-le, take-append-drop}
 use Rattle.std.proofs.lemmas.List.Elements.{All-append, All-cons, All-nil}
-use Rattle.lgrep_cli.specs.Outputs.{OutputCall, writes, write_call, taken_by, taken_by_all, GoesOn, EndsIn, Calls, WritesAll}
-use Rattle.lgrep_cli.specs.Outputs.{Writes, Repeats}
+use Rattle.lgrep_cli.specs.Outputs.{OutputCall, writes, write_call, taken_by, taken_by_all, IsInterrupted, GoesOn, EndsIn, Calls}
+use Rattle.lgrep_cli.specs.Outputs.{WritesAll, Writes, Repeats}
 
 -- nothing more
 Appends-none : (known : Option (List ℕ)) → Appends known known []
@@ -29,6 +29,10 @@ taken-more [] later = refl
 taken-more (call ∷ first) later = ap (λ xs. taken_by call ++ xs) (taken-more first later)
     ∙ sym (append_assoc (taken_by call) (taken_by_all first) (taken_by_all later))
 
+-- there are as many in more calls
+at-least : {n : ℕ} (first later : List OutputCall) → n ≤ length later → n ≤ length (first ++ later)
+at-least {n} first later enough = subst (λ m. n ≤ m) (sym (length-append first later)) (omega arith)
+
 module _ {W : Type 0} (write_step : W → OutputCall → W → Type 0) where
   Calls-more : (old mid new : W) (first later : List OutputCall) → Calls write_step old first mid → Calls write_step mid later new
       → Calls write_step old (first ++ later) new
@@ -40,7 +44,7 @@ module _ {W : Type 0} (write_step : W → OutputCall → W → Type 0) where
   Writes-none writer = record { calls = []; made = refl; go_on = All-nil GoesOn; taken = refl }
 
   -- a text, and then another one
-  all-more : (old mid new : W) (xs ys : List ℕ) → WritesAll write_step old xs mid → WritesAll write_step mid ys new
+  abbrev all-more : (old mid new : W) (xs ys : List ℕ) → WritesAll write_step old xs mid → WritesAll write_step mid ys new
       → WritesAll write_step old (xs ++ ys) new
   all-more old mid new xs ys first later = record {
     calls = first.calls ++ later.calls;
@@ -51,7 +55,7 @@ module _ {W : Type 0} (write_step : W → OutputCall → W → Type 0) where
   }
 
   -- some bytes, and then those of one write
-  all-next : (old mid new : W) (xs : List ℕ) (call : OutputCall) → WritesAll write_step old xs mid → GoesOn call
+  abbrev all-next : (old mid new : W) (xs : List ℕ) (call : OutputCall) → WritesAll write_step old xs mid → GoesOn call
       → write_step mid call new → WritesAll write_step old (xs ++ taken_by call) new
   all-next old mid new xs call first goes step = all-more old mid new xs (taken_by call) first
       (record {
@@ -65,6 +69,7 @@ module _ {W : Type 0} (write_step : W → OutputCall → W → Type 0) where
       → Writes write_step mid ys result new → Writes write_step old (xs ++ ys) result new
   Writes-more old mid new xs ys (Ok u) first later = all-more old mid new xs ys first later
   Writes-more old mid new xs ys (Err e) first later = record {
+    gives_up = λ is. at-least first.calls later.written.calls (later.gives_up is);
     part = xs ++ later.part;
     begins = (later.begins.0, ap (λ zs. xs ++ zs) later.begins.1 ∙ sym (append_assoc xs later.part later.begins.0));
     mid = later.mid;
@@ -85,6 +90,7 @@ module _ {W : Type 0} (write_step : W → OutputCall → W → Type 0) where
     call = fails.call;
     last = fails.last;
     ends_in = fails.ends_in;
+    gives_up = fails.gives_up;
   }
 
   -- some first bytes of a buffer are written, and these are left
@@ -102,48 +108,76 @@ module _ {W : Type 0} (write_step : W → OutputCall → W → Type 0) where
       (sym (writing.split ∙ append-nil writing.bytes)) writing.written
 
   -- up to the last try of a write
-  tried : (old mid last : W) (xs : List ℕ) → WritesAll write_step old xs mid → WritesAll write_step mid [] last
+  abbrev tried : (old mid last : W) (xs : List ℕ) → WritesAll write_step old xs mid → WritesAll write_step mid [] last
       → WritesAll write_step old xs last
-  tried old mid last xs first later = subst (λ zs. WritesAll write_step old zs last) (append-nil xs)
-      (all-more old mid last xs [] first later)
+  tried old mid last xs first later = record {
+    calls = first.calls ++ later.calls;
+    made = Calls-more old mid last first.calls later.calls first.made later.made;
+    go_on = All-append GoesOn first.calls later.calls first.go_on later.go_on;
+    taken = taken-more first.calls later.calls
+        ∙ (ap (λ zs. zs ++ taken_by_all later.calls) first.taken ∙ (ap (λ zs. xs ++ zs) later.taken ∙ append-nil xs));
+  }
 
   -- a write took some of them
   pub writing-more : (old mid new : W) (buffer left : List ℕ) (count : ℕ) → IsWriting old mid buffer left
       → count ≢ 0 → count ≤ length left → Repeats write_step mid (writes (Ok (take count left))) new
       → IsWriting old new buffer (drop count left)
-  writing-more old mid new buffer left count writing some within (last, tries, step) = record {
+  writing-more old mid new buffer left count writing some within repeats = record {
     bytes = writing.bytes ++ take count left;
     split = writing.split ∙ (ap (λ xs. writing.bytes ++ xs) (sym (take-append-drop count left))
         ∙ sym (append_assoc writing.bytes (take count left) (drop count left)));
-    written = all-next old last new writing.bytes (writes (Ok (take count left)))
-        (tried old mid last writing.bytes writing.written tries)
-        (subst (λ n. 0 < n) (sym (length-take-le count left within)) (omega arith)) step;
+    written = all-next old repeats.mid new writing.bytes (writes (Ok (take count left)))
+        (tried old mid repeats.mid writing.bytes writing.written repeats.tries)
+        (subst (λ n. 0 < n) (sym (length-take-le count left within)) (omega arith)) repeats.last;
   }
 
   -- a write failed
   pub writing-fails : (old mid new : W) (buffer left : List ℕ) (error : Error) (call : OutputCall) → IsWriting old mid buffer left
       → Repeats write_step mid call new → EndsIn error call → Writes write_step old buffer (Err error) new
-  writing-fails old mid new buffer left error call writing (last, tries, step) ends = record {
+  writing-fails old mid new buffer left error call writing repeats ends = record {
     part = writing.bytes;
     begins = (left, writing.split);
-    mid = last;
-    written = tried old mid last writing.bytes writing.written tries;
+    mid = repeats.mid;
+    written = tried old mid repeats.mid writing.bytes writing.written repeats.tries;
     call = call;
-    last = step;
+    last = repeats.last;
     ends_in = ends;
+    gives_up = λ is. at-least writing.written.calls repeats.tries.calls (repeats.gives_up is);
   }
 
+  -- a write after so many that were interrupted
+  pub record IsTrying (count : ℕ) (old : W) (call : OutputCall) (new : W) : Type 0 where
+    pub mid : W
+    pub tries : WritesAll write_step old [] mid
+    pub last : write_step mid call new
+    pub counted : count ≤ length tries.calls
+
   -- the first try
-  pub repeats-none : (old new : W) (call : OutputCall) → write_step old call new → Repeats write_step old call new
-  repeats-none old new call step = (old, Writes-none old, step)
+  pub trying-none : (old new : W) (call : OutputCall) → write_step old call new → IsTrying 0 old call new
+  trying-none old new call step = record { mid = old; tries = Writes-none old; last = step; counted = omega arith }
 
   -- a write was interrupted, and is made again
-  pub repeats-more : (old now new : W) (written : Result ℕ Error) (buffer : List ℕ) (call : OutputCall)
-      → IsErrAnd written (λ e. error_kind e ≡ Interrupted) → Repeats write_step old (write_call written buffer) now
-      → write_step now call new → Repeats write_step old call new
-  repeats-more old now new (Ok n) buffer call never tries step = absurd never
-  repeats-more old now new (Err e) buffer call interrupted (mid, tries, last) step =
-      (now, all-next old mid now [] (writes (Err e)) tries interrupted last, step)
+  pub trying-more : (count : ℕ) (old now new : W) (written : Result ℕ Error) (buffer : List ℕ) (call : OutputCall)
+      → IsErrAnd written (λ e. error_kind e ≡ Interrupted) → IsTrying count old (write_call written buffer) now
+      → write_step now call new → IsTrying (count + 1) old call new
+  trying-more count old now new (Ok n) buffer call never trying step = absurd never
+  trying-more count old now new (Err e) buffer call interrupted trying step = record {
+    mid = now;
+    tries = all-next old trying.mid now [] (writes (Err e)) trying.tries interrupted trying.last;
+    last = step;
+    counted = subst (λ n. count + 1 ≤ n) (sym (length-append trying.tries.calls (writes (Err e) ∷ [])))
+        (let counted = trying.counted in omega arith);
+  }
+
+  -- it wasn't interrupted, or was given up
+  pub repeated : (count : ℕ) (old new : W) (call : OutputCall) → IsTrying count old call new
+      → (IsInterrupted call → 2 ^ 64 - 1 ≤ count) → Repeats write_step old call new
+  repeated count old new call trying ends = record {
+    mid = trying.mid;
+    tries = trying.tries;
+    last = trying.last;
+    gives_up = λ is. let all = ends is in let counted = trying.counted in omega arith;
+  }
 
   -- what the output holds grows by a text that is written
   calls-append : (contents : W → Option (List ℕ))

@@ -1,6 +1,6 @@
 -- The text of the lines of a match, written line by line.
 use Rattle.std.proofs.Common.{◌≡◌, ℕ, List, [], ◌∷◌, ◌++◌, refl, sym, ◌∙◌, append_assoc, subst}
-use Rattle.std.specs.Prelude.{decimal, Option, Some, Result, Ok, Err}
+use Rattle.std.specs.Prelude.{true, false, ◌-◌, ◌==◌, if◌then◌else◌, length, slice_index, decimal, Option, Some, Result, Ok, Err}
 use Rattle.std.specs.declared.io.Error.{Error}
 use Rattle.std.proofs.lemmas.List.{append-nil}
 use Rattle.lgrep_cli.specs.Texts.{ended, numbered, next_number, match_text}
@@ -43,6 +43,16 @@ module _ {W : Type 0} (write_step : W → OutputCall → W → Type 0) where
       → Writes write_step old (match_text first all) (Ok tt) new
   printing-whole old new first number all printing =
       subst (λ text. Writes write_step old text (Ok tt) new) (sym (printing.whole ∙ append-nil printing.text)) printing.written
+
+  -- a line that isn't written up to its line feed
+  pub ended-cut : (old new : W) (line : List ℕ) (error : Error) → Writes write_step old line (Err error) new
+      → Writes write_step old (ended line) (Err error) new
+  ended-cut old new line error wrote =
+      elim (slice_index line (length line - 1) == 10)
+      as (λ b. Writes write_step old (if b then line else line ++ 10 ∷ []) (Err error) new) [
+        | true ↦ wrote
+        | false ↦ Writes-cut write_step old new line (10 ∷ []) error wrote
+      ]
 
   -- a line that ends without a line feed
   pub ended-more : (old mid new : W) (line : List ℕ) (result : Result (Unit {0}) Error) → ended line ≡ line ++ 10 ∷ []

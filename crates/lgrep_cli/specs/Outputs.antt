@@ -1,5 +1,5 @@
 -- What an output of bytes does in a call, and in a run of calls.
-use Rattle.std.specs.Prelude.{◌≡◌, ℕ, ◌<◌, List, [], ◌∷◌, ◌++◌, length, take, Result, Ok, Err}
+use Rattle.std.specs.Prelude.{◌≡◌, ℕ, ◌-◌, ◌^◌, ◌<◌, ◌≤◌, List, [], ◌∷◌, ◌++◌, length, take, Result, Ok, Err}
 use Rattle.std.specs.IoError.{error_kind}
 use Rattle.std.specs.List.{All}
 use Rattle.std.specs.declared.io.Error.{Error}
@@ -26,10 +26,16 @@ abbrev pub taken_by_all : List OutputCall → List ℕ
 taken_by_all [] = []
 taken_by_all (call ∷ later) = taken_by call ++ taken_by_all later
 
+-- the call is a write that was interrupted
+abbrev pub IsInterrupted : OutputCall → Type 0
+IsInterrupted (writes (Ok bytes)) = ⊥
+IsInterrupted (writes (Err e)) = error_kind e ≡ Interrupted
+IsInterrupted (flushes result) = ⊥
+
 -- another write may follow: the call is a write that took some bytes, or was interrupted
 abbrev pub GoesOn : OutputCall → Type 0
 GoesOn (writes (Ok bytes)) = 0 < length bytes
-GoesOn (writes (Err e)) = error_kind e ≡ Interrupted
+GoesOn (writes (Err e)) = IsInterrupted (writes (Err e))
 GoesOn (flushes result) = ⊥
 
 -- the call is a write that ends in this error: it returned the error, or took no bytes
@@ -56,7 +62,8 @@ module _ {S : Type 0} (step : S → OutputCall → S → Type 0) where
     pub go_on : All GoesOn calls
     pub taken : taken_by_all calls ≡ bytes
 
-  -- such writes took some first bytes of a text, and the next one ended in this error
+  -- such writes took some first bytes of a text, and the next one ended in this error. One that was
+  -- interrupted is the last only after 2^64 - 1 others
   pub record FailsToWrite (old : S) (text : List ℕ) (error : Error) (new : S) : Type 0 where
     pub part : List ℕ
     pub begins : Begins part text
@@ -65,12 +72,17 @@ module _ {S : Type 0} (step : S → OutputCall → S → Type 0) where
     pub call : OutputCall
     pub last : step mid call new
     pub ends_in : EndsIn error call
+    pub gives_up : IsInterrupted call → 2 ^ 64 - 1 ≤ length written.calls
 
   -- a text is written, or the output fails before
   abbrev pub Writes : S → List ℕ → Result (Unit {0}) Error → S → Type 0
   Writes old text (Ok u) new = WritesAll old text new
   Writes old text (Err error) new = FailsToWrite old text error new
 
-  -- a call, and before it no other than writes that were interrupted
-  abbrev pub Repeats : S → OutputCall → S → Type 0
-  Repeats old call new = (mid : S) × WritesAll old [] mid × step mid call new
+  -- a call, and before it no other than writes that were interrupted. If it was interrupted too, it
+  -- is the last only after 2^64 - 1 others
+  pub record Repeats (old : S) (call : OutputCall) (new : S) : Type 0 where
+    pub mid : S
+    pub tries : WritesAll old [] mid
+    pub last : step mid call new
+    pub gives_up : IsInterrupted call → 2 ^ 64 - 1 ≤ length tries.calls

@@ -1,9 +1,8 @@
 //! Outputs of bytes, to which a run writes.
-ghost use Rattle.std.specs.Prelude.{◌↔◌, ℕ, List, Option, None, IsTrue};
+ghost use Rattle.std.specs.Prelude.{◌≡◌, ◌↔◌, ℕ, List, Option, None, IsTrue};
 ghost use Rattle.std.specs.Io.{WritesAtMost};
 ghost use Rattle.std.specs.Io.KnownBytes.{Appends};
 ghost use Rattle.std.specs.IoError.{error_kind};
-ghost use Rattle.std.specs.Prelude.{◌≡◌};
 ghost use Rattle.std.specs.Result.{IsErrAnd};
 ghost use Rattle.std.specs.declared.io.ErrorKind.TheVariants.{Interrupted};
 ghost use Rattle.lgrep_cli.specs.Outputs.{OutputCall, flushes, taken_by, write_call};

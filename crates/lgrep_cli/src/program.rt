@@ -15,11 +15,12 @@ use std::rt::Files;
 /// The message on standard error of any failure but a usage error.
 pub const FAILED: &str = "lgrep: search failed";
 
-/// Does what the arguments ask for, which are without the program's name: searches the file at their path or, if there is
-/// none, what `input` gives, and writes the text of what is found. If the arguments are a usage error, `USAGE` goes to
-/// standard error, and if there is no memory or the search fails, `FAILED`.
+/// Does what the arguments ask for, which are without the program's name: searches the file at
+/// their path or, if there is none, what `input` gives, and writes the text of what is found. After
+/// a usage error `USAGE` goes to standard error, and if there is no memory or the search fails,
+/// `FAILED`.
 ///
-/// It exits with 0 if a match was reported, 1 if none was, and 2 if anything failed.
+/// The status is 0 if a match was reported, 1 if none was, and 2 if anything failed.
 pub fn run_arguments<T: Files + Eprint, R: Source, W: Output>(
     rt: &T,
     alloc: Global,
@@ -27,7 +28,8 @@ pub fn run_arguments<T: Files + Eprint, R: Source, W: Output>(
     input: &mut R,
     writer: &mut W,
 ) -> ExitCode
-    ensures { IsProgramEnd ⟦<Reading<T::File> as Source>⟧.remaining ⟦<Reading<T::File> as Source>⟧.step
+    ensures { IsProgramEnd
+        ⟦<Reading<T::File> as Source>⟧.remaining ⟦<Reading<T::File> as Source>⟧.step
         R.remaining R.step W.step W.contents arguments.now input.old writer.old (exit_status result)
         input.new writer.new }
 {

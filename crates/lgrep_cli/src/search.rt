@@ -69,8 +69,8 @@ pub fn run_path<R: Files, W: Output>(
     run(alloc, options, &mut Reading::new(file), writer)
 }
 
-/// Searches the file at the options' path as `run_path` does or, if they have none, what `input` gives as `run` does. If
-/// they have a path, whatever it is, `input` has no call.
+/// Searches the file at the options' path as `run_path` does or, if they have none, what `input`
+/// gives as `run` does. If they have a path, whatever it is, `input` has no call.
 pub fn run_options<F: Files, R: Source, W: Output>(
     rt: &F,
     alloc: Global,

@@ -4,7 +4,7 @@ use grep_searcher::{ConfigError, SearchError, Searcher, SearcherBuilder};
 use grep_testing::{Naming, Pieces, Recorder};
 use std::alloc::Global;
 use std::fs::File;
-use std::io::{ErrorKind, Read};
+use std::io::ErrorKind;
 use std::path::{Path, PathBuf};
 use std::test::Fail;
 use std::{env, fs, io, process};
@@ -134,54 +134,26 @@ fn reads_as_much_as_there_is_room_for(rt: HostRuntime) -> Result<(), Fail> {
     Ok(())
 }
 
-// Gives a matching line at its first read, and is interrupted at each other one.
-#[derive(Drop)]
-struct Cut {
-    reads: u64,
-}
-
-impl Read for Cut {
-    fn read(&mut self, buffer: &mut [u8]) -> io::Result<usize> {
-        self.reads = self.reads.saturating_add(1);
-        if self.reads > 1 {
-            return Err(io::Error::from(ErrorKind::Interrupted));
-        }
-        let count = buffer.len().min(2);
-        buffer[..count].copy_from_slice(&b"a\n"[..count]);
-        Ok(count)
-    }
-}
-
-// Whether a search of such a file reports the line, and then ends in the file's error, without another read.
-fn is_cut(alloc: Global) -> Result<bool, ConfigError> {
+// Whether a search of a file whose second read fails reports the line before, and then ends in the file's error, without
+// another read.
+fn is_cut(alloc: Global, kind: ErrorKind) -> Result<bool, ConfigError> {
     let mut searcher = SearcherBuilder::new().bom_sniffing(false).build(alloc)?;
-    let mut file = Cut { reads: 0 };
+    let mut file = Pieces::new(b"a\n", 0, Some((2, io::Error::from(kind))));
     let mut recorder = Recorder::new(alloc, None, None);
     let ended = searcher.search_file(LiteralMatcher::borrowed(b"a"), &mut file, &mut recorder);
     let is_error = match ended {
-        Err(SearchError::Io(error)) => error.kind() == ErrorKind::Interrupted,
+        Err(SearchError::Io(error)) => error.kind() == kind,
         _ => false,
     };
-    Ok(is_error && file.reads == 2 && recorder.text() == "begin;match 1 0 610a;")
+    Ok(is_error && file.reads() == 2 && recorder.text() == "begin;match 1 0 610a;")
 }
 
 #[test]
 fn ends_in_the_error_of_a_file(rt: HostRuntime) -> Result<(), Fail> {
-    assert!(rt; is_cut(rt.alloc())?);
-    Ok(())
-}
-
-// Counts its reads, each of which is at the end.
-#[derive(Drop)]
-struct Unread {
-    reads: u64,
-}
-
-impl Read for Unread {
-    fn read(&mut self, _buffer: &mut [u8]) -> io::Result<usize> {
-        self.reads = self.reads.saturating_add(1);
-        Ok(0)
+    for kind in [ErrorKind::Interrupted, ErrorKind::WouldBlock] {
+        assert!(rt; is_cut(rt.alloc(), kind)?, "{kind:?}");
     }
+    Ok(())
 }
 
 // The configuration that a search of a file is refused for, if nothing was read or called.
@@ -195,7 +167,7 @@ fn refused(
         .multi_line(multi_line)
         .heap_limit(heap_limit)
         .build(alloc)?;
-    let mut file = Unread { reads: 0 };
+    let mut file = Pieces::new(b"", 0, None);
     let mut recorder = Recorder::new(alloc, None, None);
     let matcher = Naming {
         terminator,
@@ -203,7 +175,7 @@ fn refused(
     };
     let ended = searcher.search_file(matcher, &mut file, &mut recorder);
     match ended {
-        Err(SearchError::Config(error)) if file.reads == 0 && recorder.text().is_empty() => {
+        Err(SearchError::Config(error)) if file.reads() == 0 && recorder.text().is_empty() => {
             Ok(Some(error))
         }
         _ => Ok(None),

@@ -92,4 +92,5 @@ returns-clause-in_order g c =
     order.begun-to g.C.Calls.step c.args.self.now.config c.args.sink.now _ _ _ (rw goes at c.in_ok-begin.ensures.step)
     (order.called-to g.C.Calls.step c.args.self.now.config
     (errors_by g.C.Error.SinkError.is_message g.C.Error.SinkError.is_io g.C.Error.SinkError.is_config)
-    (facts_by g.M.Matcher.meaning g.M.Matcher.fails g.M.Matcher.is_lawful g.M.Error.Display.output c.args.matcher.now) c.begin.new.sink _ c.in_ok-search_window.field-0 _ c.in_ok-search_window.ensures.in_order)
+    (facts_by g.M.Matcher.meaning g.M.Matcher.fails g.M.Matcher.is_lawful g.M.Error.Display.output c.args.matcher.now)
+    c.begin.new.sink _ c.in_ok-search_window.field-0 _ c.in_ok-search_window.ensures.in_order)

@@ -97,7 +97,8 @@ returns-in-Err-clause-broken g c =
     subst (λ s. IsOrderedFault g.C.Calls.step c.args.self.now.config errors facts
     (IsReadingError g.R.Source.remaining g.R.Source.step c.args.reader.now c.read_by_line.new.reader) c.args.sink.now c.in-Err.error s)
     (sym (c.in-Err.sink-in-Err-1-own.given.1 (sym (c.in-Err.ensures.same_sink ∙ c.new-noted.ensures.same_sink))))
-    (order.order-read g.C.Calls.step c.args.self.now.config errors facts (IsReadingError g.R.Source.remaining g.R.Source.step c.args.reader.now c.read_by_line.new.reader)
+    (order.order-read g.C.Calls.step c.args.self.now.config errors facts
+    (IsReadingError g.R.Source.remaining g.R.Source.step c.args.reader.now c.read_by_line.new.reader)
     c.args.sink.now _ c.in-Err.error _
     (subst (λ s. g.C.Calls.step c.args.sink.now c.args.self.now.config begins (Ok true) s) (sym c.new-noted.ensures.sink) begun)
     c.in-Err.ensures.in_order)

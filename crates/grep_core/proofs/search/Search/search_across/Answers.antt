@@ -1,4 +1,4 @@
-use Rattle.std.proofs.Common.{rules, ◌≡◌, ◌==◌, ◌∙◌, arith, sym, subst, refl, true, false, [], ◌-◌, drop, length-take, length-drop}
+use Rattle.std.proofs.Common.{rules, ◌≡◌, ◌==◌, arith, sym, subst, refl, true, false, [], ◌-◌, drop, length-take, length-drop}
 use Rattle.std.proofs.lemmas.Result.{err_from_is_err_and}
 use Rattle.grep_matcher.specs.Terminators.{byte_of}
 use Rattle.grep_lines.specs.Positions.{slice, IsLineStart}

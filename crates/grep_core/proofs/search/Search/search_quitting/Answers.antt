@@ -52,7 +52,8 @@ returns-clause-searched g c = λ lawful.
 
 pub returns-clause-same_sink : goal.returns-clause-same_sink
 returns-clause-same_sink g c =
-    c.finish.ensures.step.0 ∙ (order.begun-keeps (Quits g.C.Calls.step g.C.Calls.may_call) c.args.self.now.config (errors-of g) (facts-of g c.args.matcher.now)
+    c.finish.ensures.step.0
+    ∙ (order.begun-keeps (Quits g.C.Calls.step g.C.Calls.may_call) c.args.self.now.config (errors-of g) (facts-of g c.args.matcher.now)
     (λ quitting. quitting.sink.ghost_name) (λ old call result new step. step.0) c.args.sink.now c.match_bytes.result
     c.match_bytes.new.sink c.match_bytes.ensures.in_order)
 

@@ -1,4 +1,4 @@
-use Rattle.std.proofs.Common.{◌≡◌, ◌≤◌, ◌||◌, true, [], ap, is_some, length, ◌∙◌, subst, sym, arith}
+use Rattle.std.proofs.Common.{◌≡◌, ◌⊎◌, ◌≤◌, ◌||◌, true, [], ap, is_some, length, ◌∙◌, subst, sym, arith}
 use Rattle.std.proofs.lemmas.Bool.{false≢true}
 use Rattle.grep_decode.specs.declared.mode.Mode.TheVariants.{Fresh, Passing}
 use Rattle.grep_decode.specs.Decoded.{found_mark}
@@ -30,11 +30,20 @@ returns-clause-decodes g c =
       | then-sniff+in-Ok w ↦ rw w.self-is fresh
       | else-sniff+else-is_some w ↦ rw w.self-is c.requires
     ] in
+    let enough : LooksForMark c.if-sniff.self.mode → (3 ≤ length c.if-sniff.self.held) ⊎ (c.choose.new.self.has_ended ≡ true) =
+    λ looks. elim c.if-sniff.branch [
+      | then-sniff+in-Ok w ↦ rw (c.choose.ensures.ended, w.self-is) w.in-Ok.ensures.enough
+      | else-sniff+else-is_some w ↦
+          let looked : (c.args.sniff || is_some c.args.label) ≡ true = subst LooksForMark same_mode looks in
+          let unlooked : (c.args.sniff || is_some c.args.label) ≡ is_some c.args.label =
+          ap (λ b. b || is_some c.args.label) w.if-sniff.false in
+          absurd (false≢true (sym w.if-is_some.false ∙ (w.is_some.ensures ∙ (sym unlooked ∙ looked))))
+    ] in
     Decodes-append remaining step c.args.self.now c.if-sniff.self c.choose.new.self c.args.reader.now
     c.if-sniff.reader c.if-sniff.reader [] []
     ahead (Decodes-within remaining step c.if-sniff.self c.choose.new.self c.if-sniff.reader [] c.choose.ensures.ended c.choose.ensures.same
     c.choose.ensures.next c.choose.ensures.settled (λ settled. absurd (subst IsSettled same_mode settled))
-    (λ passing. omega (arith, few)))
+    (λ passing. omega (arith, few)) enough)
 
 pub returns-clause-first : goal.returns-clause-first
 returns-clause-first g c = λ none unended looks.

@@ -78,5 +78,6 @@ returns-clause-in_order g c =
     let errors = errors_by g.S.Error.SinkError.is_message g.S.Error.SinkError.is_io g.S.Error.SinkError.is_config in
     let facts = facts_by g.M.Matcher.meaning g.M.Matcher.fails g.M.Matcher.is_lawful g.M.Error.Display.output c.args.matcher.now in
     let same = sym c.search-search.ensures.configured.same ∙ c.in-Ok.ensures.settings in
-    subst (λ k. RunsInOrder g.S.Sink.step k errors facts (IsReadingError g.R.Source.remaining g.R.Source.step c.args.reader.now c.search_reader-result.new.reader)
+    subst (λ k. RunsInOrder g.S.Sink.step k errors facts
+    (IsReadingError g.R.Source.remaining g.R.Source.step c.args.reader.now c.search_reader-result.new.reader)
     c.args.sink.now c.search_reader-result.result c.search_reader-result.new.sink) same c.search_reader-result.ensures.in_order
