@@ -1,8 +1,8 @@
-//! What a search asks about many lines at once, and matchers that are wrong about them.
+//! What a search asks about many lines at once.
 use crate::searches::{search_reader, search_slice};
 use grep_matcher::{LiteralMatcher, Matcher};
 use grep_searcher::{ConfigError, SearchError, Searcher, SearcherBuilder};
-use grep_testing::{Contrary, Counting, EveryLine, Pieces, Recorder};
+use grep_testing::{Counting, EveryLine, Pieces, Recorder};
 use std::alloc::Global;
 use std::io;
 use std::io::ErrorKind;
@@ -150,39 +150,6 @@ fn questions(rt: HostRuntime) -> Result<(), Fail> {
         } else {
             assert!(rt; asks(rt.alloc(), row, None)?, "row {index}");
             assert!(rt; asks(rt.alloc(), row, Some(0))?, "row {index} by a reader");
-        }
-    }
-    Ok(())
-}
-
-// Whether a search with a matcher that is wrong about many lines returns, and the searcher then finds the literal `a`.
-fn recovers(alloc: Global, matches: bool, piece: Option<usize>) -> Result<bool, SearchError> {
-    let mut searcher = Searcher::new(alloc)?;
-    let mut recorder = Recorder::new(alloc, None, None);
-    let matcher = Contrary { matches };
-    search(&mut searcher, matcher, b"a\nb\na\n", piece, &mut recorder)?;
-    finds(alloc, &mut searcher, piece)
-}
-
-fn finds(
-    alloc: Global,
-    searcher: &mut Searcher,
-    piece: Option<usize>,
-) -> Result<bool, SearchError> {
-    let mut recorder = Recorder::new(alloc, None, None);
-    let matcher = LiteralMatcher::borrowed(b"a");
-    search(searcher, matcher, b"a\nb\na\n", piece, &mut recorder)?;
-    Ok(recorder.text() == "begin;match 1 0 610a;match 3 4 610a;finish 6 -;")
-}
-
-#[test]
-fn after_wrong_candidates(rt: HostRuntime) -> Result<(), Fail> {
-    for matches in [false, true] {
-        for piece in [None, Some(0), Some(1)] {
-            assert!(rt;
-                recovers(rt.alloc(), matches, piece)?,
-                "{matches}, {piece:?}"
-            );
         }
     }
     Ok(())

@@ -6,7 +6,6 @@ use grep_searcher::{
 };
 use grep_testing::{Failing, Naming, Pieces, Recorder};
 use std::alloc::Global;
-use std::io;
 use std::process::Abort;
 use std::test::Fail;
 
@@ -124,26 +123,6 @@ fn after_a_fault_of_the_matcher(rt: HostRuntime) -> Result<(), Fail> {
     let mut recorder = Recorder::new(rt.alloc(), None, None);
     let ended = search_slice(&mut searcher, &Failing, b"!\n", &mut recorder);
     assert!(rt; is_message(ended));
-    check_near(&rt, &mut searcher)
-}
-
-#[test]
-fn after_a_fault_of_the_reader(rt: HostRuntime) -> Result<(), Fail> {
-    let mut searcher = near(rt.alloc())?;
-    let mut recorder = Recorder::new(rt.alloc(), None, None);
-    let fault = Some((2, io::Error::from(io::ErrorKind::TimedOut)));
-    let mut reader = Pieces::new(INPUT, 3, fault);
-    let ended = search_reader(&mut searcher, &Failing, &mut reader, &mut recorder);
-    assert!(rt; matches!(ended, Err(SearchError::Io(_))));
-    check_near(&rt, &mut searcher)
-}
-
-#[test]
-fn after_a_fault_of_the_sink(rt: HostRuntime) -> Result<(), Fail> {
-    let mut searcher = near(rt.alloc())?;
-    let mut recorder = Recorder::new(rt.alloc(), None, Some(2));
-    let ended = search_slice(&mut searcher, &Failing, INPUT, &mut recorder);
-    assert!(rt; is_message(ended) && recorder.text() == "begin;match 1 0 610a;");
     check_near(&rt, &mut searcher)
 }
 

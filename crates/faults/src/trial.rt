@@ -1,0 +1,207 @@
+//! The cases of a row.
+use crate::case::{End, Fault};
+use crate::rows::Row;
+use grep_decode::Source;
+use grep_matcher::{LiteralMatcher, Matcher};
+use grep_searcher::{SearchError, Searcher, Sink};
+use grep_testing::{Pieces, Recorder};
+use std::alloc::Global;
+use std::io;
+use std::io::ErrorKind;
+
+// Each kind of error.
+const KINDS: &[ErrorKind] = &[
+    ErrorKind::NotFound,
+    ErrorKind::PermissionDenied,
+    ErrorKind::ConnectionRefused,
+    ErrorKind::ConnectionReset,
+    ErrorKind::HostUnreachable,
+    ErrorKind::NetworkUnreachable,
+    ErrorKind::ConnectionAborted,
+    ErrorKind::NotConnected,
+    ErrorKind::AddrInUse,
+    ErrorKind::AddrNotAvailable,
+    ErrorKind::NetworkDown,
+    ErrorKind::BrokenPipe,
+    ErrorKind::AlreadyExists,
+    ErrorKind::WouldBlock,
+    ErrorKind::NotADirectory,
+    ErrorKind::IsADirectory,
+    ErrorKind::DirectoryNotEmpty,
+    ErrorKind::ReadOnlyFilesystem,
+    ErrorKind::FilesystemLoop,
+    ErrorKind::StaleNetworkFileHandle,
+    ErrorKind::InvalidInput,
+    ErrorKind::InvalidData,
+    ErrorKind::TimedOut,
+    ErrorKind::WriteZero,
+    ErrorKind::StorageFull,
+    ErrorKind::NotSeekable,
+    ErrorKind::QuotaExceeded,
+    ErrorKind::FileTooLarge,
+    ErrorKind::ResourceBusy,
+    ErrorKind::ExecutableFileBusy,
+    ErrorKind::Deadlock,
+    ErrorKind::CrossesDevices,
+    ErrorKind::TooManyLinks,
+    ErrorKind::InvalidFilename,
+    ErrorKind::ArgumentListTooLong,
+    ErrorKind::Interrupted,
+    ErrorKind::Unsupported,
+    ErrorKind::UnexpectedEof,
+    ErrorKind::OutOfMemory,
+    ErrorKind::InProgress,
+    ErrorKind::Other,
+    ErrorKind::Uncategorized,
+];
+
+// How many cases there were, and how many agreed.
+#[derive(Clone, Copy)]
+struct Tally {
+    cases: u64,
+    agreed: u64,
+}
+
+impl Tally {
+    fn new() -> Tally {
+        Tally {
+            cases: 0,
+            agreed: 0,
+        }
+    }
+
+    // Counts a case.
+    fn add(&mut self, agrees: bool) {
+        self.cases = self.cases.saturating_add(1);
+        if agrees {
+            self.agreed = self.agreed.saturating_add(1);
+        }
+    }
+
+    // Writes the counts of a part of a row.
+    fn write<W: io::Write>(self, row: &Row, part: &str, output: &mut W) -> io::Result<()> {
+        let (agreed, cases) = (self.agreed, self.cases);
+        writeln!(output, "{}, {part}: {agreed} of {cases} agree", row.name)
+    }
+}
+
+/// Tries all cases of a row by one searcher, and writes how many agreed. An error is that of the write to `output`.
+pub(crate) fn try_all<W: io::Write>(alloc: Global, row: &Row, output: &mut W) -> io::Result<()> {
+    match row.settings.build(alloc) {
+        Ok(mut searcher) => {
+            try_reads(alloc, &mut searcher, row, output)?;
+            try_stops(alloc, &mut searcher, row, output)?;
+            try_errors(alloc, &mut searcher, row, output)
+        }
+        Err(_) => writeln!(output, "{}: no searcher", row.name),
+    }
+}
+
+// Tries each read that fails, with an error of each kind.
+fn try_reads<W: io::Write>(
+    alloc: Global,
+    searcher: &mut Searcher,
+    row: &Row,
+    output: &mut W,
+) -> io::Result<()> {
+    let mut tally = Tally::new();
+    for read in 1..=row.reads {
+        for kind in KINDS {
+            let fault = Fault::Read(read, *kind);
+            tally.add(agrees(alloc, searcher, row, fault, output)?);
+        }
+    }
+    tally.write(row, "a read fails", output)
+}
+
+// Tries each call that returns false.
+fn try_stops<W: io::Write>(
+    alloc: Global,
+    searcher: &mut Searcher,
+    row: &Row,
+    output: &mut W,
+) -> io::Result<()> {
+    let mut tally = Tally::new();
+    for call in 1..=row.calls.len() as u64 {
+        tally.add(agrees(alloc, searcher, row, Fault::False(call), output)?);
+    }
+    tally.write(row, "a call returns false", output)
+}
+
+// Tries each call that fails, and `finish`.
+fn try_errors<W: io::Write>(
+    alloc: Global,
+    searcher: &mut Searcher,
+    row: &Row,
+    output: &mut W,
+) -> io::Result<()> {
+    let mut tally = Tally::new();
+    for call in 0..=row.calls.len() as u64 {
+        let fault = Fault::Call(call.saturating_add(1));
+        tally.add(agrees(alloc, searcher, row, fault, output)?);
+    }
+    tally.write(row, "a call fails", output)
+}
+
+// Whether a search with a fault, and then one with none, come to what they have to.
+fn agrees<W: io::Write>(
+    alloc: Global,
+    searcher: &mut Searcher,
+    row: &Row,
+    fault: Fault,
+    output: &mut W,
+) -> io::Result<bool> {
+    let first = comes_to(alloc, searcher, row, fault, output)?;
+    let second = comes_to(alloc, searcher, row, Fault::None, output)?;
+    Ok(first && second)
+}
+
+/// Whether a search of a row comes to what it has to. If it doesn't, what it came to is written.
+pub(crate) fn comes_to<W: io::Write>(
+    alloc: Global,
+    searcher: &mut Searcher,
+    row: &Row,
+    fault: Fault,
+    output: &mut W,
+) -> io::Result<bool> {
+    let mut recorder = Recorder::new(alloc, fault.false_at(), fault.error_at());
+    let mut reader = Pieces::new(row.input, 1, fault.of_reader());
+    let matcher = LiteralMatcher::borrowed(row.literal);
+    let ended = search(searcher, matcher, &mut reader, &mut recorder);
+    let end = End::of(alloc, ended);
+    let (calls, reads) = (recorder.text(), reader.reads());
+    let agrees = fault.makes(row, calls, end, reads);
+    if !agrees {
+        writeln!(
+            output,
+            "{}, {fault}: {calls}{} after {reads} reads",
+            row.name,
+            end.name()
+        )?;
+    }
+    Ok(agrees)
+}
+
+/// Searches what a reader gives. The contract of the search isn't passed on.
+pub(crate) fn search<M: Matcher + Drop, R: Source, S: Sink<Error = SearchError>>(
+    searcher: &mut Searcher,
+    matcher: M,
+    reader: &mut R,
+    sink: &mut S,
+) -> Result<(), SearchError>
+    requires { S.may_call sink.old }
+{
+    searcher.search_reader(matcher, reader, sink)
+}
+
+/// Searches a slice. The contract of the search isn't passed on.
+pub(crate) fn search_slice<M: Matcher + Drop, S: Sink<Error = SearchError>>(
+    searcher: &mut Searcher,
+    matcher: M,
+    bytes: &[u8],
+    sink: &mut S,
+) -> Result<(), SearchError>
+    requires { S.may_call sink.old }
+{
+    searcher.search_slice(matcher, bytes, sink)
+}

@@ -1,0 +1,146 @@
+//! Searches, each by one searcher that is used again if a request was refused.
+use crate::outcome::{Outcome, is_refusal};
+use grep_matcher::{LiteralMatcher, Matcher};
+use grep_searcher::sinks::Lossy;
+use grep_searcher::{SearchError, Searcher, SearcherBuilder, Sink, SinkError};
+use grep_testing::{Pieces, Recorder};
+use lgrep_cli::{Options, Output, Writing, run};
+use std::alloc::{AllocError, Global};
+use std::io;
+
+/// What is searched.
+#[derive(Clone, Copy)]
+pub(crate) enum Input {
+    /// A slice, by line.
+    Slice,
+    /// A reader, by line, with a first line of 200,000 bytes.
+    LongLine,
+    /// A reader, across lines.
+    Across,
+}
+
+impl Input {
+    // What the search is for.
+    fn literal(self) -> &'static [u8] {
+        match self {
+            Input::Across => b"a\nb",
+            _ => b"a",
+        }
+    }
+
+    // The calls of the search.
+    fn calls(self) -> &'static str {
+        match self {
+            Input::Slice => "begin;match 1 0 610a;after 2 2 620a;finish 4 -;",
+            Input::LongLine => "begin;match 2 200001 610a;after 3 200003 620a;finish 200005 -;",
+            Input::Across => "begin;match 2 200001 610a620a;finish 200005 -;",
+        }
+    }
+
+    // The bytes that are searched.
+    fn bytes(self, alloc: Global) -> Result<Vec<u8>, AllocError> {
+        let mut bytes = Vec::new(alloc);
+        if !matches!(self, Input::Slice) {
+            bytes.resize(200_000, b'z')?;
+            bytes.push(b'\n')?;
+        }
+        bytes.extend_from_slice(b"a\nb\n")?;
+        Ok(bytes)
+    }
+
+    /// What comes of the search.
+    pub(crate) fn outcome(self, alloc: Global) -> Outcome {
+        let Ok(bytes) = self.bytes(alloc) else {
+            return Outcome::Refused;
+        };
+        let is_across = matches!(self, Input::Across);
+        let Ok(mut searcher) = SearcherBuilder::new()
+            .after_context(1)
+            .multi_line(is_across)
+            .build(alloc)
+        else {
+            return Outcome::Refused;
+        };
+        match self.once(alloc, &mut searcher, &bytes) {
+            Outcome::Refused => match self.once(alloc, &mut searcher, &bytes) {
+                Outcome::Done => Outcome::Refused,
+                _ => Outcome::Wrong,
+            },
+            outcome => outcome,
+        }
+    }
+
+    // What comes of one search by this searcher.
+    fn once(self, alloc: Global, searcher: &mut Searcher, bytes: &[u8]) -> Outcome {
+        let mut recorder = Recorder::new(alloc, None, None);
+        let matcher = LiteralMatcher::borrowed(self.literal());
+        let ended = match self {
+            Input::Slice => search_slice(searcher, matcher, bytes, &mut recorder),
+            _ => search_reader(searcher, matcher, bytes, &mut recorder),
+        };
+        Outcome::of_search(ended, recorder.text(), self.calls())
+    }
+}
+
+// Searches a slice. The contract of the search isn't passed on, here and below.
+fn search_slice<M: Matcher + Drop, E: SinkError<Global>, S: Sink<Error = E>>(
+    searcher: &mut Searcher,
+    matcher: M,
+    bytes: &[u8],
+    sink: &mut S,
+) -> Result<(), E>
+    requires { S.may_call sink.old }
+{
+    searcher.search_slice(matcher, bytes, sink)
+}
+
+// Searches a reader of these bytes.
+fn search_reader<M: Matcher + Drop, S: Sink<Error = SearchError>>(
+    searcher: &mut Searcher,
+    matcher: M,
+    bytes: &[u8],
+    sink: &mut S,
+) -> Result<(), SearchError>
+    requires { S.may_call sink.old }
+{
+    let mut reader = Pieces::new(bytes, 0, None);
+    searcher.search_reader(matcher, &mut reader, sink)
+}
+
+/// What comes of a search whose sink needs memory for the text of a match.
+pub(crate) fn lossy(alloc: Global) -> Outcome {
+    let Ok(mut searcher) = Searcher::new(alloc) else {
+        return Outcome::Refused;
+    };
+    let matcher = LiteralMatcher::borrowed(b"a");
+    let mut sink = Lossy(|number: u64, text: &str| -> io::Result<bool> {
+        Ok(number == 1 && text == "a\u{FFFD}\n")
+    });
+    match search_slice(&mut searcher, matcher, b"a\xFF\n", &mut sink) {
+        Ok(()) => Outcome::Done,
+        Err(error) if error.kind() == io::ErrorKind::OutOfMemory => Outcome::Refused,
+        Err(_) => Outcome::Wrong,
+    }
+}
+
+/// What comes of a run of `lgrep`, by these options.
+pub(crate) fn run_by(alloc: Global, options: &Options) -> Outcome {
+    let mut writer = Writing::new(Vec::new(alloc));
+    let ended = run_over(alloc, options, b"b\na\n", &mut writer);
+    let written = writer.into_inner();
+    match ended {
+        Ok(true) if written.as_slice() == b"2:a\n".as_slice() => Outcome::Done,
+        Err(error) if is_refusal(&error) => Outcome::Refused,
+        _ => Outcome::Wrong,
+    }
+}
+
+fn run_over<W: Output>(
+    alloc: Global,
+    options: &Options,
+    bytes: &[u8],
+    writer: &mut W,
+) -> Result<bool, SearchError> {
+    let mut reader = bytes;
+    run(alloc, options, &mut reader, writer)
+}

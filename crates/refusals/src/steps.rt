@@ -1,0 +1,131 @@
+//! What asks for memory.
+use crate::outcome::Outcome;
+use crate::searches::{Input, lossy, run_by};
+use grep_matcher::LiteralMatcher;
+use grep_searcher::{ConfigError, Encoding, SearchError, Searcher, SinkError};
+use lgrep_cli::{Options, OptionsFault};
+use std::alloc::{AllocError, Global};
+
+/// A step, which asks for memory unless it says that it doesn't.
+#[derive(Clone, Copy)]
+pub(crate) enum Step {
+    Build,
+    Clone,
+    UnknownLabel,
+    Literal,
+    Options,
+    Search(Input),
+    Lossy,
+    Message,
+    Run,
+}
+
+/// The steps, by their names.
+pub(crate) const STEPS: &[(&str, Step)] = &[
+    ("build", Step::Build),
+    ("clone", Step::Clone),
+    ("the encoding latin1", Step::UnknownLabel),
+    ("a literal", Step::Literal),
+    ("options", Step::Options),
+    ("a search of a slice", Step::Search(Input::Slice)),
+    ("a search of a long line", Step::Search(Input::LongLine)),
+    ("a search across lines", Step::Search(Input::Across)),
+    ("a lossy sink", Step::Lossy),
+    ("a message", Step::Message),
+    ("a run", Step::Run),
+];
+
+impl Step {
+    /// What comes of the step. If it was refused, it is done again, and has to succeed then.
+    pub(crate) fn outcome(self, alloc: Global) -> Outcome {
+        match self.once(alloc) {
+            Outcome::Refused => match self.once(alloc) {
+                Outcome::Done => Outcome::Refused,
+                _ => Outcome::Wrong,
+            },
+            outcome => outcome,
+        }
+    }
+
+    fn once(self, alloc: Global) -> Outcome {
+        match self {
+            Step::Build => built(Searcher::new(alloc)),
+            Step::Clone => cloned(alloc),
+            Step::UnknownLabel => unknown_label(alloc),
+            Step::Literal => literal(alloc),
+            Step::Options => parsed(alloc, false),
+            Step::Search(input) => input.outcome(alloc),
+            Step::Lossy => lossy(alloc),
+            Step::Message => message(alloc),
+            Step::Run => parsed(alloc, true),
+        }
+    }
+}
+
+fn built(built: Result<Searcher, ConfigError>) -> Outcome {
+    match built {
+        Ok(_) => Outcome::Done,
+        Err(ConfigError::Memory) => Outcome::Refused,
+        Err(_) => Outcome::Wrong,
+    }
+}
+
+fn cloned(alloc: Global) -> Outcome {
+    match Searcher::new(alloc) {
+        Ok(searcher) => built(searcher.clone()),
+        Err(_) => Outcome::Refused,
+    }
+}
+
+fn unknown_label(alloc: Global) -> Outcome {
+    match Encoding::new(alloc, "latin1") {
+        Err(ConfigError::UnknownEncoding { .. }) => Outcome::Done,
+        Err(ConfigError::Memory) => Outcome::Refused,
+        _ => Outcome::Wrong,
+    }
+}
+
+fn literal(alloc: Global) -> Outcome {
+    match LiteralMatcher::new(alloc, b"a") {
+        Ok(_) => Outcome::Done,
+        Err(AllocError) => Outcome::Refused,
+    }
+}
+
+// The arguments of a run.
+fn arguments(alloc: Global) -> Result<Vec<String>, AllocError> {
+    let mut arguments = Vec::new(alloc);
+    for argument in ["-A", "1", "a"] {
+        arguments.push(String::from_str(alloc, argument)?)?;
+    }
+    Ok(arguments)
+}
+
+// Reads the arguments, and may run by the options.
+fn parsed(alloc: Global, runs: bool) -> Outcome {
+    let Ok(arguments) = arguments(alloc) else {
+        return Outcome::Refused;
+    };
+    match Options::parse(alloc, &arguments) {
+        Ok(options) if runs => run_by(alloc, &options),
+        Ok(_) => Outcome::Done,
+        Err(OptionsFault::Memory) => Outcome::Refused,
+        Err(OptionsFault::Usage) => Outcome::Wrong,
+    }
+}
+
+const MESSAGE: &str = "what went wrong";
+
+fn message(alloc: Global) -> Outcome {
+    let error: SearchError = SearchError::error_message(alloc, MESSAGE);
+    kept(&error)
+}
+
+// An error that finds no memory for its message has none.
+fn kept(error: &SearchError) -> Outcome {
+    match error {
+        SearchError::Message(text) if text.as_str() == MESSAGE => Outcome::Done,
+        SearchError::Message(text) if text.as_str() == "" => Outcome::Refused,
+        _ => Outcome::Wrong,
+    }
+}
