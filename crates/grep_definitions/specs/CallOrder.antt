@@ -58,7 +58,7 @@ module _ {S E : Type 0} (step : Steps S E) (settings : Settings) where
     pub inner : AreInner settings turns
     pub reported : AreReported step settings old turns outcome new
 
-  -- the same after `begin`
+  -- `begin` and then such calls
   pub record HasBegunWith (old : S) (outcome : Outcome E) (new : S) : Type 0 where
     pub turns : List Turn
     pub inner : AreInner settings turns
@@ -103,7 +103,7 @@ module _ {S E : Type 0} (step : Steps S E) (settings : Settings) where
     EndsInOrder old (Ok count) new = HasCalledTo old count new
     EndsInOrder old (Err e) new = HasFailedIn (HasCalled old) e new
 
-    -- the same with `begin`
+    -- all calls but `finish`
     abbrev pub BeginsInOrder : S → Result ℕ E → S → Type 0
     BeginsInOrder old (Ok count) new = HasBegunTo old count new
     BeginsInOrder old (Err e) new = HasFailedIn (HasBegunWith old) e new

@@ -40,7 +40,7 @@ module _ (settings : Settings) (meaning : Meaning) (input seen : List ℕ) where
   seen_count = length (lines (byte_of settings.line_terminator) seen)
 
   -- a search goes on after whole lines at the front of an input: the next line, if there is one, has a turn. Under
-  -- detection the first bytes are read in any case
+  -- detection the first bytes may be read in any case
   pub record GoesOnAfter : Type 0 where
     pub front : IsFront settings input seen
     pub closed : IsClosed (byte_of settings.line_terminator) seen

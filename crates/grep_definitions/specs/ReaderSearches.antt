@@ -33,7 +33,7 @@ use Rattle.grep_definitions.specs.SinkRuns.{Steps, Outcome, all_true, AreReporte
 abbrev pub is_idle : Settings → Bool
 is_idle settings = not settings.passthru && is_at 0 settings.max_matches
 
--- whether a search by line reads after `begin`: a line may have a turn, or it looks for a binary byte
+-- whether a search by line may read after `begin`: a line may have a turn, or it looks for a binary byte
 abbrev pub reads_lines : Settings → Bool
 reads_lines settings = not (is_idle settings) || is_detecting settings.binary_detection
 

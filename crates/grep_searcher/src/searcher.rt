@@ -116,8 +116,8 @@ impl<A: Allocator + Copy> Searcher<A> {
     ///
     /// If the search may ask the matcher about many lines at once, these calls are promised of a matcher that is lawful
     /// for the searcher's terminator. With any other matcher the search is safe and returns, and the calls are some in
-    /// this order: `begin`, reports and breaks, and `finish`, of which nothing follows an error and `finish` alone a
-    /// false.
+    /// this order: `begin`, reports and breaks (and `binary_data`, under detection), and `finish`. After an error there
+    /// is no call, and after a false only `finish`.
     ///
     /// What is searched are the decoded bytes. If a label is set, or a mark is looked for and is there, the bytes
     /// are searched as a reader's are, as `search_reader` says, with its errors but the reader's own. Any other
@@ -180,7 +180,8 @@ impl<A: Allocator + Copy> Searcher<A> {
     /// what it finds, as `search_slice` does. The caller ensures that the sink may be called.
     ///
     /// By line `begin` comes before any read. The reader is read no further than the search needs: a false, the limit
-    /// or a stop ends it without another read, and so does an unterminated last line. A buffer shows whole lines;
+    /// or a stop ends it without another read (at a limit of 0 it may be read once under binary detection), and so does
+    /// an unterminated last line. A buffer shows whole lines;
     /// between two reads it keeps at most as many of them as are reported before a match. It has 65,536 bytes at
     /// first, or the heap limit if that is lower, and grows to the heap limit.
     ///

@@ -166,8 +166,8 @@ module _ {F R W : Type 0} (file_remaining : Reader F → Option (List ℕ))
   -- what the program does, by its exit status. Arguments that ask for no options are a usage error
   pub data IsProgramEnd (arguments : List (String Global)) (input : R) (writer : W) : ℕ → R → W
       → Type 0 where
-    -- the arguments are a usage error, or there was no memory for the options: neither the input nor
-    -- the writer had a call
+    -- the arguments are a usage error, or there was no memory for the options, of which nothing can
+    -- be said here: neither the input nor the writer had a call
     of_options : IsProgramEnd arguments input writer 2 input writer
     -- the status is that of a run by the options that the arguments ask for
     of_run : {input' : R} {writer' : W} (options : Options) (result : RunResult)

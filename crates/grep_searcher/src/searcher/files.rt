@@ -27,7 +27,7 @@ impl<A: Allocator + Copy> Searcher<A> {
     /// straight into the searcher's line buffer, with no buffer between. The caller ensures that the sink may be
     /// called.
     ///
-    /// What is promised of the calls is promised of a file that says which bytes remain. Of one of the system nobody
+    /// What is promised of the calls, but for their order, is promised of a file that says which bytes remain. Of one of the system nobody
     /// knows that; it holds while nobody writes the file and the disk returns what was written. That an error of
     /// reading is the file's own isn't in the contract, since `Read` says nothing of its errors.
     pub fn search_file<M: Matcher, F: Read, S: Sink>(
