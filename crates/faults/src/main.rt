@@ -1,7 +1,7 @@
-//! Makes each part of a search fail in turn, over a reader of single bytes: each read, with an error of each kind; each
-//! call of the sink, with false; each call, with an error. It compares the calls that were made and how the search ended
-//! with tables, and has the same searcher make the same search again after each case, with nothing that fails. It writes
-//! a line for each row and part, with how many cases agreed, and one for each case that didn't.
+//! Makes each part of a search fail in turn, over a reader of single bytes: each read, with an error of each kind;
+//! each call of the sink, with false; each call, with an error. It compares the calls that were made and how the
+//! search ended with tables, and has the same searcher make the same search again after each case, with nothing that
+//! fails. It writes a line for each row and part, with how many cases agreed, and one for each case that didn't.
 #![tactic(auto)]
 
 mod case;

@@ -19,7 +19,8 @@ use Rattle.grep_definitions.specs.LineSearch.{turns, turns_at, turn_count, line_
 use Rattle.grep_definitions.specs.LineSearch.{number, start, line, is_selected}
 use Rattle.grep_definitions.specs.Modes.{is_across}
 use Rattle.grep_definitions.specs.SearchTurns.{search_turns}
-use Rattle.grep_definitions.specs.DecodedInputs.{searched_bytes, is_searched_unchanged, looks_for_mark, passes_unchanged}
+use Rattle.grep_definitions.specs.DecodedInputs.{searched_bytes, is_searched_unchanged}
+use Rattle.grep_definitions.specs.DecodedInputs.{looks_for_mark, passes_unchanged}
 
 -- without a label and a mark that is found, what is searched is the input
 abbrev pub UnchangedIsInput : Type 0

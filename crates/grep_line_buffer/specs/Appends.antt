@@ -4,7 +4,8 @@ use Rattle.std.specs.Option.{option_map}
 use Rattle.std.specs.Io.KnownBytes.{Consumes, Keeps, IsAtEnd}
 use Rattle.std.specs.declared.io.Error.{Error}
 use Rattle.grep_decode.specs.declared.mode.Mode.TheVariants.{Passing}
-use Rattle.grep_decode.specs.DecoderStates.{DecoderState, Decodes, FailsToDecode, IsDone, IsSettled, LooksForMark, TakesAtMost}
+use Rattle.grep_decode.specs.DecoderStates.{DecoderState, Decodes, FailsToDecode, IsDone, IsSettled}
+use Rattle.grep_decode.specs.DecoderStates.{LooksForMark, TakesAtMost}
 use Rattle.grep_decode.specs.DecoderStates.{runs_ahead, still_to_give, yet}
 use Rattle.grep_decode.specs.Decoded.{IsIncomplete}
 use Rattle.grep_decode.specs.Source.{ReadResult}

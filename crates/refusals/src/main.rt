@@ -1,5 +1,6 @@
-//! Does once what asks for memory, and writes of each what came of it. If a request is refused, that has to be returned as
-//! documented, and done again it succeeds. `bench/refused` runs the program once for each request, and refuses that one.
+//! Does once what asks for memory, and writes of each what came of it. If a request is refused, that has to be
+//! returned as documented, and done again it succeeds. `bench/refused` runs the program once for each request, and
+//! refuses that one.
 //!
 //! It exits with 3 if a request was refused and each step came to what it has to, and otherwise with 0.
 #![tactic(auto)]

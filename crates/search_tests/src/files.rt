@@ -134,8 +134,8 @@ fn reads_as_much_as_there_is_room_for(rt: HostRuntime) -> Result<(), Fail> {
     Ok(())
 }
 
-// Whether a search of a file whose second read fails reports the line before, and then ends in the file's error, without
-// another read.
+// Whether a search of a file whose second read fails reports the line before, and then ends in the file's error,
+// without another read.
 fn is_cut(alloc: Global, kind: ErrorKind) -> Result<bool, ConfigError> {
     let mut searcher = SearcherBuilder::new().bom_sniffing(false).build(alloc)?;
     let mut file = Pieces::new(b"a\n", 0, Some((2, io::Error::from(kind))));
