@@ -61,6 +61,9 @@ looks-unsettled (Fresh label sniff) looks settled = settled
 looks-unsettled Passing looks settled = looks
 looks-unsettled (Decoding label) looks settled = looks
 
+decoding-passes : (label : Label) → Decoding label ≡ Passing → ⊥
+decoding-passes label same = cc
+
 settled-or : (mode : Mode) → IsSettled mode ⊎ (IsSettled mode → ⊥)
 settled-or (Fresh label sniff) = inr (λ settled. settled)
 settled-or Passing = inl tt
@@ -71,6 +74,7 @@ module _ {R : Type 0} (remaining : R → Option (List ℕ)) (step : R → ReadRe
   Decodes-none d r = record {
     pieces = [];
     calls = Calls-none remaining step d.has_ended r;
+    last = ([], append-nil d.held);
     takes = Consumes-nil (remaining r);
     gives = λ more end. refl;
     settles = λ more end. refl;
@@ -89,6 +93,14 @@ module _ {R : Type 0} (remaining : R → Option (List ℕ)) (step : R → ReadRe
   Decodes-append d d1 d2 r r1 r2 given later first second = record {
     pieces = first.pieces ++ second.pieces;
     calls = Calls-append remaining step d.has_ended d1.has_ended d2.has_ended r r1 r2 first.pieces second.pieces first.calls second.calls;
+    last = (
+      first.last.0 ++ second.last.0,
+      ap (λ xs. d.held ++ xs) (concat-append first.pieces second.pieces)
+          ∙ (sym (append_assoc d.held (concat first.pieces) (concat second.pieces))
+          ∙ (ap (λ xs. xs ++ concat second.pieces) first.last.1
+          ∙ (append_assoc first.last.0 d1.held (concat second.pieces)
+          ∙ (ap (λ xs. first.last.0 ++ xs) second.last.1 ∙ sym (append_assoc first.last.0 second.last.0 d2.held))))),
+    );
     takes = subst (λ bytes. Consumes (remaining r) (remaining r2) bytes) (sym (concat-append first.pieces second.pieces))
         (Consumes-trans (remaining r) (remaining r1) (remaining r2) (concat first.pieces) (concat second.pieces) first.takes second.takes);
     gives = λ more end. ap (still_to_give d) (joined first.pieces second.pieces more)
@@ -152,10 +164,12 @@ module _ {R : Type 0} (remaining : R → Option (List ℕ)) (step : R → ReadRe
       → IsSettled d1.mode → (IsSettled d.mode → (d1.mode ≡ d.mode) × (length d.held ≤ length given + length d1.held))
       → (d1.mode ≡ Passing → length d.held ≤ length given + length d1.held + 3)
       → (LooksForMark d.mode → (3 ≤ length d.held) ⊎ (d1.has_ended ≡ true))
+      → (front : List ℕ) × (d.held ≡ front ++ d1.held)
       → Decodes remaining step d r given d1 r
-  Decodes-within d d1 r given ended same next settled kept few enough = record {
+  Decodes-within d d1 r given ended same next settled kept few enough last = record {
     pieces = [];
     calls = subst (λ b. Calls remaining step d.has_ended b r [] r) (sym ended) (Calls-none remaining step d.has_ended r);
+    last = (last.0, append-nil d.held ∙ last.1);
     takes = Consumes-nil (remaining r);
     gives = λ more end. same more;
     settles = λ more end. next more;
@@ -177,12 +191,14 @@ module _ {R : Type 0} (remaining : R → Option (List ℕ)) (step : R → ReadRe
       → ((more : List ℕ) → (d1.has_ended ≡ true → more ≡ []) → next_mode d (piece ++ more) ≡ next_mode d1 more)
       → d1.mode ≡ d.mode → ((IsSettled d1.mode → ⊥) → (given ≡ []) × (d1.held ≡ d.held ++ piece))
       → length d.held + length piece ≤ length given + length d1.held
+      → (front : List ℕ) × (d.held ++ piece ≡ front ++ d1.held)
       → Decodes remaining step d r given d1 r1
-  call-by d d1 r r1 given piece true ended was last some called takes gives settles stays fresh few =
+  call-by d d1 r r1 given piece true ended was last some called takes gives settles stays fresh few holds =
       let none : piece ≡ [] = (last refl).0 in
       record {
         pieces = [];
         calls = rw (was, ended) (r, refl, subst (λ p. step r (Ok p) r1) none called, (last refl).1);
+        last = (holds.0, ap (λ p. d.held ++ p) (sym none) ∙ holds.1);
         takes = subst (λ p. Consumes (remaining r) (remaining r1) p) none takes;
         gives = λ more end. ap (λ p. still_to_give d (p ++ more)) (sym none) ∙ gives more end;
         settles = λ more end. ap (λ p. next_mode d (p ++ more)) (sym none) ∙ settles more end;
@@ -192,9 +208,10 @@ module _ {R : Type 0} (remaining : R → Option (List ℕ)) (step : R → ReadRe
         passes = λ passing. omega (arith, few, ap length none);
         ahead = λ passing. omega (arith, few, ap length none);
       }
-  call-by d d1 r r1 given piece false ended was last some called takes gives settles stays fresh few = record {
+  call-by d d1 r r1 given piece false ended was last some called takes gives settles stays fresh few holds = record {
     pieces = piece ∷ [];
     calls = rw (was, ended) (some refl, (r1, called, refl));
+    last = (holds.0, ap (λ p. d.held ++ p) (append-nil piece) ∙ holds.1);
     takes = subst (λ p. Consumes (remaining r) (remaining r1) p) (sym (append-nil piece)) takes;
     gives = λ more end. ap (λ p. still_to_give d (p ++ more)) (append-nil piece) ∙ gives more end;
     settles = λ more end. ap (λ p. next_mode d (p ++ more)) (append-nil piece) ∙ settles more end;
@@ -228,6 +245,7 @@ module _ {R : Type 0} (remaining : R → Option (List ℕ)) (step : R → ReadRe
       (λ some. is-some count grows.piece grows.counted some) grows.called grows.takes
       (λ more end. ap (decode_by mode) (input more end)) (λ more end. ap (mode_after mode) (input more end))
       refl (λ fresh. (refl, grows.appended)) (omega (arith, ap length grows.appended, length-append old.bytes grows.piece))
+      ([], sym grows.appended)
 
   grown : (b : Bool) (old new : UndecodedBytes) (r r1 : R) (count most : ℕ) → new.has_ended ≡ b → length old.bytes < most
       → Grows remaining step old r count new r1 → calls_left b (most - length new.bytes) < suc (most - length old.bytes)
@@ -252,6 +270,25 @@ module _ {R : Type 0} (remaining : R → Option (List ℕ)) (step : R → ReadRe
       Decodes-append (holding mode first) (holding mode old) (holding mode new) r r1 r2 [] [] run
       (Decodes-hold mode old new r1 r2 count was grows)
 
+  -- bytes that are held are decoded, without a call of the reader
+  pub Decodes-text : (label : Label) (old new : UndecodedBytes) (r : R) (given : List ℕ) → new.has_ended ≡ old.has_ended
+      → ((rest : List ℕ) → still_to_give (holding (Decoding label) old) rest ≡ given ++ still_to_give (holding (Decoding label) new) rest)
+      → (front : List ℕ) × (old.bytes ≡ front ++ new.bytes)
+      → Decodes remaining step (holding (Decoding label) old) r given (holding (Decoding label) new) r
+  Decodes-text label old new r given ended same last = record {
+    pieces = [];
+    calls = subst (λ b. Calls remaining step old.has_ended b r [] r) (sym ended) (Calls-none remaining step old.has_ended r);
+    last = (last.0, append-nil old.bytes ∙ last.1);
+    takes = Consumes-nil (remaining r);
+    gives = λ more end. same more;
+    settles = λ more end. refl;
+    stays = λ settled. refl;
+    unsettled = λ fresh. absurd (fresh tt);
+    enough = λ looks. absurd looks;
+    passes = λ passing. absurd (decoding-passes label passing);
+    ahead = λ passing. absurd (decoding-passes label passing);
+  }
+
   -- a call of the reader, whose bytes pass unchanged
   pub Decodes-pass : (old new : UndecodedBytes) (r r1 : R) (count : ℕ) (piece : List ℕ) → old.bytes ≡ [] → new.bytes ≡ []
       → old.has_ended ≡ false → new.has_ended ≡ (count == 0) → length piece ≡ count → step r (Ok piece) r1
@@ -264,6 +301,7 @@ module _ {R : Type 0} (remaining : R → Option (List ℕ)) (step : R → ReadRe
       (λ zero. (is-none count piece counted zero, last (is-zero count zero))) (λ some. is-some count piece counted some) called takes
       (λ more end. before (piece ++ more) ∙ ap (λ l. piece ++ l) (sym (after more ∙ same-unread new.has_ended more end)))
       (λ more end. refl) refl (λ fresh. absurd (fresh tt)) (omega (arith, ap length empty))
+      (piece, ap (λ l. l ++ piece) empty ∙ sym (ap (λ l. piece ++ l) none ∙ append-nil piece))
 
   -- a call of the reader failed
   pub FailsToDecode-now : (d : DecoderState) (r r1 : R) (e : Error) → d.has_ended ≡ false → step r (Err e) r1
@@ -280,6 +318,7 @@ module _ {R : Type 0} (remaining : R → Option (List ℕ)) (step : R → ReadRe
       Decodes-within before after r given refl
       (λ rest. let text = decode_by mode (held ++ unread ended rest) in ap (λ l. l ++ text) same ∙ append_assoc given later text)
       (λ rest. refl) settled (λ was. (refl, omega arith)) (λ passing. omega arith) (λ looks. absurd (looks-unsettled mode looks settled))
+      ([], refl)
 
   -- the same of a decoder that has nothing ready
   pub Decodes-held : (ready : List ℕ) (mode : Mode) (old new : UndecodedBytes) (r r1 : R) (given : List ℕ) → ready ≡ []

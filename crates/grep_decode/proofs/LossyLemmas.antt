@@ -1,13 +1,13 @@
 -- `utf8_lossy` from the front of some bytes on.
 use Rattle.std.proofs.Common.{◌≡◌, ℕ, ◌+◌, ◌-◌, ◌<◌, ◌≤◌, List, [], ◌∷◌, ◌++◌, length, take, drop, slice_index, None, Some, unwrap_or}
-use Rattle.std.proofs.Common.{IsUtf8, encode_utf8_all, inl, inr, refl, sym, ap, subst, ◌∙◌, arith, length-append, length-drop, append_assoc, append-nil}
+use Rattle.std.proofs.Common.{IsUtf8, encode_utf8_all, inl, inr, refl, sym, ap, subst, ◌∙◌, arith, length-append, length-drop, take-add, append_assoc, append-nil}
 use Rattle.std.proofs.lemmas.Bool.Decides.{nat_tests}
 use Rattle.std.proofs.lemmas.List.{get_or_append_left, drop-append-le, drop-drop, length-take-le, take-append-le, take_rest}
 use Rattle.std.proofs.lemmas.List.{take-append-drop}
-use Rattle.std.proofs.lemmas.Str.{encodes-append, utf8_lossy_empty}
-use Rattle.grep_decode.specs.Decoded.{IsIncomplete}
+use Rattle.std.proofs.lemmas.Str.{IsUtf8-append, encodes-append, utf8_valid_len-IsValidUpTo}
+use Rattle.grep_decode.specs.Decoded.{IsUnfinishedUtf8}
 use Rattle.std.specs.Str.{IsValidUpTo}
-use Rattle.std.specs.Str.Lossy.{utf8_error_len, utf8_lossy, replacement_bytes}
+use Rattle.std.specs.Str.Lossy.{utf8_error_len, utf8_lossy, utf8_valid_len, replacement_bytes}
 use Rattle.bstr.specs.Utf8.{Decoded, decoded, bad, second, continues, or_replacement, lossy_chars}
 use Rattle.bstr.proofs.lemmas.LossyLemmas.{lossy_chars-front, lossy_chars-utf8_lossy, utf8_invalid_len-decoded}
 use Rattle.bstr.proofs.lemmas.PieceLemmas.{by-shape, lossy_chars-step, value-2, value-3, value-5, value-8, value-11}
@@ -98,21 +98,30 @@ utf8_lossy-incomplete bs more valid size front fault no_more whole =
     ∙ ap (λ t. replacement_bytes ++ utf8_lossy t)
     (drop-drop size valid bs ∙ sym (ap (λ t. drop (valid + size) bs ++ t) no_more ∙ append-nil _))
 
--- with no more bytes they are one U+FFFD
-pub utf8_lossy-ended : (bs : List ℕ) (valid : ℕ) → IsValidUpTo bs valid → utf8_error_len (drop valid bs) ≡ None
-    → IsIncomplete (utf8_lossy (drop valid bs))
-utf8_lossy-ended bs valid front fault =
-    let size = length bs - valid in
-    let after = drop (valid + size) bs ++ [] in
-    let short = front.short in
-    let none : length after ≡ 0 = omega (arith, length-append (drop (valid + size) bs) [], length-drop (valid + size) bs) in
-    inr (ap utf8_lossy (sym (append-nil (drop valid bs)))
-    ∙ (utf8_lossy-incomplete bs [] valid size front fault refl (omega arith)
-    ∙ (ap (λ t. replacement_bytes ++ t) (utf8_lossy_empty after none) ∙ append-nil replacement_bytes)))
+-- after the longest front that is UTF-8 no character begins
+none-valid : (bs : List ℕ) (valid : ℕ) → IsValidUpTo bs valid → utf8_valid_len (drop valid bs) ≡ 0
+none-valid bs valid front =
+    let rest = drop valid bs in
+    utf8_valid_len-IsValidUpTo rest 0 (record {
+      short = omega (arith, front.short, length-drop valid bs);
+      front = ([], (refl, refl));
+      longest = λ m above text. front.longest (valid + m) (omega (arith, above))
+          (subst IsUtf8 (sym (take-add valid m bs)) (IsUtf8-append (take valid bs) (take m rest) front.front text));
+    })
+
+-- where the bytes end within a character, more could complete it
+pub unfinished-ended : (bs : List ℕ) (valid : ℕ) → IsValidUpTo bs valid → utf8_error_len (drop valid bs) ≡ None
+    → IsUnfinishedUtf8 (drop valid bs)
+unfinished-ended bs valid front fault = (none-valid bs valid front, fault)
 
 -- once all are taken, none is left
-pub utf8_lossy-taken : (bs : List ℕ) → IsIncomplete (utf8_lossy (drop (length bs) bs))
-utf8_lossy-taken bs = inl (utf8_lossy_empty (drop (length bs) bs) (omega (arith, length-drop (length bs) bs)))
+unfinished-none : (bs : List ℕ) → length bs ≡ 0 → IsUnfinishedUtf8 bs
+unfolding utf8_valid_len utf8_error_len
+unfinished-none [] none = (refl, refl)
+unfinished-none (b ∷ bs) none = absurd (omega (arith, none))
+
+pub unfinished-taken : (bs : List ℕ) → IsUnfinishedUtf8 (drop (length bs) bs)
+unfinished-taken bs = unfinished-none (drop (length bs) bs) (omega (arith, length-drop (length bs) bs))
 
 -- bytes that are cut at `room`
 cut : (bs more : List ℕ) (room k : ℕ) → k ≤ room → room ≤ length bs → drop k bs ++ more ≡ drop k (take room bs) ++ (drop room bs ++ more)

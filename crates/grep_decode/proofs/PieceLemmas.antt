@@ -76,3 +76,14 @@ text-front text input output after more size count long written =
     sym (append_assoc (take size input) (drop size input) more) ∙ ap (λ l. l ++ more) (take-append-drop size input) in
     ap text (sym whole) ∙ (written (drop size input ++ more)
     ∙ ap (λ l. l ++ text (drop size input ++ more)) (sym (take_at output after count long)))
+
+-- what is left of some bytes once the first are dropped, and then some more
+pub dropped : (head rest : List ℕ) (n : ℕ) → rest ≡ drop n head → (front : List ℕ) × (head ≡ front ++ rest)
+dropped head rest n is = (take n head, sym (take-append-drop n head) ∙ ap (λ l. take n head ++ l) (sym is))
+
+pub dropped-twice : (head rest last : List ℕ) (n m : ℕ) → rest ≡ drop n head → last ≡ drop m rest
+    → (front : List ℕ) × (head ≡ front ++ last)
+dropped-twice head rest last n m first second =
+    let a = dropped head rest n first in
+    let b = dropped rest last m second in
+    (a.0 ++ b.0, a.1 ∙ (ap (λ l. a.0 ++ l) b.1 ∙ sym (append_assoc a.0 b.0 last)))

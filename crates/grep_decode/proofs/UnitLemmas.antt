@@ -5,7 +5,7 @@ use lib.Utf8.{encode}
 use Rattle.std.proofs.lemmas.Bool.Decides.{nat_tests}
 use Rattle.std.specs.Char.Utf16.{is_low_surrogate, is_high_surrogate, surrogate_pair_char}
 use Rattle.grep_decode.specs.declared.byte_order.ByteOrder.{ByteOrder}
-use Rattle.grep_decode.specs.Decoded.{IsIncomplete, odd_scalars, replacement, unit_of, units_of, has_odd_byte, alone, scalars_of, utf16_text}
+use Rattle.grep_decode.specs.Decoded.{IsUnfinishedUtf16, odd_scalars, replacement, unit_of, units_of, has_odd_byte, alone, scalars_of, utf16_text}
 
 -- a unit that begins no pair
 pub scalars_of-alone : (odd : Bool) (unit : ℕ) (units : List ℕ) → is_high_surrogate unit ≡ false
@@ -115,24 +115,19 @@ text-odd order [] more one none = absurd (omega arith)
 text-odd order (a ∷ []) more one none = rw none refl
 text-odd order (a ∷ b ∷ xs) more one none = absurd (omega arith)
 
--- the first bytes of a scalar value, and none after them: no byte, one, or a leading surrogate
-pub incomplete-none : (order : ByteOrder) (xs : List ℕ) → length xs ≡ 0 → IsIncomplete (utf16_text order xs)
-unfolding utf16_text units_of has_odd_byte scalars_of
-incomplete-none order [] none = inl refl
-incomplete-none order (a ∷ xs) none = absurd (omega arith)
+-- bytes that could become a scalar value: no byte, one, or a leading surrogate
+pub unfinished-few : (order : ByteOrder) (xs : List ℕ) → length xs < 2 → IsUnfinishedUtf16 order xs
+unfolding units_of
+unfinished-few order [] few = inl refl
+unfinished-few order (a ∷ []) few = inl refl
+unfinished-few order (a ∷ b ∷ xs) few = absurd (omega arith)
 
-pub incomplete-odd : (order : ByteOrder) (xs : List ℕ) → length xs ≡ 1 → IsIncomplete (utf16_text order xs)
-unfolding utf16_text units_of has_odd_byte scalars_of encode
-incomplete-odd order [] one = absurd (omega arith)
-incomplete-odd order (a ∷ []) one = inr refl
-incomplete-odd order (a ∷ b ∷ xs) one = absurd (omega arith)
-
-pub incomplete-pair : (order : ByteOrder) (xs : List ℕ) (u : ℕ) → 2 ≤ length xs → length xs < 4
+pub unfinished-pair : (order : ByteOrder) (xs : List ℕ) (u : ℕ) → 2 ≤ length xs → length xs < 4
     → u ≡ unit_of order (slice_index xs 0) (slice_index xs 1)
-    → is_high_surrogate u ≡ true → IsIncomplete (utf16_text order xs)
-unfolding utf16_text units_of has_odd_byte scalars_of encode
-incomplete-pair order [] u long short is lead = absurd (omega arith)
-incomplete-pair order (a ∷ []) u long short is lead = absurd (omega arith)
-incomplete-pair order (a ∷ b ∷ []) u long short is lead = inr (rw (← is, lead) refl)
-incomplete-pair order (a ∷ b ∷ c ∷ []) u long short is lead = inr (rw (← is, lead) refl)
-incomplete-pair order (a ∷ b ∷ c ∷ d ∷ xs) u long short is lead = absurd (omega arith)
+    → is_high_surrogate u ≡ true → IsUnfinishedUtf16 order xs
+unfolding units_of
+unfinished-pair order [] u long short is lead = absurd (omega arith)
+unfinished-pair order (a ∷ []) u long short is lead = absurd (omega arith)
+unfinished-pair order (a ∷ b ∷ []) u long short is lead = inr (u, ap (λ unit. unit ∷ []) (sym is), lead)
+unfinished-pair order (a ∷ b ∷ c ∷ []) u long short is lead = inr (u, ap (λ unit. unit ∷ []) (sym is), lead)
+unfinished-pair order (a ∷ b ∷ c ∷ d ∷ xs) u long short is lead = absurd (omega arith)

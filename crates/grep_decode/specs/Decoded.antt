@@ -2,7 +2,7 @@
 use Rattle.std.specs.Prelude.{◌≡◌, ◌⊎◌, ℕ, ◌+◌, ◌*◌, Bool, true, false, ◌&&◌, ◌||◌, not, List, [], ◌∷◌}
 use Rattle.std.specs.Prelude.{drop, length, Option, None, Some, is_some, encode_utf8_all}
 use Rattle.std.specs.Prelude.{if◌then◌else◌}
-use Rattle.std.specs.Str.Lossy.{replacement_bytes, utf8_lossy}
+use Rattle.std.specs.Str.Lossy.{utf8_error_len, utf8_lossy, utf8_valid_len}
 use Rattle.std.specs.Char.Utf16.{is_low_surrogate, is_high_surrogate, surrogate_pair_char}
 use Rattle.grep_decode.specs.declared.byte_order.ByteOrder.{ByteOrder}
 use Rattle.grep_decode.specs.declared.byte_order.ByteOrder.TheVariants.{Little, Big}
@@ -114,10 +114,23 @@ found_mark label sniff input = if sniff || is_some label then marked input else 
 abbrev pub decoded : Option Label → Bool → List ℕ → List ℕ
 decoded label sniff input = by_mark (found_mark label sniff input) label input
 
--- what the first bytes of a character become if no other follows: one U+FFFD, and nothing if there are none
-abbrev pub IsIncomplete : List ℕ → Type 0
-IsIncomplete text = (text ≡ []) ⊎ (text ≡ replacement_bytes)
-
 -- no label is set, and no mark is found: the decoded bytes are the input
 abbrev pub is_unchanged : Option Label → Bool → List ℕ → Bool
 is_unchanged label sniff input = not (is_some label) && not (is_some (found_mark label sniff input))
+
+-- ---- bytes that wait for more
+
+-- No character begins these bytes, and what is wrong there is that they end: more bytes could complete one.
+abbrev pub IsUnfinishedUtf8 : List ℕ → Type 0
+IsUnfinishedUtf8 bytes = (utf8_valid_len bytes ≡ 0) × (utf8_error_len bytes ≡ None)
+
+-- There is no whole unit, or only one, a leading surrogate. An odd byte may follow.
+abbrev pub IsUnfinishedUtf16 : ByteOrder → List ℕ → Type 0
+IsUnfinishedUtf16 order bytes = (units_of order bytes ≡ [])
+    ⊎ ((unit : ℕ) × (units_of order bytes ≡ unit ∷ []) × (is_high_surrogate unit ≡ true))
+
+-- There are no bytes, or they are the beginning of a character in this encoding that more bytes could complete.
+abbrev pub IsUnfinished : Label → List ℕ → Type 0
+IsUnfinished Utf8 bytes = IsUnfinishedUtf8 bytes
+IsUnfinished Utf16Le bytes = IsUnfinishedUtf16 Little bytes
+IsUnfinished Utf16Be bytes = IsUnfinishedUtf16 Big bytes

@@ -1,5 +1,5 @@
 -- What a decoder holds, what it has still to give, and what its reads do.
-use Rattle.std.specs.Prelude.{◌≡◌, ◌⊎◌, ℕ, ◌+◌, ◌≤◌, Bool, true, false, ◌||◌, List, [], ◌++◌, length, Option}
+use Rattle.std.specs.Prelude.{◌≡◌, ◌⊎◌, ℕ, ◌+◌, ◌<◌, ◌≤◌, Bool, true, false, ◌||◌, List, [], ◌++◌, length, Option}
 use Rattle.std.specs.Prelude.{None, Some, is_some, Ok, Err, IfSome, if◌then◌else◌}
 use Rattle.std.specs.List.{concat}
 use Rattle.std.specs.Option.{option_map}
@@ -8,7 +8,7 @@ use Rattle.grep_decode.specs.declared.mode.Mode.{Mode}
 use Rattle.grep_decode.specs.declared.mode.Mode.TheVariants.{Fresh, Passing, Decoding}
 use Rattle.grep_decode.specs.declared.label.Label.{Label}
 use Rattle.grep_decode.specs.declared.label.Label.TheVariants.{Utf8, Utf16Le, Utf16Be}
-use Rattle.grep_decode.specs.Decoded.{decoded, found_mark, text_of}
+use Rattle.grep_decode.specs.Decoded.{IsUnfinished, decoded, found_mark, text_of}
 use Rattle.grep_decode.specs.Source.{ReadResult, Pulls}
 use Rattle.std.specs.declared.io.Error.{Error}
 
@@ -83,6 +83,13 @@ LooksForMark (Fresh label sniff) = (sniff || is_some label) ≡ true
 LooksForMark Passing = ⊥
 LooksForMark (Decoding label) = ⊥
 
+-- bytes that wait for more after an error: fewer than three while a mark is looked for, none if they
+-- pass unchanged, and else the beginning of a character or none
+abbrev pub IsWaiting : Mode → List ℕ → Type 0
+IsWaiting (Fresh label sniff) held = ((sniff || is_some label) ≡ true) × (length held < 3)
+IsWaiting Passing held = held ≡ []
+IsWaiting (Decoding label) held = IsUnfinished label held
+
 -- how many bytes more than it gives a read takes from the reader at most, if the bytes pass
 -- unchanged
 abbrev pub runs_ahead : Mode → ℕ
@@ -132,6 +139,8 @@ module _ {R : Type 0} (remaining : R → Option (List ℕ)) (step : R → ReadRe
       : Type 0 where
     pub pieces : List (List ℕ)
     pub calls : Calls old.has_ended new.has_ended reader pieces reader'
+    -- what is held is the last of what was held and came
+    pub last : (front : List ℕ) × (old.held ++ concat pieces ≡ front ++ new.held)
     pub takes : Consumes (remaining reader) (remaining reader') (concat pieces)
     pub gives : (more : List ℕ) → (new.has_ended ≡ true → more ≡ [])
         → still_to_give old (concat pieces ++ more) ≡ given ++ still_to_give new more

@@ -6,10 +6,10 @@ ghost use Rattle.std.specs.Io.{ReadsAtMost};
 ghost use Rattle.std.specs.Io.KnownBytes.{Consumes, Keeps, IsAtEnd};
 ghost use Rattle.grep_decode.specs.Source.{FailsWith, read_result};
 ghost use Rattle.grep_decode.specs.DecoderStates.{DecoderState, Decodes, FailsToDecode, FitsMode};
-ghost use Rattle.grep_decode.specs.DecoderStates.{HasNoMark, IsDone, IsSettled, LooksForMark};
+ghost use Rattle.grep_decode.specs.DecoderStates.{HasNoMark, IsDone, IsSettled, IsWaiting, LooksForMark};
 ghost use Rattle.grep_decode.specs.DecoderStates.{TakesAtMost, mode_of, next_mode, runs_ahead};
 ghost use Rattle.grep_decode.specs.DecoderStates.{started, still_to_give, yet};
-ghost use Rattle.grep_decode.specs.Decoded.{IsIncomplete, found_mark};
+ghost use Rattle.grep_decode.specs.Decoded.{IsUnfinished, found_mark};
 ghost use Rattle.grep_decode.specs.Marks.{marked, mark_length};
 
 use crate::label::{Label, label_of_mark};
@@ -116,12 +116,9 @@ impl<A: Allocator> Decoder<A> {
         ensures passing { self.new.mode ≡ Mode.Passing → (length self.new.ready ≤ 3)
             × (self.new.held ≡ []) }
 
-        // after an error nothing is ready, and what is held would at most be one U+FFFD if the reader had ended
+        // after an error nothing is ready, and what is held waits for more
         ensures empty { OnErr result (self.new.ready ≡ []) }
-        ensures few { OnErr result (IsSettled self.new.mode
-            ⊎ LooksForMark self.new.mode × (length self.new.held ≤ 2)) }
-        ensures incomplete { OnErr result (IsSettled self.new.mode
-            → IsIncomplete (still_to_give self.new [])) }
+        ensures waits { OnErr result (IsWaiting self.new.mode self.new.held) }
     {
         let result = self.read_some(reader, buffer);
         self.holds_few();
@@ -162,10 +159,7 @@ impl<A: Allocator> Decoder<A> {
             → TakesAtMost (R.remaining reader.old) (R.remaining reader.new)
             (count + runs_ahead self.old.mode)) }
         ensures empty { OnErr result (self.new.ready ≡ []) }
-        ensures few { OnErr result (IsSettled self.new.mode
-            ⊎ LooksForMark self.new.mode × (length self.new.held ≤ 2)) }
-        ensures incomplete { OnErr result (IsSettled self.new.mode
-            → IsIncomplete (still_to_give self.new [])) }
+        ensures waits { OnErr result (IsWaiting self.new.mode self.new.held) }
     {
         if buffer.is_empty() {
             return Ok(0);
@@ -200,7 +194,7 @@ impl<A: Allocator> Decoder<A> {
         ensures ahead { IfOk result (λ count. self.new.mode ≡ Mode.Passing
             → TakesAtMost (R.remaining reader.old) (R.remaining reader.new) count) }
         ensures empty { OnErr result (self.new.ready ≡ []) }
-        ensures incomplete { OnErr result (IsIncomplete (still_to_give self.new [])) }
+        ensures waits { OnErr result (IsWaiting self.new.mode self.new.held) }
     {
         if !self.ready.is_empty() {
             return Ok(self.ready.give(buffer));
@@ -230,7 +224,7 @@ impl<A: Allocator> Decoder<A> {
             → R.step reader.old (read_result result buffer.new) reader.new }
         ensures ahead { IfOk result (λ count.
             TakesAtMost (R.remaining reader.old) (R.remaining reader.new) count) }
-        ensures incomplete { OnErr result (IsIncomplete (still_to_give self.new [])) }
+        ensures waits { OnErr result (self.new.held ≡ []) }
     {
         self.held.pass(reader, buffer)
     }
@@ -255,7 +249,7 @@ impl<A: Allocator> Decoder<A> {
         ensures failed { IfErr result (λ e.
             FailsToDecode R.remaining R.step self.old reader.old e self.new reader.new) }
         ensures empty { OnErr result (self.new.ready ≡ []) }
-        ensures few { OnErr result (LooksForMark self.new.mode × (length self.new.held ≤ 2)) }
+        ensures waits { OnErr result (IsWaiting self.new.mode self.new.held) }
     {
         if sniff || label.is_some() {
             match self.held.fill(reader) {
@@ -277,6 +271,7 @@ impl<A: Allocator> Decoder<A> {
         ensures same { (rest : List ℕ) → still_to_give self.old rest ≡ still_to_give self.new rest }
         ensures next { (rest : List ℕ) → next_mode self.old rest ≡ next_mode self.new rest }
         ensures settled { IsSettled self.new.mode }
+        ensures last { (front : List ℕ) × (self.old.held ≡ front ++ self.new.held) }
         ensures ready { found_mark label sniff self.old.held ≡ None → self.new.mode ≡ Mode.Passing
             → self.new.ready ≡ self.old.held }
     {
@@ -309,7 +304,7 @@ impl<A: Allocator> Decoder<A> {
         ensures failed { IfErr result (λ e.
             FailsToDecode R.remaining R.step self.old reader.old e self.new reader.new) }
         ensures empty { OnErr result (self.new.ready ≡ []) }
-        ensures incomplete { OnErr result (IsIncomplete (still_to_give self.new [])) }
+        ensures waits { OnErr result (IsUnfinished label self.new.held) }
     {
         if buffer.len() >= 4 {
             return self.held.read(reader, label, buffer);

@@ -5,7 +5,7 @@ ghost use Rattle.std.specs.Io.{ReadsAtMost};
 ghost use Rattle.std.specs.Io.KnownBytes.{Keeps};
 ghost use Rattle.grep_decode.specs.DecoderStates.{Decodes, FailsToDecode, IsDone, TakesAtMost};
 ghost use Rattle.grep_decode.specs.DecoderStates.{still_to_give};
-ghost use Rattle.grep_decode.specs.Decoded.{IsIncomplete, text_of};
+ghost use Rattle.grep_decode.specs.Decoded.{IsUnfinished};
 ghost use Rattle.grep_decode.specs.Source.{read_result};
 ghost use Rattle.grep_decode.specs.UndecodedBytes.{UndecodedBytes, Grows, holding};
 
@@ -109,10 +109,11 @@ impl<A: Allocator> Undecoded<A> {
         ensures text { (rest : List ℕ) → still_to_give (holding (Mode.Decoding label) self.old) rest
             ≡ take result output.new
             ++ still_to_give (holding (Mode.Decoding label) self.new) rest }
+        ensures last { (front : List ℕ) × (self.old.bytes ≡ front ++ self.new.bytes) }
         ensures stays { result ≡ 0 → self.new ≡ self.old }
         ensures stops { result ≡ 0 → length self.new.bytes < 4 }
         ensures all { result ≡ 0 → self.new.has_ended ≡ true → self.new.bytes ≡ [] }
-        ensures incomplete { result ≡ 0 → IsIncomplete (text_of label self.new.bytes) }
+        ensures unfinished { result ≡ 0 → IsUnfinished label self.new.bytes }
         ensures capacity { self.new.capacity ≡ self.old.capacity }
         ensures ended { self.new.has_ended ≡ self.old.has_ended }
     {
@@ -203,7 +204,7 @@ impl<A: Allocator> Undecoded<A> {
         ensures failed { IfErr result (λ e. FailsToDecode R.remaining R.step
             (holding (Mode.Decoding label) self.old) reader.old
             e (holding (Mode.Decoding label) self.new) reader.new) }
-        ensures incomplete { OnErr result (IsIncomplete (text_of label self.new.bytes)) }
+        ensures unfinished { OnErr result (IsUnfinished label self.new.bytes) }
     {
         loop {
             let count = self.decode(label, output);

@@ -1,7 +1,7 @@
 //! UTF-16 as UTF-8.
 ghost use Rattle.std.specs.Prelude.{◌≡◌, ◌⊎◌, ◌<◌, ◌≤◌, ◌+◌, ◌++◌, ◌^◌, ℕ, List, [], length, take};
 ghost use Rattle.std.specs.Prelude.{drop, IsTrue, IfSome, IfNone, encode_utf8};
-ghost use Rattle.grep_decode.specs.Decoded.{IsIncomplete, utf16_text, unit_of};
+ghost use Rattle.grep_decode.specs.Decoded.{IsUnfinishedUtf16, utf16_text, unit_of};
 
 use crate::ascii::put_ascii;
 use crate::byte_order::ByteOrder;
@@ -29,7 +29,7 @@ fn next_scalar(order: ByteOrder, is_last: bool, input: &[u8]) -> Option<(u32, us
         → utf16_text order (input.now ++ more) ≡ encode_utf8 r.0
         ++ utf16_text order (drop r.1 input.now ++ more)) }
     ensures short { IfNone result ((length input.now < 4) × (IsTrue is_last → input.now ≡ [])) }
-    ensures incomplete { IfNone result (IsIncomplete (utf16_text order input.now)) }
+    ensures unfinished { IfNone result (IsUnfinishedUtf16 order input.now) }
 {
     match input {
         [] => None,
@@ -98,8 +98,8 @@ fn transcode_few(order: ByteOrder, is_last: bool, input: &[u8], output: &mut [u8
         (drop result.0 input.now ++ more) }
     ensures stops { result.1 ≡ 0 → (length output.new < 4) ⊎
         ((length input.now < 4) × (IsTrue is_last → input.now ≡ [])) }
-    ensures incomplete { result.1 ≡ 0 → (length output.new < 4)
-        ⊎ IsIncomplete (utf16_text order input.now) }
+    ensures unfinished { result.1 ≡ 0 → (length output.new < 4)
+        ⊎ IsUnfinishedUtf16 order input.now }
     ensures progress { result.1 ≡ 0 → result.0 ≡ 0 }
 {
     let mut taken = 0;
@@ -130,8 +130,8 @@ fn transcode_some(
         (drop result.0 input.now ++ more) }
     ensures stops { result.1 ≡ 0 → (length output.new < 4) ⊎
         ((length input.now < 4) × (IsTrue is_last → input.now ≡ [])) }
-    ensures incomplete { result.1 ≡ 0 → (length output.new < 4)
-        ⊎ IsIncomplete (utf16_text order input.now) }
+    ensures unfinished { result.1 ≡ 0 → (length output.new < 4)
+        ⊎ IsUnfinishedUtf16 order input.now }
     ensures progress { result.1 ≡ 0 → result.0 ≡ 0 }
 {
     if input.len() >= BLOCK
@@ -159,8 +159,8 @@ pub(crate) fn transcode(
     ensures stops { (length output.new < result.1 + 4)
         ⊎ ((length (drop result.0 input.now) < 4)
         × (IsTrue is_last → drop result.0 input.now ≡ [])) }
-    ensures incomplete { (length output.new < result.1 + 4)
-        ⊎ IsIncomplete (utf16_text order (drop result.0 input.now)) }
+    ensures unfinished { (length output.new < result.1 + 4)
+        ⊎ IsUnfinishedUtf16 order (drop result.0 input.now) }
     ensures progress { result.1 ≡ 0 → result.0 ≡ 0 }
 {
     let mut taken = 0;

@@ -2,7 +2,7 @@
 ghost use Rattle.std.specs.Prelude.{◌≡◌, ◌⊎◌, ◌<◌, ◌≤◌, ◌+◌, ◌++◌, ℕ, List, [], length, take, drop};
 ghost use Rattle.std.specs.Prelude.{IsTrue, IsUtf8};
 ghost use Rattle.std.specs.Str.Lossy.{utf8_lossy};
-ghost use Rattle.grep_decode.specs.Decoded.{IsIncomplete};
+ghost use Rattle.grep_decode.specs.Decoded.{IsUnfinishedUtf8};
 ghost use Rattle.grep_decode.specs.Utf8.{IsReplaced};
 
 use std::str;
@@ -35,8 +35,8 @@ fn scan(is_last: bool, bytes: &[u8]) -> Front
         → IsReplaced is_last bytes.now result.well_formed (result.well_formed + result.ill_formed) }
     ensures undecided { result.ill_formed ≡ 0 → (length (drop result.well_formed bytes.now) < 4)
         × (IsTrue is_last → drop result.well_formed bytes.now ≡ []) }
-    ensures incomplete { result.ill_formed ≡ 0
-        → IsIncomplete (utf8_lossy (drop result.well_formed bytes.now)) }
+    ensures unfinished { result.ill_formed ≡ 0
+        → IsUnfinishedUtf8 (drop result.well_formed bytes.now) }
 {
     let error = match str::from_utf8(bytes) {
         Ok(_) => {
@@ -79,8 +79,8 @@ fn scan_within(is_last: bool, input: &[u8], room: usize) -> Front
     ensures undecided { result.ill_formed ≡ 0 → (room < result.well_formed + 4)
         ⊎ ((length (drop result.well_formed input.now) < 4)
         × (IsTrue is_last → drop result.well_formed input.now ≡ [])) }
-    ensures incomplete { result.ill_formed ≡ 0 → (room < result.well_formed + 4)
-        ⊎ IsIncomplete (utf8_lossy (drop result.well_formed input.now)) }
+    ensures unfinished { result.ill_formed ≡ 0 → (room < result.well_formed + 4)
+        ⊎ IsUnfinishedUtf8 (drop result.well_formed input.now) }
 {
     if input.len() <= room {
         return scan(is_last, input);
@@ -154,8 +154,8 @@ pub(crate) fn decode_utf8(is_last: bool, input: &[u8], output: &mut [u8]) -> Pro
     ensures stops { (length output.new < result.written + 4)
         ⊎ ((length (drop result.taken input.now) < 4)
         × (IsTrue is_last → drop result.taken input.now ≡ [])) }
-    ensures incomplete { (length output.new < result.written + 4)
-        ⊎ IsIncomplete (utf8_lossy (drop result.taken input.now)) }
+    ensures unfinished { (length output.new < result.written + 4)
+        ⊎ IsUnfinishedUtf8 (drop result.taken input.now) }
     ensures progress { result.written ≡ 0 → result.taken ≡ 0 }
 {
     let mut taken = copy_front(input, output);

@@ -1,7 +1,7 @@
 use Rattle.std.proofs.Common.{◌⊎◌, ◌<◌, ◌≤◌, drop, inl, inr, ap, ◌∙◌, ◌++◌, encode_utf8, arith}
 use Rattle.grep_decode.specs.Decoded.{utf16_text}
 use Rattle.grep_decode.proofs.UnitLemmas.{high_is, low_is, not_low, not_high, alone-plain, alone-surrogate, text-alone, text-high}
-use Rattle.grep_decode.proofs.UnitLemmas.{incomplete-none, incomplete-odd, incomplete-pair, text-pair, text-waiting, text-odd}
+use Rattle.grep_decode.proofs.UnitLemmas.{unfinished-few, unfinished-pair, text-pair, text-waiting, text-odd}
 use Rattle.grep_decode.proofs.utf16.next_scalar.Goals as goal
 use Rattle.grep_decode.proofs.utf16.next_scalar.Goals.{then-unit-lt55296-via-then-unit-lt55296}
 use Rattle.grep_decode.proofs.utf16.next_scalar.Goals.{then-unit-lt55296-via-else-unit-lt55296+then-unit-ge57344}
@@ -53,12 +53,12 @@ returns-else-next-ge56320-clause-first c = λ more when.
     (high_is u (omega arith) (omega arith)) (not_low v range)
     ∙ ap (λ k. encode_utf8 k ++ utf16_text c.args.order (drop 2 c.args.input.now ++ more)) (alone-surrogate u (omega arith) (omega arith))
 
-pub returns-in-empty-clause-incomplete : goal.returns-in-empty-clause-incomplete
-returns-in-empty-clause-incomplete c = incomplete-none c.args.order c.args.input.now (omega arith)
+pub returns-in-empty-clause-unfinished : goal.returns-in-empty-clause-unfinished
+returns-in-empty-clause-unfinished c = unfinished-few c.args.order c.args.input.now (omega arith)
 
-pub returns-else-is_last-clause-incomplete : goal.returns-else-is_last-clause-incomplete
-returns-else-is_last-clause-incomplete c = incomplete-odd c.args.order c.args.input.now (omega arith)
+pub returns-else-is_last-clause-unfinished : goal.returns-else-is_last-clause-unfinished
+returns-else-is_last-clause-unfinished c = unfinished-few c.args.order c.args.input.now (omega arith)
 
-pub returns-else-is_last-2-clause-incomplete : goal.returns-else-is_last-2-clause-incomplete
-returns-else-is_last-2-clause-incomplete c = incomplete-pair c.args.order c.args.input.now c.unit_at-unit.result (omega arith)
+pub returns-else-is_last-2-clause-unfinished : goal.returns-else-is_last-2-clause-unfinished
+returns-else-is_last-2-clause-unfinished c = unfinished-pair c.args.order c.args.input.now c.unit_at-unit.result (omega arith)
     (omega arith) c.unit_at-unit.ensures.value (high_is c.unit_at-unit.result (omega arith) (omega arith))

@@ -1,7 +1,7 @@
 use Rattle.std.proofs.Common.{◌≡◌, drop, Some, None, arith, ap, sym, ◌∙◌, subst}
 use Rattle.std.specs.Str.{IsValidUpTo, IsErrorLen}
 use Rattle.std.specs.Str.Lossy.{utf8_error_len}
-use Rattle.grep_decode.proofs.LossyLemmas.{utf8_lossy-ended, utf8_lossy-ill_formed, utf8_lossy-incomplete, utf8_lossy-taken}
+use Rattle.grep_decode.proofs.LossyLemmas.{unfinished-ended, utf8_lossy-ill_formed, utf8_lossy-incomplete, unfinished-taken}
 use Rattle.grep_decode.proofs.utf8.scan.Goals as goal
 
 pub returns-then-is_last-clause-ill_formed : goal.returns-then-is_last-clause-ill_formed
@@ -28,14 +28,14 @@ returns-in-Some-clause-ill_formed c = λ some more when.
     (subst (IsErrorLen bytes _) (sym c.error_len.ensures ∙ c.in-Some.is) c.in-Err.ensures.error_len) in
     utf8_lossy-ill_formed bytes more valid c.in-Some.ill_formed front fault bound.2
 
-pub returns-in-Ok-clause-incomplete : goal.returns-in-Ok-clause-incomplete
-returns-in-Ok-clause-incomplete c = λ none. utf8_lossy-taken c.args.bytes.now
+pub returns-in-Ok-clause-unfinished : goal.returns-in-Ok-clause-unfinished
+returns-in-Ok-clause-unfinished c = λ none. unfinished-taken c.args.bytes.now
 
-pub returns-else-is_last-clause-incomplete : goal.returns-else-is_last-clause-incomplete
-returns-else-is_last-clause-incomplete c = λ none.
+pub returns-else-is_last-clause-unfinished : goal.returns-else-is_last-clause-unfinished
+returns-else-is_last-clause-unfinished c = λ none.
     let bytes = c.args.bytes.now in
     let valid = c.valid_up_to-well_formed.result in
     let is : valid ≡ _ = c.valid_up_to-well_formed.ensures in
     let front : IsValidUpTo bytes valid = subst (IsValidUpTo bytes) (sym is) c.in-Err.ensures.cases.1 in
-    utf8_lossy-ended bytes valid front
+    unfinished-ended bytes valid front
     (ap (λ k. utf8_error_len (drop k bytes)) is ∙ sym c.in-Err.ensures.fault ∙ sym c.error_len.ensures ∙ c.in-None.is)

@@ -4,6 +4,7 @@ use Rattle.grep_decode.specs.Decoded.{found_mark}
 use Rattle.grep_decode.specs.Marks.{mark_length}
 use Rattle.grep_decode.proofs.DecoderLemmas.{fits-fresh}
 use Rattle.grep_decode.proofs.MarkLemmas.{chosen}
+use Rattle.grep_decode.proofs.PieceLemmas.{dropped, dropped-twice}
 use Rattle.grep_decode.proofs.decoder.Decoder.choose.Goals as goal
 
 pub returns-in_default : goal.returns-in_default
@@ -43,5 +44,11 @@ returns-in_default g c =
       same = all.0;
       next = all.1;
       settled = all.2;
+      last = dropped head c.skip.new.self.bytes (mark_length mark) bytes;
       ready = λ none passing. absurd (c.in_default.not-Passing passing);
     })
+
+pub returns-in-Passing-clause-last : goal.returns-in-Passing-clause-last
+returns-in-Passing-clause-last g c =
+    rw (← c.self.view_is) (dropped-twice c.self.inside.held.bytes c.skip.new.self.bytes c.skip-in-Passing.new.self.bytes _ _
+    (ap (λ u. u.bytes) c.skip.ensures) (ap (λ u. u.bytes) c.skip-in-Passing.ensures))

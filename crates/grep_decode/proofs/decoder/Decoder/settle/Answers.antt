@@ -43,7 +43,7 @@ returns-clause-decodes g c =
     c.if-sniff.reader c.if-sniff.reader [] []
     ahead (Decodes-within remaining step c.if-sniff.self c.choose.new.self c.if-sniff.reader [] c.choose.ensures.ended c.choose.ensures.same
     c.choose.ensures.next c.choose.ensures.settled (λ settled. absurd (subst IsSettled same_mode settled))
-    (λ passing. omega (arith, few)) enough)
+    (λ passing. omega (arith, few)) enough c.choose.ensures.last)
 
 pub returns-clause-first : goal.returns-clause-first
 returns-clause-first g c = λ none unended looks.

@@ -1,8 +1,8 @@
-use Rattle.std.proofs.Common.{[], refl, ◌∙◌, sym, subst, arith}
+use Rattle.std.proofs.Common.{[], take, refl, ◌∙◌, sym, subst, arith}
 use Rattle.grep_decode.specs.declared.mode.Mode.TheVariants.{Decoding}
 use Rattle.grep_decode.specs.DecoderStates.{Decodes}
 use Rattle.grep_decode.specs.UndecodedBytes.{UndecodedBytes, holding}
-use Rattle.grep_decode.proofs.DecoderLemmas.{Decodes-none, hold-more}
+use Rattle.grep_decode.proofs.DecoderLemmas.{Decodes-append, Decodes-none, Decodes-text, hold-more}
 use Rattle.grep_decode.proofs.undecoded.Undecoded.read.Goals as goal
 
 pub loop-label-init : goal.loop-label-init
@@ -27,3 +27,14 @@ loop-label-preserved g c =
       decodes = hold-more g.R.Source.remaining g.R.Source.step mode first mid c.pull.new.self c.args.reader.now c.loop-label.reader
           c.pull.new.reader c.in-Ok.field-0 (sym c.if-has_ended.ensures) (subst P (sym same) c.loop-label.invariant.decodes) grows;
     }
+
+pub returns-then-count-gt0-clause-decodes : goal.returns-then-count-gt0-clause-decodes
+returns-then-count-gt0-clause-decodes g c =
+    let mode = Decoding c.args.label in
+    let before = c.loop-label.self in
+    let after = c.decode-count.new.self in
+    let given = take c.decode-count.result c.decode-count.new.output in
+    Decodes-append g.R.Source.remaining g.R.Source.step (holding mode c.args.self.now) (holding mode before) (holding mode after)
+    c.args.reader.now c.loop-label.reader c.loop-label.reader [] given c.loop-label.invariant.decodes
+    (Decodes-text g.R.Source.remaining g.R.Source.step c.args.label before after c.loop-label.reader given c.decode-count.ensures.ended
+    c.decode-count.ensures.text c.decode-count.ensures.last)
