@@ -4,9 +4,7 @@ use Rattle.std.proofs.Common.{refl, sym, ◌∙◌, ap, subst, arith, ⊎_elim, 
 use Rattle.std.proofs.lemmas.Bool.{false≢true}
 use Rattle.std.proofs.lemmas.List.Elements.{All-weaker}
 use Rattle.std.specs.declared.io.Error.{Error}
-use Rattle.grep_decode.specs.declared.mode.Mode.TheVariants.{Passing}
-use Rattle.grep_decode.specs.Decoded.{IsIncomplete}
-use Rattle.grep_decode.specs.DecoderStates.{DecoderState, Decodes, IsDone, IsSettled, LooksForMark, started, still_to_give}
+use Rattle.grep_decode.specs.DecoderStates.{DecoderState, Decodes, IsDone, IsWaiting, started, still_to_give}
 use Rattle.grep_decode.specs.Source.{ReadResult}
 use Rattle.grep_line_buffer.specs.Contents.{IsBelow, ContentsFail, FailsAfter}
 use Rattle.grep_line_buffer.specs.Fills.{IfRead, UnlessRead}
@@ -172,13 +170,12 @@ pub unread-failed : {R : Type 0} (remaining : R → Option (List ℕ)) (read_ste
     → ((d : DecoderState) (more : List ℕ) → IsDone d → still_to_give d more ≡ [])
     → (view : List ℕ → List ℕ) (has_buffers : Bool) (meaning : Meaning) (error : Error) (reader' : R)
     → IsBelow k.heap_limit (length given)
-    → d.has_ended ≡ false → read_step mid (Err error) reader' → d.ready ≡ [] → (d.mode ≡ Passing → d.held ≡ [])
-    → IsSettled d.mode ⊎ LooksForMark d.mode × (length d.held ≤ 2) → (IsSettled d.mode → IsIncomplete (still_to_give d []))
+    → d.has_ended ≡ false → read_step mid (Err error) reader' → d.ready ≡ [] → IsWaiting d.mode d.held
     → IsUnreadIn remaining read_step true view (record { settings = k; has_buffers = has_buffers }) meaning reader None error reader'
 unread-failed remaining read_step k capacity reader given d mid reads none view has_buffers meaning error reader' below unended ends
-    ready held few incomplete =
+    ready waits =
     of_failed_read refl mid (reading.taken remaining read_step k capacity reader given d mid reads) unended ends given
-    (reading.decoded-so_far remaining read_step k capacity reader given d mid reads none unended ready held few incomplete)
+    (reading.decoded-so_far remaining read_step k capacity reader given d mid reads none unended ready waits)
     (λ limit is. subst (λ l. IsBelow l (length given)) is below)
 
 -- why not all was read, by the error
@@ -193,21 +190,19 @@ module _ {R : Type 0} (remaining : R → Option (List ℕ)) (read_step : R → R
   pub unread-read : (e : FillError) (error : Error) → IsMadeOf e error → (size : ℕ) → ContentsFail k.heap_limit size given e
       → UnlessRead {X = Unit {0}} (Err e) (Decodes remaining read_step d reader given d' reader')
       → IfRead {X = Unit {0}} (Err e) (λ io. FailsAfter remaining read_step io d reader given d' reader')
-      → IfRead {X = Unit {0}} (Err e) (λ _. d'.mode ≡ Passing → d'.held ≡ []) → IfRead {X = Unit {0}} (Err e) (λ _. d'.ready ≡ [])
-      → IfRead {X = Unit {0}} (Err e) (λ _. IsSettled d'.mode ⊎ LooksForMark d'.mode × (length d'.held ≤ 2))
-      → IfRead {X = Unit {0}} (Err e) (λ _. IsSettled d'.mode → IsIncomplete (still_to_give d' []))
+      → IfRead {X = Unit {0}} (Err e) (λ _. d'.ready ≡ []) → IfRead {X = Unit {0}} (Err e) (λ _. IsWaiting d'.mode d'.held)
       → Unread error
-  unread-read (Read io) error made size below reads fails held ready few incomplete =
+  unread-read (Read io) error made size below reads fails ready waits =
       let fails' = subst (λ from. FailsAfter remaining read_step io from reader given d' reader') start fails in
       subst Unread (sym made)
       (unread-failed remaining read_step k capacity reader given d' fails'.mid fails'.decodes none view has_buffers meaning io reader'
-      below fails'.unended fails'.failed ready held few incomplete)
-  unread-read HeapLimit error made size full reads fails held ready few incomplete =
+      below fails'.unended fails'.failed ready waits)
+  unread-read HeapLimit error made size full reads fails ready waits =
       unread-contents remaining read_step k capacity reader given d' reader'
       (subst (λ from. Decodes remaining read_step from reader given d' reader') start reads) none view has_buffers meaning error
       (λ bytes enough. of_full (length given) full made enough)
-  unread-read Offset error made size never reads fails held ready few incomplete = absurd never
-  unread-read Memory error made size lacks reads fails held ready few incomplete =
+  unread-read Offset error made size never reads fails ready waits = absurd never
+  unread-read Memory error made size lacks reads fails ready waits =
       unread-contents remaining read_step k capacity reader given d' reader'
       (subst (λ from. Decodes remaining read_step from reader given d' reader') start reads) none view has_buffers meaning error
       (λ bytes enough. of_no_memory made)

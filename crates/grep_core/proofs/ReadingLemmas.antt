@@ -7,14 +7,14 @@ use Rattle.grep_decode.specs.declared.label.Label.{Label}
 use Rattle.grep_decode.specs.declared.label.Label.TheVariants.{Utf8, Utf16Le, Utf16Be}
 use Rattle.grep_decode.specs.declared.mode.Mode.{Mode}
 use Rattle.grep_decode.specs.declared.mode.Mode.TheVariants.{Fresh, Passing, Decoding}
-use Rattle.grep_decode.specs.Decoded.{IsIncomplete, decoded, found_mark}
+use Rattle.grep_decode.specs.Decoded.{by_label, decoded, found_mark}
 use Rattle.grep_decode.specs.DecoderStates.{DecoderState, Decodes, IsDone, IsSettled, LooksForMark, decode_by, mode_after, mode_of}
-use Rattle.grep_decode.specs.DecoderStates.{started, still_to_give, unread}
+use Rattle.grep_decode.specs.DecoderStates.{IsWaiting, started, still_to_give, unread}
 use Rattle.grep_decode.specs.Source.{ReadResult}
 use Rattle.grep_matcher.specs.Terminators.{byte_of}
 use Rattle.grep_definitions.specs.BinaryBytes.{view_of}
-use Rattle.grep_definitions.specs.DecodedInputs.{IsDecodedSoFar, IsInput, looks_for_mark, passes_after, passes_unchanged}
-use Rattle.grep_definitions.specs.DecodedInputs.{searched_bytes}
+use Rattle.grep_definitions.specs.DecodedInputs.{AreWaiting, IsDecodedSoFar, IsInput, encoding_after, encoding_of}
+use Rattle.grep_definitions.specs.DecodedInputs.{looks_for_mark, passes_after, passes_unchanged, searched_bytes}
 use Rattle.grep_definitions.specs.ReaderSearches.{Taken}
 use Rattle.grep_definitions.specs.Settings.{Settings}
 use Rattle.grep_core.proofs.StreamViewLemmas.{view-none}
@@ -37,6 +37,27 @@ mode-passing label (Some Utf16Le) unchanged = absurd (false≢true unchanged)
 mode-passing label (Some Utf16Be) unchanged = absurd (false≢true unchanged)
 mode-passing None None unchanged = refl
 mode-passing (Some label) None unchanged = absurd (false≢true unchanged)
+
+-- the mode after a mark, by the encoding
+mode-decodes : (label mark : Option Label) (input : List ℕ) → decode_by (mode_of mark label) input ≡ by_label (encoding_after mark label) input
+mode-decodes label (Some Utf8) input = refl
+mode-decodes label (Some Utf16Le) input = refl
+mode-decodes label (Some Utf16Be) input = refl
+mode-decodes None None input = refl
+mode-decodes (Some label) None input = refl
+
+mode-waits : (label mark : Option Label) (held : List ℕ) → IsWaiting (mode_of mark label) held → AreWaiting (encoding_after mark label) held
+mode-waits label (Some Utf8) held waits = waits
+mode-waits label (Some Utf16Le) held waits = waits
+mode-waits label (Some Utf16Be) held waits = waits
+mode-waits None None held waits = waits
+mode-waits (Some label) None held waits = waits
+
+-- what waits in a mode that isn't settled are few bytes in which a mark is looked for
+waits-few : (mode : Mode) (held : List ℕ) → IsWaiting mode held → IsSettled mode ⊎ LooksForMark mode × (length held ≤ 2)
+waits-few (Fresh label sniff) held waits = inr (waits.0, omega (arith, waits.1))
+waits-few Passing held waits = inl tt
+waits-few (Decoding label) held waits = inl tt
 
 -- a decoder that looks for a mark hasn't settled
 looks-unsettled : (mode : Mode) → LooksForMark mode → IsSettled mode → ⊥
@@ -83,15 +104,19 @@ module _ {R : Type 0} (remaining : R → Option (List ℕ)) (step : R → ReadRe
   unfolding searched_bytes
   decoded-is = ap (decoded settings.encoding settings.bom_sniffing) (sym (append-nil (concat reads.pieces))) ∙ reads.gives [] (λ _. refl)
 
+  -- the mark in what was taken
+  abbrev mark : Option Label
+  mark = found_mark settings.encoding settings.bom_sniffing (concat reads.pieces)
+
+  mode-is : IsSettled d.mode → d.mode ≡ mode_of mark settings.encoding
+  mode-is settled =
+      sym (mode-stays d.mode (d.held ++ unread d.has_ended []) settled) ∙ (sym (reads.settles [] (λ _. refl))
+      ∙ ap (λ xs. mode_of (found_mark settings.encoding settings.bom_sniffing xs) settings.encoding) (append-nil (concat reads.pieces)))
+
   module _ (unchanged : passes_unchanged settings (concat reads.pieces) ≡ true) (settled : IsSettled d.mode) where
     pub passes : d.mode ≡ Passing
     unfolding passes_unchanged
-    passes =
-        let none = mode-passing settings.encoding (found_mark settings.encoding settings.bom_sniffing (concat reads.pieces)) unchanged in
-        let now = reads.settles [] (λ _. refl) in
-        sym (mode-stays d.mode (d.held ++ unread d.has_ended []) settled) ∙ (sym now
-        ∙ (ap (λ xs. mode_of (found_mark settings.encoding settings.bom_sniffing xs) settings.encoding) (append-nil (concat reads.pieces))
-        ∙ none))
+    passes = mode-is settled ∙ mode-passing settings.encoding mark unchanged
 
     -- at most three bytes more were taken than given
     pub taken-few : (d.mode ≡ Passing → (length d.ready ≤ 3) × (d.held ≡ [])) → length (concat reads.pieces) ≤ length given + 3
@@ -125,15 +150,36 @@ module _ {R : Type 0} (remaining : R → Option (List ℕ)) (step : R → ReadRe
       (reads.enough looks settled))
       (λ waits. waits.1) (unsettled few)
 
+  -- the last bytes that came wait if the decoder holds them, and the rest of the text is theirs and of what comes
+  module _ (unended : d.has_ended ≡ false) (ready : d.ready ≡ []) (waits : IsWaiting d.mode d.held) (settled : IsSettled d.mode) where
+    waiting-bytes : AreWaiting (encoding_of settings (concat reads.pieces)) d.held
+    unfolding encoding_of
+    waiting-bytes = mode-waits settings.encoding mark d.held (subst (λ m. IsWaiting m d.held) (mode-is settled) waits)
+
+    waiting-text : (more : List ℕ) → searched_bytes settings (concat reads.pieces ++ more)
+        ≡ given ++ by_label (encoding_of settings (concat reads.pieces)) (d.held ++ more)
+    unfolding searched_bytes encoding_of
+    waiting-text more =
+        reads.gives more (λ ended. absurd (false≢true (sym unended ∙ ended)))
+        ∙ (ap (λ xs. given ++ (xs ++ decode_by d.mode (d.held ++ unread d.has_ended more))) ready
+        ∙ (ap (λ b. given ++ decode_by d.mode (d.held ++ unread b more)) unended
+        ∙ (ap (λ m. given ++ decode_by m (d.held ++ more)) (mode-is settled)
+        ∙ ap (λ xs. given ++ xs) (mode-decodes settings.encoding mark (d.held ++ more)))))
+
   -- what was decoded when the reader failed
   pub decoded-so_far : ((d : DecoderState) (more : List ℕ) → IsDone d → still_to_give d more ≡ []) → d.has_ended ≡ false
-      → d.ready ≡ [] → (d.mode ≡ Passing → d.held ≡ []) → IsSettled d.mode ⊎ LooksForMark d.mode × (length d.held ≤ 2)
-      → (IsSettled d.mode → IsIncomplete (still_to_give d [])) → IsDecodedSoFar settings reads.pieces given
-  decoded-so_far none unended ready held few incomplete = record {
+      → d.ready ≡ [] → IsWaiting d.mode d.held → IsDecodedSoFar settings reads.pieces given
+  decoded-so_far none unended ready waits = record {
     begins = λ bytes input.
         let text = input-is none bytes (input.0, (λ ended. absurd (false≢true (sym unended ∙ ended))), input.2) in
         (text.0, text.1);
     none = given-none few unended;
-    all = λ enough. (still_to_give d [], decoded-is, incomplete (settled-enough few enough));
-    whole = λ enough unchanged. decoded-all unchanged (settled-enough few enough) ready held;
+    all = λ enough.
+        let settled = settled-enough few enough in
+        (reads.last.0, d.held, reads.last.1, waiting-bytes unended ready waits settled, waiting-text unended ready waits settled);
+    whole = λ enough unchanged. decoded-all unchanged (settled-enough few enough) ready
+        (λ passing. subst (λ m. IsWaiting m d.held) passing waits);
   }
+    where
+      few : IsSettled d.mode ⊎ LooksForMark d.mode × (length d.held ≤ 2)
+      few = waits-few d.mode d.held waits

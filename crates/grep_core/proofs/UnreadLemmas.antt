@@ -7,9 +7,7 @@ use Rattle.std.proofs.lemmas.List.{append_cancel_left}
 use Rattle.std.proofs.lemmas.List.Elements.{All-append}
 use Rattle.std.specs.Prelude.{All, IfSome}
 use Rattle.std.specs.declared.io.Error.{Error}
-use Rattle.grep_decode.specs.declared.mode.Mode.TheVariants.{Passing}
-use Rattle.grep_decode.specs.Decoded.{IsIncomplete}
-use Rattle.grep_decode.specs.DecoderStates.{DecoderState, Decodes, IsDone, IsSettled, LooksForMark, started, still_to_give}
+use Rattle.grep_decode.specs.DecoderStates.{DecoderState, Decodes, IsDone, IsWaiting, started, still_to_give}
 use Rattle.grep_decode.specs.Source.{ReadResult}
 use Rattle.grep_line_buffer.specs.declared.fill_error.FillError.{FillError}
 use Rattle.grep_line_buffer.specs.declared.fill_error.FillError.TheVariants.{Read, HeapLimit, Offset, Memory}
@@ -176,16 +174,15 @@ module _ {R : Type 0} (remaining : R → Option (List ℕ)) (read_step : R → R
       pub unread-read : (error : Error) (mid : R) → view_of k raw ≡ gone ++ held new
           → (reads : Decodes remaining read_step (started capacity k.encoding k.bom_sniffing) reader raw d' mid)
           → HasNoLine old new → length (held new) < new.size → d'.has_ended ≡ false
-          → read_step mid (Err error) reader' → d'.ready ≡ [] → (d'.mode ≡ Passing → d'.held ≡ [])
-          → IsSettled d'.mode ⊎ LooksForMark d'.mode × (length d'.held ≤ 2) → (IsSettled d'.mode → IsIncomplete (still_to_give d' [])) → IsUnreadBy error
-      unread-read error mid shows reads no_line room unended failed ready held_none few incomplete = of_reader refl unquit-seen mid
+          → read_step mid (Err error) reader' → d'.ready ≡ [] → IsWaiting d'.mode d'.held → IsUnreadBy error
+      unread-read error mid shows reads no_line room unended failed ready waits = of_reader refl unquit-seen mid
           (reading.taken remaining read_step k capacity reader raw d' mid reads) unended failed
           (λ bytes input.
           let text = reading.front-is remaining read_step k capacity reader raw d' mid reads none (view_of k) (gone ++ held new)
           fronts bytes input in
           goes-on bytes text.0 text.1)
           raw
-          (reading.decoded-so_far remaining read_step k capacity reader raw d' mid reads none unended ready held_none few incomplete)
+          (reading.decoded-so_far remaining read_step k capacity reader raw d' mid reads none unended ready waits)
           (record {
             rest = old.rest ++ given;
             whole = shows ∙ seen-is;
@@ -245,17 +242,14 @@ module _ {R : Type 0} (remaining : R → Option (List ℕ)) (read_step : R → R
         → UnlessRead {X = Bool} (Err error) (Fills remaining read_step old d r new d' r')
         → IfRead {X = Bool} (Err error) (λ e. FailsToFill remaining read_step e old d r new d' r')
         → IfRead {X = Bool} (Err error) (λ _. is_cut new ≡ false)
-        → IfRead {X = Bool} (Err error) (λ _. d'.mode ≡ Passing → d'.held ≡ [])
         → IfRead {X = Bool} (Err error) (λ _. d'.ready ≡ [])
-        → IfRead {X = Bool} (Err error) (λ _. IsSettled d'.mode ⊎ LooksForMark d'.mode × (length d'.held ≤ 2))
-        → IfRead {X = Bool} (Err error) (λ _. IsSettled d'.mode → IsIncomplete (still_to_give d' [])) → IsUnreadAt io
-    unread-filled (Read e) io made fails cut read uncut passed empty few incomplete =
+        → IfRead {X = Bool} (Err error) (λ _. IsWaiting d'.mode d'.held) → IsUnreadAt io
+    unread-filled (Read e) io made fails cut read uncut empty waits =
         subst IsUnreadAt (sym made)
         (unread-read capacity reader r' d' so_far.gone old new first w now so_far.between fitting same has_buffers grows within allowed
         none (detected old.detection old.terminator read.fills.given) read.fills.appended (raw read.mid read.fills)
         (fronts read.mid read.fills) (befores read.mid read.fills) (unquit read.mid read.fills) e read.mid
-        (view-is read.mid read.fills uncut) (from_start read.mid read.fills) fails.0 fails.1 read.unended read.failed empty passed few
-        incomplete)
-    unread-filled HeapLimit io made fails cut read uncut passed empty few incomplete = cut-by HeapLimit io made fails (λ e is. cc) cut
-    unread-filled Offset io made fails cut read uncut passed empty few incomplete = cut-by Offset io made fails (λ e is. cc) cut
-    unread-filled Memory io made fails cut read uncut passed empty few incomplete = cut-by Memory io made fails (λ e is. cc) cut
+        (view-is read.mid read.fills uncut) (from_start read.mid read.fills) fails.0 fails.1 read.unended read.failed empty waits)
+    unread-filled HeapLimit io made fails cut read uncut empty waits = cut-by HeapLimit io made fails (λ e is. cc) cut
+    unread-filled Offset io made fails cut read uncut empty waits = cut-by Offset io made fails (λ e is. cc) cut
+    unread-filled Memory io made fails cut read uncut empty waits = cut-by Memory io made fails (λ e is. cc) cut

@@ -4,7 +4,7 @@ use Rattle.std.specs.Prelude.{Option, Some, None, is_some}
 use Rattle.std.specs.List.{concat}
 use Rattle.grep_decode.specs.declared.label.Label.{Label}
 use Rattle.grep_decode.specs.declared.label.Label.TheVariants.{Utf8, Utf16Le, Utf16Be}
-use Rattle.grep_decode.specs.Decoded.{IsIncomplete, decoded, found_mark, is_unchanged}
+use Rattle.grep_decode.specs.Decoded.{IsUnfinished, by_label, decoded, found_mark, is_unchanged}
 use Rattle.grep_definitions.specs.Settings.{Settings}
 
 -- the bytes that are searched: the input, decoded as the settings say
@@ -31,6 +31,24 @@ unfoldable pub passes_unchanged : Settings → List ℕ → Bool
 passes_unchanged settings input =
     passes_after (found_mark settings.encoding settings.bom_sniffing input) settings.encoding
 
+-- the encoding of the bytes after this mark, or without one, and none if they pass unchanged
+abbrev pub encoding_after : Option Label → Option Label → Option Label
+encoding_after None label = label
+encoding_after (Some Utf8) label = None
+encoding_after (Some Utf16Le) label = Some Utf16Le
+encoding_after (Some Utf16Be) label = Some Utf16Be
+
+-- the encoding from which the input is decoded after its mark, if it has one
+unfoldable pub encoding_of : Settings → List ℕ → Option Label
+encoding_of settings input =
+    encoding_after (found_mark settings.encoding settings.bom_sniffing input) settings.encoding
+
+-- bytes that wait for more: the beginning of a character that more could complete, or none, and none if they pass
+-- unchanged
+abbrev pub AreWaiting : Option Label → List ℕ → Type 0
+AreWaiting None bytes = bytes ≡ []
+AreWaiting (Some label) bytes = IsUnfinished label bytes
+
 -- the bytes that are searched if these pieces of an input came, and no more if it ended with them
 abbrev pub IsInput : Settings → Bool → List (List ℕ) → List ℕ → Type 0
 IsInput settings ended pieces bytes =
@@ -42,12 +60,14 @@ pub record IsDecodedSoFar (settings : Settings) (pieces : List (List ℕ)) (came
     : Type 0 where
   pub begins : (bytes : List ℕ) → IsInput settings false pieces bytes
       → (after : List ℕ) × (bytes ≡ came ++ after)
-  -- nothing while a mark is looked for in fewer than three bytes. Else all that came but the first bytes of a
-  -- character, and of bytes that pass unchanged it is all
+  -- nothing while a mark is looked for in fewer than three bytes. Else all but the last bytes that came if they wait:
+  -- whatever else comes, the text goes on with theirs and its own. Of bytes that pass unchanged it is all
   pub none : looks_for_mark settings ≡ true → length (concat pieces) < 3 → came ≡ []
   pub all : (looks_for_mark settings ≡ true → 3 ≤ length (concat pieces))
-      → (rest : List ℕ) × (searched_bytes settings (concat pieces) ≡ came ++ rest)
-      × IsIncomplete rest
+      → (front waiting : List ℕ) × (concat pieces ≡ front ++ waiting)
+      × AreWaiting (encoding_of settings (concat pieces)) waiting
+      × ((more : List ℕ) → searched_bytes settings (concat pieces ++ more)
+      ≡ came ++ by_label (encoding_of settings (concat pieces)) (waiting ++ more))
   pub whole : (looks_for_mark settings ≡ true → 3 ≤ length (concat pieces))
       → passes_unchanged settings (concat pieces) ≡ true
       → came ≡ searched_bytes settings (concat pieces)

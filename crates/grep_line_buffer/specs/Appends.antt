@@ -5,9 +5,7 @@ use Rattle.std.specs.Io.KnownBytes.{Consumes, Keeps, IsAtEnd}
 use Rattle.std.specs.declared.io.Error.{Error}
 use Rattle.grep_decode.specs.declared.mode.Mode.TheVariants.{Passing}
 use Rattle.grep_decode.specs.DecoderStates.{DecoderState, Decodes, FailsToDecode, IsDone, IsSettled}
-use Rattle.grep_decode.specs.DecoderStates.{LooksForMark, TakesAtMost}
-use Rattle.grep_decode.specs.DecoderStates.{runs_ahead, still_to_give, yet}
-use Rattle.grep_decode.specs.Decoded.{IsIncomplete}
+use Rattle.grep_decode.specs.DecoderStates.{IsWaiting, TakesAtMost, runs_ahead, yet}
 use Rattle.grep_decode.specs.Source.{ReadResult}
 use Rattle.grep_line_buffer.specs.BufferStates.{BufferState, held}
 use Rattle.grep_line_buffer.specs.Detections.{detected, found_in, first_of}
@@ -44,9 +42,7 @@ module _ {R : Type 0} (remaining : R → Option (List ℕ)) (step : R → ReadRe
     pub keeps : Keeps (yet decoder (remaining reader)) (yet decoder' (remaining reader'))
     pub empty : decoder'.ready ≡ []
     pub stays : IsSettled decoder.mode → decoder'.mode ≡ decoder.mode
-    pub passing : decoder'.mode ≡ Passing → decoder'.held ≡ []
-    pub few : IsSettled decoder'.mode ⊎ LooksForMark decoder'.mode × (length decoder'.held ≤ 2)
-    pub incomplete : IsSettled decoder'.mode → IsIncomplete (still_to_give decoder' [])
+    pub waits : IsWaiting decoder'.mode decoder'.held
 
   -- One read of a decoder gave so many bytes, which the buffer holds after the others.
   pub record Appends (count : ℕ) (old : BufferState) (decoder : DecoderState) (reader : R)

@@ -4,9 +4,8 @@ ghost use Rattle.std.specs.Prelude.{OnOk, OnErr, IfErr, replicate, take, vec_len
 ghost use Rattle.std.specs.Io.KnownBytes.{Consumes, IsAtEnd};
 ghost use Rattle.grep_decode.specs.Source.{FailsWith};
 ghost use Rattle.grep_decode.specs.declared.mode.Mode.TheVariants.{Passing};
-ghost use Rattle.grep_decode.specs.Decoded.{IsIncomplete};
-ghost use Rattle.grep_decode.specs.DecoderStates.{Decodes, IsDone, IsSettled, LooksForMark, TakesAtMost};
-ghost use Rattle.grep_decode.specs.DecoderStates.{runs_ahead, still_to_give, yet};
+ghost use Rattle.grep_decode.specs.DecoderStates.{Decodes, IsDone, IsSettled, IsWaiting, TakesAtMost};
+ghost use Rattle.grep_decode.specs.DecoderStates.{runs_ahead, yet};
 ghost use Rattle.grep_line_buffer.specs.Contents.{first_size, IsBelow, ContentsFail, FailsAfter};
 ghost use Rattle.grep_line_buffer.specs.BufferStates.{IsWithin};
 ghost use Rattle.grep_line_buffer.specs.Fills.{IfRead, UnlessRead};
@@ -62,12 +61,8 @@ pub fn read_contents<A: Allocator, B: Allocator, R: Source>(
         (length contents.new.items + runs_ahead decoder.old.mode)) }
     ensures settled { OnOk result (IsSettled decoder.new.mode) }
     ensures stays { IsSettled decoder.old.mode → decoder.new.mode ≡ decoder.old.mode }
-    ensures passed { IfRead result (λ _. decoder.new.mode ≡ Passing → decoder.new.held ≡ []) }
     ensures empty { IfRead result (λ _. decoder.new.ready ≡ []) }
-    ensures few { IfRead result (λ _. IsSettled decoder.new.mode
-        ⊎ LooksForMark decoder.new.mode × (length decoder.new.held ≤ 2)) }
-    ensures incomplete { IfRead result (λ _. IsSettled decoder.new.mode
-        → IsIncomplete (still_to_give decoder.new [])) }
+    ensures waits { IfRead result (λ _. IsWaiting decoder.new.mode decoder.new.held) }
 {
     reads_continue::<R>();
     reads_fail::<R>();

@@ -8,9 +8,8 @@ ghost use Rattle.std.specs.Io.{ReadsAtMost};
 ghost use lib.Seq.{paste};
 ghost use Rattle.grep_decode.specs.Source.{FailsWith};
 ghost use Rattle.grep_decode.specs.declared.mode.Mode.TheVariants.{Passing};
-ghost use Rattle.grep_decode.specs.Decoded.{IsIncomplete};
-ghost use Rattle.grep_decode.specs.DecoderStates.{IsDone, IsSettled, LooksForMark, TakesAtMost, runs_ahead};
-ghost use Rattle.grep_decode.specs.DecoderStates.{still_to_give, yet};
+ghost use Rattle.grep_decode.specs.DecoderStates.{IsDone, IsSettled, IsWaiting, TakesAtMost, runs_ahead};
+ghost use Rattle.grep_decode.specs.DecoderStates.{yet};
 ghost use Rattle.grep_lines.specs.Positions.{slice};
 ghost use Rattle.grep_line_buffer.specs.BufferStates.{BufferState, empty_buffer, held, Lacks, IsWithin, IsSameBuffer};
 ghost use Rattle.grep_line_buffer.specs.BufferStates.{GrowsIfFull, ShowsLine, IsFilled, HasNoLine, KeepsStream};
@@ -237,15 +236,11 @@ impl<A: Allocator> LineBuffer<A> {
         ensures passing { OnOk result (self.old.has_ended ≡ false → is_cut self.old ≡ false
             → decoder.new.mode ≡ Passing
             → (length decoder.new.ready ≤ 3) × (decoder.new.held ≡ [])) }
-        ensures passed { IfRead result (λ _. decoder.new.mode ≡ Passing → decoder.new.held ≡ []) }
         ensures settled { OnOk result (self.old.has_ended ≡ false → is_cut self.old ≡ false
             → IsSettled decoder.new.mode) }
         ensures stays { IsSettled decoder.old.mode → decoder.new.mode ≡ decoder.old.mode }
         ensures empty { IfRead result (λ _. decoder.new.ready ≡ []) }
-        ensures few { IfRead result (λ _. IsSettled decoder.new.mode
-            ⊎ LooksForMark decoder.new.mode × (length decoder.new.held ≤ 2)) }
-        ensures incomplete { IfRead result (λ _. IsSettled decoder.new.mode
-            → IsIncomplete (still_to_give decoder.new [])) }
+        ensures waits { IfRead result (λ _. IsWaiting decoder.new.mode decoder.new.held) }
     {
         reads_continue::<R>();
         reads_fail::<R>();

@@ -34,10 +34,8 @@ returns-in-Err g c =
       ahead = unless-read (Unit {0}) c.in-Err.e out.ahead;
       settled = tt;
       stays = out.stays;
-      passed = if-read-full (Unit {0}) c.args.limit c.reads.len c.in-Err.e _ full.error;
       empty = if-read-full (Unit {0}) c.args.limit c.reads.len c.in-Err.e _ full.error;
-      few = if-read-full (Unit {0}) c.args.limit c.reads.len c.in-Err.e _ full.error;
-      incomplete = if-read-full (Unit {0}) c.args.limit c.reads.len c.in-Err.e _ full.error;
+      waits = if-read-full (Unit {0}) c.args.limit c.reads.len c.in-Err.e _ full.error;
     }
 
 pub returns-in-Ok-eq0 : goal.returns-in-Ok-eq0
@@ -75,10 +73,8 @@ returns-in-Ok-eq0 g c =
       ahead = out.ahead;
       settled = read.settled;
       stays = out.stays;
-      passed = tt;
       empty = tt;
-      few = tt;
-      incomplete = tt;
+      waits = tt;
     }
 
 pub returns-in-Err-read_after : goal.returns-in-Err-read_after
@@ -115,10 +111,8 @@ returns-in-Err-read_after g c =
       ahead = tt;
       settled = tt;
       stays = out.stays;
-      passed = failed.passing;
       empty = failed.empty;
-      few = failed.few;
-      incomplete = failed.incomplete;
+      waits = failed.waits;
     }
 
 pub reads-init : goal.reads-init

@@ -92,7 +92,7 @@ returns-in-Err-clause-fault g c = λ lawful first begun has_buffers.
     so_far.given so_far.between.offset so_far.uncut so_far.holds fills)
     has_buffers c.fill.ensures.grows c.fill.ensures.within c.requires.allowed
     c.done_gives_nothing.ensures c.in-Err.error c.io_error.result c.io_error.ensures fill.error fill.reads fill.read fill.uncut
-    fill.passed fill.empty fill.few fill.incomplete)
+    fill.empty fill.waits)
     c.error_io.ensures
 
 pub returns-in-Err-clause-succeeds : goal.returns-in-Err-clause-succeeds
@@ -111,7 +111,7 @@ returns-in-Err-clause-succeeds g c = λ _ _ lawful first begun has_buffers.
           c.args.reader.now c.fills.reader r2 so_far.gone so_far.given so_far.between.offset so_far.uncut so_far.holds fills)
           has_buffers c.fill.ensures.grows c.fill.ensures.within c.requires.allowed
           c.done_gives_nothing.ensures c.in-Err.error c.io_error.result c.io_error.ensures fill.error fill.reads fill.read fill.uncut
-          fill.passed fill.empty fill.few fill.incomplete,
+          fill.empty fill.waits,
       c.error_io.ensures,
     )
 

@@ -45,7 +45,7 @@ unread g c has_buffers view =
     (subst (λ limit. ContentsFail limit (vec_capacity c.args.contents.now) c.read_contents.new.contents.items c.in-Err.error)
     c.heap_limit.ensures c.in-Err.ensures.error)
     c.in-Err.ensures.reads c.in-Err.ensures.read
-    c.in-Err.ensures.passed c.in-Err.ensures.empty c.in-Err.ensures.few c.in-Err.ensures.incomplete
+    c.in-Err.ensures.empty c.in-Err.ensures.waits
 
 pub returns-in-Err-clause-searched : goal.returns-in-Err-clause-searched
 returns-in-Err-clause-searched g c = λ has_buffers.

@@ -38,12 +38,10 @@ returns-then-has_ended g c =
       ended = λ ended. (refl, refl, refl, refl);
       ahead = out.ahead;
       passing = λ unended going. absurd (false≢true (sym unended ∙ was));
-      passed = tt;
       settled = λ unended going. absurd (false≢true (sym unended ∙ was));
       stays = out.stays;
       empty = tt;
-      few = tt;
-      incomplete = tt;
+      waits = tt;
     }
 
 pub returns-then-not-has_offsets : goal.returns-then-not-has_offsets
@@ -79,12 +77,10 @@ returns-then-not-has_offsets g c =
       ended = λ ended. absurd (false≢true (sym was ∙ ended));
       ahead = tt;
       passing = tt;
-      passed = tt;
       settled = tt;
       stays = out.stays;
       empty = tt;
-      few = tt;
-      incomplete = tt;
+      waits = tt;
     }
 
 pub returns-in-Err : goal.returns-in-Err
@@ -115,12 +111,10 @@ returns-in-Err g c =
       ended = λ ended. absurd (false≢true (sym was ∙ ended));
       ahead = tt;
       passing = tt;
-      passed = if-read-full Bool c.reads.self.limit c.reads.self.size c.in-Err.e _ full.2;
       settled = tt;
       stays = out.stays;
       empty = if-read-full Bool c.reads.self.limit c.reads.self.size c.in-Err.e _ full.2;
-      few = if-read-full Bool c.reads.self.limit c.reads.self.size c.in-Err.e _ full.2;
-      incomplete = if-read-full Bool c.reads.self.limit c.reads.self.size c.in-Err.e _ full.2;
+      waits = if-read-full Bool c.reads.self.limit c.reads.self.size c.in-Err.e _ full.2;
     }
 
 pub returns-in-Err-read : goal.returns-in-Err-read
@@ -152,12 +146,10 @@ returns-in-Err-read g c =
       ended = λ ended. absurd (false≢true (sym was ∙ ended));
       ahead = tt;
       passing = tt;
-      passed = failed.passing;
       settled = tt;
       stays = out.stays;
       empty = failed.empty;
-      few = failed.few;
-      incomplete = failed.incomplete;
+      waits = failed.waits;
     }
 
 pub returns-then-count-eq0 : goal.returns-then-count-eq0
@@ -191,12 +183,10 @@ returns-then-count-eq0 g c =
       ended = λ ended. absurd (false≢true (sym was ∙ ended));
       ahead = out.ahead;
       passing = λ _ going. came.reads.passing;
-      passed = tt;
       settled = λ _ going. came.reads.settled;
       stays = out.stays;
       empty = tt;
-      few = tt;
-      incomplete = tt;
+      waits = tt;
     }
 
 pub returns-then-not-has_offsets-2 : goal.returns-then-not-has_offsets-2
@@ -229,12 +219,10 @@ returns-then-not-has_offsets-2 g c =
       ended = λ ended. absurd (false≢true (sym was ∙ ended));
       ahead = tt;
       passing = tt;
-      passed = tt;
       settled = tt;
       stays = out.stays;
       empty = tt;
-      few = tt;
-      incomplete = tt;
+      waits = tt;
     }
 
 pub returns-then-show_lines : goal.returns-then-show_lines
@@ -270,12 +258,10 @@ returns-then-show_lines g c =
       ended = λ ended. absurd (false≢true (sym was ∙ ended));
       ahead = out.ahead;
       passing = λ _ going. came.reads.passing;
-      passed = tt;
       settled = λ _ going. came.reads.settled;
       stays = out.stays;
       empty = tt;
-      few = tt;
-      incomplete = tt;
+      waits = tt;
     }
 
 pub reads-init : goal.reads-init
@@ -328,12 +314,10 @@ returns-then-is_cut-2 g c =
       ended = λ ended. absurd (false≢true (sym was ∙ ended));
       ahead = out.ahead;
       passing = λ _ going. came.reads.passing;
-      passed = tt;
       settled = λ _ going. came.reads.settled;
       stays = out.stays;
       empty = tt;
-      few = tt;
-      incomplete = tt;
+      waits = tt;
     }
 
 pub returns-then-is_cut-clause-reads : goal.returns-then-is_cut-clause-reads
