@@ -1,6 +1,6 @@
 -- `utf8_lossy` from the front of some bytes on.
 use Rattle.std.proofs.Common.{◌≡◌, ℕ, ◌+◌, ◌-◌, ◌<◌, ◌≤◌, List, [], ◌∷◌, ◌++◌, length, take, drop, slice_index, None, Some, unwrap_or}
-use Rattle.std.proofs.Common.{IsUtf8, encode_utf8_all, inl, inr, refl, sym, ap, subst, ◌∙◌, arith, length-append, length-drop, take-add, append_assoc, append-nil}
+use Rattle.std.proofs.Common.{IsUtf8, encode_utf8_all, refl, sym, ap, subst, ◌∙◌, arith, length-append, length-drop, take-add, append_assoc, append-nil}
 use Rattle.std.proofs.lemmas.Bool.Decides.{nat_tests}
 use Rattle.std.proofs.lemmas.List.{get_or_append_left, drop-append-le, drop-drop, length-take-le, take-append-le, take_rest}
 use Rattle.std.proofs.lemmas.List.{take-append-drop}

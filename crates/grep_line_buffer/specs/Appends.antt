@@ -1,5 +1,5 @@
 -- One read into a line buffer.
-use Rattle.std.specs.Prelude.{◌≡◌, ◌⊎◌, ℕ, ◌+◌, ◌-◌, ◌≤◌, List, [], ◌++◌, length, take, drop, Option}
+use Rattle.std.specs.Prelude.{◌≡◌, ℕ, ◌+◌, ◌-◌, ◌≤◌, List, [], ◌++◌, length, take, drop, Option}
 use Rattle.std.specs.Option.{option_map}
 use Rattle.std.specs.Io.KnownBytes.{Consumes, Keeps, IsAtEnd}
 use Rattle.std.specs.declared.io.Error.{Error}
