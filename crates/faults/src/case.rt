@@ -1,7 +1,6 @@
 //! What fails in a search, and what then comes of it.
-use crate::rows::{Call, Row};
 use grep_searcher::SearchError;
-use grep_testing::RECORDER_MESSAGE;
+use grep_testing::{Call, RECORDER_MESSAGE, Row};
 use std::alloc::Global;
 use std::io::ErrorKind;
 use std::{fmt, io};
@@ -144,7 +143,9 @@ impl End {
     fn of_error(alloc: Global, error: &SearchError) -> End {
         match error {
             SearchError::Message(text) if text.as_str() == RECORDER_MESSAGE => End::Sink,
-            SearchError::Io(error) if is_of_reader(alloc, error) => End::Reader(error.kind()),
+            SearchError::Io(error) if has_message(alloc, error, READER_MESSAGE) => End::Reader(
+                error.kind(),
+            ),
             _ => End::Other,
         }
     }
@@ -160,10 +161,10 @@ impl End {
     }
 }
 
-// Whether an error has the message of the reader's.
-fn is_of_reader(alloc: Global, error: &io::Error) -> bool {
+/// Whether an error has this message.
+pub(crate) fn has_message(alloc: Global, error: &io::Error, message: &str) -> bool {
     match format!(in alloc; "{error}") {
-        Ok(text) => text.as_str() == READER_MESSAGE,
+        Ok(text) => text.as_str() == message,
         Err(_) => false,
     }
 }

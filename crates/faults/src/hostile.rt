@@ -1,13 +1,12 @@
 //! Readers and matchers that don't behave, each with a search by the same searcher after it.
 use crate::case::Fault;
 use crate::readers::{Interrupted, Repeated, Resuming};
-use crate::rows::{BREAK, LIMIT, Row};
 use crate::tally::{Tally, Totals};
 use crate::trial::{comes_to, search, search_slice};
 use grep_decode::Source;
 use grep_matcher::{ByteSet, LineMatchKind, LineTerminator, LiteralMatcher, Match, Matcher};
 use grep_searcher::{BinaryDetection, SearchError, Searcher};
-use grep_testing::{Contrary, Pieces};
+use grep_testing::{BREAK, Contrary, LIMIT, Pieces, Row};
 use std::alloc::Global;
 use std::cell::Cell;
 use std::io;

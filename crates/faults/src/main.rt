@@ -5,14 +5,15 @@
 #![tactic(auto)]
 
 mod case;
+mod copies;
 mod hostile;
 mod long;
 mod readers;
-mod rows;
 mod tally;
 mod trial;
+mod writers;
 
-use crate::rows::ROWS;
+use grep_testing::ROWS;
 use std::io;
 use std::io::{BufWriter, Write};
 
@@ -21,7 +22,11 @@ fn main(rt: HostRuntime) -> io::Result<()> {
     for row in ROWS {
         trial::try_all(rt.alloc(), row, &mut output)?;
     }
+    for row in ROWS {
+        copies::try_copies(rt.alloc(), row, &mut output)?;
+    }
     hostile::try_hostile(rt.alloc(), &mut output)?;
     long::try_long(rt.alloc(), &mut output)?;
+    writers::try_writers(rt.alloc(), &mut output)?;
     output.flush()
 }

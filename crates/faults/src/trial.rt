@@ -1,16 +1,15 @@
 //! The cases of a row.
 use crate::case::{End, Fault};
-use crate::rows::Row;
 use grep_decode::Source;
 use grep_matcher::{LiteralMatcher, Matcher};
 use grep_searcher::{SearchError, Searcher, Sink};
-use grep_testing::{Pieces, Recorder};
+use grep_testing::{Pieces, Recorder, Row};
 use std::alloc::Global;
 use std::io;
 use std::io::ErrorKind;
 
-// Each kind of error.
-const KINDS: &[ErrorKind] = &[
+/// Each kind of error.
+pub(crate) const KINDS: &[ErrorKind] = &[
     ErrorKind::NotFound,
     ErrorKind::PermissionDenied,
     ErrorKind::ConnectionRefused,
@@ -55,33 +54,39 @@ const KINDS: &[ErrorKind] = &[
     ErrorKind::Uncategorized,
 ];
 
-// How many cases there were, and how many agreed.
+/// How many cases there were, and how many agreed.
 #[derive(Clone, Copy)]
-struct Tally {
+pub(crate) struct Tally {
     cases: u64,
     agreed: u64,
 }
 
 impl Tally {
-    fn new() -> Tally {
+    /// Before the first case.
+    pub(crate) fn new() -> Tally {
         Tally {
             cases: 0,
             agreed: 0,
         }
     }
 
-    // Counts a case.
-    fn add(&mut self, agrees: bool) {
+    /// Counts a case.
+    pub(crate) fn add(&mut self, agrees: bool) {
         self.cases = self.cases.saturating_add(1);
         if agrees {
             self.agreed = self.agreed.saturating_add(1);
         }
     }
 
-    // Writes the counts of a part of a row.
-    fn write<W: io::Write>(self, row: &Row, part: &str, output: &mut W) -> io::Result<()> {
+    /// Writes the counts of a part of what is named.
+    pub(crate) fn write<W: io::Write>(
+        self,
+        name: &str,
+        part: &str,
+        output: &mut W,
+    ) -> io::Result<()> {
         let (agreed, cases) = (self.agreed, self.cases);
-        writeln!(output, "{}, {part}: {agreed} of {cases} agree", row.name)
+        writeln!(output, "{name}, {part}: {agreed} of {cases} agree")
     }
 }
 
@@ -111,7 +116,7 @@ fn try_reads<W: io::Write>(
             tally.add(agrees(alloc, searcher, row, fault, output)?);
         }
     }
-    tally.write(row, "a read fails", output)
+    tally.write(row.name, "a read fails", output)
 }
 
 // Tries each call that returns false.
@@ -125,7 +130,7 @@ fn try_stops<W: io::Write>(
     for call in 1..=row.calls.len() as u64 {
         tally.add(agrees(alloc, searcher, row, Fault::False(call), output)?);
     }
-    tally.write(row, "a call returns false", output)
+    tally.write(row.name, "a call returns false", output)
 }
 
 // Tries each call that fails, and `finish`.
@@ -140,7 +145,7 @@ fn try_errors<W: io::Write>(
         let fault = Fault::Call(call.saturating_add(1));
         tally.add(agrees(alloc, searcher, row, fault, output)?);
     }
-    tally.write(row, "a call fails", output)
+    tally.write(row.name, "a call fails", output)
 }
 
 // Whether a search with a fault, and then one with none, come to what they have to.

@@ -1,15 +1,20 @@
 //! What tests of searches share: a reader that gives its bytes in pieces, a sink that writes its
-//! calls as text, and matchers that do what no literal matcher does.
+//! calls as text, one that compares them, searches with their calls, and matchers that do what no
+//! literal matcher does.
 #![tactic(auto)]
 
 mod candidates;
+mod comparison;
 mod counting;
 mod matchers;
 mod pieces;
 mod recorder;
+mod rows;
 
 pub use candidates::{CandidatesOnly, ConfirmsEnd, Contrary, EveryLine};
+pub use comparison::{Comparison, Failed};
 pub use counting::{Counting, Counts};
 pub use matchers::{AtEnd, Either, Empty, FAILING_MESSAGE, Failing, Naming};
 pub use pieces::Pieces;
 pub use recorder::{RECORDER_MESSAGE, Recorder};
+pub use rows::{BREAK, Call, LIMIT, ROWS, Row, Settings};

@@ -198,7 +198,7 @@ fn last_line(alloc: Global, count: u64, binary: Option<u64>) -> Result<String, A
 }
 
 // The name of the kind of a context line.
-fn name_of(kind: &SinkContextKind) -> &'static str
+pub(crate) fn name_of(kind: &SinkContextKind) -> &'static str
     ensures { result.now ≡ kind_text kind.now }
 {
     match kind {
@@ -215,7 +215,7 @@ fn no_memory(error: AllocError) -> SearchError {
 
 // A number, or a dash for none.
 #[derive(Clone, Copy)]
-struct Number(Option<u64>);
+pub(crate) struct Number(pub(crate) Option<u64>);
 
 impl fmt::Display for Number {
     ghost use Rattle.std.specs.Prelude.{Some};

@@ -11,8 +11,6 @@ mod candidates;
 #[cfg(test)]
 mod closures;
 #[cfg(test)]
-mod copies;
-#[cfg(test)]
 mod detection;
 #[cfg(test)]
 mod files;

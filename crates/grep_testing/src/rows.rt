@@ -4,37 +4,44 @@ use std::alloc::Global;
 
 /// A call of the sink before `finish`.
 #[derive(Clone, Copy)]
-pub(crate) struct Call {
+pub struct Call {
     /// Its text, as a recorder writes it.
-    pub(crate) text: &'static str,
+    pub text: &'static str,
     /// How many bytes the reader has given when the call is made.
-    pub(crate) bytes: u64,
+    pub bytes: u64,
     /// The text of `finish` if the call returns false.
-    pub(crate) stop: &'static str,
+    pub stop: &'static str,
 }
 
 /// A search of a reader that gives one byte at a read.
 #[derive(Clone, Copy)]
-pub(crate) struct Row {
+pub struct Row {
     /// What it shows.
-    pub(crate) name: &'static str,
+    pub name: &'static str,
     /// The reader's bytes.
-    pub(crate) input: &'static [u8],
+    pub input: &'static [u8],
     /// The literal that is searched for.
-    pub(crate) literal: &'static [u8],
+    pub literal: &'static [u8],
     /// The settings that aren't at their defaults.
-    pub(crate) settings: Settings,
+    pub settings: Settings,
     /// The calls before `finish`.
-    pub(crate) calls: &'static [Call],
+    pub calls: &'static [Call],
     /// The text of `finish`.
-    pub(crate) finish: &'static str,
+    pub finish: &'static str,
     /// How often the reader is read.
-    pub(crate) reads: u64,
+    pub reads: u64,
+}
+
+impl Row {
+    /// Whether a search of the bytes as a slice makes the same calls. No byte of a slice is made a terminator.
+    pub fn is_same_in_slice(&self) -> bool {
+        matches!(self.settings.detection, BinaryDetection::None)
+    }
 }
 
 /// Settings of a searcher.
 #[derive(Clone, Copy)]
-pub(crate) struct Settings {
+pub struct Settings {
     after: usize,
     before: usize,
     max: Option<u64>,
@@ -44,7 +51,7 @@ pub(crate) struct Settings {
 
 impl Settings {
     /// A searcher with these settings.
-    pub(crate) fn build(self, alloc: Global) -> Result<Searcher, ConfigError> {
+    pub fn build(self, alloc: Global) -> Result<Searcher, ConfigError> {
         SearcherBuilder::new()
             .after_context(self.after)
             .before_context(self.before)
@@ -64,7 +71,7 @@ const DEFAULTS: Settings = Settings {
 };
 
 /// After 1, with a break.
-pub(crate) const BREAK: Row = Row {
+pub const BREAK: Row = Row {
     name: "a break",
     input: b"a\nx\nx\nx\na\n",
     literal: b"a",
@@ -104,7 +111,7 @@ pub(crate) const BREAK: Row = Row {
 };
 
 /// A limit of 1 and after 2.
-pub(crate) const LIMIT: Row = Row {
+pub const LIMIT: Row = Row {
     name: "a limit",
     input: b"a\na\nb\na\n",
     literal: b"a",
@@ -141,7 +148,7 @@ pub(crate) const LIMIT: Row = Row {
 
 /// The rows. By line nothing is searched of fewer than three bytes, which may be a mark; then each line once it came whole.
 /// Across lines all is read before `begin`.
-pub(crate) const ROWS: &[Row] = &[
+pub const ROWS: &[Row] = &[
     BREAK,
     LIMIT,
     Row {
