@@ -27,6 +27,15 @@ impl Outcome {
         }
     }
 
+    /// The outcome of what isn't refused.
+    pub(crate) fn of_done(is_done: bool) -> Outcome {
+        if is_done {
+            Outcome::Done
+        } else {
+            Outcome::Wrong
+        }
+    }
+
     /// What it is called.
     pub(crate) fn text(self) -> &'static str {
         match self {

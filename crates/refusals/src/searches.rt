@@ -76,13 +76,13 @@ impl Input {
         let matcher = LiteralMatcher::borrowed(self.literal());
         let ended = match self {
             Input::Slice => search_slice(searcher, matcher, bytes, &mut recorder),
-            _ => search_reader(searcher, matcher, bytes, &mut recorder),
+            _ => search_reader(searcher, matcher, bytes, 0, &mut recorder),
         };
         Outcome::of_search(ended, recorder.text(), self.calls())
     }
 }
 
-// Searches a slice. The contract of the search isn't passed on, here and below.
+// Searches a slice. The contract of the search isn't passed on.
 fn search_slice<M: Matcher + Drop, E: SinkError<Global>, S: Sink<Error = E>>(
     searcher: &mut Searcher,
     matcher: M,
@@ -94,16 +94,18 @@ fn search_slice<M: Matcher + Drop, E: SinkError<Global>, S: Sink<Error = E>>(
     searcher.search_slice(matcher, bytes, sink)
 }
 
-// Searches a reader of these bytes.
-fn search_reader<M: Matcher + Drop, S: Sink<Error = SearchError>>(
+/// Searches a reader of these bytes, which gives so many at a read, or as many as are asked for if that is 0. The contract
+/// of the search isn't passed on.
+pub(crate) fn search_reader<M: Matcher + Drop, S: Sink<Error = SearchError>>(
     searcher: &mut Searcher,
     matcher: M,
     bytes: &[u8],
+    piece: usize,
     sink: &mut S,
 ) -> Result<(), SearchError>
     requires { S.may_call sink.old }
 {
-    let mut reader = Pieces::new(bytes, 0, None);
+    let mut reader = Pieces::new(bytes, piece, None);
     searcher.search_reader(matcher, &mut reader, sink)
 }
 

@@ -1,14 +1,22 @@
 //! What asks for memory.
+use crate::memoryless::{Plain, Search};
 use crate::outcome::Outcome;
+use crate::rows;
 use crate::searches::{Input, lossy, run_by};
 use grep_matcher::LiteralMatcher;
 use grep_searcher::{ConfigError, Encoding, SearchError, Searcher, SinkError};
+use grep_testing::Row;
 use lgrep_cli::{Options, OptionsFault};
 use std::alloc::{AllocError, Global};
 
 /// A step, which asks for memory unless it says that it doesn't.
 #[derive(Clone, Copy)]
 pub(crate) enum Step {
+    /// What takes none. It isn't refused.
+    Plain(Plain),
+    /// What takes none once its searcher is built. Only building is refused.
+    Memoryless(Search),
+    Row(&'static Row),
     Build,
     Clone,
     UnknownLabel,
@@ -22,6 +30,28 @@ pub(crate) enum Step {
 
 /// The steps, by their names.
 pub(crate) const STEPS: &[(&str, Step)] = &[
+    ("lines, without memory", Step::Plain(Plain::Lines)),
+    ("setters, without memory", Step::Plain(Plain::Setters)),
+    (
+        "the encoding utf-16le, without memory",
+        Step::Plain(Plain::Label),
+    ),
+    (
+        "a borrowed literal, without memory",
+        Step::Plain(Plain::Literal),
+    ),
+    (
+        "queries, without memory once built",
+        Step::Memoryless(Search::Queries),
+    ),
+    (
+        "a reader under a limit of 65,536, without memory once built",
+        Step::Memoryless(Search::Reader(65_536)),
+    ),
+    (
+        "a reader under a limit of 4, without memory once built",
+        Step::Memoryless(Search::Reader(4)),
+    ),
     ("build", Step::Build),
     ("clone", Step::Clone),
     ("the encoding latin1", Step::UnknownLabel),
@@ -49,6 +79,12 @@ impl Step {
 
     fn once(self, alloc: Global) -> Outcome {
         match self {
+            Step::Plain(part) => Outcome::of_done(part.is_done(alloc)),
+            Step::Memoryless(search) => match search.build(alloc) {
+                Ok(mut searcher) => Outcome::of_done(search.is_done(&mut searcher)),
+                Err(error) => built(Err(error)),
+            },
+            Step::Row(row) => rows::outcome(alloc, row),
             Step::Build => built(Searcher::new(alloc)),
             Step::Clone => cloned(alloc),
             Step::UnknownLabel => unknown_label(alloc),
