@@ -24,6 +24,7 @@ pub mod FirstTurnLemmas
 pub mod ReportLemmas
 pub mod SearchLawLemmas
 pub mod MatchCallLemmas
+pub mod CountLemmas
 pub mod SuccessiveMatchLemmas
 pub mod TouchLemmas
 pub mod BlockLemmas

@@ -5,6 +5,7 @@ pub mod Below
 pub mod BinaryBytes
 pub mod BinaryLaws
 pub mod CallOrder
+pub mod CountLaws
 pub mod DecodedInputs
 pub mod FileSearches
 pub mod InputFronts

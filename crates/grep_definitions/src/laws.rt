@@ -13,6 +13,7 @@ ghost use Rattle.grep_definitions.specs.AcrossLaws.{MatchesAreAll, SelectedAreRe
 ghost use Rattle.grep_definitions.specs.AcrossLaws.{ReportsAreApart, ReportsAreAsByLine};
 ghost use Rattle.grep_definitions.specs.BinaryLaws.{QuitReportsAreClear, CountedReportsAreClear};
 ghost use Rattle.grep_definitions.specs.BinaryLaws.{SeenLinesAreClear, SeenLinesBegin};
+ghost use Rattle.grep_definitions.specs.CountLaws.{NumbersChangeNoCount, NumbersChangeNoBytes};
 
 use grep_decode::laws::unchanged_is_decoded;
 use grep_lines::laws::{lines_append, lines_are_few, lines_join};
@@ -110,6 +111,13 @@ pub fn matches_are_few()
     grep_lines::laws::lines_are_numbered();
     lines_are_few();
 }
+
+/// Whether lines are numbered changes no count: a search that doesn't number lines reports as many matches as one that
+/// does, and the same bytes are searched.
+pub fn numbers_change_no_count()
+    ensures count { NumbersChangeNoCount }
+    ensures bytes { NumbersChangeNoBytes }
+{}
 
 /// Without `multi_line`, or with a matcher that excludes the line terminator, a search is by line.
 pub fn searches_by_line()

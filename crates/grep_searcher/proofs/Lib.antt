@@ -1,4 +1,5 @@
 pub mod ClosureSinkLemmas
+pub mod CountSinkLemmas
 pub mod InputSearchLemmas
 pub mod SourceSearchLemmas
 pub mod ViewLemmas

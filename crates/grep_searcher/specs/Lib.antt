@@ -1,4 +1,5 @@
 pub mod ClosureSinks
+pub mod CountSinks
 pub use Rattle.grep_definitions.specs.Settings
 pub use Rattle.grep_definitions.specs.SinkCalls
 pub use Rattle.grep_definitions.specs.Below
@@ -24,6 +25,7 @@ pub use Rattle.grep_definitions.specs.FileSearches
 pub use Rattle.grep_definitions.specs.SearchLaws
 pub use Rattle.grep_definitions.specs.AcrossLaws
 pub use Rattle.grep_definitions.specs.BinaryLaws
+pub use Rattle.grep_definitions.specs.CountLaws
 pub use Rattle.grep_definitions.specs.SinkFolds
 pub use Rattle.grep_decode.specs.Labels
 pub use Rattle.grep_decode.specs.Source

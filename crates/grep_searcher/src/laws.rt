@@ -3,6 +3,7 @@
 ghost use Rattle.std.specs.Str.Lossy.{utf8_lossy};
 ghost use Rattle.grep_searcher.specs.ClosureSinks.{ClosuresAreCalled, ClosuresKeep};
 ghost use Rattle.grep_searcher.specs.ClosureSinks.{IsUtf8Text, IsLossyText, IsWholeText};
+ghost use Rattle.grep_searcher.specs.CountSinks.{RunsCount, RunsCountAll};
 ghost use Rattle.grep_definitions.specs.FileSearches.{IsFileRead};
 ghost use Rattle.grep_definitions.specs.Searches.{errors_by, facts_by};
 ghost use Rattle.grep_definitions.specs.SinkFolds.{RunsFold, RunsFoldAll, RunsFoldMatches};
@@ -16,10 +17,11 @@ pub use grep_definitions::laws::{
     after_wins, after_wins_across, at_most_limit, at_most_limit_across, counted_reports_are_clear,
     first_lines_begin, first_match_is_first, inversion_complements, inversion_complements_across,
     lines_are_numbered, matches_are_all, matches_are_counted, matches_are_few,
-    matches_are_selected, matches_decide, matches_touch_their_lines, quit_reports_are_clear,
-    reports_are_apart_across, reports_are_as_by_line, reports_ascend, reports_ascend_across,
-    searches_across_lines, searches_by_line, seen_lines_begin, selected_are_reported_across,
-    stop_is_ignored_across, unchanged_is_searched, whole_count, whole_count_across,
+    matches_are_selected, matches_decide, matches_touch_their_lines, numbers_change_no_count,
+    quit_reports_are_clear, reports_are_apart_across, reports_are_as_by_line, reports_ascend,
+    reports_ascend_across, searches_across_lines, searches_by_line, seen_lines_begin,
+    selected_are_reported_across, stop_is_ignored_across, unchanged_is_searched, whole_count,
+    whole_count_across,
 };
 use grep_matcher::Matcher;
 use grep_report::SinkError;
@@ -43,6 +45,13 @@ pub fn runs_fold_all<S: Sink>()
 /// on.
 pub fn runs_fold_matches<S: Sink>()
     ensures { RunsFoldMatches S.step }
+{}
+
+/// A run of `Count` that ended in `Ok` counted the matches that are reported, up to the largest `u64`: it added them to
+/// what was counted before, if anything was.
+pub fn runs_count_matches<E>()
+    ensures all { RunsCountAll E }
+    ensures added { RunsCount E }
 {}
 
 /// A run that ended in `Ok`, of a sink that calls a closure, called it at each match that is reported, in order, with

@@ -1,12 +1,16 @@
-//! Sinks that call a closure at each match, with its line number and its text, and take no notice of any other call.
+//! Sinks that take matches alone: those that call a closure at each match, with its line number and its text, and one
+//! that counts.
 //!
 //! The closure returns whether the search goes on. Its error ends the search.
 ghost use Rattle.std.specs.Prelude.{◌≡◌, Some, None, MatchResult};
 ghost use Rattle.std.specs.IoError.{error_kind};
 ghost use Rattle.std.specs.declared.io.ErrorKind.TheVariants.{Other};
 
+mod count;
+
 use crate::searcher::Searcher;
 use crate::sink::Sink;
+pub use count::Count;
 use grep_report::{SinkContext, SinkError, SinkFinish, SinkMatch};
 use std::alloc::Allocator;
 use std::{io, str};

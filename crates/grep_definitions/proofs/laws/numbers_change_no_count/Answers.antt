@@ -1,0 +1,8 @@
+use Rattle.grep_definitions.proofs.CountLemmas.{numbers-no_count, numbers-no_bytes}
+use Rattle.grep_definitions.proofs.laws.numbers_change_no_count.Goals as goal
+
+pub returns-clause-count : goal.returns-clause-count
+returns-clause-count c = numbers-no_count
+
+pub returns-clause-bytes : goal.returns-clause-bytes
+returns-clause-bytes c = numbers-no_bytes

@@ -1,0 +1,90 @@
+//! A sink that counts the matches.
+ghost use Rattle.std.specs.Prelude.{◌≡◌};
+
+use crate::searcher::Searcher;
+use crate::sink::Sink;
+use grep_report::{SinkContext, SinkFinish, SinkMatch};
+use std::alloc::Allocator;
+use std::marker::{Model, PhantomData};
+
+/// Counts the matches that are reported, up to the largest `u64`. By line that is how many lines are selected, at most
+/// as many as the limit has; across lines a run of lines that matches touch is one.
+///
+/// It never ends a search, and no call fails: `E` is the error of the search, as `SearchError` or `io::Error`. A sink
+/// that several searches report to counts the matches of them all.
+#[derive(Drop)]
+pub struct Count<E> {
+    matches: u64,
+    error: PhantomData<E>,
+}
+
+/// A clause sees the count.
+impl<E> Model for Count<E> {
+    ghost use Rattle.std.specs.Prelude.{ℕ};
+
+    ghost Value = { ℕ };
+
+    ghost view = { λ s. s.matches };
+}
+
+impl<E> Count<E> {
+    /// A sink to which no match was reported.
+    pub fn new() -> Count<E>
+        ensures { result ≡ 0 }
+    {
+        Count {
+            matches: 0,
+            error: PhantomData,
+        }
+    }
+
+    /// How many matches were reported so far; the largest `u64` also stands for any greater number.
+    pub fn count(&self) -> u64
+        ensures { result ≡ self.now }
+    {
+        self.matches
+    }
+}
+
+impl<E> Sink for Count<E> {
+    ghost use Rattle.grep_searcher.specs.CountSinks.{IsCountStep};
+
+    type Error = E;
+
+    ghost step = { IsCountStep };
+
+    ghost may_call = { λ _. Unit {0} };
+
+    fn begin<A: Allocator + Copy>(&mut self, _: &Searcher<A>) -> Result<bool, E> {
+        Ok(true)
+    }
+
+    fn matched<A: Allocator + Copy>(
+        &mut self,
+        _: &Searcher<A>,
+        _: &SinkMatch<'_>,
+    ) -> Result<bool, E> {
+        self.matches = self.matches.saturating_add(1);
+        Ok(true)
+    }
+
+    fn context<A: Allocator + Copy>(
+        &mut self,
+        _: &Searcher<A>,
+        _: &SinkContext<'_>,
+    ) -> Result<bool, E> {
+        Ok(true)
+    }
+
+    fn context_break<A: Allocator + Copy>(&mut self, _: &Searcher<A>) -> Result<bool, E> {
+        Ok(true)
+    }
+
+    fn binary_data<A: Allocator + Copy>(&mut self, _: &Searcher<A>, _: u64) -> Result<bool, E> {
+        Ok(true)
+    }
+
+    fn finish<A: Allocator + Copy>(&mut self, _: &Searcher<A>, _: &SinkFinish) -> Result<(), E> {
+        Ok(())
+    }
+}
