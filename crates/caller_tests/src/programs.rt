@@ -84,7 +84,7 @@ fn texts_of_faults(rt: HostRuntime) {
 }
 
 // A line, and its options: `invert`, `multi_line`, `after`, `before`, `passthru`, `max`, `literal`
-// and `path`.
+// and `path`. None of them counts.
 type OptionsRow = (
     &'static str,
     bool,
@@ -162,6 +162,7 @@ fn has_options(options: &Options, row: &OptionsRow) -> bool {
         && options.before == row.4
         && options.passthru == row.5
         && options.max == row.6
+        && !options.count
         && options.literal.as_str() == row.7
         && options.path.as_ref().map(|path| path.as_str()) == row.8
 }
@@ -172,6 +173,8 @@ fn reads_arguments(rt: HostRuntime) -> Result<(), Fail> {
         let options = options(rt.alloc(), row.0)?;
         assert!(rt; has_options(&options, row), "at {}", row.0);
     }
+    let counting = options(rt.alloc(), "-c -v a")?;
+    assert!(rt; counting.count && counting.invert && counting.path.is_none());
     Ok(())
 }
 
@@ -195,6 +198,16 @@ const SEARCH_ROWS: &[(&str, &[u8], &str, bool)] = &[
         "2:abc\n3:defxxxabc\n4:defxxx\n",
         true,
     ),
+    ("-c a", b"a\nx\nx\nx\na\n", "2\n", true),
+    ("-c -m 1 -A 2 a", b"a\na\nb\na\n", "1\n", true),
+    ("-c -v a", b"a\nb", "1\n", true),
+    (
+        "-c -U abc\ndef",
+        b"xxx\nabc\ndefxxxabc\ndefxxx\nxxx",
+        "1\n",
+        true,
+    ),
+    ("-c z", b"a\n", "0\n", false),
     ("abc\ndef", b"abc\ndef\n", "", false),
     ("-U a", b"a\na\n", "1:a\n2:a\n", true),
     ("a", b"", "", false),
@@ -398,6 +411,14 @@ fn writes_the_lines_before_a_read_that_fails(rt: HostRuntime) {
     let ended = search(rt.alloc(), "a", &mut Cut { is_read: false }, &mut writer);
     assert!(rt; is_fault(ended, io::ErrorKind::ConnectionReset));
     assert!(rt; writer.into_inner().as_slice() == b"1:a\n".as_slice());
+}
+
+#[test]
+fn writes_no_count_if_a_read_fails(rt: HostRuntime) {
+    let mut writer = Writing::new(Vec::new(rt.alloc()));
+    let ended = search(rt.alloc(), "-c a", &mut Cut { is_read: false }, &mut writer);
+    assert!(rt; is_fault(ended, io::ErrorKind::ConnectionReset));
+    assert!(rt; writer.into_inner().is_empty());
 }
 
 #[test]

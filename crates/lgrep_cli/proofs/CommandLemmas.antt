@@ -13,8 +13,8 @@ use Rattle.lgrep_cli.specs.declared.options.Options.{Options}
 use Rattle.lgrep_cli.specs.declared.options.OptionsFault.{OptionsFault}
 use Rattle.lgrep_cli.specs.declared.options.OptionsFault.TheVariants.{Usage, Memory}
 use Rattle.lgrep_cli.specs.CommandLine.{Request, AreLast, AreOptionsOf, AskFor, bare, is_dashed, operands, operands_in, operands_of}
-use Rattle.lgrep_cli.specs.CommandLine.{with_number, request_of, text_of, texts, with_invert, with_multi_line, with_passthru, with_after}
-use Rattle.lgrep_cli.specs.CommandLine.{with_before, with_max}
+use Rattle.lgrep_cli.specs.CommandLine.{with_number, request_of, text_of, texts, with_invert, with_multi_line, with_passthru, with_count}
+use Rattle.lgrep_cli.specs.CommandLine.{with_after, with_before, with_max}
 use Rattle.lgrep_cli.specs.Numerals.{number_of}
 
 -- what a request comes to
@@ -25,6 +25,7 @@ pub record Values : Type 0 where
   pub before : ℕ
   pub passthru : Bool
   pub max : Option ℕ
+  pub count : Bool
   pub literal : List ℕ
   pub path : Option (List ℕ)
 
@@ -36,6 +37,7 @@ settled request = record {
   before = unwrap_or request.before 0;
   passthru = request.passthru;
   max = request.max;
+  count = request.count;
   literal = request.literal;
   path = request.path;
 }
@@ -49,6 +51,7 @@ over options request = record {
   before = unwrap_or request.before options.before;
   passthru = request.passthru || options.passthru;
   max = option_or request.max options.max;
+  count = request.count || options.count;
   literal = request.literal;
   path = request.path;
 }
@@ -89,9 +92,11 @@ read-none all options none = record { same = option_map-same settled (over optio
       none.before,
       none.passthru,
       none.max,
+      none.count,
       or-false request.invert,
       or-false request.multi_line,
       or-false request.passthru,
+      or-false request.count,
       option_or-none request.max,
     ) refl
 
@@ -133,6 +138,10 @@ passthru-flag : IsFlag (codes "--passthru") with_passthru
 passthru-flag [] = refl
 passthru-flag (next ∷ later) = refl
 
+count-flag : IsFlag (codes "-c") with_count
+count-flag [] = refl
+count-flag (next ∷ later) = refl
+
 pub invert-read : (all before later : List (String Global)) (argument : String Global) (options : Options) → before ≡ argument ∷ later
     → string_bytes argument ≡ codes "-v" → IsRead all before options → IsRead all later (record options { invert = true })
 invert-read all before later argument options = flag-read all before later argument options (record options { invert = true })
@@ -150,6 +159,11 @@ pub passthru-read : (all before later : List (String Global)) (argument : String
     → IsRead all later (record options { passthru = true })
 passthru-read all before later argument options = flag-read all before later argument options (record options { passthru = true })
     (codes "--passthru") with_passthru passthru-flag (λ request. rw (or-true request.passthru) refl)
+
+pub count-read : (all before later : List (String Global)) (argument : String Global) (options : Options) → before ≡ argument ∷ later
+    → string_bytes argument ≡ codes "-c" → IsRead all before options → IsRead all later (record options { count = true })
+count-read all before later argument options = flag-read all before later argument options (record options { count = true })
+    (codes "-c") with_count count-flag (λ request. rw (or-true request.count) refl)
 
 -- an option needs a number
 pub record NeedsNumber (flag : List ℕ) (set : ℕ → Request → Request) : Type 0 where
@@ -271,6 +285,7 @@ pub record IsNoOption (argument : List ℕ) : Type 0 where
   pub invert : argument ≡ codes "-v" → ⊥
   pub multi_line : argument ≡ codes "-U" → ⊥
   pub passthru : argument ≡ codes "--passthru" → ⊥
+  pub count : argument ≡ codes "-c" → ⊥
   pub after : argument ≡ codes "-A" → ⊥
   pub before : argument ≡ codes "-B" → ⊥
   pub max : argument ≡ codes "-m" → ⊥
@@ -284,6 +299,7 @@ no-option argument (next ∷ later) otherwise =
       other argument (codes "-v") otherwise.invert,
       other argument (codes "-U") otherwise.multi_line,
       other argument (codes "--passthru") otherwise.passthru,
+      other argument (codes "-c") otherwise.count,
       other argument (codes "-A") otherwise.after,
       other argument (codes "-B") otherwise.before,
       other argument (codes "-m") otherwise.max,
@@ -327,6 +343,7 @@ same-options request options new same values = record {
   before = ap (λ (o : Options). o.before) same ∙ sym (ap (λ (v : Values). v.before) values);
   passthru = ap (λ (o : Options). o.passthru) same ∙ sym (ap (λ (v : Values). v.passthru) values);
   max = ap (λ (o : Options). o.max) same ∙ sym (ap (λ (v : Values). v.max) values);
+  count = ap (λ (o : Options). o.count) same ∙ sym (ap (λ (v : Values). v.count) values);
   literal = sym (ap (λ (v : Values). v.literal) values);
   path = sym (ap (λ (v : Values). v.path) values);
 }
@@ -461,18 +478,22 @@ request-last (argument ∷ next ∷ later) request is =
         | inr is ↦ elim (either (bytes_eq argument (codes "--passthru")) _ _ request is) [
           | inl is ↦ more (last-set with_passthru (next ∷ later) (λ r. refl) (request_of (next ∷ later))
               (request-last (next ∷ later)) request is)
-          | inr is ↦ elim (either (bytes_eq argument (codes "-A")) _ _ request is) [
-            | inl is ↦ numbered (last-numbered with_after later (λ n r. refl) (number_of next) (request_of later)
-                (request-last later) request is)
-            | inr is ↦ elim (either (bytes_eq argument (codes "-B")) _ _ request is) [
-              | inl is ↦ numbered (last-numbered with_before later (λ n r. refl) (number_of next) (request_of later)
+          | inr is ↦ elim (either (bytes_eq argument (codes "-c")) _ _ request is) [
+            | inl is ↦ more (last-set with_count (next ∷ later) (λ r. refl) (request_of (next ∷ later))
+                (request-last (next ∷ later)) request is)
+            | inr is ↦ elim (either (bytes_eq argument (codes "-A")) _ _ request is) [
+              | inl is ↦ numbered (last-numbered with_after later (λ n r. refl) (number_of next) (request_of later)
                   (request-last later) request is)
-              | inr is ↦ elim (either (bytes_eq argument (codes "-m")) _ _ request is) [
-                | inl is ↦ numbered (last-numbered with_max later (λ n r. refl) (number_of next) (request_of later)
+              | inr is ↦ elim (either (bytes_eq argument (codes "-B")) _ _ request is) [
+                | inl is ↦ numbered (last-numbered with_before later (λ n r. refl) (number_of next) (request_of later)
                     (request-last later) request is)
-                | inr is ↦ elim (either (bytes_eq argument (codes "--")) _ _ request is) [
-                  | inl is ↦ more (operands-last (next ∷ later) request is)
-                  | inr is ↦ undashed-last argument (next ∷ later) request is
+                | inr is ↦ elim (either (bytes_eq argument (codes "-m")) _ _ request is) [
+                  | inl is ↦ numbered (last-numbered with_max later (λ n r. refl) (number_of next) (request_of later)
+                      (request-last later) request is)
+                  | inr is ↦ elim (either (bytes_eq argument (codes "--")) _ _ request is) [
+                    | inl is ↦ more (operands-last (next ∷ later) request is)
+                    | inr is ↦ undashed-last argument (next ∷ later) request is
+                  ]
                 ]
               ]
             ]

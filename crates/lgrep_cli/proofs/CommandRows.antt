@@ -34,6 +34,15 @@ pub limit_passthru : request_of (codes "-m" ∷ codes "1" ∷ codes "--passthru"
     (record (bare (codes "a")) { passthru = true; max = Some 1 })
 limit_passthru = refl
 
+-- lgrep -c -v -c a
+pub counts : request_of (codes "-c" ∷ codes "-v" ∷ codes "-c" ∷ codes "a" ∷ []) ≡ Some
+    (record (bare (codes "a")) { invert = true; count = true })
+counts = refl
+
+-- lgrep -c
+pub count_alone : request_of (codes "-c" ∷ []) ≡ None
+count_alone = refl
+
 -- lgrep -A 1 -B 4294967295 a
 pub contexts : request_of (codes "-A" ∷ codes "1" ∷ codes "-B" ∷ codes "4294967295" ∷ codes "a" ∷ []) ≡ Some
     (record (bare (codes "a")) { after = Some 1; before = Some 4294967295 })

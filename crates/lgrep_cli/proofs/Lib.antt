@@ -1,4 +1,5 @@
 pub mod CommandLemmas
+pub mod CountLemmas
 pub mod CommandRows
 pub mod PrintLemmas
 pub mod NumeralLemmas

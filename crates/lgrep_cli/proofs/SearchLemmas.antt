@@ -1,7 +1,7 @@
 -- What a search of a reader with a printer has written.
 use Rattle.std.proofs.Common.{◌≡◌, ℕ, List, [], ◌++◌, refl, sym, ap, ◌∙◌, subst}
 use Rattle.std.proofs.lemmas.List.{append-nil}
-use Rattle.std.specs.Prelude.{Bool, true, false, ◌||◌, Option, Some, None, Result, Ok, Err, IfErr, OnOk, string_bytes}
+use Rattle.std.specs.Prelude.{Bool, true, false, ◌||◌, if◌then◌else◌, Option, Some, None, Result, Ok, Err, IfErr, OnOk, string_bytes}
 use Rattle.std.specs.Global.{Global}
 use Rattle.std.specs.Io.KnownBytes.{Appends, Consumes, IsAtEnd}
 use Rattle.std.specs.List.{concat}
@@ -19,12 +19,12 @@ use Rattle.grep_searcher.specs.ReaderSearches.{Taken, IsReaderFault, IsReaderRun
 use Rattle.grep_searcher.specs.ReaderSearches.{of_search, of_reading}
 use Rattle.grep_searcher.specs.Searches.{ErrorMakers, MatcherFacts, HasReportedIn}
 use Rattle.grep_searcher.specs.SearchTurns.{search_calls}
-use Rattle.lgrep_cli.specs.OptionSettings.{settings_of_options}
+use Rattle.lgrep_cli.specs.OptionSettings.{numbered_unless, settings_of_options}
 use Rattle.lgrep_cli.specs.Printers.{Prints}
-use Rattle.lgrep_cli.specs.ProgramRuns.{searcher_of, meaning_of, calls_of, calls_over, Input, IsPrinted}
+use Rattle.lgrep_cli.specs.ProgramRuns.{searcher_of, meaning_of, calls_of, calls_over, whole_text, Input, IsPrinted}
 use Rattle.lgrep_cli.specs.ProgramRuns.{IsPrintedAndFlushed, IsPrintedWhole, IsProgramRun}
 use Rattle.lgrep_cli.specs.ProgramRuns.{IsFailure, of_memory, of_reader, of_write}
-use Rattle.lgrep_cli.specs.Texts.{text, has_match}
+use Rattle.lgrep_cli.specs.Texts.{count_text, text, has_match}
 use Rattle.lgrep_cli.specs.Outputs.{OutputCall, flushes, taken_by, Writes}
 use Rattle.lgrep_cli.specs.declared.options.Options.{Options}
 use Rattle.lgrep_cli.specs.declared.printer.Printer.{Printer}
@@ -42,11 +42,28 @@ nothing-more settings ended pieces = ([], (λ _. refl), refl)
 same-error : (e : SearchError Global) (a b : Error) → e ≡ Io a → e ≡ Io b → a ≡ b
 same-error e a b first second = cc
 
+-- the text of some calls if they aren't counted
+uncounted : {W : Type 0} (write_step : W → OutputCall → W → Type 0) (options : Options) (counted lines : List ℕ) (old : W)
+    (result : Result (Unit {0}) Error) (new : W) → options.count ≡ false → Writes write_step old lines result new
+    → Writes write_step old (if options.count then counted else lines) result new
+uncounted write_step options counted lines old result new is written =
+    subst (λ b. Writes write_step old (if b then counted else lines) result new) (sym is) written
+
+-- a searcher that numbers lines or not
+abbrev numbering : Options → Bool → SearcherState
+numbering options is_count = record { settings = numbered_unless is_count (settings_of_options options); has_buffers = true }
+
 -- a value isn't both true and false
 not-both : (b : Bool) → b ≡ true → b ≡ false → ⊥
 not-both b is isnt = let never : true ≡ false = sym is ∙ isnt in absurd (cc)
 
 module _ {R W : Type 0} (remaining : R → Option (List ℕ)) (read_step : R → ReadResult → R → Type 0) (write_step : W → OutputCall → W → Type 0) where
+  -- out of memory, before the reader and the writer had a call
+  pub out_of_memory : (options : Options) (reader : R) (writer : W) (e : SearchError Global) → IsOutOfMemory e
+      → IsFailure remaining read_step write_step options reader writer e reader writer
+  out_of_memory options reader writer e (error, io, kind) =
+      subst (λ x. IsFailure remaining read_step write_step options reader writer x reader writer) (sym io) (of_memory kind)
+
   -- of a reader that says which bytes remain, whatever was taken
   whole-input : (settings : Settings) (input : List ℕ) (reader reader' : R) → remaining reader ≡ Some input
       → (taken : Taken remaining read_step reader reader')
@@ -75,9 +92,9 @@ module _ {R W : Type 0} (remaining : R → Option (List ℕ)) (read_step : R →
       go (Some input) is =
           let bytes = searched_bytes (settings_of_options options) input in
           let whole = whole-input (settings_of_options options) input reader reader' is flushed.printed.taken in (
-            subst (λ xs. Appends (contents writer) (contents writer') xs) (append-nil (text (calls_of options bytes)))
-                (Appends-more (contents writer) (contents flushed.unflushed) (contents writer') (text (calls_of options bytes)) []
-                (written-appends write_step contents grows writer flushed.unflushed (text (calls_of options bytes))
+            subst (λ xs. Appends (contents writer) (contents writer') xs) (append-nil (whole_text options (calls_of options bytes)))
+                (Appends-more (contents writer) (contents flushed.unflushed) (contents writer') (whole_text options (calls_of options bytes)) []
+                (written-appends write_step contents grows writer flushed.unflushed (whole_text options (calls_of options bytes))
                 (flushed.printed.written bytes whole))
                 (grows flushed.unflushed writer' (flushes (Ok tt)) flushed.flushed)),
             flushed.printed.is_found bytes whole,
@@ -95,7 +112,7 @@ module _ {R W : Type 0} (remaining : R → Option (List ℕ)) (read_step : R →
     failed = tt;
   }
 
-module _ {R W : Type 0} (remaining : R → Option (List ℕ)) (read_step : R → ReadResult → R → Type 0) (write_step : W → OutputCall → W → Type 0) (options : Options) (reader reader' : R) (old new : Printer W) where
+module _ {R W : Type 0} (remaining : R → Option (List ℕ)) (read_step : R → ReadResult → R → Type 0) (write_step : W → OutputCall → W → Type 0) (options : Options) (uncounts : options.count ≡ false) (reader reader' : R) (old new : Printer W) where
   -- a run ends in an error, with the writer in this state
   abbrev Fails : SearchError Global → W → Type 0
   Fails e writer = IsFailure remaining read_step write_step options reader old.writer.now e reader' writer
@@ -107,12 +124,6 @@ module _ {R W : Type 0} (remaining : R → Option (List ℕ)) (read_step : R →
     pub of_writer : IfErr result (λ e. new.has_failed ≡ true → Fails e new.writer.now)
     pub of_reading : IfErr result (λ e. new.has_failed ≡ false → (writer : W) (flushed : Result (Unit {0}) Error)
         → write_step new.writer.now (flushes flushed) writer → Fails e writer)
-
-  -- out of memory, before the reader and the writer had a call
-  pub out_of_memory : (e : SearchError Global) → IsOutOfMemory e
-      → IsFailure remaining read_step write_step options reader old.writer.now e reader old.writer.now
-  out_of_memory e (error, io, kind) =
-      subst (λ x. IsFailure remaining read_step write_step options reader old.writer.now x reader old.writer.now) (sym io) (of_memory kind)
 
   -- the writer failed, whatever follows what was taken
   cut : (e : SearchError Global) (taken : Taken remaining read_step reader reader')
@@ -126,21 +137,27 @@ module _ {R W : Type 0} (remaining : R → Option (List ℕ)) (read_step : R →
         same_writer = first.same_writer;
         printed = tt;
         of_writer = λ failed. subst (λ x. Fails x new.writer.now) (sym first.is_io) (of_write taken (λ bytes input.
-            subst (λ error. Writes write_step old.writer.now (text (calls_of options bytes)) (Err error) new.writer.now)
-            (same-error e (all bytes input).error first.error (all bytes input).is_io first.is_io) (all bytes input).written));
+            uncounted write_step options (count_text (calls_of options bytes)) (text (calls_of options bytes)) old.writer.now
+            (Err first.error) new.writer.now uncounts
+            (subst (λ error. Writes write_step old.writer.now (text (calls_of options bytes)) (Err error) new.writer.now)
+            (same-error e (all bytes input).error first.error (all bytes input).is_io first.is_io) (all bytes input).written)));
         of_reading = λ ok. absurd (not-both new.has_failed first.has_failed ok);
       }
 
   -- the calls were made over the lines that were seen, and the input wasn't read to its end
   unread : (seen : Option (List ℕ)) (error : Error) (e : SearchError Global) → e ≡ Io error → old.has_failed ≡ false
-      → IsUnread remaining read_step (searcher_of options) (meaning_of options) reader seen error reader'
+      → IsUnread remaining read_step (numbering options false) (meaning_of options) reader seen error reader'
       → AreWritten write_step (settings_of_options options) old (calls_over options seen) new → IsSearched (Err e)
   unread seen error e io none fails written = record {
     same_writer = written.same_writer;
     printed = tt;
     of_writer = λ failed. absurd (not-both new.has_failed failed (written.has_failed ∙ none));
     of_reading = λ ok writer flushed last. subst (λ x. Fails x writer) (sym io)
-        (of_reader seen flushed fails written.written last);
+        (of_reader seen flushed
+        (subst (λ b. IsUnread remaining read_step (numbering options b) (meaning_of options) reader seen error reader')
+        (sym uncounts) fails)
+        (uncounted write_step options [] (text (calls_over options seen)) old.writer.now (Ok tt) new.writer.now uncounts
+        written.written) last);
   }
 
   module _ {F : Type 0} (is_message : Option (List ℕ) → SearchError Global → Type 0)
@@ -177,7 +194,8 @@ module _ {R W : Type 0} (remaining : R → Option (List ℕ)) (read_step : R →
           (nothing-more (settings_of_options options) taken.ended taken.pieces)).same_writer;
       printed = record {
         taken = taken;
-        written = λ bytes input. (all bytes input).written;
+        written = λ bytes input. uncounted write_step options (count_text (calls_of options bytes)) (text (calls_of options bytes))
+            old.writer.now (Ok tt) new.writer.now uncounts (all bytes input).written;
         is_found = λ bytes input. (all bytes input).is_found ∙ ap (λ b. b || has_match (calls_of options bytes)) none;
       };
       of_writer = tt;
@@ -187,7 +205,7 @@ module _ {R W : Type 0} (remaining : R → Option (List ℕ)) (read_step : R →
     -- under the options' settings, with the matcher of their literal, no search is refused, and none looks for binary bytes
     searched : (result : Result (Unit {0}) (SearchError Global)) → old.found ≡ false → old.has_failed ≡ false
         → IsReaderSearched remaining read_step (Prints write_step) errors (facts (string_bytes options.literal))
-        (searcher_of options) reader old result reader' new
+        (numbering options false) reader old result reader' new
         → IsSearched result
     searched (Ok u) none ok (is_valid, search) =
         let whole : IsReaderRun remaining read_step (Prints write_step) errors (facts (string_bytes options.literal))
@@ -196,7 +214,7 @@ module _ {R W : Type 0} (remaining : R → Option (List ℕ)) (read_step : R →
         (Ok tt) new (whole.run bytes input)) none
     searched (Err e) none ok search = go (search (λ _. tt))
       where
-        go : IsReaderFault remaining read_step (Prints write_step) errors (facts (string_bytes options.literal)) (searcher_of options)
+        go : IsReaderFault remaining read_step (Prints write_step) errors (facts (string_bytes options.literal)) (numbering options false)
             reader old e reader' new → IsSearched (Err e)
         go (of_search taken seen ended fault all) =
             cut e taken (λ bytes input. fault-written write_step (settings_of_options options) errors
@@ -212,7 +230,7 @@ module _ {R W : Type 0} (remaining : R → Option (List ℕ)) (read_step : R →
     reader-searched state literal result same_state same_literal none ok search =
         searched result none ok
         (subst (λ l. IsReaderSearched remaining read_step (Prints write_step) errors (facts l)
-        (searcher_of options) reader old result reader' new)
+        (numbering options false) reader old result reader' new)
         same_literal
         (subst (λ s. IsReaderSearched remaining read_step (Prints write_step) errors (facts literal) s reader old result reader' new)
-        same_state search))
+        (same_state ∙ ap (numbering options) uncounts) search))

@@ -17,6 +17,7 @@ pub record Request : Type 0 where
   pub before : Option ℕ
   pub passthru : Bool
   pub max : Option ℕ
+  pub count : Bool
   pub literal : List ℕ
   pub path : Option (List ℕ)
 
@@ -29,6 +30,7 @@ bare literal = record {
   before = None;
   passthru = false;
   max = None;
+  count = false;
   literal = literal;
   path = None;
 }
@@ -42,6 +44,9 @@ with_multi_line later = record later { multi_line = true }
 
 abbrev pub with_passthru : Request → Request
 with_passthru later = record later { passthru = true }
+
+abbrev pub with_count : Request → Request
+with_count later = record later { count = true }
 
 abbrev pub with_after : ℕ → Request → Request
 with_after number later = record later { after = Some (unwrap_or later.after number) }
@@ -79,6 +84,7 @@ request_of (argument ∷ next ∷ later) =
     then option_map with_multi_line (request_of (next ∷ later))
     else if bytes_eq argument (codes "--passthru")
     then option_map with_passthru (request_of (next ∷ later))
+    else if bytes_eq argument (codes "-c") then option_map with_count (request_of (next ∷ later))
     else if bytes_eq argument (codes "-A")
     then with_number with_after (number_of next) (request_of later)
     else if bytes_eq argument (codes "-B")
@@ -118,6 +124,7 @@ pub record AreOptionsOf (request : Request) (options : Options) : Type 0 where
   pub before : options.before ≡ unwrap_or request.before 0
   pub passthru : options.passthru ≡ request.passthru
   pub max : options.max ≡ request.max
+  pub count : options.count ≡ request.count
   pub literal : string_bytes options.literal ≡ request.literal
   pub path : option_map string_bytes options.path ≡ request.path
 

@@ -1,4 +1,5 @@
 -- The settings that options ask for.
+use Rattle.std.specs.Prelude.{Bool, not}
 use Rattle.grep_searcher.specs.Settings.{built, default_settings}
 use Rattle.grep_searcher.specs.Settings.{Settings}
 use Rattle.lgrep_cli.specs.declared.options.Options.{Options}
@@ -13,3 +14,11 @@ settings_of_options options = built (record default_settings {
   passthru = options.passthru;
   max_matches = options.max;
 })
+
+-- those with which the search is made: it numbers no lines if the matches are only counted, since no
+-- number is written then
+abbrev pub numbered_unless : Bool → Settings → Settings
+numbered_unless is_count settings = record settings { line_number = not is_count }
+
+abbrev pub searched_settings : Options → Settings
+searched_settings options = numbered_unless options.count (settings_of_options options)

@@ -1,7 +1,7 @@
 -- What a run of lgrep does: it searches what a reader or a file gives, and writes the text of the
 -- calls.
 use Rattle.std.specs.Prelude.{◌≡◌, ℕ, Bool, true, false, List, [], Option, Some, None, String}
-use Rattle.std.specs.Prelude.{string_bytes, Result, Ok, Err, IfOk, IfErr}
+use Rattle.std.specs.Prelude.{string_bytes, if◌then◌else◌, Result, Ok, Err, IfOk, IfErr}
 use Rattle.std.specs.Global.{Global}
 use Rattle.std.specs.Io.KnownBytes.{Appends}
 use Rattle.std.specs.IoError.{error_kind}
@@ -19,14 +19,14 @@ use Rattle.grep_searcher.specs.Settings.{SearcherState}
 use Rattle.grep_searcher.specs.ReaderSearches.{Taken, IsUnread}
 use Rattle.grep_searcher.specs.SearchTurns.{search_turns}
 use Rattle.lgrep_cli.specs.CommandLine.{AskFor}
-use Rattle.lgrep_cli.specs.OptionSettings.{settings_of_options}
-use Rattle.lgrep_cli.specs.Texts.{text, has_match}
+use Rattle.lgrep_cli.specs.OptionSettings.{searched_settings, settings_of_options}
+use Rattle.lgrep_cli.specs.Texts.{count_text, has_match, text}
 use Rattle.lgrep_cli.specs.Outputs.{OutputCall, flushes, Writes}
 use Rattle.lgrep_cli.specs.declared.options.Options.{Options}
 
--- a searcher with the options' settings, and its buffers
+-- a searcher with the settings of the options' search, and its buffers
 abbrev pub searcher_of : Options → SearcherState
-searcher_of options = record { settings = settings_of_options options; has_buffers = true }
+searcher_of options = record { settings = searched_settings options; has_buffers = true }
 
 -- what the options' literal means
 abbrev pub meaning_of : Options → Meaning
@@ -50,6 +50,15 @@ abbrev pub calls_over : Options → Option (List ℕ) → List Turn
 calls_over options None = []
 calls_over options (Some seen) = calls_of options seen
 
+-- the text that is written for all calls of a search: how many report a match if the options ask for
+-- the count, else what is reported
+abbrev pub whole_text : Options → List Turn → List ℕ
+whole_text options calls = if options.count then count_text calls else text calls
+
+-- the text that is written for the calls that were made, if the search then fails: no count
+abbrev pub partial_text : Options → List Turn → List ℕ
+partial_text options calls = if options.count then [] else text calls
+
 -- the decoded bytes of an input that begins with what was taken of a reader, and ends there if the
 -- reader ended
 abbrev pub Input : {R : Type 0} {remaining : R → Option (List ℕ)}
@@ -64,7 +73,7 @@ module _ {W : Type 0} (contents : W → Option (List ℕ)) where
   IsPrintedWhole options None writer found writer' = Unit {0}
   IsPrintedWhole options (Some input) writer found writer' =
       Appends (contents writer) (contents writer')
-      (text (calls_of options (searched_bytes (settings_of_options options) input)))
+      (whole_text options (calls_of options (searched_bytes (settings_of_options options) input)))
       × (found ≡ has_match (calls_of options (searched_bytes (settings_of_options options) input)))
 
 module _ {R W : Type 0} (remaining : R → Option (List ℕ)) (read_step : R → ReadResult → R → Type 0)
@@ -75,7 +84,7 @@ module _ {R W : Type 0} (remaining : R → Option (List ℕ)) (read_step : R →
       (writer' : W) : Type 0 where
     pub taken : Taken remaining read_step reader reader'
     pub written : (bytes : List ℕ) → Input options taken bytes
-        → Writes write_step writer (text (calls_of options bytes)) (Ok tt) writer'
+        → Writes write_step writer (whole_text options (calls_of options bytes)) (Ok tt) writer'
     pub is_found : (bytes : List ℕ) → Input options taken bytes
         → found ≡ has_match (calls_of options bytes)
 
@@ -93,13 +102,13 @@ module _ {R W : Type 0} (remaining : R → Option (List ℕ)) (read_step : R →
     of_memory : {error : Error} → error_kind error ≡ OutOfMemory
         → IsFailure options reader writer (Io error) reader writer
     -- by this error the input wasn't read to its end: the text of the calls over the lines that
-    -- were seen is written, which is none in a search across lines, and then the writer is flushed,
-    -- whatever that returns
+    -- were seen is written, which is none in a search across lines and if matches are counted, and
+    -- then the writer is flushed, whatever that returns
     of_reader : {error : Error} {reader' : R} {unflushed writer' : W} (seen : Option (List ℕ))
         (flushed : Result (Unit {0}) Error)
         → IsUnread remaining read_step (searcher_of options) (meaning_of options)
         reader seen error reader'
-        → Writes write_step writer (text (calls_over options seen)) (Ok tt) unflushed
+        → Writes write_step writer (partial_text options (calls_over options seen)) (Ok tt) unflushed
         → write_step unflushed (flushes flushed) writer'
         → IsFailure options reader writer (Io error) reader' writer'
     -- the writer failed with this error. Whatever follows what was taken of the reader, the text of
@@ -107,14 +116,14 @@ module _ {R W : Type 0} (remaining : R → Option (List ℕ)) (read_step : R →
     of_write : {error : Error} {reader' : R} {writer' : W}
         (taken : Taken remaining read_step reader reader')
         → ((bytes : List ℕ) → Input options taken bytes
-        → Writes write_step writer (text (calls_of options bytes)) (Err error) writer')
+        → Writes write_step writer (whole_text options (calls_of options bytes)) (Err error) writer')
         → IsFailure options reader writer (Io error) reader' writer'
     -- whatever follows what was taken of the reader, all is written, and the flush failed with this
     -- error
     of_flush : {error : Error} {reader' : R} {unflushed writer' : W}
         (taken : Taken remaining read_step reader reader')
         → ((bytes : List ℕ) → Input options taken bytes
-        → Writes write_step writer (text (calls_of options bytes)) (Ok tt) unflushed)
+        → Writes write_step writer (whole_text options (calls_of options bytes)) (Ok tt) unflushed)
         → write_step unflushed (flushes (Err error)) writer'
         → IsFailure options reader writer (Io error) reader' writer'
 

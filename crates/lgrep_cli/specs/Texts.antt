@@ -2,7 +2,7 @@
 use Rattle.std.specs.Prelude.{ℕ, ◌+◌, ◌-◌, ◌^◌, min, Bool, false, ◌||◌, ◌==◌, if◌then◌else◌, List}
 use Rattle.std.specs.Prelude.{[], ◌∷◌, ◌++◌, length, slice_index, decimal, Option, Some, None}
 use Rattle.grep_matcher.specs.Lines.{lines}
-use Rattle.grep_searcher.specs.SearchLaws.{is_match}
+use Rattle.grep_searcher.specs.SearchLaws.{is_match, match_calls}
 use Rattle.grep_searcher.specs.SinkCalls.{Call, Turn, begins, matches, context, breaks, binary_data}
 use Rattle.grep_searcher.specs.SinkCalls.{finishes}
 
@@ -44,3 +44,11 @@ text (turn ∷ later) = call_text turn.call ++ text later
 abbrev pub has_match : List Turn → Bool
 has_match [] = false
 has_match (turn ∷ later) = is_match turn.call || has_match later
+
+-- how many calls report a match, up to the greatest number of 64 bits
+abbrev pub match_count : List Turn → ℕ
+match_count calls = min (length (match_calls calls)) (2 ^ 64 - 1)
+
+-- that number, and a line feed
+abbrev pub count_text : List Turn → List ℕ
+count_text calls = decimal (match_count calls) ++ 10 ∷ []

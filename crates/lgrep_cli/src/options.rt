@@ -11,7 +11,7 @@ ghost use Rattle.lgrep_cli.specs.Numerals.{is_numeral, number_of};
 use std::alloc::Global;
 use thiserror::Error;
 
-/// How the program is called. `-c` isn't supported yet: it is a usage error.
+/// How the program is called.
 pub const USAGE: &str =
     "usage: lgrep [-v] [-A N] [-B N] [-m N] [-U] [--passthru] [-c] LITERAL [PATH]";
 
@@ -32,6 +32,9 @@ pub struct Options {
     /// How many lines are selected at most, and across lines, unless `invert` is set, how many
     /// matches count; `None` is no limit.
     pub max: Option<u64>,
+    /// Whether only the number of match reports is written. By line that is how many lines are
+    /// selected; across lines, unless `invert` is set, a run of lines that matches touch is one.
+    pub count: bool,
     /// The text that lines are searched for. The empty text is in each line.
     pub literal: String,
     /// The path of the file that is searched; `None` is standard input.
@@ -41,7 +44,7 @@ pub struct Options {
 /// Why arguments give no options.
 #[derive(Clone, Copy, Debug, PartialEq, Eq, Error)]
 pub enum OptionsFault {
-    /// They aren't as `USAGE` says, or ask for what isn't supported yet.
+    /// They aren't as `USAGE` says.
     #[error("the arguments are not as the usage says")]
     Usage,
     /// There was no memory for the literal or the path.
@@ -71,6 +74,7 @@ impl Options {
                 "-v" => options.invert = true,
                 "-U" => options.multi_line = true,
                 "--passthru" => options.passthru = true,
+                "-c" => options.count = true,
                 "-A" => options.after = number_in(later.next())? as usize,
                 "-B" => options.before = number_in(later.next())? as usize,
                 "-m" => options.max = Some(u64::from(number_in(later.next())?)),
@@ -98,6 +102,7 @@ impl Options {
             before: 0,
             passthru: false,
             max: None,
+            count: false,
             literal: String::new(alloc),
             path: None,
         }

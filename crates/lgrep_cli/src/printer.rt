@@ -144,7 +144,7 @@ fn write_line<W: Output>(
 }
 
 // Writes a number and a mark.
-fn write_number<W: Output>(writer: &mut W, number: u64, mark: u8) -> io::Result<()>
+pub(crate) fn write_number<W: Output>(writer: &mut W, number: u64, mark: u8) -> io::Result<()>
     ensures { Writes W.step writer.old (decimal number ++ mark ∷ []) result writer.new }
 {
     // A number of 64 bits has 20 digits at most.

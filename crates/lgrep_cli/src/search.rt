@@ -1,13 +1,18 @@
 //! A search of a reader or a file, with the text of its lines written.
-ghost use Rattle.std.specs.Prelude.{◌≡◌, true, false, Ok, OnOk, IfOk, IfErr, string_bytes};
-ghost use Rattle.lgrep_cli.specs.OptionSettings.{settings_of_options};
+ghost use Rattle.std.specs.Prelude.{◌≡◌, ◌∷◌, ◌++◌, [], true, false, decimal, nat_lt, string_bytes};
+ghost use Rattle.std.specs.Prelude.{Ok, Err, OnOk, IfOk, IfErr, MatchResult};
+ghost use Rattle.std.specs.declared.io.Error.{Error};
+ghost use Rattle.lgrep_cli.specs.OptionSettings.{searched_settings};
 ghost use Rattle.grep_searcher.specs.SearchErrors.{IsOutOfMemory};
+ghost use Rattle.lgrep_cli.specs.Outputs.{Writes};
 ghost use Rattle.lgrep_cli.specs.ProgramRuns.{IsPrinted, IsFailure, IsProgramRun, IsPathRun, IsRunAt};
 
 use crate::options::Options;
 use crate::output::Output;
-use crate::printer::Printer;
+use crate::printer::{Printer, write_number};
 use grep_matcher::LiteralMatcher;
+use grep_searcher::laws::{numbers_change_no_count, reader_searches_run, runs_count_matches};
+use grep_searcher::sinks::Count;
 use grep_searcher::{Reading, SearchError, Searcher, SearcherBuilder, Source};
 use std::alloc::Global;
 use std::fs::File;
@@ -20,13 +25,16 @@ use std::rt::Files;
 /// the search needs. With `multi_line` and a literal that contains a line feed the search is across
 /// lines: then the reader is read to its end first.
 ///
+/// With `count` nothing is written for what is found: once the search is done, the number of match
+/// reports and a line feed are.
+///
 /// An error is a `SearchError::Io`:
 /// - of kind `OutOfMemory`, if there is no memory for the search: nothing is read or written;
 /// - an error of reading: the reader's own, or of kind `OutOfMemory`, if there is no memory for a
 ///   line that is longer than the buffer, or across lines for the input, or of kind `InvalidData`,
 ///   if the decoded input is longer than 2^64 - 1 bytes. The text of the lines before it is
-///   written, which across lines is nothing, and the writer is flushed; if that fails too, the
-///   error of reading is returned;
+///   written, which across lines and with `count` is nothing, and the writer is flushed; if that
+///   fails too, the error of reading is returned;
 /// - what the writer's last call returned, or of kind `WriteZero` if that call took nothing: at a
 ///   write, after some first bytes of the text, or at the flush, after all of it.
 pub fn run<R: Source, W: Output>(
@@ -38,9 +46,7 @@ pub fn run<R: Source, W: Output>(
     ensures { IsProgramRun R.remaining R.step W.step W.contents options.now
         reader.old writer.old result reader.new writer.new }
 {
-    let mut printer = Printer::new(writer);
-    print(alloc, options, reader, &mut printer)?;
-    let found = printer.found;
+    let found = write_text(alloc, options, reader, writer)?;
     match writer.flush() {
         Ok(()) => Ok(found),
         Err(error) => Err(SearchError::Io(error)),
@@ -88,6 +94,71 @@ pub fn run_options<F: Files, R: Source, W: Output>(
     }
 }
 
+// Searches what a reader gives, writes the text that the options ask for, and returns whether a
+// match was reported. After an error of reading the writer is flushed.
+fn write_text<R: Source, W: Output>(
+    alloc: Global,
+    options: &Options,
+    reader: &mut R,
+    writer: &mut W,
+) -> Result<bool, SearchError>
+    ensures printed { IfOk result (λ found. IsPrinted R.remaining R.step W.step options.now
+        reader.old writer.old found reader.new writer.new) }
+    ensures failed { IfErr result (λ error. IsFailure R.remaining R.step W.step options.now
+        reader.old writer.old error reader.new writer.new) }
+{
+    if options.count {
+        return write_count(alloc, options, reader, writer);
+    }
+    let mut printer = Printer::new(writer);
+    print(alloc, options, reader, &mut printer)?;
+    Ok(printer.found)
+}
+
+// Writes how many matches a search of what a reader gives reports, and returns whether one was.
+// After an error of reading nothing is written, and the writer is flushed.
+fn write_count<R: Source, W: Output>(
+    alloc: Global,
+    options: &Options,
+    reader: &mut R,
+    writer: &mut W,
+) -> Result<bool, SearchError>
+    requires { options.now.count ≡ true }
+    ensures printed { IfOk result (λ found. IsPrinted R.remaining R.step W.step options.now
+        reader.old writer.old found reader.new writer.new) }
+    ensures failed { IfErr result (λ error. IsFailure R.remaining R.step W.step options.now
+        reader.old writer.old error reader.new writer.new) }
+{
+    let mut searcher = searcher(alloc, options)?;
+    let matcher = matcher(alloc, options)?;
+    let mut matches: Count<SearchError> = Count::new();
+    numbers_change_no_count();
+    runs_count_matches::<SearchError>();
+    reader_searches_run::<Global, LiteralMatcher, R, _>(&matches);
+    match searcher.search_reader(matcher, reader, &mut matches) {
+        Ok(()) => write_matches(writer, matches.count()),
+        Err(error) => {
+            // Whatever the flush returns, the error of reading came first.
+            let _ = writer.flush();
+            Err(error)
+        }
+    }
+}
+
+// Writes how many matches were reported, and returns whether one was.
+fn write_matches<W: Output>(writer: &mut W, matches: u64) -> Result<bool, SearchError>
+    ensures { MatchResult result
+        (λ found. (found ≡ nat_lt 0 matches)
+        × Writes W.step writer.old (decimal matches ++ 10 ∷ []) (Ok tt) writer.new)
+        (λ error. (written : Error) × (error ≡ SearchError.Io written)
+        × Writes W.step writer.old (decimal matches ++ 10 ∷ []) (Err written) writer.new) }
+{
+    match write_number(writer, matches, b'\n') {
+        Ok(()) => Ok(matches > 0),
+        Err(error) => Err(SearchError::Io(error)),
+    }
+}
+
 // Searches what a reader gives with a printer to which nothing is reported yet. After an error of
 // reading the writer is flushed.
 fn print<R: Source, W: Output>(
@@ -96,6 +167,7 @@ fn print<R: Source, W: Output>(
     reader: &mut R,
     printer: &mut Printer<'_, W>,
 ) -> Result<(), SearchError>
+    requires count { options.now.count ≡ false }
     requires found { printer.old.found ≡ false }
     requires has_failed { printer.old.has_failed ≡ false }
     ensures same_writer { printer.new.writer.ghost_name ≡ printer.old.writer.ghost_name }
@@ -117,14 +189,15 @@ fn print<R: Source, W: Output>(
     }
 }
 
-// A searcher with the settings of the options.
+// A searcher with the settings of the options' search.
 fn searcher(alloc: Global, options: &Options) -> Result<Searcher, SearchError>
     ensures settings { IfOk result (λ searcher.
-        searcher ≡ record { settings = settings_of_options options.now; has_buffers = true }) }
+        searcher ≡ record { settings = searched_settings options.now; has_buffers = true }) }
     ensures memory { IfErr result IsOutOfMemory }
 {
     SearcherBuilder::new()
         .invert_match(options.invert)
+        .line_number(!options.count)
         .multi_line(options.multi_line)
         .after_context(options.after)
         .before_context(options.before)

@@ -5,25 +5,25 @@ use Rattle.lgrep_cli.proofs.search.print.Goals as goal
 use Rattle.lgrep_cli.proofs.search.print.Goals.{Joined-searcher-2, Joined-searcher-3, Joined-searcher-4}
 
 searched-whole : (g : Over) (c : Joined-searcher-2 g)
-    → IsSearched g.R.Source.remaining g.R.Source.step g.W.Output.step c.args.options.now c.args.reader.now c.search_reader.new.reader
-    c.args.printer.now c.search_reader.new.sink c.search_reader.result
-searched-whole g c = reader-searched g.R.Source.remaining g.R.Source.step g.W.Output.step c.args.options.now c.args.reader.now
+    → IsSearched g.R.Source.remaining g.R.Source.step g.W.Output.step c.args.options.now c.requires.count
+    c.args.reader.now c.search_reader.new.reader c.args.printer.now c.search_reader.new.sink c.search_reader.result
+searched-whole g c = reader-searched g.R.Source.remaining g.R.Source.step g.W.Output.step c.args.options.now c.requires.count c.args.reader.now
     c.search_reader.new.reader c.args.printer.now c.search_reader.new.sink _ _ _ c.in_ok-searcher.searcher c.in_ok-matcher.matcher
     c.search_reader.result c.in_ok-searcher.ensures.settings c.in_ok-matcher.ensures.literal c.requires.found c.requires.has_failed
     c.search_reader.ensures.searched
 
 searched-cut : (g : Over) (c : Joined-searcher-3 g)
-    → IsSearched g.R.Source.remaining g.R.Source.step g.W.Output.step c.args.options.now c.args.reader.now c.search_reader.new.reader
-    c.args.printer.now c.search_reader.new.sink c.search_reader.result
-searched-cut g c = reader-searched g.R.Source.remaining g.R.Source.step g.W.Output.step c.args.options.now c.args.reader.now
+    → IsSearched g.R.Source.remaining g.R.Source.step g.W.Output.step c.args.options.now c.requires.count
+    c.args.reader.now c.search_reader.new.reader c.args.printer.now c.search_reader.new.sink c.search_reader.result
+searched-cut g c = reader-searched g.R.Source.remaining g.R.Source.step g.W.Output.step c.args.options.now c.requires.count c.args.reader.now
     c.search_reader.new.reader c.args.printer.now c.search_reader.new.sink _ _ _ c.in_ok-searcher.searcher c.in_ok-matcher.matcher
     c.search_reader.result c.in_ok-searcher.ensures.settings c.in_ok-matcher.ensures.literal c.requires.found c.requires.has_failed
     c.search_reader.ensures.searched
 
 searched-read : (g : Over) (c : Joined-searcher-4 g)
-    → IsSearched g.R.Source.remaining g.R.Source.step g.W.Output.step c.args.options.now c.args.reader.now c.search_reader.new.reader
-    c.args.printer.now c.search_reader.new.sink c.search_reader.result
-searched-read g c = reader-searched g.R.Source.remaining g.R.Source.step g.W.Output.step c.args.options.now c.args.reader.now
+    → IsSearched g.R.Source.remaining g.R.Source.step g.W.Output.step c.args.options.now c.requires.count
+    c.args.reader.now c.search_reader.new.reader c.args.printer.now c.search_reader.new.sink c.search_reader.result
+searched-read g c = reader-searched g.R.Source.remaining g.R.Source.step g.W.Output.step c.args.options.now c.requires.count c.args.reader.now
     c.search_reader.new.reader c.args.printer.now c.search_reader.new.sink _ _ _ c.in_ok-searcher.searcher c.in_ok-matcher.matcher
     c.search_reader.result c.in_ok-searcher.ensures.settings c.in_ok-matcher.ensures.literal c.requires.found c.requires.has_failed
     c.search_reader.ensures.searched
@@ -51,10 +51,10 @@ pub returns-in_err-searcher-clause-failed : goal.returns-in_err-searcher-clause-
 returns-in_err-searcher-clause-failed g c =
     let error = err_from_is_err_and c.from_residual.result c.from_residual.ensures.1 in
     rw (error.1, error.2) (out_of_memory g.R.Source.remaining g.R.Source.step g.W.Output.step c.args.options.now c.args.reader.now
-    c.args.reader.now c.args.printer.now c.args.printer.now c.in_err-searcher.field-0.0 c.in_err-searcher.ensures.memory)
+    c.args.printer.now.writer.now c.in_err-searcher.field-0.0 c.in_err-searcher.ensures.memory)
 
 pub returns-in_err-matcher-clause-failed : goal.returns-in_err-matcher-clause-failed
 returns-in_err-matcher-clause-failed g c =
     let error = err_from_is_err_and c.from_residual-in_err-matcher.result c.from_residual-in_err-matcher.ensures.1 in
     rw (error.1, error.2) (out_of_memory g.R.Source.remaining g.R.Source.step g.W.Output.step c.args.options.now c.args.reader.now
-    c.args.reader.now c.args.printer.now c.args.printer.now c.in_err-matcher.field-0.0 c.in_err-matcher.ensures.memory)
+    c.args.printer.now.writer.now c.in_err-matcher.field-0.0 c.in_err-matcher.ensures.memory)
