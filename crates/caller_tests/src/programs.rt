@@ -191,7 +191,7 @@ const SEARCH_ROWS: &[(&str, &[u8], &str, bool)] = &[
         "1:b\n2-a\n3-b\n",
         true,
     ),
-    ("-m 1 -A 2 a", b"a\na\nb\na\n", "1:a\n2-a\n3-b\n", true),
+    ("-m 1 -A 2 a", b"a\na\nb\na\n", "1:a\n2:a\n3-b\n", true),
     (
         "-U abc\ndef",
         b"xxx\nabc\ndefxxxabc\ndefxxx\nxxx",
@@ -199,7 +199,7 @@ const SEARCH_ROWS: &[(&str, &[u8], &str, bool)] = &[
         true,
     ),
     ("-c a", b"a\nx\nx\nx\na\n", "2\n", true),
-    ("-c -m 1 -A 2 a", b"a\na\nb\na\n", "1\n", true),
+    ("-c -m 1 -A 2 a", b"a\na\nb\na\n", "2\n", true),
     ("-c -v a", b"a\nb", "1\n", true),
     (
         "-c -U abc\ndef",

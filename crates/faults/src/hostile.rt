@@ -155,9 +155,18 @@ fn is_erratic_safe(searcher: &mut Searcher) -> bool {
     true
 }
 
-// Whether a search for `a` ends in no error and these totals.
+// Whether a search for `a` ends in no error and these totals, if the second match returns false.
 fn totals_are<R: Source>(searcher: &mut Searcher, reader: &mut R, totals: Totals) -> bool {
-    let mut tally = Tally::new(1);
+    adds_up(searcher, reader, Tally::new(1), totals)
+}
+
+// Whether one ends so with this sink.
+fn adds_up<R: Source>(
+    searcher: &mut Searcher,
+    reader: &mut R,
+    mut tally: Tally,
+    totals: Totals,
+) -> bool {
     let matcher = LiteralMatcher::borrowed(b"a");
     search(searcher, matcher, reader, &mut tally).is_ok() && tally.has(totals)
 }
@@ -171,13 +180,13 @@ fn is_interrupted(searcher: &mut Searcher) -> bool {
     }
 }
 
-// A limit of 1 has two lines after the match.
+// A limit of 1 has two lines after the match, which are matches too. Without a limit the sink ends the search.
 fn is_cut(searcher: &mut Searcher) -> bool {
-    let totals = match searcher.max_matches() {
-        Some(_) => (1, 1, 0, 2, 6),
-        None => (2, 3, 2, 4, 4),
-    };
-    totals_are(searcher, &mut Repeated::new(b"a\n", u64::MAX, b""), totals)
+    let mut reader = Repeated::new(b"a\n", u64::MAX, b"");
+    match searcher.max_matches() {
+        Some(_) => adds_up(searcher, &mut reader, Tally::new(u64::MAX), (3, 6, 6, 6, 6)),
+        None => totals_are(searcher, &mut reader, (2, 3, 2, 4, 4)),
+    }
 }
 
 fn is_quit(searcher: &mut Searcher) -> bool {

@@ -137,13 +137,14 @@ impl<'c, A: Allocator + Copy, T> Search<'c, A, T> {
             };
             let line = &window[start..end];
             let known = ahead.at(start);
-            let chosen = self
+            let verdict = self
                 .config
-                .is_chosen::<A, M, C::Error>(self.alloc, matcher, line, known, walk)?;
-            if !self.sink_line::<C>(window, start, end, walk, chosen, sink)? {
+                .judge::<A, M, C::Error>(self.alloc, matcher, line, known, walk)?;
+            if !self.sink_line::<C>(window, start, end, walk, verdict, sink)? {
                 walk.offset += line.len() as u64;
                 return Ok(false);
             }
+            let chosen = verdict.is_chosen();
             *walk = self.config.advance(walk, line, chosen);
             if self.config.is_over(walk, chosen) {
                 return Ok(false);

@@ -14,7 +14,7 @@ use crate::calls::Calls;
 use crate::search::Search;
 use grep_matcher::{Match, Matcher};
 use grep_report::SinkError;
-use grep_walk::START;
+use grep_walk::{START, Verdict};
 use std::alloc::Allocator;
 
 impl<'c, A: Allocator + Copy, T> Search<'c, A, T> {
@@ -113,7 +113,8 @@ impl<'c, A: Allocator + Copy, T> Search<'c, A, T> {
             }
             let chosen = start == next;
             let end = self.config.end_across(bytes, start, &unit, chosen);
-            if !self.sink_line::<C>(bytes, start, end, &walk, chosen, sink)? {
+            let verdict = Verdict::of(chosen);
+            if !self.sink_line::<C>(bytes, start, end, &walk, verdict, sink)? {
                 return Ok(end as u64);
             }
             walk = self.config.walk_after(&walk, &bytes[start..end], chosen);

@@ -5,28 +5,28 @@ ghost use Rattle.grep_lines.specs.Positions.{slice};
 ghost use Rattle.grep_definitions.specs.CallOrder.{HasCalled};
 ghost use Rattle.grep_definitions.specs.SinkCalls.{context};
 ghost use Rattle.grep_definitions.specs.LineTurns.{number_of, is_gap, break_turns};
-ghost use Rattle.grep_definitions.specs.LineTurns.{before_turns, pending_turns, match_turns};
+ghost use Rattle.grep_definitions.specs.LineTurns.{after_turns, before_turns, pending_turns, match_turns};
 ghost use Rattle.grep_definitions.specs.SinkRuns.{AreReported, outcome_of, NeverFails};
-ghost use Rattle.grep_walk.specs.Walks.{line_turns, line_end};
+ghost use Rattle.grep_walk.specs.Walks.{chooses, trails, line_turns, line_end};
 ghost use Rattle.grep_walk.specs.Windows.{IsInWindow, IsLineIn};
 ghost use Rattle.grep_core.specs.Configured.{IsConfigured};
 
 use crate::calls::Calls;
 use crate::search::Search;
 use grep_report::{SinkContext, SinkContextKind, SinkMatch};
-use grep_walk::Walk;
+use grep_walk::{Verdict, Walk};
 use std::alloc::Allocator;
 
 impl<'c, A: Allocator + Copy, T> Search<'c, A, T> {
     // Reports the line that a walk is at, from `start` up to `end` of the window, and if it is chosen the lines before
-    // it that are near. Returns whether the search goes on.
+    // it that are near. In the context after a match a trailing line is a match too. Returns whether the search goes on.
     pub(crate) fn sink_line<C: Calls<T>>(
         &self,
         window: &[u8],
         start: usize,
         end: usize,
         walk: &Walk,
-        chosen: bool,
+        verdict: Verdict,
         sink: &mut C::Sink,
     ) -> Result<bool, C::Error>
         requires ordered { start ≤ end }
@@ -40,29 +40,64 @@ impl<'c, A: Allocator + Copy, T> Search<'c, A, T> {
         ensures reported { (gone input : List ℕ)
             → IsInWindow self.now.config gone window.now input start walk.now
             → AreReported C.step self.now.config sink.old
-            (line_turns self.now.config input walk.now (slice window.now start end) chosen)
+            (line_turns self.now.config input walk.now (slice window.now start end)
+            (chooses verdict) (trails verdict))
             (outcome_of (line_end walk.now (slice window.now start end)) result) sink.new }
         ensures succeeds { NeverFails C.step C.may_call → IsOk result }
         ensures called { (stop : ℕ) → HasCalled C.step self.now.config sink.old
             (outcome_of stop result) sink.new }
         ensures may_call { C.may_call sink.new }
     {
-        if chosen {
+        if verdict.is_chosen() {
             if !self.sink_before_context::<C>(window, start, walk, sink)? {
                 return Ok(false);
             }
             return self.sink_matched::<C>(window, start, end, walk, sink);
         }
-        let line = &window[start..end];
         if walk.after_context_left > 0 {
-            let kind = SinkContextKind::After;
-            return self.sink_context::<C>(kind, line, walk.offset, walk.line, sink);
+            return self.sink_after_context::<C>(window, start, end, walk, verdict, sink);
         }
         if self.config.passthru {
             let kind = SinkContextKind::Other;
-            return self.sink_context::<C>(kind, line, walk.offset, walk.line, sink);
+            return self.sink_context::<C>(kind, &window[start..end], walk.offset, walk.line, sink);
         }
         Ok(true)
+    }
+
+    // Reports the line that a walk is at, from `start` up to `end` of the window, which is in the context after a match
+    // and isn't chosen.
+    fn sink_after_context<C: Calls<T>>(
+        &self,
+        window: &[u8],
+        start: usize,
+        end: usize,
+        walk: &Walk,
+        verdict: Verdict,
+        sink: &mut C::Sink,
+    ) -> Result<bool, C::Error>
+        requires ordered { start ≤ end }
+        requires within { end ≤ length window.now }
+        requires fits { walk.now.offset + length (slice window.now start end) < 2 ^ 64 }
+        requires number { walk.now.line + 1 < 2 ^ 64 }
+        requires configured { IsConfigured (C.settings self.now.searcher.now) self.now.config }
+        requires may_call { C.may_call sink.old }
+        ensures reported { (stop : ℕ) → AreReported C.step self.now.config sink.old
+            (after_turns self.now.config (trails verdict) walk.now.reported_through walk.now.line
+            walk.now.offset stop (slice window.now start end))
+            (outcome_of stop result) sink.new }
+        ensures succeeds { NeverFails C.step C.may_call → IsOk result }
+        ensures called { (stop : ℕ) → HasCalled C.step self.now.config sink.old
+            (outcome_of stop result) sink.new }
+        ensures may_call { C.may_call sink.new }
+    {
+        match verdict {
+            Verdict::Trailing => self.sink_matched::<C>(window, start, end, walk, sink),
+            _ => {
+                let kind = SinkContextKind::After;
+                let line = &window[start..end];
+                self.sink_context::<C>(kind, line, walk.offset, walk.line, sink)
+            }
+        }
     }
 
     // Reports the lines before the chosen one that a walk is at, which begins at `start` of the window: of those after
@@ -179,7 +214,7 @@ impl<'c, A: Allocator + Copy, T> Search<'c, A, T> {
         self.sink_context::<C>(SinkContextKind::Before, line, offset, index, sink)
     }
 
-    // Reports the chosen line that a walk is at, from `start` up to `end` of the window, and the break before it, if
+    // Reports the line that a walk is at, from `start` up to `end` of the window, as a match, and the break before it, if
     // there is one.
     fn sink_matched<C: Calls<T>>(
         &self,

@@ -26,7 +26,7 @@ use Rattle.grep_definitions.proofs.LineStartLemmas.{line_start-ascends, line_sta
 use Rattle.grep_definitions.proofs.ReportLemmas.{IsReported, in_order-joined, report_calls-broken}
 use Rattle.grep_definitions.proofs.TurnEndLemmas.{line_start-le}
 use Rattle.grep_definitions.proofs.UnitLemmas.{unit-lines}
-use Rattle.grep_definitions.proofs.SearchLawLemmas.{matches_in, matches-joined, kind-matched}
+use Rattle.grep_definitions.proofs.SearchLawLemmas.{matches_in, matches-joined, kind-selected}
 use Rattle.grep_definitions.proofs.SearchLawLemmas.{count_below-weaker, count_below-limited}
 
 module _ (k : Settings) (meaning : Meaning) (bytes : List ℕ) where
@@ -153,7 +153,7 @@ module _ (k : Settings) (meaning : Meaning) (bytes : List ℕ) where
           → (report_calls (T i) ≡ []) ⊎ IsReported T at i
       go None kind is = inl is
       go (Some matched) kind is =
-          let here = kind-matched (selected i) (AcrossLines.follows_selected k meaning bytes i)
+          let here = kind-selected (selected i) (AcrossLines.follows_selected k meaning bytes i)
           (AcrossLines.precedes_selected k meaning bytes i) k.passthru kind in
           ⊎_elim
           (λ (goes_on : continues_unit k meaning bytes i ≡ true). inl (unreported i here goes_on))
@@ -204,7 +204,7 @@ module _ (k : Settings) (meaning : Meaning) (bytes : List ℕ) where
       → matches_in (AcrossLines.report k meaning bytes i kind) ≤ (if begins_unit i then 1 else 0)
   matches-report i None is = omega arith
   matches-report i (Some matched) is =
-      let here = kind-matched (selected i) (AcrossLines.follows_selected k meaning bytes i)
+      let here = kind-selected (selected i) (AcrossLines.follows_selected k meaning bytes i)
       (AcrossLines.precedes_selected k meaning bytes i) k.passthru is in
       ⊎_elim
       (λ yes. rw yes (omega arith))

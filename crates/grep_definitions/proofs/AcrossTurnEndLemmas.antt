@@ -21,7 +21,7 @@ use Rattle.grep_definitions.proofs.BelowLemmas.{first_below-none, first_below-of
 use Rattle.grep_definitions.proofs.BoolLemmas.{both_true, clash}
 use Rattle.grep_definitions.proofs.LineStartLemmas.{line_start-ascends}
 use Rattle.grep_definitions.proofs.ListLemmas.{All-joined_from, filter-all, filter-none}
-use Rattle.grep_definitions.proofs.SearchLawLemmas.{kind-matched}
+use Rattle.grep_definitions.proofs.SearchLawLemmas.{kind-selected}
 use Rattle.grep_definitions.proofs.TurnEndLemmas.{line_start-le}
 use Rattle.grep_definitions.proofs.UnitLemmas.{unit-lines}
 
@@ -126,10 +126,10 @@ module _ (k : Settings) (meaning : Meaning) (bytes : List ℕ) where
         go : (kind : Kind) → AcrossLines.kind k meaning bytes j ≡ Some kind → (j < i) ⊎ (i ≤ j)
             → at (i + 1) ≤ turn_end k meaning bytes j (Some kind)
         go matched is (inl less) =
-            absurd (clash (kind-matched (selected j) (AcrossLines.follows_selected k meaning bytes j)
+            absurd (clash (kind-selected (selected j) (AcrossLines.follows_selected k meaning bytes j)
             (AcrossLines.precedes_selected k meaning bytes j) k.passthru is) (near.passed j low less).0)
         go matched is (inr over) =
-            let here = kind-matched (selected j) (AcrossLines.follows_selected k meaning bytes j)
+            let here = kind-selected (selected j) (AcrossLines.follows_selected k meaning bytes j)
             (AcrossLines.precedes_selected k meaning bytes j) k.passthru is in
             higher (i + 1) (unit_end k meaning bytes j) (omega (arith, over, (unit-lines k meaning bytes j inside here).later))
         go (in_context After) is (inr over) = after over

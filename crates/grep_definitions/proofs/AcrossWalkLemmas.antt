@@ -16,7 +16,7 @@ use Rattle.grep_definitions.specs.SinkCalls.{Turn, begins}
 use Rattle.grep_definitions.specs.Below.{some_below, joined_from}
 use Rattle.grep_definitions.specs.LineSearch.{matched, in_context, line_count, line, start, number}
 use Rattle.grep_definitions.specs.LineTurns.{before_turns, pending_turns, match_turns, context_turns, is_gap, number_of}
-use Rattle.grep_definitions.specs.Selections.{IsNear}
+use Rattle.grep_definitions.specs.Selections.{IsNear, no_line}
 use Rattle.grep_definitions.specs.AcrossLines
 use Rattle.grep_definitions.specs.AcrossLines.{is_selected, continues_unit, turns_at}
 use Rattle.grep_definitions.proofs.BelowLemmas.{joined_from-add, joined_from-equal, joined_from-none, headed-through}
@@ -45,7 +45,7 @@ module _ (k : Settings) (meaning : Meaning) (bytes : List ℕ) where
   Bare = k.passthru ≡ true → (k.after_context ≡ 0) × (k.before_context ≡ 0)
 
   abbrev pub Near : ℕ → ℕ → ℕ → Type 0
-  Near v i left = IsNear k S n n v i left
+  Near v i left = IsNear k S no_line n n v i left
 
   -- `begin`, and the calls of the first i lines
   abbrev pub front : ℕ → List Turn
@@ -75,7 +75,7 @@ module _ (k : Settings) (meaning : Meaning) (bytes : List ℕ) where
 
   -- before the first line
   pub near-none : Near 0 0 0
-  near-none = SelectionLemmas.IsNear-none k S n n
+  near-none = SelectionLemmas.IsNear-none k S no_line n n
 
   -- lines that aren't selected are passed unreported
   pub near-skipped : (v i e : ℕ) → Near v i 0 → k.passthru ≡ false → i ≤ e → e ≤ n
@@ -83,20 +83,20 @@ module _ (k : Settings) (meaning : Meaning) (bytes : List ℕ) where
   near-skipped v i e near plain low high missed =
       let sum : i + (e - i) ≡ e = omega arith in
       subst (λ x. Near v x 0) sum
-      (SelectionLemmas.IsNear-skipped k S n n plain v i (e - i) near (λ j from below. missed j from (omega (arith, below))))
+      (SelectionLemmas.IsNear-skipped k S no_line n n plain v i (e - i) near (λ j from below. missed j from (omega (arith, below))))
 
   -- one such line, and its calls
   pub near-missed : Bare → (v i left : ℕ) → Near v i left → i < n → S i ≡ false
       → Near (if nat_lt 0 left || k.passthru then i + 1 else v) (i + 1) (left - 1)
   near-missed bare v i left near inside missed =
-      SelectionLemmas.IsNear-missed k S n n v i left near (λ is. (bare is).1) inside missed
+      SelectionLemmas.IsNear-missed k S no_line n n v i left near (λ is. (bare is).1) inside missed
 
   pub front-missed : Bare → (v i left : ℕ) → Near v i left → i < n → S i ≡ false
       → front (if nat_lt 0 left || k.passthru then i + 1 else v)
       ≡ front v ++ (if nat_lt 0 left then context_turns After (number_of k i) (starts i) (starts (i + 1)) (span i (i + 1))
       else (if k.passthru then context_turns Other (number_of k i) (starts i) (starts (i + 1)) (span i (i + 1)) else []))
   front-missed bare v i left near inside missed =
-      SelectionLemmas.headed-missed k S n n v i left near (record { call = begins; end = 0 }) T _ _ after other
+      SelectionLemmas.headed-missed k S no_line n n v i left near (record { call = begins; end = 0 }) T _ _ after other
     where
       is_number : number k meaning bytes i ≡ number_of k i
       is_number = number-is i inside
@@ -107,13 +107,13 @@ module _ (k : Settings) (meaning : Meaning) (bytes : List ℕ) where
       after : 0 < left → T i ≡ context_turns After (number_of k i) (starts i) (starts (i + 1)) (span i (i + 1))
       after some =
           let kind : AcrossLines.kind k meaning bytes i ≡ Some (in_context After) =
-          SelectionLemmas.kind-after k S n n v i left near missed some in
+          SelectionLemmas.kind-after k S no_line n n v i left near missed some in
           rw (kind, and-false (nat_lt 0 (A + B)), is_number, is_line) refl
 
       other : left ≡ 0 → k.passthru ≡ true → T i ≡ context_turns Other (number_of k i) (starts i) (starts (i + 1)) (span i (i + 1))
       other none is_p =
           let kind : AcrossLines.kind k meaning bytes i ≡ Some (in_context Other) =
-          SelectionLemmas.kind-other k S n n v i left near missed none is_p (bare is_p).1 in
+          SelectionLemmas.kind-other k S no_line n n v i left near missed none is_p (bare is_p).1 in
           rw (kind, and-false (nat_lt 0 (A + B)), is_number, is_line) refl
 
   -- after a unit
@@ -121,7 +121,7 @@ module _ (k : Settings) (meaning : Meaning) (bytes : List ℕ) where
   near-unit i e some high hits =
       let sum : (e - 1) + 1 ≡ e = omega arith in
       subst (λ x. Near x x k.after_context) sum
-      (SelectionLemmas.IsNear-hit k S n n (e - 1) (omega arith) (hits (e - 1) (omega arith) (omega arith)))
+      (SelectionLemmas.IsNear-hit k S no_line n n (e - 1) (omega arith) (hits (e - 1) (omega arith) (omega arith)))
 
   module _ (v i left e : ℕ) (near : Near v i left) (some : i < e) (high : e ≤ n) (hits : (j : ℕ) → i ≤ j → j < e → S j ≡ true)
       (closed : k.invert_match ≡ false → e < n → S e ≡ false) (alone : k.invert_match ≡ true → e ≡ i + 1) where
@@ -146,7 +146,7 @@ module _ (k : Settings) (meaning : Meaning) (bytes : List ℕ) where
     passed-is j low less = ⊎_elim far close (cases_lt B (i - j))
       where
         is_kind : AcrossLines.kind k meaning bytes j ≡ (if nat_le (i - j) B then Some (in_context Before) else None)
-        is_kind = SelectionLemmas.kind-passed k S n n v i left near inside inside hit j low less
+        is_kind = SelectionLemmas.kind-passed k S no_line n n v i left near inside inside hit j low less
 
         far : B < i - j → T j ≡ before_turns k v j i (number k meaning bytes j) (starts j) (starts e) (line k meaning bytes j)
         far out =
@@ -160,8 +160,8 @@ module _ (k : Settings) (meaning : Meaning) (bytes : List ℕ) where
             let kind : AcrossLines.kind k meaning bytes j ≡ Some (in_context Before) = is_kind
             ∙ ap (λ b. if b then Some (in_context Before) else None) test in
             let gap : (nat_lt 0 (A + B) && true && not (is_reported (j - 1)) && some_below is_reported j) ≡ is_gap k v j i =
-            SelectionLemmas.gap-passed k S n n v i left near inside inside hit j low less inner in
-            let found = SelectionLemmas.next-passed k S n n v i left near inside inside hit j low less in
+            SelectionLemmas.gap-passed k S no_line n n v i left near inside inside hit j low less inner in
+            let found = SelectionLemmas.next-passed k S no_line n n v i left near inside inside hit j low less in
             rw (kind, gap, found, end-is, test) refl
 
     -- those of its first line
@@ -169,7 +169,7 @@ module _ (k : Settings) (meaning : Meaning) (bytes : List ℕ) where
     hit-is first =
         let kind : AcrossLines.kind k meaning bytes i ≡ Some matched = rw hit refl in
         let gap : (nat_lt 0 (A + B) && true && not (is_reported (i - 1)) && some_below is_reported i) ≡ (nat_lt 0 A && is_gap k v i i) =
-        SelectionLemmas.gap-hit k S n n v i left near inside inside hit in
+        SelectionLemmas.gap-hit k S no_line n n v i left near inside inside hit in
         let is_number = number-is i inside in
         rw (kind, gap, first, is_number, end-is) refl
 
@@ -215,5 +215,5 @@ module _ (k : Settings) (meaning : Meaning) (bytes : List ℕ) where
       none : (j : ℕ) → v ≤ j → j < v + (n - v) → T j ≡ []
       none j low below =
           let kind : AcrossLines.kind k meaning bytes j ≡ None =
-          SelectionLemmas.kind-done k S n n v n left near (λ q late inner. absurd (omega arith)) j low (omega (arith, near.low, below)) in
+          SelectionLemmas.kind-done k S no_line n n v n left near (λ q late inner. absurd (omega arith)) j low (omega (arith, near.low, below)) in
           rw (kind, and-false (nat_lt 0 (A + B))) refl

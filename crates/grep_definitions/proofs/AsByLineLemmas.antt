@@ -18,7 +18,8 @@ use Rattle.grep_definitions.proofs.UnitLemmas.{line-slice}
 
 module _ (k : Settings) (meaning other : Meaning) (bytes : List ℕ) (inverted : k.invert_match ≡ true)
     (same : (i : ℕ) → AcrossLines.is_selected k meaning bytes i ≡ LineSearch.is_selected k other bytes i)
-    (whole : LineSearch.turn_count k other bytes ≡ LineSearch.line_count k other bytes) where
+    (whole : LineSearch.turn_count k other bytes ≡ LineSearch.line_count k other bytes)
+    (early : (i : ℕ) → LineSearch.is_trailing k other bytes i ≡ false) where
   abbrev n : ℕ
   n = LineSearch.line_count k meaning bytes
 
@@ -53,7 +54,10 @@ module _ (k : Settings) (meaning other : Meaning) (bytes : List ℕ) (inverted :
       (λ j below. ap (λ b. nat_lt i j && nat_le (j - i) k.before_context && b) (same j))
 
   kind : (i : ℕ) → AcrossLines.kind k meaning bytes i ≡ LineSearch.kind k other bytes i
-  kind i = rw (same i, follows i, precedes i) refl
+  kind i = rw (same i, follows i, precedes i) (ap (λ (b : Bool). if LineSearch.is_selected k other bytes i then Some matched
+      else (if LineSearch.follows_selected k other bytes i then Some (if b then matched else in_context After)
+      else (if LineSearch.precedes_selected k other bytes i then Some (in_context Before)
+      else (if k.passthru then Some (in_context Other) else None)))) (sym (early i)))
 
   reported : (i : ℕ) → AcrossLines.is_reported k meaning bytes i ≡ LineSearch.is_reported k other bytes i
   reported i = ap₂ (λ m x. nat_lt i m && is_some x) (sym whole) (kind i)

@@ -1,5 +1,5 @@
 -- Numbers below a bound that pass a test, bounds that may be missing, and lists joined over numbers.
-use Rattle.std.proofs.Common.{◌≡◌, ◌⊎◌, ℕ, zero, suc, ◌+◌, ◌-◌, ◌<◌, ◌≤◌, Bool, true, false, not, Option, Some, None, if◌then◌else◌}
+use Rattle.std.proofs.Common.{min, ◌≡◌, ◌⊎◌, ℕ, zero, suc, ◌+◌, ◌-◌, ◌<◌, ◌≤◌, Bool, true, false, not, Option, Some, None, if◌then◌else◌}
 use Rattle.std.proofs.Common.{refl, sym, ◌∙◌, ap, arith, ⊎_elim}
 use Rattle.std.proofs.lemmas.Bool.{lt-ltb, le-ltb, ltb-true, eq-eqb, ne_eqb, cases_lt, cases_Bool}
 use Rattle.std.proofs.Math.Bool.{or-false, or-true}
@@ -203,6 +203,18 @@ first_below-before p n q j is less = ⊎_elim (λ here. absurd (go (first_below 
         let same : x ≡ q = cc in
         let before = (first_below-of p q x some).0 in
         absurd (omega arith)
+
+-- no more numbers pass than there are in a range that all of them are in
+pub count_below-within : (p : ℕ → Bool) (low size n : ℕ) → ((i : ℕ) → i < n → p i ≡ true → (low ≤ i) × (i < low + size))
+    → count_below p n ≤ min n (low + size) - low
+count_below-within p low size zero inside = omega arith
+count_below-within p low size (suc n) inside =
+    go (p n) refl (count_below-within p low size n (λ i less. inside i (omega arith)))
+  where
+    go : (b : Bool) → p n ≡ b → count_below p n ≤ min n (low + size) - low
+        → (if b then count_below p n + 1 else count_below p n) ≤ min (suc n) (low + size) - low
+    go true is before = let here = inside n (omega arith) is in omega (arith, here.0, here.1)
+    go false is before = omega arith
 
 -- if none of the first numbers passes, none of them counts
 pub count_below-none : (p : ℕ → Bool) (n : ℕ) → ((j : ℕ) → p j ≡ false) → count_below p n ≡ 0

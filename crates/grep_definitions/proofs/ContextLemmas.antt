@@ -13,7 +13,7 @@ use Rattle.grep_definitions.specs.Below.{some_below}
 use Rattle.grep_definitions.specs.LineSearch
 use Rattle.grep_definitions.specs.LineSearch.{turns_at, matched, in_context}
 use Rattle.grep_definitions.specs.LineWalks.{IsNear}
-use Rattle.grep_definitions.specs.LineTurns.{before_turns, match_turns, context_turns, is_gap, number_of}
+use Rattle.grep_definitions.specs.LineTurns.{after_turns, before_turns, match_turns, context_turns, is_gap, number_of}
 use Rattle.grep_definitions.proofs.SelectionLemmas
 
 module _ (k : Settings) (meaning : Meaning) (bytes : List ℕ) where
@@ -35,29 +35,49 @@ module _ (k : Settings) (meaning : Meaning) (bytes : List ℕ) where
   abbrev is_selected : ℕ → Bool
   is_selected = LineSearch.is_selected k meaning bytes
 
+  abbrev is_trailing : ℕ → Bool
+  is_trailing = LineSearch.is_trailing k meaning bytes
+
   abbrev is_reported : ℕ → Bool
   is_reported = LineSearch.is_reported k meaning bytes
 
   pub IsNear-none : IsNear k meaning bytes 0 0 0
-  IsNear-none = SelectionLemmas.IsNear-none k is_selected n turned
+  IsNear-none = SelectionLemmas.IsNear-none k is_selected is_trailing n turned
 
   -- if no line from the i-th on is selected, the lines that were passed have no calls
   pub turns_at-done : (v i left : ℕ) → IsNear k meaning bytes v i left → ((q : ℕ) → i ≤ q → q < n → is_selected q ≡ false)
       → (j : ℕ) → v ≤ j → j < i → turns_at k meaning bytes j ≡ []
   turns_at-done v i left near silent j low high =
       let kind : LineSearch.kind k meaning bytes j ≡ None =
-      SelectionLemmas.kind-done k is_selected n turned v i left near silent j low high in
+      SelectionLemmas.kind-done k is_selected is_trailing n turned v i left near silent j low high in
       rw (kind, and-false (nat_lt 0 (A + B))) refl
+
+  -- a line follows a selected one just if some of the context is left
+  pub follows-selected : (v i left : ℕ) → IsNear k meaning bytes v i left
+      → LineSearch.follows_selected k meaning bytes i ≡ nat_lt 0 left
+  follows-selected v i left near = SelectionLemmas.follows-here k is_selected is_trailing n turned v i left near
 
   module _ (v i left : ℕ) (near : IsNear k meaning bytes v i left) (inside : i < n) (has : i < turned) where
     -- a line after a selected one
     pub turns_at-after : (start end : ℕ) (line : List ℕ) → is_selected i ≡ false → 0 < left → LineSearch.number k meaning bytes i
         ≡ number_of k i → LineSearch.start k meaning bytes i ≡ start → LineSearch.start k meaning bytes (i + 1) ≡ end
-        → LineSearch.line k meaning bytes i ≡ line → turns_at k meaning bytes i ≡ context_turns After (number_of k i) start end line
-    turns_at-after start end line misses some is_number is_start is_end is_line =
-        let kind : LineSearch.kind k meaning bytes i ≡ Some (in_context After) =
-        SelectionLemmas.kind-after k is_selected n turned v i left near misses some in
-        rw (kind, and-false (nat_lt 0 (A + B)), is_number, is_end, is_start, is_line) refl
+        → LineSearch.line k meaning bytes i ≡ line → turns_at k meaning bytes i
+        ≡ after_turns k (is_trailing i) v i start end line
+    turns_at-after start end line misses some is_number is_start is_end is_line = go (is_trailing i) refl
+      where
+        kind : LineSearch.kind k meaning bytes i ≡ Some (if is_trailing i then matched else in_context After)
+        kind = SelectionLemmas.kind-after k is_selected is_trailing n turned v i left near misses some
+
+        gap : (nat_lt 0 (A + B) && true && not (is_reported (i - 1)) && some_below is_reported i) ≡ (nat_lt 0 A && is_gap k v i i)
+        gap = SelectionLemmas.gap-after k is_selected is_trailing n turned v i left near some
+
+        go : (b : Bool) → is_trailing i ≡ b → turns_at k meaning bytes i ≡ after_turns k b v i start end line
+        go true is =
+            let as_match = kind ∙ ap (λ b. Some (if b then matched else in_context After)) is in
+            rw (as_match, gap, is_number, is_end, is_start, is_line) refl
+        go false is =
+            let as_context = kind ∙ ap (λ b. Some (if b then matched else in_context After)) is in
+            rw (as_context, and-false (nat_lt 0 (A + B)), is_number, is_end, is_start, is_line) refl
 
     -- a line that is reported under passthru alone
     pub turns_at-other : (start end : ℕ) (line : List ℕ) → is_selected i ≡ false → left ≡ 0 → k.passthru ≡ true → k.before_context ≡ 0
@@ -66,16 +86,16 @@ module _ (k : Settings) (meaning : Meaning) (bytes : List ℕ) where
         ≡ context_turns Other (number_of k i) start end line
     turns_at-other start end line misses empty bare none is_number is_start is_end is_line =
         let kind : LineSearch.kind k meaning bytes i ≡ Some (in_context Other) =
-        SelectionLemmas.kind-other k is_selected n turned v i left near misses empty bare none in
+        SelectionLemmas.kind-other k is_selected is_trailing n turned v i left near misses empty bare none in
         rw (kind, and-false (nat_lt 0 (A + B)), is_number, is_end, is_start, is_line) refl
 
     pub IsNear-missed : (k.passthru ≡ true → k.before_context ≡ 0) → is_selected i ≡ false
         → IsNear k meaning bytes (if nat_lt 0 left || k.passthru then i + 1 else v) (i + 1) (left - 1)
-    IsNear-missed bare = SelectionLemmas.IsNear-missed k is_selected n turned v i left near bare has
+    IsNear-missed bare = SelectionLemmas.IsNear-missed k is_selected is_trailing n turned v i left near bare has
 
     module _ (hit : is_selected i ≡ true) where
       pub IsNear-hit : IsNear k meaning bytes (i + 1) (i + 1) A
-      IsNear-hit = SelectionLemmas.IsNear-hit k is_selected n turned i has hit
+      IsNear-hit = SelectionLemmas.IsNear-hit k is_selected is_trailing n turned i has hit
 
       -- a passed line's calls
       pub turns_at-passed : (j start end : ℕ) (line : List ℕ) → v ≤ j → j < i → LineSearch.start k meaning bytes j ≡ start
@@ -84,7 +104,7 @@ module _ (k : Settings) (meaning : Meaning) (bytes : List ℕ) where
       turns_at-passed j start end line low less is_start is_end is_line = ⊎_elim far close (cases_lt B (i - j))
         where
           is_kind : LineSearch.kind k meaning bytes j ≡ (if nat_le (i - j) B then Some (in_context Before) else None)
-          is_kind = SelectionLemmas.kind-passed k is_selected n turned v i left near inside has hit j low less
+          is_kind = SelectionLemmas.kind-passed k is_selected is_trailing n turned v i left near inside has hit j low less
 
           far : B < i - j → turns_at k meaning bytes j ≡ before_turns k v j i (LineSearch.number k meaning bytes j) start end line
           far out =
@@ -98,8 +118,8 @@ module _ (k : Settings) (meaning : Meaning) (bytes : List ℕ) where
               let kind : LineSearch.kind k meaning bytes j ≡ Some (in_context Before) = is_kind
               ∙ ap (λ b. if b then Some (in_context Before) else None) test in
               let gap : (nat_lt 0 (A + B) && true && not (is_reported (j - 1)) && some_below is_reported j) ≡ is_gap k v j i =
-              SelectionLemmas.gap-passed k is_selected n turned v i left near inside has hit j low less inner in
-              let found = SelectionLemmas.next-passed k is_selected n turned v i left near inside has hit j low less in
+              SelectionLemmas.gap-passed k is_selected is_trailing n turned v i left near inside has hit j low less inner in
+              let found = SelectionLemmas.next-passed k is_selected is_trailing n turned v i left near inside has hit j low less in
               rw (kind, gap, found, is_start, is_end, is_line, test) refl
 
       -- the match's calls
@@ -109,5 +129,5 @@ module _ (k : Settings) (meaning : Meaning) (bytes : List ℕ) where
       turns_at-hit start end line is_number is_start is_end is_line =
           let kind : LineSearch.kind k meaning bytes i ≡ Some matched = rw hit refl in
           let gap : (nat_lt 0 (A + B) && true && not (is_reported (i - 1)) && some_below is_reported i) ≡ (nat_lt 0 A && is_gap k v i i) =
-          SelectionLemmas.gap-hit k is_selected n turned v i left near inside has hit in
+          SelectionLemmas.gap-hit k is_selected is_trailing n turned v i left near inside has hit in
           rw (kind, gap, is_number, is_end, is_start, is_line) refl

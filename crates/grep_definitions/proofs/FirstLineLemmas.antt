@@ -80,6 +80,13 @@ module _ (join : LinesJoin) (append : LinesAppend) (k : Settings) (meaning : Mea
       (λ j less. hits-same j (omega arith)) in
       rw (hits-same i below, before) refl
 
+  -- it is trailing in both or in neither
+  pub is_trailing-same : (i : ℕ) → i < n → LineSearch.is_trailing k meaning whole i ≡ LineSearch.is_trailing k meaning front i
+  is_trailing-same i below =
+      let before = count_below-same (LineSearch.hits k meaning whole) (LineSearch.hits k meaning front) i
+      (λ j less. hits-same j (omega arith)) in
+      rw (hits-same i below, before) refl
+
   -- it ends the chosen lines in both or in neither
   pub ends_chosen-same : (i : ℕ) → i < n → LineSearch.ends_chosen k meaning whole i ≡ LineSearch.ends_chosen k meaning front i
   ends_chosen-same i below =

@@ -107,11 +107,15 @@ module _ (join : LinesJoin) (append : LinesAppend) (k : Settings) (meaning : Mea
       f : LineSearch.follows_selected k meaning whole i ≡ LineSearch.follows_selected k meaning front i
       f = prefix.follows-same join append k meaning front back closed i below
 
+      t : LineSearch.is_trailing k meaning whole i ≡ LineSearch.is_trailing k meaning front i
+      t = prefix.is_trailing-same join append k meaning front back closed i below
+
       go : (a b c d : Bool) → selected i ≡ a → LineSearch.follows_selected k meaning front i ≡ b
           → LineSearch.precedes_selected k meaning front i ≡ c → LineSearch.precedes_selected k meaning whole i ≡ d
           → (LineSearch.kind k meaning whole i ≡ LineSearch.kind k meaning front i) ⊎ IsLate i
       go true b c d is_a is_b is_c is_d = inl (rw (s, is_a) refl)
-      go false true c d is_a is_b is_c is_d = inl (rw (s, is_a, f, is_b) refl)
+      go false true c d is_a is_b is_c is_d =
+          inl (rw (s, is_a, f, is_b) (ap (λ (x : Bool). Some (if x then matched else in_context After)) t))
       go false false true true is_a is_b is_c is_d = inl (rw (s, is_a, f, is_b, is_c, is_d) refl)
       go false false true false is_a is_b is_c is_d = absurd (let up = precedes-more i is_c in cc)
       go false false false false is_a is_b is_c is_d = inl (rw (s, is_a, f, is_b, is_c, is_d) refl)
@@ -228,10 +232,14 @@ module _ (join : LinesJoin) (append : LinesAppend) (k : Settings) (meaning : Mea
   kind-before i is = go (selected i) (LineSearch.follows_selected k meaning front i)
       (LineSearch.precedes_selected k meaning front i) k.passthru refl refl refl refl
     where
+      unlike : (x : Bool) → Some (if x then matched else in_context After) ≡ Some (in_context Before) → ⊥
+      unlike true at = cc
+      unlike false at = cc
+
       go : (a b c d : Bool) → selected i ≡ a → LineSearch.follows_selected k meaning front i ≡ b
           → LineSearch.precedes_selected k meaning front i ≡ c → k.passthru ≡ d → LineSearch.precedes_selected k meaning front i ≡ true
       go true b c d p q r t = absurd (let at = rw p at is in cc)
-      go false true c d p q r t = absurd (let at = rw (p, q) at is in cc)
+      go false true c d p q r t = absurd (unlike (LineSearch.is_trailing k meaning front i) (rw (p, q) at is))
       go false false true d p q r t = r
       go false false false true p q r t = absurd (let at = rw (p, q, r, t) at is in cc)
       go false false false false p q r t = absurd (let at = rw (p, q, r, t) at is in cc)

@@ -1,11 +1,12 @@
--- The matches that are reported, and the selected lines.
-use Rattle.std.proofs.Common.{◌≡◌, ℕ, zero, suc, ◌+◌, ◌-◌, ◌<◌, ◌≤◌, Bool, true, false, not, ◌&&◌, List, [], ◌∷◌, ◌++◌, length, refl, sym}
+-- The matches that are reported, and the matched lines: those that are selected, or trailing after a selected one.
+use Rattle.std.proofs.Math.Bool.{and-false}
+use Rattle.std.proofs.Common.{◌≡◌, ℕ, zero, suc, ◌+◌, ◌-◌, ◌<◌, ◌≤◌, Bool, true, false, not, ◌&&◌, ◌||◌, List, [], ◌∷◌, ◌++◌, length, refl, sym}
 use Rattle.std.proofs.Common.{◌∙◌, ap, arith, ⊎_elim, Option, Some, None, if◌then◌else◌}
-use Rattle.std.proofs.lemmas.Bool.{ltb-true, eqb-true, cases_Bool, cases_lt}
+use Rattle.std.proofs.lemmas.Bool.{ltb-true, eqb-true, cases_lt}
 use Rattle.std.proofs.lemmas.List.{map-append, length-append, length-map}
 use Rattle.std.proofs.lemmas.List.Elements.{filter-append}
 use Rattle.std.proofs.lemmas.Option.{slice_get-map}
-use Rattle.std.specs.Prelude.{IfSome, map, nat_lt, slice_get}
+use Rattle.std.specs.Prelude.{IfSome, map, nat_lt, nat_le, slice_get}
 use Rattle.std.specs.Option.{option_map}
 use Rattle.grep_matcher.specs.Terminators.{byte_of}
 use Rattle.grep_matcher.specs.Matching.{Meaning}
@@ -14,13 +15,14 @@ use Rattle.grep_definitions.specs.LineTurns.{number_of}
 use Rattle.grep_report.specs.declared.sink_context.SinkContextKind.TheVariants.{Before, After, Other}
 use Rattle.grep_definitions.specs.Settings.{Settings}
 use Rattle.grep_definitions.specs.SinkCalls.{Call, Turn, breaks, matches}
-use Rattle.grep_definitions.specs.SearchLaws.{is_match, match_calls, match_of, selected_lines}
+use Rattle.grep_definitions.specs.SearchLaws.{is_match, is_matched, match_calls, match_of, matched_lines}
 use Rattle.grep_definitions.specs.Below.{some_below, count_below, first_below, is_below, is_at, joined_from}
 use Rattle.grep_definitions.specs.LineSearch
-use Rattle.grep_definitions.specs.LineSearch.{Kind, matched, in_context}
+use Rattle.grep_definitions.specs.LineSearch.{in_context}
 use Rattle.grep_definitions.proofs.BoolLemmas.{both_true, not_false}
-use Rattle.grep_definitions.proofs.BelowLemmas.{first_below-of, first_below-late, first_below-none, first_below-more}
-use Rattle.grep_definitions.proofs.BelowLemmas.{count_below-le, at_most-above, joined_from-add, joined_from-more, joined_from-none}
+use Rattle.grep_definitions.proofs.BelowLemmas.{first_below-before, first_below-here, first_below-of, first_below-late}
+use Rattle.grep_definitions.proofs.BelowLemmas.{first_below-more, first_below-none, first_below-nowhere, some_below-false, some_below-none}
+use Rattle.grep_definitions.proofs.BelowLemmas.{count_below-le, at_most-above, joined_from-more}
 use Rattle.grep_definitions.proofs.BelowLemmas.{joined_from-equal}
 use Rattle.grep_definitions.proofs.SearchLawLemmas.{turn_count-le}
 
@@ -170,74 +172,86 @@ module _ (numbered : LinesAreNumbered) (k : Settings) (meaning : Meaning) (bytes
       at_most-above (if k.passthru then None else LineSearch.turns_by_limit k meaning bytes k.max_matches) i _ (limit-bound i chosen.0)
       (at_most-above (LineSearch.turns_by_stop k meaning bytes) i n (stop-bound i taken) (selected-inside i taken))
 
-  -- the match of a line, if it is selected
+  -- how many lines have a turn
+  abbrev turned : ℕ
+  turned = LineSearch.turn_count k meaning bytes
+
+  -- the match of a line, if it is one
   abbrev match_at : ℕ → List Call
-  match_at i = if selected i then match_of k meaning bytes i ∷ [] else []
+  match_at i = if is_matched k meaning bytes i then match_of k meaning bytes i ∷ [] else []
 
-  -- and the number i + 1
-  number-is : (i : ℕ) → selected i ≡ true → LineSearch.number k meaning bytes i ≡ number_of k i
-  number-is i taken = rw (numbered (byte_of k.line_terminator) bytes i (selected-inside i taken)) refl
-
-  match_calls-kind : (i : ℕ) → match_calls (LineSearch.report k meaning bytes i (LineSearch.kind k meaning bytes i)) ≡ match_at i
-  match_calls-kind i =
-      go (selected i) (LineSearch.follows_selected k meaning bytes i) (LineSearch.precedes_selected k meaning bytes i) k.passthru
-      (number-is i)
+  match_calls-kind : (i : ℕ) → i < n
+      → match_calls (LineSearch.report k meaning bytes i (LineSearch.kind k meaning bytes i)) ≡ match_at i
+  match_calls-kind i inside =
+      go (selected i) (LineSearch.follows_selected k meaning bytes i) (LineSearch.is_trailing k meaning bytes i)
+      (LineSearch.precedes_selected k meaning bytes i) k.passthru
     where
-      go : (a b c d : Bool) → (a ≡ true → LineSearch.number k meaning bytes i ≡ number_of k i)
-          → match_calls (LineSearch.report k meaning bytes i (if a then Some matched
-          else (if b then Some (in_context After)
+      one : matches (LineSearch.number k meaning bytes i) (LineSearch.start k meaning bytes i) (LineSearch.line k meaning bytes i) ∷ []
+          ≡ match_of k meaning bytes i ∷ []
+      one = ap (λ number. matches number (LineSearch.start k meaning bytes i) (LineSearch.line k meaning bytes i) ∷ [])
+          (rw (numbered (byte_of k.line_terminator) bytes i inside) refl)
+
+      go : (a b t c d : Bool)
+          → match_calls (LineSearch.report k meaning bytes i (if a then Some LineSearch.matched
+          else (if b then Some (if t then LineSearch.matched else in_context After)
           else (if c then Some (in_context Before) else (if d then Some (in_context Other) else None)))))
-          ≡ (if a then match_of k meaning bytes i ∷ [] else [])
-      go true b c d same =
-          ap (λ number. matches number (LineSearch.start k meaning bytes i) (LineSearch.line k meaning bytes i) ∷ []) (same refl)
-      go false true c d same = refl
-      go false false true d same = refl
-      go false false false true same = refl
-      go false false false false same = refl
+          ≡ (if a || (b && t) then match_of k meaning bytes i ∷ [] else [])
+      go true b t c d = one
+      go false true true c d = one
+      go false true false c d = refl
+      go false false t true d = refl
+      go false false t false true = refl
+      go false false t false false = refl
 
   abbrev report : ℕ → List Turn
   report i = LineSearch.report k meaning bytes i (LineSearch.kind k meaning bytes i)
 
-  match_calls-line : (i : ℕ) → match_calls (LineSearch.turns_at k meaning bytes i) ≡ match_at i
-  match_calls-line i =
+  match_calls-line : (i : ℕ) → i < n → match_calls (LineSearch.turns_at k meaning bytes i) ≡ match_at i
+  match_calls-line i inside =
       go (LineSearch.breaks_before k meaning bytes i) (LineSearch.turn_end k meaning bytes i (LineSearch.kind k meaning bytes i))
     where
       go : (b : Bool) (end : ℕ) → match_calls (if b then record { call = breaks; end = end } ∷ report i else report i) ≡ match_at i
-      go true end = match_calls-kind i
-      go false end = match_calls-kind i
+      go true end = match_calls-kind i inside
+      go false end = match_calls-kind i inside
 
-  -- the matches are those of the selected lines, also past the last turn
-  pub match_calls-turns : match_calls (LineSearch.turns k meaning bytes) ≡ map (match_of k meaning bytes) (selected_lines k meaning bytes)
+  -- the matches are those of the matched lines
+  pub match_calls-turns : match_calls (LineSearch.turns k meaning bytes) ≡ map (match_of k meaning bytes) (matched_lines k meaning bytes)
   match_calls-turns =
-      let t : ℕ = LineSearch.turn_count k meaning bytes in
-      let all : t + (n - t) ≡ n = omega (arith, turn_count-le k meaning bytes) in
-      let sum : 0 + t ≡ t = omega arith in
-      match_calls-joined (LineSearch.turns_at k meaning bytes) 0 t
-      ∙ joined_from-equal _ match_at 0 t (λ j low high. match_calls-line j)
-      ∙ sym (sym (ap (joined_from match_at 0) all) ∙ joined_from-add match_at 0 t (n - t)
-      ∙ ap (λ xs. joined_from match_at 0 t ++ xs) (joined_from-none match_at (0 + t) (n - t) (λ j low high. silent j (omega arith)))
-      ∙ append-none (joined_from match_at 0 t))
-      ∙ sym (map-passing (match_of k meaning bytes) selected 0 n)
-    where
-      silent : (j : ℕ) → LineSearch.turn_count k meaning bytes ≤ j → match_at j ≡ []
-      silent j over = ⊎_elim
-          (λ taken. let less = selected-turned j taken in absurd (omega arith))
-          (λ no. rw no refl)
-          (cases_Bool (selected j))
+      match_calls-joined (LineSearch.turns_at k meaning bytes) 0 turned
+      ∙ joined_from-equal _ match_at 0 turned (λ j low high. match_calls-line j (omega (arith, high, turn_count-le k meaning bytes)))
+      ∙ sym (map-passing (match_of k meaning bytes) (is_matched k meaning bytes) 0 turned)
 
-      append-none : (xs : List Call) → xs ++ [] ≡ xs
-      append-none [] = refl
-      append-none (x ∷ xs) = ap (λ ys. x ∷ ys) (append-none xs)
-
-  pub length-match_calls : length (match_calls (LineSearch.turns k meaning bytes)) ≡ count_below selected n
+  pub length-match_calls : length (match_calls (LineSearch.turns k meaning bytes)) ≡ count_below (is_matched k meaning bytes) turned
   length-match_calls =
-      ap length match_calls-turns ∙ length-map (selected_lines k meaning bytes) (match_of k meaning bytes) ∙ length-passing selected n
+      ap length match_calls-turns ∙ length-map (matched_lines k meaning bytes) (match_of k meaning bytes)
+      ∙ length-passing (is_matched k meaning bytes) turned
+
+  -- the first matched line is the first selected one
+  first-matched : first_below (is_matched k meaning bytes) turned ≡ first_below selected n
+  first-matched = go (first_below selected n) refl
+    where
+      -- before the first selected line, no line is matched
+      unmatched : (j : ℕ) → ((i : ℕ) → i ≤ j → selected i ≡ false) → is_matched k meaning bytes j ≡ false
+      unmatched j none =
+          let follows : LineSearch.follows_selected k meaning bytes j ≡ false =
+          some_below-none _ j (λ i less. let no = none i (omega arith) in rw no (and-false (nat_le (j - i) k.after_context))) in
+          rw (none j (omega arith), follows) refl
+
+      go : (found : Option ℕ) → first_below selected n ≡ found → first_below (is_matched k meaning bytes) turned ≡ found
+      go None is =
+          let none = first_below-none selected n is in
+          first_below-nowhere (is_matched k meaning bytes) turned (some_below-none _ turned
+          (λ j less. unmatched j (λ i low. some_below-false selected n i none (omega (arith, less, turn_count-le k meaning bytes)))))
+      go (Some q) is =
+          let taken = (first_below-of selected n q is).1 in
+          first_below-here (is_matched k meaning bytes) turned q (selected-turned q taken) (rw taken refl)
+          (some_below-none _ q (λ j less. unmatched j (λ i low. first_below-before selected n q i is (omega arith))))
 
   pub first-match_calls : slice_get (match_calls (LineSearch.turns k meaning bytes)) 0
       ≡ option_map (match_of k meaning bytes) (first_below selected n)
   first-match_calls =
-      ap (λ xs. slice_get xs 0) match_calls-turns ∙ slice_get-map (match_of k meaning bytes) (selected_lines k meaning bytes) 0
-      ∙ ap (option_map (match_of k meaning bytes)) (first-passing selected n)
+      ap (λ xs. slice_get xs 0) match_calls-turns ∙ slice_get-map (match_of k meaning bytes) (matched_lines k meaning bytes) 0
+      ∙ ap (option_map (match_of k meaning bytes)) (first-passing (is_matched k meaning bytes) turned ∙ first-matched)
 
 -- no more numbers pass than there are
 pub count_below-few : (p : ℕ → Bool) (n : ℕ) → count_below p n ≤ n

@@ -1,23 +1,25 @@
 -- What the calls of a line, and of the lines together, tell.
-use Rattle.std.proofs.Common.{◌≡◌, ℕ, zero, suc, ◌+◌, ◌-◌, ◌<◌, ◌≤◌, Bool, true, false, List, [], ◌∷◌, length, slice_index, refl, sym, ap, subst, ◌∙◌, arith, ◌⊎◌, inl, inr, Option, Some, None, if◌then◌else◌}
+use Rattle.std.proofs.Common.{◌≡◌, ℕ, zero, suc, ◌+◌, ◌-◌, ◌<◌, ◌≤◌, Bool, true, false, List, [], ◌∷◌, length, slice_index, refl, sym, ap, subst, ◌∙◌, arith, ◌⊎◌, inl, inr, ⊎_elim, Option, Some, None, if◌then◌else◌}
 use Rattle.std.proofs.Math.Bool.{and-false}
-use Rattle.std.proofs.lemmas.Bool.{le-leb, ltb-true}
+use Rattle.std.proofs.lemmas.Bool.{le-leb, leb-true, lt-ltb, ltb-true, cases_Bool, cases_lt}
 use Rattle.std.proofs.lemmas.List.Sums.{sum_by-append}
-use Rattle.std.specs.Prelude.{nat_lt, ◌&&◌, count_by, cond}
+use Rattle.std.specs.Prelude.{nat_lt, nat_le, ◌&&◌, ◌||◌, not, is_some, count_by, cond}
 use Rattle.std.specs.List.Sorted.{IsStrictlyIncreasing}
 use Rattle.grep_matcher.specs.Terminators.{byte_of}
 use Rattle.grep_matcher.specs.Matching.{Meaning}
 use Rattle.grep_lines.specs.LineLaws.{LinesJoin}
 use Rattle.grep_report.specs.declared.sink_context.SinkContextKind.TheVariants.{Before, After, Other}
 use Rattle.grep_definitions.specs.Settings.{Settings}
-use Rattle.grep_definitions.specs.SinkCalls.{Call, Turn, context, breaks, reported_bytes, reported_from}
-use Rattle.grep_definitions.specs.SearchLaws.{AreInOrder, is_match, report_calls}
-use Rattle.grep_definitions.specs.Below.{count_below, at_most, joined_from}
+use Rattle.grep_definitions.specs.SinkCalls.{Call, Turn, matches, context, breaks, reported_bytes, reported_from}
+use Rattle.grep_definitions.specs.SearchLaws.{AreInOrder, is_match, is_matched, report_calls}
+use Rattle.grep_definitions.specs.Below.{count_below, first_below, at_most, joined_from}
 use Rattle.grep_definitions.specs.LineSearch
 use Rattle.grep_definitions.specs.LineSearch.{turns_at, Kind, matched, in_context}
-use Rattle.grep_definitions.proofs.BelowLemmas.{some_below-some, joined_from-more}
+use Rattle.grep_definitions.proofs.BelowLemmas.{some_below-some, some_below-false, some_below-find, first_below-before, first_below-none}
+use Rattle.grep_definitions.proofs.BelowLemmas.{first_below-of, count_below-either, count_below-le, count_below-none, count_below-within}
+use Rattle.grep_definitions.proofs.BelowLemmas.{is_below-le, joined_from-more}
 use Rattle.grep_definitions.proofs.LineStartLemmas.{line_start-ascends, line_start-more}
-use Rattle.grep_definitions.proofs.BoolLemmas.{both_true}
+use Rattle.grep_definitions.proofs.BoolLemmas.{both_true, clash, not_false, or-cases}
 use Rattle.grep_definitions.proofs.ReportLemmas.{IsReported, in_order-joined, report_calls-broken}
 
 -- a bound never gives more
@@ -91,15 +93,25 @@ count_below-limited p limit (suc m) =
     go false b room before = before
 
 -- which kind of report a line has
-pub kind-matched : (a b c d : Bool)
+pub kind-matched : (a b t c d : Bool)
+    → (if a then Some matched
+    else (if b then Some (if t then matched else in_context After)
+    else (if c then Some (in_context Before) else (if d then Some (in_context Other) else None)))) ≡ Some matched
+    → (a || (b && t)) ≡ true
+kind-matched true b t c d is = refl
+kind-matched false true true c d is = refl
+kind-matched false true false c d is = absurd (cc)
+kind-matched false false t true d is = absurd (cc)
+kind-matched false false t false true is = absurd (cc)
+kind-matched false false t false false is = absurd (cc)
+
+-- across lines none is trailing
+pub kind-selected : (a b c d : Bool)
     → (if a then Some matched
     else (if b then Some (in_context After)
     else (if c then Some (in_context Before) else (if d then Some (in_context Other) else None)))) ≡ Some matched → a ≡ true
-kind-matched true b c d is = refl
-kind-matched false true c d is = absurd (cc)
-kind-matched false false true d is = absurd (cc)
-kind-matched false false false true is = absurd (cc)
-kind-matched false false false false is = absurd (cc)
+kind-selected a b c d is =
+    ⊎_elim (λ yes. yes) (λ no. absurd (clash no (and-false b))) (or-cases a (b && false) (kind-matched a b false c d is))
 
 module _ (k : Settings) (meaning : Meaning) (bytes : List ℕ) where
   -- how many lines there are, where each starts, whether it is chosen, and its calls
@@ -111,6 +123,12 @@ module _ (k : Settings) (meaning : Meaning) (bytes : List ℕ) where
 
   abbrev chosen : ℕ → Bool
   chosen = LineSearch.is_chosen k meaning bytes
+
+  abbrev selected : ℕ → Bool
+  selected = LineSearch.is_selected k meaning bytes
+
+  abbrev has_room : ℕ → Bool
+  has_room = LineSearch.is_open_at k meaning bytes
 
   abbrev T : ℕ → List Turn
   T = turns_at k meaning bytes
@@ -125,19 +143,56 @@ module _ (k : Settings) (meaning : Meaning) (bytes : List ℕ) where
         at_most-le (LineSearch.turns_by_stop k meaning bytes) n,
       )
 
-  -- a line after a selected one that isn't selected itself, is reported as the line after it
-  pub turns_at-follows : (i j : ℕ) → LineSearch.is_selected k meaning bytes i ≡ false → LineSearch.is_selected k meaning bytes j ≡ true
+  -- a line after a selected one follows it
+  follows-near : (i j : ℕ) → selected j ≡ true → j < i → i - j ≤ k.after_context → LineSearch.follows_selected k meaning bytes i ≡ true
+  follows-near i j hit less close = let near = le-leb (i - j) k.after_context close in some_below-some _ i j less (rw (near, hit) refl)
+
+  -- and so is reported, if it has a turn
+  shown-near : (i j : ℕ) → i < LineSearch.turn_count k meaning bytes → selected j ≡ true → j ≤ i → i - j ≤ k.after_context
+      → LineSearch.is_reported k meaning bytes i ≡ true
+  shown-near i j has hit low close = ⊎_elim
+      (λ less. let here = lt-ltb i _ has in let follows = follows-near i j hit less close in rw (here, follows) (some (selected i)))
+      (λ same. let here = lt-ltb i _ has in let own : selected i ≡ true = ap selected (one same) ∙ hit in rw (here, own) refl)
+      (cases_lt j i)
+    where
+      one : i ≤ j → i ≡ j
+      one same = omega arith
+
+      some : (a : Bool) → is_some (if a then Some matched
+          else Some (if LineSearch.is_trailing k meaning bytes i then matched else in_context After)) ≡ true
+      some true = refl
+      some false = refl
+
+  -- a line after a selected one that isn't selected itself, is reported as the line after it, and as a match if it is
+  -- trailing
+  pub turns_at-follows : (i j : ℕ) → i < LineSearch.turn_count k meaning bytes → selected i ≡ false → selected j ≡ true
       → j < i → i - j ≤ k.after_context → T i
       ≡ record {
-        call = context After (LineSearch.number k meaning bytes i) (start i) (LineSearch.line k meaning bytes i);
-        end = start
-            (i + 1);
+        call = if LineSearch.is_trailing k meaning bytes i
+            then matches (LineSearch.number k meaning bytes i) (start i) (LineSearch.line k meaning bytes i)
+            else context After (LineSearch.number k meaning bytes i) (start i) (LineSearch.line k meaning bytes i);
+        end = start (i + 1);
       } ∷ []
-  turns_at-follows i j misses hit less close =
-      let near = le-leb (i - j) k.after_context close in
-      let follows : LineSearch.follows_selected k meaning bytes i ≡ true = some_below-some _ i j less (rw (near, hit) refl) in
-      let kind : LineSearch.kind k meaning bytes i ≡ Some (in_context After) = rw (misses, follows) refl in
-      rw (kind, and-false (nat_lt 0 (k.after_context + k.before_context))) refl
+  turns_at-follows i j has misses hit less close = go (LineSearch.is_trailing k meaning bytes i) refl
+    where
+      is_kind : LineSearch.kind k meaning bytes i ≡ Some (if LineSearch.is_trailing k meaning bytes i then matched else in_context After)
+      is_kind = let follows = follows-near i j hit less close in rw (misses, follows) refl
+
+      shown : LineSearch.is_reported k meaning bytes (i - 1) ≡ true
+      shown = shown-near (i - 1) j (omega (arith, has)) hit (omega (arith, less)) (omega (arith, close))
+
+      go : (t : Bool) → LineSearch.is_trailing k meaning bytes i ≡ t → T i
+          ≡ record {
+            call = if t then matches (LineSearch.number k meaning bytes i) (start i) (LineSearch.line k meaning bytes i)
+                else context After (LineSearch.number k meaning bytes i) (start i) (LineSearch.line k meaning bytes i);
+            end = start (i + 1);
+          } ∷ []
+      go true is =
+          let kind = is_kind ∙ ap (λ b. Some (if b then matched else in_context After)) is in
+          rw (kind, shown, and-false (nat_lt 0 (k.after_context + k.before_context) && true)) refl
+      go false is =
+          let kind = is_kind ∙ ap (λ b. Some (if b then matched else in_context After)) is in
+          rw (kind, and-false (nat_lt 0 (k.after_context + k.before_context))) refl
 
   -- a line has one report at most, of its bytes
   reported-line : LinesJoin → (i : ℕ) → i < n → (report_calls (T i) ≡ []) ⊎ IsReported T start i
@@ -168,33 +223,123 @@ module _ (k : Settings) (meaning : Meaning) (bytes : List ℕ) where
       (λ i below. line_start-ascends join (byte_of k.line_terminator) bytes i (omega (arith, below, turn_count-le)))
       (λ i below. reported-line join i (omega (arith, below, turn_count-le)))
 
-  -- a report tells one match at most, and only where its line is chosen
+  -- whether a line is trailing in the context after a selected line
+  abbrev late : ℕ → Bool
+  late i = LineSearch.follows_selected k meaning bytes i && LineSearch.is_trailing k meaning bytes i
+
+  -- a report tells one match at most, and only where its line is a match
   matches-report : (i : ℕ) (kind : Option Kind) → LineSearch.kind k meaning bytes i ≡ kind
-      → matches_in (LineSearch.report k meaning bytes i kind) ≤ (if chosen i then 1 else 0)
+      → matches_in (LineSearch.report k meaning bytes i kind) ≤ (if is_matched k meaning bytes i then 1 else 0)
   matches-report i None is = omega arith
   matches-report i (Some matched) is =
-      let selected = kind-matched _ (LineSearch.follows_selected k meaning bytes i) (LineSearch.precedes_selected k meaning bytes i)
-      k.passthru is in
-      let here : chosen i ≡ true = (both_true (chosen i) _ selected).0 in
+      let here = kind-matched (selected i) (LineSearch.follows_selected k meaning bytes i) (LineSearch.is_trailing k meaning bytes i)
+      (LineSearch.precedes_selected k meaning bytes i) k.passthru is in
       rw here (omega arith)
   matches-report i (Some (in_context c)) is = omega arith
 
-  -- only a chosen line is reported as a match, and once
-  matches-line : (i : ℕ) → matches_in (T i) ≤ (if chosen i then 1 else 0)
+  -- only such a line is reported as a match, and once
+  matches-line : (i : ℕ) → matches_in (T i) ≤ (if is_matched k meaning bytes i then 1 else 0)
   matches-line i = go (LineSearch.breaks_before k meaning bytes i)
     where
       go : (b : Bool) → matches_in
           (if b then record { call = breaks; end = LineSearch.turn_end k meaning bytes i (LineSearch.kind k meaning bytes i) }
           ∷ LineSearch.report k meaning bytes i (LineSearch.kind k meaning bytes i) else LineSearch.report k meaning bytes i
-          (LineSearch.kind k meaning bytes i)) ≤ (if chosen i then 1 else 0)
+          (LineSearch.kind k meaning bytes i)) ≤ (if is_matched k meaning bytes i then 1 else 0)
       go true = matches-report i (LineSearch.kind k meaning bytes i) refl
       go false = matches-report i (LineSearch.kind k meaning bytes i) refl
 
-  -- the calls tell no more matches than the limit has
-  pub matches-few : (limit m : ℕ) → k.max_matches ≡ Some limit → matches_in (joined_from T 0 m) ≤ limit
-  matches-few limit m is = omega (arith, matches-joined T chosen matches-line m, chosen-few)
+  chosen-few : (limit m : ℕ) → k.max_matches ≡ Some limit → count_below chosen m ≤ limit
+  chosen-few limit m is = let few = count_below-limited (LineSearch.hits k meaning bytes) limit m in rw is few
+
+  -- what a late line has: a selected line before it in reach, before which the limit had room, as it hasn't there
+  record IsLate (i : ℕ) : Type 0 where
+    line : ℕ
+    before : line < i
+    near : i - line ≤ k.after_context
+    chosen : chosen line ≡ true
+    room : has_room line ≡ true
+    shut : has_room i ≡ false
+
+  late-is : (i : ℕ) → late i ≡ true → IsLate i
+  late-is i is =
+      let parts = both_true (LineSearch.follows_selected k meaning bytes i) (LineSearch.is_trailing k meaning bytes i) is in
+      let found = some_below-find (λ j. nat_le (i - j) k.after_context && selected j) i parts.0 in
+      let near = both_true (nat_le (i - found.0) k.after_context) (selected found.0) found.2 in
+      let chosen = (both_true (chosen found.0) _ near.1).0 in
+      let past = both_true (LineSearch.hits k meaning bytes i) (not (has_room i)) parts.1 in
+      record {
+        line = found.0;
+        before = found.1;
+        near = leb-true (i - found.0) k.after_context near.0;
+        chosen = chosen;
+        room = (both_true (LineSearch.hits k meaning bytes found.0) (has_room found.0) chosen).1;
+        shut = not_false (has_room i) past.1;
+      }
+
+  -- the limit has no room after a line before which it has none
+  shut-later : (i j : ℕ) → i ≤ j → has_room i ≡ false → has_room j ≡ false
+  shut-later i j low shut =
+      is_below-le k.max_matches _ _ (count_below-le (LineSearch.hits k meaning bytes) i j low) shut
+
+  -- there are at most as many late lines as lines in the context
+  late-few : (m : ℕ) → count_below late m ≤ k.after_context
+  late-few m = go (first_below (λ i. not (has_room i)) m) refl
     where
-      chosen-few : count_below chosen m ≤ limit
-      chosen-few =
-          let few = count_below-limited (LineSearch.hits k meaning bytes) limit m in
-          rw is few
+      go : (found : Option ℕ) → first_below (λ i. not (has_room i)) m ≡ found → count_below late m ≤ k.after_context
+      go None is =
+          let none = first_below-none (λ i. not (has_room i)) m is in
+          omega (
+            arith,
+            count_below-within late m 0 m (λ i less yes. absurd (clash (ap not (late-is i yes).shut)
+                (some_below-false (λ i. not (has_room i)) m i none less))),
+          )
+      go (Some first) is =
+          let shut = not_false (has_room first) (first_below-of (λ i. not (has_room i)) m first is).1 in
+          omega (
+            arith,
+            count_below-within late first k.after_context m (λ i less yes.
+                let late = late-is i yes in
+                let low : first ≤ i = ⊎_elim
+                (λ early. absurd (clash (ap not late.shut) (first_below-before (λ i. not (has_room i)) m first i is early)))
+                (λ over. over)
+                (cases_lt i first) in
+                let high : late.line < first = ⊎_elim
+                (λ early. early)
+                (λ over. absurd (clash late.room (shut-later first late.line over shut)))
+                (cases_lt late.line first) in
+                (low, omega (arith, high, late.near, late.before))),
+          )
+
+  -- the calls tell no more matches than the limit has and those in the context after the last of them, and none at limit 0
+  pub matches-few : (limit m : ℕ) → k.max_matches ≡ Some limit
+      → matches_in (joined_from T 0 m) ≤ (if nat_lt 0 limit then limit + k.after_context else 0)
+  matches-few limit m is = go limit is (omega (
+    arith,
+    matches-joined T (is_matched k meaning bytes) matches-line m,
+    count_below-either chosen late (is_matched k meaning bytes) m either,
+  ))
+    where
+      either : (i : ℕ) → is_matched k meaning bytes i ≡ true → (chosen i ≡ true) ⊎ (late i ≡ true)
+      either i here = ⊎_elim (λ taken. inl (both_true (chosen i) _ taken).0) (λ after. inr after) (or-cases (selected i) (late i) here)
+
+      unchosen : (i : ℕ) → chosen i ≡ true → count_below chosen (suc i) ≡ 0 → ⊥
+      unchosen i taken none =
+          let some : count_below chosen (suc i) ≡ count_below chosen i + 1 = rw taken refl in
+          absurd (omega (arith, sym some ∙ none))
+
+      go : (limit : ℕ) → k.max_matches ≡ Some limit → matches_in (joined_from T 0 m) ≤ count_below chosen m + count_below late m
+          → matches_in (joined_from T 0 m) ≤ (if nat_lt 0 limit then limit + k.after_context else 0)
+      go zero is few =
+          let none : (n : ℕ) → count_below chosen n ≡ 0 = λ n. omega (arith, chosen-few 0 n is) in
+          omega (
+            arith,
+            few,
+            none m,
+            count_below-none late m (λ i. ⊎_elim
+                (λ yes. let late = late-is i yes in absurd (unchosen late.line late.chosen (none (suc late.line))))
+                (λ no. no)
+                (cases_Bool (late i))),
+          )
+      go (suc limit) is few =
+          let some = lt-ltb 0 (suc limit) (omega arith) in
+          rw some (omega (arith, few, chosen-few (suc limit) m is, late-few m))

@@ -4,19 +4,19 @@ use Rattle.std.proofs.Common.{refl, sym, ◌∙◌, ap, subst, arith, ⊎_elim, 
 use Rattle.std.proofs.Math.Bool.{or-false, and-false, and-true}
 use Rattle.std.proofs.lemmas.Bool.{lt-ltb, lt-leb, le-leb, le-ltb, eq-eqb, cases_lt, cases_Bool, ne_eqb, ltb-true, ltb-false}
 use Rattle.std.proofs.lemmas.List.{append-nil}
-use Rattle.std.specs.Prelude.{nat_lt, nat_le}
+use Rattle.std.specs.Prelude.{nat_eq, nat_lt, nat_le}
 use Rattle.grep_report.specs.declared.sink_context.SinkContextKind.TheVariants.{Before, After, Other}
 use Rattle.grep_definitions.specs.Settings.{Settings}
 use Rattle.grep_definitions.specs.Below.{some_below, first_below}
-use Rattle.grep_definitions.specs.LineSearch.{in_context}
+use Rattle.grep_definitions.specs.LineSearch.{matched, in_context}
 use Rattle.grep_definitions.specs.LineTurns.{is_gap}
 use Rattle.grep_definitions.specs.Selections
 use Rattle.grep_definitions.specs.Selections.{IsNear}
 use Rattle.grep_definitions.proofs.BelowLemmas.{some_below-none, some_below-some, first_below-here, headed, headed-one}
 use Rattle.grep_definitions.proofs.BoolLemmas.{clash}
 
--- of n lines, some are selected, and so many have a turn
-module _ (k : Settings) (selected : ℕ → Bool) (n turned : ℕ) where
+-- of n lines, some are selected, some are trailing, and so many have a turn
+module _ (k : Settings) (selected trailing : ℕ → Bool) (n turned : ℕ) where
   abbrev A : ℕ
   A = k.after_context
 
@@ -24,16 +24,16 @@ module _ (k : Settings) (selected : ℕ → Bool) (n turned : ℕ) where
   B = k.before_context
 
   abbrev Near : ℕ → ℕ → ℕ → Type 0
-  Near v i left = IsNear k selected n turned v i left
+  Near v i left = IsNear k selected trailing n turned v i left
 
   abbrev follows : ℕ → Bool
-  follows = Selections.follows k selected n turned
+  follows = Selections.follows k selected trailing n turned
 
   abbrev precedes : ℕ → Bool
-  precedes = Selections.precedes k selected n turned
+  precedes = Selections.precedes k selected trailing n turned
 
   abbrev is_reported : ℕ → Bool
-  is_reported = Selections.is_reported k selected n turned
+  is_reported = Selections.is_reported k selected trailing n turned
 
   -- before the first line
   pub IsNear-none : Near 0 0 0
@@ -73,7 +73,7 @@ module _ (k : Settings) (selected : ℕ → Bool) (n turned : ℕ) where
 
     -- if no line from the i-th on is selected, the lines that were passed aren't reported
     pub kind-done : ((q : ℕ) → i ≤ q → q < n → selected q ≡ false) → (j : ℕ) → v ≤ j → j < i
-        → Selections.kind k selected n turned j ≡ None
+        → Selections.kind k selected trailing n turned j ≡ None
     kind-done silent j low high =
         let out = near.passed j low high in
         let alone : precedes j ≡ false = some_below-none _ n none in
@@ -92,7 +92,7 @@ module _ (k : Settings) (selected : ℕ → Bool) (n turned : ℕ) where
             go true is = let out = miss q below is in rw out (and-false _)
 
     -- line i follows a selected line just if some of the window is left
-    follows-here : follows i ≡ nat_lt 0 left
+    pub follows-here : follows i ≡ nat_lt 0 left
     follows-here = let zero_off : i - i ≡ 0 = omega arith in near.window i (omega arith) ∙ ap (λ d. nat_lt d left) zero_off
 
     -- the next line's window
@@ -121,8 +121,31 @@ module _ (k : Settings) (selected : ℕ → Bool) (n turned : ℕ) where
     }
 
     -- a line after a selected one
-    pub kind-after : selected i ≡ false → 0 < left → Selections.kind k selected n turned i ≡ Some (in_context After)
+    pub kind-after : selected i ≡ false → 0 < left
+        → Selections.kind k selected trailing n turned i ≡ Some (if trailing i then matched else in_context After)
     kind-after misses some = let follows_it = follows-here ∙ lt-ltb 0 left some in rw (misses, follows_it) refl
+
+    -- no break comes before it, since the line before it is reported
+    pub gap-after : 0 < left
+        → (nat_lt 0 (A + B) && true && not (is_reported (i - 1)) && some_below is_reported i) ≡ (nat_lt 0 A && is_gap k v i i)
+    gap-after some =
+        let same = near.close some in
+        let first : 0 < i = ⊎_elim (λ less. less) (λ none. absurd (begins (omega (arith, none)))) (cases_lt 0 i) in
+        let shown : is_reported (i - 1) ≡ true = ap (λ x. is_reported (x - 1)) (sym same) ∙ near.shown (omega arith) in
+        let late = le-ltb v i (omega arith) in
+        rw (shown, late) (unbroken (nat_lt 0 (A + B)) (some_below is_reported i) ∙ sym (joined (nat_lt 0 A) (nat_lt 0 v) (nat_eq (i - i) B)))
+      where
+        begins : i ≡ 0 → ⊥
+        begins none = clash (lt-ltb 0 left some) (sym follows-here ∙ ap follows none)
+
+        unbroken : (a b : Bool) → (((a && true) && false) && b) ≡ false
+        unbroken true b = refl
+        unbroken false b = refl
+
+        joined : (a b c : Bool) → (a && ((b && false) && c)) ≡ false
+        joined true true c = refl
+        joined true false c = refl
+        joined false b c = refl
 
     pub IsNear-after : i < turned → (rest : ℕ) → selected i ≡ false → left ≡ rest + 1 → Near (i + 1) (i + 1) rest
     IsNear-after has rest misses is = record {
@@ -149,7 +172,7 @@ module _ (k : Settings) (selected : ℕ → Bool) (n turned : ℕ) where
 
     -- a line that is reported under passthru alone
     pub kind-other : selected i ≡ false → left ≡ 0 → k.passthru ≡ true → k.before_context ≡ 0
-        → Selections.kind k selected n turned i ≡ Some (in_context Other)
+        → Selections.kind k selected trailing n turned i ≡ Some (in_context Other)
     kind-other misses empty bare none = let follows_it = follows-here ∙ le-ltb 0 left (omega arith) in let ahead = precedes-bare none in
         rw (misses, follows_it, ahead, bare) refl
 
@@ -224,7 +247,7 @@ module _ (k : Settings) (selected : ℕ → Bool) (n turned : ℕ) where
                   (cases_lt q i)
 
       pub kind-passed : (j : ℕ) → v ≤ j → j < i
-          → Selections.kind k selected n turned j ≡ (if nat_le (i - j) B then Some (in_context Before) else None)
+          → Selections.kind k selected trailing n turned j ≡ (if nat_le (i - j) B then Some (in_context Before) else None)
       kind-passed j low less = let out = near.passed j low less in let p = precedes-passed j low less in
           let plain = never_bare j low less in rw (out.0, out.1, p, plain) refl
 

@@ -26,7 +26,7 @@ use Rattle.grep_definitions.proofs.BelowLemmas.{joined_from-equal}
 use Rattle.grep_definitions.proofs.BoolLemmas.{clash}
 use Rattle.grep_definitions.proofs.RunLemmas.{run_end, IsRunEnd-run_end, continues, joined-runs, edges, edges-rise}
 use Rattle.grep_definitions.proofs.LineStartLemmas.{line_start-ascends, line_start-more, line_start-within}
-use Rattle.grep_definitions.proofs.SearchLawLemmas.{kind-matched}
+use Rattle.grep_definitions.proofs.SearchLawLemmas.{kind-selected}
 use Rattle.grep_definitions.proofs.TurnEndLemmas.{line_start-le}
 
 -- a line that isn't reported as a match isn't selected
@@ -111,7 +111,7 @@ module _ (k : Settings) (meaning : Meaning) (bytes : List ℕ) where
         (AcrossLines.precedes_selected k meaning bytes i) k.passthru None is (λ same. cc) in
         rw none refl
     gathered-report i (Some matched) is =
-        let here = kind-matched (selected i) (AcrossLines.follows_selected k meaning bytes i)
+        let here = kind-selected (selected i) (AcrossLines.follows_selected k meaning bytes i)
         (AcrossLines.precedes_selected k meaning bytes i) k.passthru is in
         ⊎_elim
         (λ (later : goes_on i ≡ true). rw (here, later) refl)

@@ -85,9 +85,9 @@ passthru_at_limit_zero : turns (record default_settings { invert_match = true; m
     ≡ begun ∷ context_turn Other 1 0 (codes "a\n") 2 ∷ []
 passthru_at_limit_zero = refl
 
--- after the last match that may be reported its context is reported, and a line that matches is part of it
+-- past the limit the context is reported, and a line that hits in it is a match
 context_after_limit : turns (record default_settings { max_matches = Some 1; after_context = 2 }) has_a (codes "a\na\nb\na\n")
-    ≡ begun ∷ match_turn 1 0 (codes "a\n") 2 ∷ context_turn After 2 2 (codes "a\n") 4 ∷ context_turn After 3 4 (codes "b\n") 6 ∷ []
+    ≡ begun ∷ match_turn 1 0 (codes "a\n") 2 ∷ match_turn 2 2 (codes "a\n") 4 ∷ context_turn After 3 4 (codes "b\n") 6 ∷ []
 context_after_limit = refl
 
 -- the context counts, and the line after it does not
@@ -95,10 +95,22 @@ context_after_limit_count : byte_count (record default_settings { max_matches = 
     ≡ 6
 context_after_limit_count = refl
 
+-- under inversion lines that the matcher doesn't find hit there, and open no context of their own
+inverted_after_limit : turns (record default_settings { invert_match = true; max_matches = Some 1; after_context = 3 }) has_a
+    (codes "b\nb\na\nb\nb\n")
+    ≡ begun ∷ match_turn 1 0 (codes "b\n") 2 ∷ match_turn 2 2 (codes "b\n") 4 ∷ context_turn After 3 4 (codes "a\n") 6
+    ∷ match_turn 4 6 (codes "b\n") 8 ∷ []
+inverted_after_limit = refl
+
+-- the line that fills the limit is the last that opens a context
+second_fills_limit : turns (record default_settings { max_matches = Some 2; after_context = 1 }) has_a (codes "a\na\na\na\n")
+    ≡ begun ∷ match_turn 1 0 (codes "a\n") 2 ∷ match_turn 2 2 (codes "a\n") 4 ∷ match_turn 3 4 (codes "a\n") 6 ∷ []
+second_fills_limit = refl
+
 -- there a stop takes the first line that is not chosen for the last
 stop_after_limit : turns (record default_settings { max_matches = Some 1; after_context = 2; stop_on_nonmatch = true }) has_a
     (codes "a\na\nb\na\n")
-    ≡ begun ∷ match_turn 1 0 (codes "a\n") 2 ∷ context_turn After 2 2 (codes "a\n") 4 ∷ []
+    ≡ begun ∷ match_turn 1 0 (codes "a\n") 2 ∷ match_turn 2 2 (codes "a\n") 4 ∷ []
 stop_after_limit = refl
 
 -- that line is the last that counts
@@ -174,7 +186,7 @@ largest_context = refl
 -- the limit is filled, and the stop ends the context after it
 limit_and_stop : turns (record default_settings { max_matches = Some 2; stop_on_nonmatch = true; after_context = 2 }) has_a
     (codes "a\na\na\nb\n")
-    ≡ begun ∷ match_turn 1 0 (codes "a\n") 2 ∷ match_turn 2 2 (codes "a\n") 4 ∷ context_turn After 3 4 (codes "a\n") 6 ∷ []
+    ≡ begun ∷ match_turn 1 0 (codes "a\n") 2 ∷ match_turn 2 2 (codes "a\n") 4 ∷ match_turn 3 4 (codes "a\n") 6 ∷ []
 limit_and_stop = refl
 
 -- the line after the stop does not count

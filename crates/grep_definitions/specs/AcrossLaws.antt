@@ -133,13 +133,14 @@ ReportsAreApart =
     (flat_map (λ turn. report_edges turn.call) (turns settings meaning bytes))
 
 -- lines are reported as by line: if a search under inversion, in which a unit is one line, selects the lines that some
--- search by line does, and each line has a turn in that too, then the calls are the same
+-- search by line does, and in that too each line has a turn and none is trailing, then the calls are the same
 abbrev pub ReportsAreAsByLine : Type 0
 ReportsAreAsByLine =
     (settings : Settings) (meaning other : Meaning) (bytes : List ℕ) → settings.invert_match ≡ true
     → ((i : ℕ)
     → is_selected settings meaning bytes i ≡ LineSearch.is_selected settings other bytes i)
     → LineSearch.turn_count settings other bytes ≡ line_count settings other bytes
+    → ((i : ℕ) → LineSearch.is_trailing settings other bytes i ≡ false)
     → turns settings meaning bytes ≡ LineSearch.turns settings other bytes
 
 -- each byte counts

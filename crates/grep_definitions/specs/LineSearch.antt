@@ -49,6 +49,10 @@ module _ (settings : Settings) (meaning : Meaning) (bytes : List ℕ) where
   abbrev pub is_chosen : ℕ → Bool
   is_chosen i = hits i && is_open_at i
 
+  -- a line that hits past the limit is trailing
+  abbrev pub is_trailing : ℕ → Bool
+  is_trailing i = hits i && not (is_open_at i)
+
   -- after the first chosen line, a line that isn't chosen ends the chosen lines
   abbrev pub ends_chosen : ℕ → Bool
   ends_chosen i = not (is_chosen i) && some_below is_chosen i
@@ -86,10 +90,11 @@ module _ (settings : Settings) (meaning : Meaning) (bytes : List ℕ) where
       some_below (λ j. nat_lt i j && nat_le (j - i) settings.before_context && is_selected j)
       line_count
 
+  -- in the context after a selected line, a trailing line is a match too
   abbrev pub kind : ℕ → Option Kind
   kind i =
       if is_selected i then Some matched
-      else (if follows_selected i then Some (in_context After)
+      else (if follows_selected i then Some (if is_trailing i then matched else in_context After)
       else (if precedes_selected i then Some (in_context Before)
       else (if settings.passthru then Some (in_context Other) else None)))
 

@@ -6,7 +6,7 @@ use Rattle.grep_matcher.specs.Terminators.{byte_of}
 use Rattle.grep_matcher.specs.Lines.{lines, line_start, strip}
 use Rattle.grep_matcher.specs.Matching.{Meaning}
 use Rattle.grep_report.specs.declared.sink_context.SinkContextKind.{SinkContextKind}
-use Rattle.grep_report.specs.declared.sink_context.SinkContextKind.TheVariants.{Before}
+use Rattle.grep_report.specs.declared.sink_context.SinkContextKind.TheVariants.{Before, After}
 use Rattle.grep_definitions.specs.Settings.{Settings}
 use Rattle.grep_definitions.specs.SinkCalls.{Call, Turn, matches, context, breaks}
 use Rattle.grep_definitions.specs.Below.{joined_from}
@@ -71,3 +71,9 @@ match_turns settings v i offset end line =
 -- line i as a context line
 abbrev pub context_turns : SinkContextKind → Option ℕ → ℕ → ℕ → List ℕ → List Turn
 context_turns kind number offset end line = one_turn (context kind number offset line) end
+
+-- line i after a selected line: a match if it is trailing
+abbrev pub after_turns : Settings → Bool → ℕ → ℕ → ℕ → ℕ → List ℕ → List Turn
+after_turns settings trailing v i offset end line =
+    if trailing then match_turns settings v i offset end line
+    else context_turns After (number_of settings i) offset end line

@@ -5,7 +5,7 @@ use Rattle.grep_matcher.specs.Matching.{Meaning}
 use Rattle.grep_definitions.specs.Settings.{Settings}
 use Rattle.grep_definitions.specs.Below.{some_below, count_below, first_below, is_below, is_at}
 use Rattle.grep_definitions.specs.LineSearch.{hits, is_chosen, ends_chosen, fills_limit}
-use Rattle.grep_definitions.specs.LineSearch.{is_selected, line_count, turn_count}
+use Rattle.grep_definitions.specs.LineSearch.{is_selected, is_trailing, line_count, turn_count}
 use Rattle.grep_definitions.specs.Selections
 
 module _ (settings : Settings) (meaning : Meaning) (bytes : List ℕ) where
@@ -13,6 +13,7 @@ module _ (settings : Settings) (meaning : Meaning) (bytes : List ℕ) where
   abbrev pub IsNear : ℕ → ℕ → ℕ → Type 0
   IsNear v i left =
       Selections.IsNear settings (is_selected settings meaning bytes)
+      (is_trailing settings meaning bytes)
       (line_count settings meaning bytes)
       (turn_count settings meaning bytes) v i left
 

@@ -1,5 +1,6 @@
 -- Laws of the defined calls.
-use Rattle.std.specs.Prelude.{◌≡◌, ℕ, ◌+◌, ◌-◌, ◌<◌, ◌≤◌, Bool, true, false, not, if◌then◌else◌}
+use Rattle.std.specs.Prelude.{◌≡◌, ℕ, ◌+◌, ◌-◌, ◌<◌, ◌≤◌, Bool, true, false, not, ◌&&◌, ◌||◌}
+use Rattle.std.specs.Prelude.{if◌then◌else◌, nat_lt}
 use Rattle.std.specs.Prelude.{List, [], ◌∷◌, ◌++◌, length, slice_index, count_by, filter, map, slice_get, Some, None}
 use Rattle.std.specs.Prelude.{All}
 use Rattle.std.specs.List.{AllPairs}
@@ -16,7 +17,8 @@ use Rattle.grep_definitions.specs.SinkCalls.{is_report, reported_bytes, reported
 use Rattle.grep_definitions.specs.Below.{count_below, first_below, joined_from}
 use Rattle.grep_definitions.specs.LineTurns.{number_of}
 use Rattle.grep_definitions.specs.LineSearch.{turns, turns_at, turn_count, line_count, byte_count}
-use Rattle.grep_definitions.specs.LineSearch.{number, start, line, is_selected}
+use Rattle.grep_definitions.specs.LineSearch.{number, start, line, is_selected, is_trailing}
+use Rattle.grep_definitions.specs.LineSearch.{follows_selected}
 use Rattle.grep_definitions.specs.Modes.{is_across}
 use Rattle.grep_definitions.specs.SearchTurns.{search_turns}
 use Rattle.grep_definitions.specs.DecodedInputs.{searched_bytes, is_searched_unchanged}
@@ -82,7 +84,7 @@ ReportsAscend =
     → AreInOrder (report_calls (turns settings meaning bytes))
 
 -- a line that has a turn, isn't selected and is in reach of an earlier selected line is reported as the line
--- after it, even if it is also before a later one
+-- after it, even if it is also before a later one, and as a match if it is trailing
 abbrev pub AfterWins : Type 0
 AfterWins =
     (settings : Settings) (meaning : Meaning) (bytes : List ℕ) (i j : ℕ)
@@ -91,7 +93,10 @@ AfterWins =
     → j < i → i - j ≤ settings.after_context
     → turns_at settings meaning bytes i
     ≡ record {
-      call = context After (number settings meaning bytes i) (start settings meaning bytes i)
+      call = if is_trailing settings meaning bytes i
+          then matches (number settings meaning bytes i) (start settings meaning bytes i)
+          (line settings meaning bytes i)
+          else context After (number settings meaning bytes i) (start settings meaning bytes i)
           (line settings meaning bytes i);
       end = start settings meaning bytes (i + 1);
     } ∷ []
@@ -114,12 +119,13 @@ FirstLinesBegin =
     → (later : List Turn)
     × (turns settings meaning (front ++ back) ≡ turns settings meaning front ++ later)
 
--- no more matches are reported than the limit has
+-- no more matches are reported than the limit has, and those in the context after the last of them; none at limit 0
 abbrev pub AtMostLimit : Type 0
 AtMostLimit =
     (settings : Settings) (meaning : Meaning) (bytes : List ℕ) (limit : ℕ)
     → settings.max_matches ≡ Some limit
-    → count_by (λ turn. is_match turn.call) (turns settings meaning bytes) ≤ limit
+    → count_by (λ turn. is_match turn.call) (turns settings meaning bytes)
+    ≤ (if nat_lt 0 limit then limit + settings.after_context else 0)
 
 -- if each line has a turn, the byte count is the length
 abbrev pub WholeCount : Type 0
@@ -149,25 +155,31 @@ abbrev pub match_of : Settings → Meaning → List ℕ → ℕ → Call
 match_of settings meaning bytes i =
     matches (number_of settings i) (start settings meaning bytes i) (line settings meaning bytes i)
 
--- the selected lines, in order
-abbrev pub selected_lines : Settings → Meaning → List ℕ → List ℕ
-selected_lines settings meaning bytes =
-    joined_from (λ i. if is_selected settings meaning bytes i then i ∷ [] else []) 0
-    (line_count settings meaning bytes)
+-- whether a line is a match: it is selected, or trailing in the context after a selected line
+abbrev pub is_matched : Settings → Meaning → List ℕ → ℕ → Bool
+is_matched settings meaning bytes i =
+    is_selected settings meaning bytes i
+    || (follows_selected settings meaning bytes i && is_trailing settings meaning bytes i)
 
--- by line, the matches that are reported are the selected lines, in order
-abbrev pub MatchesAreSelected : Type 0
-MatchesAreSelected =
+-- the lines that have a turn and are matches, in order
+abbrev pub matched_lines : Settings → Meaning → List ℕ → List ℕ
+matched_lines settings meaning bytes =
+    joined_from (λ i. if is_matched settings meaning bytes i then i ∷ [] else []) 0
+    (turn_count settings meaning bytes)
+
+-- by line, the matches that are reported are these lines, in order
+abbrev pub MatchesAreMatchedLines : Type 0
+MatchesAreMatchedLines =
     (settings : Settings) (meaning : Meaning) (bytes : List ℕ) → is_across settings meaning ≡ false
     → match_calls (search_turns settings meaning bytes)
-    ≡ map (match_of settings meaning bytes) (selected_lines settings meaning bytes)
+    ≡ map (match_of settings meaning bytes) (matched_lines settings meaning bytes)
 
--- as many as there are selected lines
+-- as many as there are of them
 abbrev pub MatchesAreCounted : Type 0
 MatchesAreCounted =
     (settings : Settings) (meaning : Meaning) (bytes : List ℕ) → is_across settings meaning ≡ false
     → length (match_calls (search_turns settings meaning bytes))
-    ≡ count_below (is_selected settings meaning bytes) (line_count settings meaning bytes)
+    ≡ count_below (is_matched settings meaning bytes) (turn_count settings meaning bytes)
 
 -- the first of them is the first selected line
 abbrev pub FirstMatchIsFirst : Type 0

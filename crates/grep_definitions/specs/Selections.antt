@@ -8,8 +8,12 @@ use Rattle.grep_definitions.specs.Settings.{Settings}
 use Rattle.grep_definitions.specs.Below.{some_below}
 use Rattle.grep_definitions.specs.LineSearch.{Kind, matched, in_context}
 
--- of so many lines, some are selected, and so many have a turn
-module _ (settings : Settings) (selected : ℕ → Bool) (count turned : ℕ) where
+-- across lines no line is trailing
+abbrev pub no_line : ℕ → Bool
+no_line i = false
+
+-- of so many lines, some are selected, some are trailing, and so many have a turn
+module _ (settings : Settings) (selected trailing : ℕ → Bool) (count turned : ℕ) where
   -- whether a selected line is at most so many lines before line i, or after it
   abbrev pub follows : ℕ → Bool
   follows i = some_below (λ j. nat_le (i - j) settings.after_context && selected j) i
@@ -21,7 +25,7 @@ module _ (settings : Settings) (selected : ℕ → Bool) (count turned : ℕ) wh
   abbrev pub kind : ℕ → Option Kind
   kind i =
       if selected i then Some matched
-      else (if follows i then Some (in_context After)
+      else (if follows i then Some (if trailing i then matched else in_context After)
       else (if precedes i then Some (in_context Before)
       else (if settings.passthru then Some (in_context Other) else None)))
 

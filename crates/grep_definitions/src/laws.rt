@@ -4,7 +4,7 @@ ghost use Rattle.grep_definitions.specs.SearchLaws.{UnchangedIsInput, UnsniffedI
 ghost use Rattle.grep_definitions.specs.SearchLaws.{UnchangedPasses, MarkedPasses};
 ghost use Rattle.grep_definitions.specs.SearchLaws.{ReportsAscend, AfterWins, InversionComplements};
 ghost use Rattle.grep_definitions.specs.SearchLaws.{FirstLinesBegin, AtMostLimit, WholeCount};
-ghost use Rattle.grep_definitions.specs.SearchLaws.{LinesAreNumbered, MatchesAreSelected, MatchesDecide};
+ghost use Rattle.grep_definitions.specs.SearchLaws.{LinesAreNumbered, MatchesAreMatchedLines, MatchesDecide};
 ghost use Rattle.grep_definitions.specs.SearchLaws.{MatchesAreCounted, FirstMatchIsFirst, MatchesAreFew};
 ghost use Rattle.grep_definitions.specs.AcrossLaws;
 ghost use Rattle.grep_definitions.specs.AcrossLaws.{SearchesByLine, SearchesAcrossLines};
@@ -37,7 +37,8 @@ pub fn reports_ascend()
     lines_join();
 }
 
-/// A line in reach of an earlier selected line is reported as the line after it, even if it is also before a later one.
+/// A line in reach of an earlier selected line is reported as the line after it, even if it is also before a later one;
+/// as a match, if it hits past the limit.
 pub fn after_wins()
     ensures { AfterWins }
 {}
@@ -55,7 +56,7 @@ pub fn first_lines_begin()
     lines_append();
 }
 
-/// No more matches are reported than the limit has.
+/// No more matches are reported than the limit has and, if that isn't 0, those in the context after the last of them.
 pub fn at_most_limit()
     ensures { AtMostLimit }
 {}
@@ -81,15 +82,15 @@ pub fn lines_are_numbered()
     grep_lines::laws::lines_are_numbered();
 }
 
-/// The matches that are reported are the selected lines, in order: each with its number, its offset
-/// and its bytes.
-pub fn matches_are_selected()
-    ensures { MatchesAreSelected }
+/// The matches that are reported are the selected lines and those that hit past the limit in the context after them, in
+/// order: each with its number, its offset and its bytes.
+pub fn matches_are_matched_lines()
+    ensures { MatchesAreMatchedLines }
 {
     grep_lines::laws::lines_are_numbered();
 }
 
-/// As many matches are reported as lines are selected.
+/// As many matches are reported as there are such lines.
 pub fn matches_are_counted()
     ensures { MatchesAreCounted }
 {

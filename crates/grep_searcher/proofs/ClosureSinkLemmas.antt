@@ -6,7 +6,7 @@ use Rattle.std.specs.Borrow.{Bor}
 use Rattle.std.specs.declared.io.Error.{Error}
 use Rattle.grep_definitions.specs.LineSearch.{line, start}
 use Rattle.grep_definitions.specs.SearchTurns.{search_turns}
-use Rattle.grep_definitions.specs.SearchLaws.{MatchesAreSelected, match_of, selected_lines}
+use Rattle.grep_definitions.specs.SearchLaws.{MatchesAreMatchedLines, match_of, matched_lines}
 use Rattle.grep_definitions.specs.Settings.{Settings}
 use Rattle.grep_definitions.specs.SinkCalls.{Call, begins, matches, context, breaks, binary_data, finishes}
 use Rattle.grep_definitions.specs.SinkFolds.{AreTaken, IsTakenOk}
@@ -56,10 +56,10 @@ module _ {F : Type 0} (call : F → ℕ → Bor (List ℕ) → Result Bool Error
             (here.0, here.1, here.2 ∙ ap (λ t. kept old ++ (i + 1, t) ∷ []) whole)
         go false never = absurd never
 
-    kept-matches : (selected : List ℕ) (old new : F)
-        → AreTaken (IsCalledAt call is_text) old (map (match_of settings meaning bytes) selected) new
+    kept-matches : (listed : List ℕ) (old new : F)
+        → AreTaken (IsCalledAt call is_text) old (map (match_of settings meaning bytes) listed) new
         → (name new ≡ name old)
-        × (kept new ≡ kept old ++ map (λ i. (i + 1, text_of (line settings meaning bytes i))) selected)
+        × (kept new ≡ kept old ++ map (λ i. (i + 1, text_of (line settings meaning bytes i))) listed)
     kept-matches [] old new same = (ap name same, ap kept same ∙ sym (append-nil (kept old)))
     kept-matches (i ∷ later) old new (inl (mid, here, rest)) =
         let first = kept-one i old mid true here in
@@ -71,8 +71,8 @@ module _ {F : Type 0} (call : F → ℕ → Bor (List ℕ) → Result Bool Error
         )
     kept-matches (i ∷ later) old new (inr here) = absurd (let never = (kept-one i old new false here).0 in cc)
 
-  pub closures-keep : MatchesAreSelected → {S : Type 0} (closure : S → F) → ClosuresKeep call is_text closure text_of
-  closures-keep selected closure name kept by settings meaning bytes by_line old count binary new run =
-      kept-matches name kept by settings meaning bytes (selected_lines settings meaning bytes) (closure old) (closure new)
-      (subst (λ calls. AreTaken (IsCalledAt call is_text) (closure old) calls (closure new)) (selected settings meaning bytes by_line)
+  pub closures-keep : MatchesAreMatchedLines → {S : Type 0} (closure : S → F) → ClosuresKeep call is_text closure text_of
+  closures-keep are_matched closure name kept by settings meaning bytes by_line old count binary new run =
+      kept-matches name kept by settings meaning bytes (matched_lines settings meaning bytes) (closure old) (closure new)
+      (subst (λ calls. AreTaken (IsCalledAt call is_text) (closure old) calls (closure new)) (are_matched settings meaning bytes by_line)
       (closures-are_called call is_text closure settings old (search_turns settings meaning bytes) count binary new run).taken)

@@ -10,7 +10,7 @@ use Rattle.std.specs.declared.io.ErrorKind.TheVariants.{Other, OutOfMemory}
 use Rattle.grep_definitions.specs.LineSearch.{line}
 use Rattle.grep_definitions.specs.Modes.{is_across}
 use Rattle.grep_definitions.specs.SearchTurns.{search_turns}
-use Rattle.grep_definitions.specs.SearchLaws.{match_calls, selected_lines}
+use Rattle.grep_definitions.specs.SearchLaws.{match_calls, matched_lines}
 use Rattle.grep_definitions.specs.Settings.{Settings}
 use Rattle.grep_definitions.specs.SinkCalls.{Call, Turn, begins, matches, context, breaks, binary_data, finishes}
 use Rattle.grep_definitions.specs.SinkFolds.{AreTaken}
@@ -97,7 +97,7 @@ module _ {F : Type 0} (call : F → ℕ → Bor (List ℕ) → Result Bool Error
       → call old number text (Ok b) new → (b ≡ true) × (name new ≡ name old)
       × (kept new ≡ kept old ++ (number, text.now) ∷ [])
 
-  -- then a run by line along the calls for some bytes that ended in `Ok` adds the numbers and the texts of the selected lines
+  -- then a run by line along the calls for some bytes that ended in `Ok` adds the numbers and the texts of the matched lines
   abbrev pub ClosuresKeep : {S : Type 0} → (S → F) → (List ℕ → List ℕ) → Type 0
   ClosuresKeep {S} closure text_of =
       (name : F → ℕ) (kept : F → List (ℕ × List ℕ)) → KeepsCalls name kept
@@ -109,4 +109,4 @@ module _ {F : Type 0} (call : F → ℕ → Bor (List ℕ) → Result Bool Error
       → (name (closure new) ≡ name (closure old))
       × (kept (closure new) ≡ kept (closure old)
       ++ map (λ i. (i + 1, text_of (line settings meaning bytes i)))
-      (selected_lines settings meaning bytes))
+      (matched_lines settings meaning bytes))

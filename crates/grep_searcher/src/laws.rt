@@ -17,7 +17,7 @@ pub use grep_definitions::laws::{
     after_wins, after_wins_across, at_most_limit, at_most_limit_across, counted_reports_are_clear,
     first_lines_begin, first_match_is_first, inversion_complements, inversion_complements_across,
     lines_are_numbered, matches_are_all, matches_are_counted, matches_are_few,
-    matches_are_selected, matches_decide, matches_touch_their_lines, numbers_change_no_count,
+    matches_are_matched_lines, matches_decide, matches_touch_their_lines, numbers_change_no_count,
     quit_reports_are_clear, reports_are_apart_across, reports_are_as_by_line, reports_ascend,
     reports_ascend_across, searches_across_lines, searches_by_line, seen_lines_begin,
     selected_are_reported_across, stop_is_ignored_across, unchanged_is_searched, whole_count,
@@ -72,26 +72,26 @@ pub fn bytes_closures_are_called<F: FnMut(u64, &[u8]) -> Result<bool, io::Error>
 {}
 
 /// If each call of such a closure that returns adds its number and its text to what is kept, through one reference,
-/// then a run along the calls for some bytes that ended in `Ok` adds those of the selected lines, and the reference is
+/// then a run along the calls for some bytes that ended in `Ok` adds those of the matched lines, and the reference is
 /// the same.
 pub fn closures_keep_calls<F: FnMut(u64, &str) -> Result<bool, io::Error>>(_: &UTF8<F>)
     ensures { ClosuresKeep F.step IsUtf8Text (λ (s : UTF8 F). s.0) (λ bytes. bytes) }
 {
-    matches_are_selected();
+    matches_are_matched_lines();
 }
 
 /// The same of `Lossy`.
 pub fn lossy_closures_keep_calls<F: FnMut(u64, &str) -> Result<bool, io::Error>>(_: &Lossy<F>)
     ensures { ClosuresKeep F.step IsLossyText (λ (s : Lossy F). s.0) utf8_lossy }
 {
-    matches_are_selected();
+    matches_are_matched_lines();
 }
 
 /// The same of `Bytes`.
 pub fn bytes_closures_keep_calls<F: FnMut(u64, &[u8]) -> Result<bool, io::Error>>(_: &Bytes<F>)
     ensures { ClosuresKeep F.step IsWholeText (λ (s : Bytes F). s.0) (λ bytes. bytes) }
 {
-    matches_are_selected();
+    matches_are_matched_lines();
 }
 
 /// Without binary detection, a search of a slice with a lawful matcher, if it ended in `Ok`, is a run along the calls for

@@ -132,7 +132,7 @@ pub const LIMIT: Row = Row {
             stop: "finish 2 -;",
         },
         Call {
-            text: "after 2 2 610a;",
+            text: "match 2 2 610a;",
             bytes: 4,
             stop: "finish 4 -;",
         },

@@ -154,7 +154,7 @@ module _ (k : Settings) (meaning : Meaning) (bytes : List ℕ) where
 
     -- a line that isn't chosen
     module _ (bare : Bare) (line : IsLine t bytes w.line p q) (missed : S w.line ≡ false) where
-      pub front-missed : front (next_walk k w here false).reported_through ≡ front w.reported_through ++ line_turns k bytes w here false
+      pub front-missed : front (next_walk k w here false).reported_through ≡ front w.reported_through ++ line_turns k bytes w here false false
       front-missed =
           calls.front-missed k meaning bytes bare w.reported_through w.line w.after_context_left across.near line.listed missed
           ∙ ap (λ turns. front w.reported_through ++ turns)
@@ -169,7 +169,7 @@ module _ (k : Settings) (meaning : Meaning) (bytes : List ℕ) where
         near = calls.near-missed k meaning bytes bare w.reported_through w.line w.after_context_left across.near line.listed missed;
         limited = λ inverted. limited-missed inverted w.line w.match_count (across.limited inverted) missed;
         ended = subst (All (λ turn. turn.end ≤ line_end w here)) (sym front-missed)
-            (ended-next k bytes w here false (front w.reported_through) across.ended);
+            (ended-next k bytes w here false false (front w.reported_through) across.ended);
       }
 
     -- a chosen line, or a unit of them
@@ -202,7 +202,7 @@ module _ (k : Settings) (meaning : Meaning) (bytes : List ℕ) where
           go true is = ap walk-to (sym (chosen.single is))
           go false is = ap walk-to count-chosen
 
-      pub front-chosen : front (walk_after k w here true).reported_through ≡ front w.reported_through ++ line_turns k bytes w here true
+      pub front-chosen : front (walk_after k w here true).reported_through ≡ front w.reported_through ++ line_turns k bytes w here true false
       front-chosen =
           ap (λ (next : Walk). front next.reported_through) walk-is
           ∙ (calls.front-unit k meaning bytes w.reported_through w.line w.after_context_left chosen.last across.near chosen.some
@@ -226,7 +226,7 @@ module _ (k : Settings) (meaning : Meaning) (bytes : List ℕ) where
             (chosen.hits w.line (omega arith) chosen.some));
         ended = subst (All (λ turn. turn.end ≤ line_end w here))
             (sym (sym (ap (λ (next : Walk). front next.reported_through) walk-is) ∙ front-chosen))
-            (ended-next k bytes w here true (front w.reported_through) across.ended);
+            (ended-next k bytes w here true false (front w.reported_through) across.ended);
       }
 
       pub across-chosen : IsAcross k meaning bytes (walk_after k w here true)

@@ -52,7 +52,7 @@ module _ (k : Settings) (meaning : Meaning) (bytes : List ℕ) where
   pub record IsTurned (start end : ℕ) (w : Walk) (unit : ℕ × ℕ) (blocks : Blocks) (chosen : Bool) : Type 0 where
     pub across : IsAcross k meaning bytes (walk_after k w (slice bytes start end) chosen)
     pub front : turns_before k meaning bytes (walk_after k w (slice bytes start end) chosen).reported_through
-        ≡ turns_before k meaning bytes w.reported_through ++ line_turns k bytes w (slice bytes start end) chosen
+        ≡ turns_before k meaning bytes w.reported_through ++ line_turns k bytes w (slice bytes start end) chosen false
     pub ready : IsReady k meaning bytes end (walk_after k w (slice bytes start end) chosen) unit blocks
     pub offset : (walk_after k w (slice bytes start end) chosen).offset ≡ end
     pub end_is : line_end w (slice bytes start end) ≡ end

@@ -22,7 +22,7 @@ use Rattle.grep_definitions.specs.SinkRuns.{Steps, all_true, AreReported}
 use Rattle.grep_walk.specs.declared.look_ahead.Ahead.{Ahead}
 use Rattle.grep_walk.specs.declared.walk.Walk.{Walk}
 use Rattle.grep_walk.specs.LookAheads.{IsBounded, IsExact, IsKnown, MayAskAhead, can_skip, known_at, skips}
-use Rattle.grep_walk.specs.Walks.{is_over, line_end, line_turns, next_walk, walk_past}
+use Rattle.grep_walk.specs.Walks.{IsDecided, is_over, line_end, line_turns, next_walk, walk_past}
 use Rattle.grep_walk.specs.Windows.{HasSearched}
 use Rattle.grep_walk.proofs.LineRangeLemmas.{line-at, lines-between, starts-ordered}
 use Rattle.grep_walk.proofs.WalkLemmas.{Bare}
@@ -137,7 +137,8 @@ module _ {S E F : Type 0} (join : LinesJoin) (append : LinesAppend) (step : Step
       → IsLineFault step errors matcher k input first e now
   failed-ahead w p so_far less may error e message fails =
       let there = line-there w p so_far less in
-      failed-matcher step errors matcher k gone window input first bare p there.0 w now so_far there.1 there.2 there.3 may.room
+      failed-matcher step errors matcher k gone window input first bare p there.0 w now so_far there.1 there.2 there.3
+      (ap (λ full. not full || nat_lt 0 w.after_context_left) may.room)
       (drop p window) error e
       (asked-ahead step errors matcher k gone window input first bare p there.0 w now so_far there.1 there.2 there.3 join may)
       message fails
@@ -146,7 +147,7 @@ module _ {S E F : Type 0} (join : LinesJoin) (append : LinesAppend) (step : Step
   searched-one : (w : Walk) (p q i : ℕ) → Searched p w → IsSkipping k w → IsLine t window i p q
       → matches_line k matcher.meaning (slice window p q) ≡ false → Searched q (moved w (q - p) 1)
   searched-one w p q i so_far skipping line missed = subst (Searched q) same
-      (searched-next step errors matcher k gone window input first bare p q w now so_far line.above line.within there false value now
+      (searched-next step errors matcher k gone window input first bare p q w now so_far line.above line.within there false false value now
       silent goes_on)
     where
       here : List ℕ
@@ -159,14 +160,16 @@ module _ {S E F : Type 0} (join : LinesJoin) (append : LinesAppend) (step : Step
       full : Bool
       full = is_at w.match_count k.max_matches
 
-      value : false ≡ (not full && differ (matches_line k matcher.meaning here) k.invert_match)
-      value = sym (ap (λ m. not full && differ m k.invert_match) missed
-          ∙ (ap (λ v. not full && differ false v) skipping.plain ∙ and-false (not full)))
+      missed-is : (b : Bool) → false ≡ (b && differ (matches_line k matcher.meaning here) k.invert_match)
+      missed-is b = sym (ap (λ m. b && differ m k.invert_match) missed ∙ (ap (λ v. b && differ false v) skipping.plain ∙ and-false b))
+
+      value : IsDecided k matcher.meaning w here false false
+      value = record { chosen_is = missed-is (not full); trailing_is = λ some. missed-is full }
 
       none_left : nat_lt 0 w.after_context_left ≡ false
       none_left = ap (nat_lt 0) skipping.none_left
 
-      silent : AreReported step k now (line_turns k input w here false) all_true now
+      silent : AreReported step k now (line_turns k input w here false false) all_true now
       silent = go (nat_lt 0 w.after_context_left) k.passthru none_left skipping.selects
         where
           go : (a b : Bool) → a ≡ false → b ≡ false → AreReported step k now

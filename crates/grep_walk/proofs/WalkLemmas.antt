@@ -1,5 +1,5 @@
 -- A walk over lines, against the calls that are defined.
-use Rattle.std.proofs.Common.{◌≡◌, ℕ, ◌+◌, ◌-◌, ◌<◌, ◌≤◌, Bool, true, false, not, ◌&&◌, List, [], ◌∷◌, ◌++◌, length, take, drop}
+use Rattle.std.proofs.Common.{◌≡◌, ℕ, ◌+◌, ◌-◌, ◌<◌, ◌≤◌, Bool, true, false, not, ◌&&◌, ◌||◌, List, [], ◌∷◌, ◌++◌, length, take, drop}
 use Rattle.std.proofs.Common.{refl, sym, ◌∙◌, ap, subst, arith, ⊎_elim, inl, inr, Some, None, Ok, Err, if◌then◌else◌}
 use Rattle.std.proofs.Common.{length-take, length-drop}
 use Rattle.std.proofs.lemmas.Bool.{lt-ltb, le-leb, lt-leb, eqb-true, cases_lt}
@@ -16,7 +16,7 @@ use Rattle.grep_definitions.specs.SinkCalls.{Turn, begins, context}
 use Rattle.grep_definitions.specs.Below.{is_at, joined_from}
 use Rattle.grep_definitions.specs.LineSearch
 use Rattle.grep_definitions.specs.LineSearch.{differ, turns_at, turns, turns_through, byte_count, in_context}
-use Rattle.grep_definitions.specs.LineTurns.{context_turns, match_turns, pending_turns, matches_line, number_of}
+use Rattle.grep_definitions.specs.LineTurns.{after_turns, context_turns, match_turns, pending_turns, matches_line, number_of}
 use Rattle.grep_definitions.specs.SinkRuns.{Steps, Outcome, all_true, stopped, failed, AreReported}
 use Rattle.grep_definitions.specs.Searches.{ErrorMakers, MatcherFacts, IsLineFault, of_sink, of_matcher}
 use Rattle.grep_definitions.specs.LineWalks.{IsNear, IsOpen}
@@ -26,38 +26,40 @@ use Rattle.grep_definitions.proofs.BelowLemmas.{joined_from-equal, joined_from-n
 use Rattle.grep_definitions.proofs.LimitLemmas.{IsOpen-none, IsOpen-chosen, IsOpen-missed, turn_above, turn_all}
 use Rattle.grep_definitions.proofs.LimitLemmas.{IsDone, IsDone-chosen, IsDone-limit, IsDone-stop, IsDone-none, selected-is, chosen-is}
 use Rattle.grep_definitions.proofs.SelectionLemmas.{headed-missed}
-use Rattle.grep_definitions.proofs.ContextLemmas.{IsNear-none, IsNear-hit, IsNear-missed, turns_at-done}
+use Rattle.grep_definitions.proofs.ContextLemmas.{IsNear-none, IsNear-hit, IsNear-missed, follows-selected, turns_at-done}
 use Rattle.grep_definitions.proofs.ContextLemmas.{turns_at-passed, turns_at-hit, turns_at-after, turns_at-other}
 use Rattle.grep_definitions.proofs.TurnEndLemmas.{ends-one, ends-pending, ends-match, ends-late, ends-passed}
 use Rattle.grep_walk.specs.declared.walk.Walk.{Walk}
-use Rattle.grep_walk.specs.Walks.{IsPlaced, IsWalk, HasReported, line_end, line_turns, next_walk, is_over, reports_line, Counted}
-use Rattle.grep_definitions.proofs.BoolLemmas.{above_zero, both_true, clash, neither, not_false, or-cases}
+use Rattle.grep_walk.specs.Walks.{IsDecided, IsPlaced, IsWalk, HasReported, Counted}
+use Rattle.grep_walk.specs.Walks.{can_hit, line_end, line_turns, next_walk, is_over, reports_line}
+use Rattle.grep_definitions.proofs.BoolLemmas.{above_zero, and-swap, both_true, clash, neither, not_false, or-cases}
 use Rattle.grep_definitions.proofs.ListLemmas.{All-joined_from, filter-all, filter-none}
 
 -- if the turns so far have ended where a walk is, those with the calls of its line have ended where the line ends
-pub ended-next : (k : Settings) (window : List ℕ) (w : Walk) (line : List ℕ) (chosen : Bool) (made : List Turn)
+pub ended-next : (k : Settings) (window : List ℕ) (w : Walk) (line : List ℕ) (chosen trailing : Bool) (made : List Turn)
     → All (λ turn. turn.end ≤ w.offset) made
-    → All (λ turn. turn.end ≤ line_end w line) (made ++ line_turns k window w line chosen)
-ended-next k window w line chosen made ended =
-    All-append (λ turn. turn.end ≤ line_end w line) made (line_turns k window w line chosen)
+    → All (λ turn. turn.end ≤ line_end w line) (made ++ line_turns k window w line chosen trailing)
+ended-next k window w line chosen trailing made ended =
+    All-append (λ turn. turn.end ≤ line_end w line) made (line_turns k window w line chosen trailing)
     (All-weaker (λ turn. turn.end ≤ w.offset) (λ turn. turn.end ≤ line_end w line) (λ turn low. omega (arith, low)) made ended)
-    (All-weaker E (λ turn. turn.end ≤ line_end w line) (λ turn is. omega (arith, is)) (line_turns k window w line chosen)
-    (go chosen (nat_lt 0 w.after_context_left) k.passthru))
+    (All-weaker E (λ turn. turn.end ≤ line_end w line) (λ turn is. omega (arith, is)) (line_turns k window w line chosen trailing)
+    (go chosen trailing (nat_lt 0 w.after_context_left) k.passthru))
   where
     E : Turn → Type 0
     E turn = turn.end ≡ line_end w line
 
-    go : (b a p : Bool) → All E (if b
+    go : (b r a p : Bool) → All E (if b
         then pending_turns k window w.reported_through w.line (line_end w line) w.reported_through (w.line - w.reported_through)
         ++ match_turns k w.reported_through w.line w.offset (line_end w line) line
-        else (if a then context_turns After (number_of k w.line) w.offset (line_end w line) line
+        else (if a then after_turns k r w.reported_through w.line w.offset (line_end w line) line
         else (if p then context_turns Other (number_of k w.line) w.offset (line_end w line) line else [])))
-    go true a p = All-append E _ _
+    go true r a p = All-append E _ _
         (ends-pending k window w.reported_through w.line (line_end w line) w.reported_through (w.line - w.reported_through))
         (ends-match k window w.reported_through w.line (line_end w line) w.offset line)
-    go false true p = ends-one (context After (number_of k w.line) w.offset line) (line_end w line)
-    go false false true = ends-one (context Other (number_of k w.line) w.offset line) (line_end w line)
-    go false false false = All-nil E
+    go false true true p = ends-match k window w.reported_through w.line (line_end w line) w.offset line
+    go false false true p = ends-one (context After (number_of k w.line) w.offset line) (line_end w line)
+    go false r false true = ends-one (context Other (number_of k w.line) w.offset line) (line_end w line)
+    go false r false false = All-nil E
 
 module _ (k : Settings) (meaning : Meaning) (bytes : List ℕ) where
   abbrev pub t : ℕ
@@ -151,22 +153,36 @@ module _ (k : Settings) (meaning : Meaning) (bytes : List ℕ) where
           ap (λ p. if k.line_number then Some (count_by (λ b. b == t) (take p bytes) + 1) else None) line.begins
           ∙ ap (λ c. if k.line_number then Some (c + 1) else None) line.number
 
-      pub chosen-here : (b : Bool)
-          → b ≡ (not (is_at w.match_count k.max_matches) && differ (matches_line k meaning here) k.invert_match)
-          → LineSearch.is_chosen k meaning bytes w.line ≡ b
-      chosen-here b is =
-          let inside = lt-ltb w.line n line.listed in
-          let hits : LineSearch.hits k meaning bytes w.line
-          ≡ differ (matches_line k meaning here) k.invert_match = rw (inside, line.line) refl in
+      hits-here : LineSearch.hits k meaning bytes w.line ≡ differ (matches_line k meaning here) k.invert_match
+      hits-here = let inside = lt-ltb w.line n line.listed in rw (inside, line.line) refl
+
+      pub chosen-here : (b r : Bool) → IsDecided k meaning w here b r → LineSearch.is_chosen k meaning bytes w.line ≡ b
+      chosen-here b r decided =
           chosen-is k meaning bytes w.line w.after_context_left w.match_count walk.opened
-          ∙ (ap (λ h. h && not (is_at w.match_count k.max_matches)) hits
-          ∙ (swap (differ (matches_line k meaning here) k.invert_match) (not (is_at w.match_count k.max_matches)) ∙ sym is))
+          ∙ (ap (λ h. h && not (is_at w.match_count k.max_matches)) hits-here
+          ∙ (and-swap (differ (matches_line k meaning here) k.invert_match) (not (is_at w.match_count k.max_matches))
+          ∙ sym decided.chosen_is))
+
+      pub trailing-here : (b r : Bool) → IsDecided k meaning w here b r → 0 < w.after_context_left
+          → LineSearch.is_trailing k meaning bytes w.line ≡ r
+      trailing-here b r decided some =
+          ap (λ h. h && not (LineSearch.is_open_at k meaning bytes w.line)) hits-here
+          ∙ (ap (λ o. differ (matches_line k meaning here) k.invert_match && not o) walk.opened.below
+          ∙ (ap (λ f. differ (matches_line k meaning here) k.invert_match && f) (not-not (is_at w.match_count k.max_matches))
+          ∙ (and-swap (differ (matches_line k meaning here) k.invert_match) (is_at w.match_count k.max_matches)
+          ∙ sym (decided.trailing_is some))))
         where
-          swap : (a b : Bool) → (a && b) ≡ (b && a)
-          swap true true = refl
-          swap true false = refl
-          swap false true = refl
-          swap false false = refl
+          not-not : (b : Bool) → not (not b) ≡ b
+          not-not true = refl
+          not-not false = refl
+
+      -- the matcher is asked about it only if the limit has room, or in the context after a selected line
+      pub room-here : can_hit k w ≡ true
+          → (LineSearch.is_open_at k meaning bytes w.line || LineSearch.follows_selected k meaning bytes w.line) ≡ true
+      room-here can =
+          ap (λ o. o || LineSearch.follows_selected k meaning bytes w.line) walk.opened.below
+          ∙ (ap (λ f. not (is_at w.match_count k.max_matches) || f)
+          (follows-selected k meaning bytes w.reported_through w.line w.after_context_left walk.near) ∙ can)
 
       selected : (b : Bool) → LineSearch.is_chosen k meaning bytes w.line ≡ b → LineSearch.is_selected k meaning bytes w.line ≡ b
       selected b is = selected-is k meaning bytes w.line w.after_context_left w.match_count walk.opened ∙ is
@@ -184,26 +200,30 @@ module _ (k : Settings) (meaning : Meaning) (bytes : List ℕ) where
           w.offset (line_end w here) _ number-is start-is start-after line.line
 
       -- the calls of the line
-      pub front-step : (chosen : Bool) → LineSearch.is_chosen k meaning bytes w.line ≡ chosen
-          → front (next_walk k w here chosen).reported_through ≡ front w.reported_through ++ line_turns k bytes w here chosen
-      front-step true is =
+      pub front-step : (chosen trailing : Bool) → LineSearch.is_chosen k meaning bytes w.line ≡ chosen
+          → (0 < w.after_context_left → LineSearch.is_trailing k meaning bytes w.line ≡ trailing)
+          → front (next_walk k w here chosen).reported_through
+          ≡ front w.reported_through ++ line_turns k bytes w here chosen trailing
+      front-step true trailing is late =
           let hit = selected true is in
           let pending = pending_turns k bytes w.reported_through w.line (line_end w here) w.reported_through
           (w.line - w.reported_through) in
           headed-many (record { call = begins; end = 0 }) T w.reported_through w.line walk.near.low
           ∙ (ap (λ xs. front w.reported_through ++ (xs ++ T w.line)) (pending-is hit)
           ∙ ap (λ xs. front w.reported_through ++ (pending ++ xs)) (hit-is hit))
-      front-step false is =
-          headed-missed k (LineSearch.is_selected k meaning bytes) n turned w.reported_through w.line w.after_context_left walk.near
+      front-step false trailing is late =
+          headed-missed k (LineSearch.is_selected k meaning bytes) (LineSearch.is_trailing k meaning bytes) n turned w.reported_through w.line w.after_context_left walk.near
           (record { call = begins; end = 0 }) T _ _ after_is other_is
         where
           miss : LineSearch.is_selected k meaning bytes w.line ≡ false
           miss = selected false is
 
-          after_is : 0 < w.after_context_left → T w.line ≡ context_turns After (number_of k w.line) w.offset (line_end w here) here
+          after_is : 0 < w.after_context_left
+              → T w.line ≡ after_turns k trailing w.reported_through w.line w.offset (line_end w here) here
           after_is some =
               turns_at-after k meaning bytes w.reported_through w.line w.after_context_left walk.near line.listed has
               w.offset (line_end w here) _ miss some number-is start-is start-after line.line
+              ∙ ap (λ r. after_turns k r w.reported_through w.line w.offset (line_end w here) here) (late some)
 
           other_is : w.after_context_left ≡ 0 → k.passthru ≡ true
               → T w.line ≡ context_turns Other (number_of k w.line) w.offset (line_end w here) here
@@ -240,15 +260,16 @@ module _ (k : Settings) (meaning : Meaning) (bytes : List ℕ) where
           (λ plain full. let more = above_zero (not k.passthru) (is_at w.match_count k.max_matches) (w.after_context_left - 1) parts.1
           (ap not plain) full in omega arith)
 
-      pub walk-next : (chosen : Bool) → LineSearch.is_chosen k meaning bytes w.line ≡ chosen
+      pub walk-next : (chosen trailing : Bool) → LineSearch.is_chosen k meaning bytes w.line ≡ chosen
+          → (0 < w.after_context_left → LineSearch.is_trailing k meaning bytes w.line ≡ trailing)
           → is_over k (next_walk k w here chosen) chosen ≡ false
           → IsWalk k meaning bytes (next_walk k w here chosen)
-      walk-next chosen is goes = record {
+      walk-next chosen trailing is late goes = record {
         placed = placed-next walk.placed chosen;
         near = near-next chosen is;
         opened = open-next chosen is goes;
-        ended = subst (All (λ turn. turn.end ≤ line_end w here)) (sym (front-step chosen is))
-            (ended-next k bytes w here chosen (front w.reported_through) walk.ended);
+        ended = subst (All (λ turn. turn.end ≤ line_end w here)) (sym (front-step chosen trailing is late))
+            (ended-next k bytes w here chosen trailing (front w.reported_through) walk.ended);
       }
 
       pub done-next : (chosen : Bool) → LineSearch.is_chosen k meaning bytes w.line ≡ chosen
@@ -366,14 +387,16 @@ module _ (k : Settings) (meaning : Meaning) (bytes : List ℕ) where
 
     -- one line
     module _ (bare : Bare) (w : Walk) (mid : S) (so_far : HasReported k meaning bytes step old w mid)
-        (start end : ℕ) (same : w.offset ≡ start) (line : IsLine t bytes w.line start end) (chosen : Bool)
-        (value : chosen ≡ (not (is_at w.match_count k.max_matches)
-        && differ (matches_line k meaning (here w start end same line)) k.invert_match)) where
+        (start end : ℕ) (same : w.offset ≡ start) (line : IsLine t bytes w.line start end) (chosen trailing : Bool)
+        (decided : IsDecided k meaning w (here w start end same line) chosen trailing) where
       is : LineSearch.is_chosen k meaning bytes w.line ≡ chosen
-      is = chosen-here w start end same line bare so_far.walk chosen value
+      is = chosen-here w start end same line bare so_far.walk chosen trailing decided
+
+      late : 0 < w.after_context_left → LineSearch.is_trailing k meaning bytes w.line ≡ trailing
+      late = trailing-here w start end same line bare so_far.walk chosen trailing decided
 
       abbrev own : List Turn
-      own = line_turns k bytes w (here w start end same line) chosen
+      own = line_turns k bytes w (here w start end same line) chosen trailing
 
       abbrev next : Walk
       next = next_walk k w (here w start end same line) chosen
@@ -381,7 +404,8 @@ module _ (k : Settings) (meaning : Meaning) (bytes : List ℕ) where
       reported-line : (outcome : Outcome E) (new : S) → AreReported step k mid own outcome new
           → AreReported step k old (front next.reported_through) outcome new
       reported-line outcome new reported =
-          subst (λ ts. AreReported step k old ts outcome new) (sym (front-step w start end same line bare so_far.walk chosen is))
+          subst (λ ts. AreReported step k old ts outcome new)
+          (sym (front-step w start end same line bare so_far.walk chosen trailing is late))
           (AreReported-append step k (front w.reported_through) own old mid outcome new so_far.reported reported)
 
       few : next.reported_through ≤ turned
@@ -408,7 +432,7 @@ module _ (k : Settings) (meaning : Meaning) (bytes : List ℕ) where
 
       pub reported-next : (new : S) → AreReported step k mid own all_true new → is_over k next chosen ≡ false → HasReported k meaning bytes step old next new
       reported-next new reported goes_on = record {
-        walk = walk-next w start end same line bare so_far.walk chosen is goes_on;
+        walk = walk-next w start end same line bare so_far.walk chosen trailing is late goes_on;
         reported = reported-line all_true new reported;
       }
 
@@ -429,7 +453,7 @@ module _ {S E F : Type 0} (step : Steps S E) (errors : ErrorMakers E) (matcher :
 
   pub fault-matcher : (w : Walk) (new : S) → HasReported k matcher.meaning bytes step old w new
       → (start end : ℕ) (same : w.offset ≡ start) (line : IsLine (byte_of k.line_terminator) bytes w.line start end)
-      → Bare k matcher.meaning bytes → is_at w.match_count k.max_matches ≡ false → (haystack : List ℕ) (error : F) (e : E)
+      → Bare k matcher.meaning bytes → can_hit k w ≡ true → (haystack : List ℕ) (error : F) (e : E)
       → IsAsked k matcher.meaning bytes w.line haystack → errors.is_message (matcher.text_of error) e
       → matcher.fails haystack error → IsLineFault step errors matcher k bytes old e new
   fault-matcher w new so_far start end same line bare room haystack error e asked message fails = of_matcher haystack error
@@ -437,7 +461,7 @@ module _ {S E F : Type 0} (step : Steps S E) (errors : ErrorMakers E) (matcher :
       (record {
         index = w.line;
         has_turn = has k matcher.meaning bytes w start end same line bare so_far.walk;
-        room = so_far.walk.opened.below ∙ ap not room;
+        room = room-here k matcher.meaning bytes w start end same line bare so_far.walk room;
         question = asked;
         before = sym (through-is k matcher.meaning bytes w start end same line bare so_far.walk);
       })

@@ -16,7 +16,8 @@ use Rattle.grep_definitions.specs.SinkRuns.{Steps, Outcome, all_true, stopped, f
 use Rattle.grep_definitions.specs.Searches.{ErrorMakers, MatcherFacts, IsLineFault}
 use Rattle.grep_matcher.specs.Terminators.{byte_of}
 use Rattle.grep_walk.specs.declared.walk.Walk.{Walk}
-use Rattle.grep_walk.specs.Walks.{IsOrdered, HasReported, line_end, line_turns, next_walk, is_over, reports_line, Counted}
+use Rattle.grep_walk.specs.Walks.{IsDecided, IsOrdered, HasReported, Counted}
+use Rattle.grep_walk.specs.Walks.{can_hit, line_end, line_turns, next_walk, is_over, reports_line}
 use Rattle.grep_definitions.specs.Questions.{IsAsked}
 use Rattle.grep_walk.specs.LookAheads.{MayAskAhead}
 use Rattle.grep_walk.specs.Windows.{IsWindow, IsInWindow, HasSearched, HasPassed}
@@ -120,7 +121,7 @@ module _ {S E F : Type 0} (step : Steps S E) (errors : ErrorMakers E) (matcher :
     shifted P = subst P (windows.slice-in gone window so_far.inside.shown.after input so_far.inside.shown.whole p q (omega arith) within)
 
     -- the matcher's error for a question at that line
-    pub failed-matcher : is_at w.match_count k.max_matches ≡ false → (haystack : List ℕ) (error : F) (e : E)
+    pub failed-matcher : can_hit k w ≡ true → (haystack : List ℕ) (error : F) (e : E)
         → IsAsked k matcher.meaning input w.line haystack → errors.is_message (matcher.text_of error) e
         → matcher.fails haystack error → IsLineFault step errors matcher k input first e now
     failed-matcher room haystack error e asked message fails = walks.fault-matcher step errors matcher k input first w now
@@ -144,6 +145,7 @@ module _ {S E F : Type 0} (step : Steps S E) (errors : ErrorMakers E) (matcher :
         let sum : (before + (count - 1)) + 1 ≡ before + count = omega (arith, own.listed) in
         inr (record {
           allowed = may.allowed;
+          room = so_far.reported.walk.opened.below ∙ ap not may.room;
           unstopped = ap (λ b. k.stop_on_nonmatch && b) so_far.reported.walk.opened.any ∙ may.unstopped;
           end = before + count;
           after = omega (arith, own.listed, so_far.inside.line.low);
@@ -154,38 +156,36 @@ module _ {S E F : Type 0} (step : Steps S E) (errors : ErrorMakers E) (matcher :
               (omega (arith, within)) (omega arith) ∙ take_rest window p));
         })
 
-    module _ (chosen : Bool) (value : chosen ≡ (not (is_at w.match_count k.max_matches)
-        && differ (matches_line k matcher.meaning here) k.invert_match)) where
-      -- the same of a line and of what was found in it
-      matched : (P : List ℕ → Type 0) → (chosen ≡ (not (is_at w.match_count k.max_matches)
-          && differ (matches_line k matcher.meaning (slice input (length gone + p) (length gone + q))) k.invert_match)
+    module _ (chosen trailing : Bool) (decided : IsDecided k matcher.meaning w here chosen trailing) where
+      -- what holds of a line in the input by what was decided of it holds of the line in the window
+      matched : (P : List ℕ → Type 0)
+          → (IsDecided k matcher.meaning w (slice input (length gone + p) (length gone + q)) chosen trailing
           → P (slice input (length gone + p) (length gone + q))) → P here
-      matched P holds = shifted (λ xs. chosen ≡ (not (is_at w.match_count k.max_matches)
-          && differ (matches_line k matcher.meaning xs) k.invert_match) → P xs) holds value
+      matched P holds = shifted (λ xs. IsDecided k matcher.meaning w xs chosen trailing → P xs) holds decided
 
-      pub failed-line : (e : E) (new : S) → AreReported step k now (line_turns k input w here chosen) (failed e) new
+      pub failed-line : (e : E) (new : S) → AreReported step k now (line_turns k input w here chosen trailing) (failed e) new
           → IsLineFault step errors matcher k input first e new
       failed-line e new = matched
-          (λ xs. AreReported step k now (line_turns k input w xs chosen) (failed e) new → IsLineFault step errors matcher k input first e new)
+          (λ xs. AreReported step k now (line_turns k input w xs chosen trailing) (failed e) new → IsLineFault step errors matcher k input first e new)
           (λ is reported. walks.fault-line step errors matcher k input first e new
           (walks.failed-line k matcher.meaning input step first bare w now so_far.reported (length gone + p) (length gone + q)
-          so_far.inside.at at chosen is e new reported))
+          so_far.inside.at at chosen trailing is e new reported))
 
-      pub counted-stopped : (new : S) → AreReported step k now (line_turns k input w here chosen) (stopped (line_end w here)) new
+      pub counted-stopped : (new : S) → AreReported step k now (line_turns k input w here chosen trailing) (stopped (line_end w here)) new
           → IsCounted (line_end w here) (stopped (line_end w here)) new
       counted-stopped new = matched
-          (λ xs. AreReported step k now (line_turns k input w xs chosen) (stopped (line_end w xs)) new
+          (λ xs. AreReported step k now (line_turns k input w xs chosen trailing) (stopped (line_end w xs)) new
           → IsCounted (line_end w xs) (stopped (line_end w xs)) new)
           (λ is reported. walks.counted-stopped k matcher.meaning input step first bare w now so_far.reported
-          (length gone + p) (length gone + q) so_far.inside.at at chosen is new reported)
+          (length gone + p) (length gone + q) so_far.inside.at at chosen trailing is new reported)
 
-      pub counted-over : (new : S) → AreReported step k now (line_turns k input w here chosen) all_true new
+      pub counted-over : (new : S) → AreReported step k now (line_turns k input w here chosen trailing) all_true new
           → is_over k (next_walk k w here chosen) chosen ≡ true → IsCounted (line_end w here) all_true new
       counted-over new = matched
-          (λ xs. AreReported step k now (line_turns k input w xs chosen) all_true new
+          (λ xs. AreReported step k now (line_turns k input w xs chosen trailing) all_true new
           → is_over k (next_walk k w xs chosen) chosen ≡ true → IsCounted (line_end w xs) all_true new)
           (λ is reported over. walks.counted-over k matcher.meaning input step first bare w now so_far.reported
-          (length gone + p) (length gone + q) so_far.inside.at at chosen is new reported over)
+          (length gone + p) (length gone + q) so_far.inside.at at chosen trailing is new reported over)
 
       -- the window still has the lines that may be reported
       kept-next : length (lines t gone) + min k.before_context ((w.line + 1) - (next_walk k w here chosen).reported_through) ≤ w.line + 1
@@ -196,7 +196,7 @@ module _ {S E F : Type 0} (step : Steps S E) (errors : ErrorMakers E) (matcher :
           go true = omega (arith, so_far.inside.line.low)
           go false = omega (arith, so_far.inside.kept)
 
-      pub searched-next : (new : S) → AreReported step k now (line_turns k input w here chosen) all_true new
+      pub searched-next : (new : S) → AreReported step k now (line_turns k input w here chosen trailing) all_true new
           → is_over k (next_walk k w here chosen) chosen ≡ false
           → HasSearched step k matcher.meaning gone window input first q (next_walk k w here chosen) new
       searched-next new reported goes_on = record {
@@ -214,10 +214,10 @@ module _ {S E F : Type 0} (step : Steps S E) (errors : ErrorMakers E) (matcher :
           kept = kept-next;
         };
         reported = matched
-            (λ xs. AreReported step k now (line_turns k input w xs chosen) all_true new
+            (λ xs. AreReported step k now (line_turns k input w xs chosen trailing) all_true new
             → is_over k (next_walk k w xs chosen) chosen ≡ false
             → HasReported k matcher.meaning input step first (next_walk k w xs chosen) new)
             (λ is reported goes_on. walks.reported-next k matcher.meaning input step first bare w now so_far.reported
-            (length gone + p) (length gone + q) so_far.inside.at at chosen is new reported goes_on)
+            (length gone + p) (length gone + q) so_far.inside.at at chosen trailing is new reported goes_on)
             reported goes_on;
       }

@@ -8,7 +8,7 @@ use Rattle.grep_matcher.specs.Terminators.{byte_of}
 use Rattle.grep_definitions.specs.AcrossLines.{is_free, is_selected, turns_at}
 use Rattle.grep_definitions.specs.Below.{count_below, is_at, is_below, joined_from}
 use Rattle.grep_definitions.specs.LineSearch.{line_count}
-use Rattle.grep_definitions.specs.Selections.{IsNear}
+use Rattle.grep_definitions.specs.Selections.{IsNear, no_line}
 use Rattle.grep_definitions.specs.Settings.{Settings}
 use Rattle.grep_definitions.specs.SinkCalls.{Turn, begins}
 use Rattle.grep_walk.specs.declared.blocks.Blocks.{Blocks}
@@ -60,7 +60,7 @@ module _ (settings : Settings) (meaning : Meaning) (bytes : List ℕ) where
   -- where a walk is, and what it knows of the lines before it
   pub record IsAcross (w : Walk) : Type 0 where
     pub placed : IsPlaced settings meaning bytes w
-    pub near : IsNear settings (is_selected settings meaning bytes)
+    pub near : IsNear settings (is_selected settings meaning bytes) no_line
         (line_count settings meaning bytes) (line_count settings meaning bytes)
         w.reported_through w.line w.after_context_left
     pub limited : settings.invert_match ≡ true → IsLimited w.line w.match_count

@@ -1,34 +1,61 @@
 -- The walk over the lines of some bytes: what it reports of the line that it is at, how that line moves it on, and what
 -- it comes to. No contract of grep_searcher cites these definitions.
-use Rattle.std.specs.Prelude.{◌≡◌, ℕ, ◌+◌, ◌-◌, ◌≤◌, Bool, not, ◌&&◌, ◌||◌, ◌==◌, if◌then◌else◌, nat_lt, List, []}
+use Rattle.std.specs.Prelude.{◌≡◌, ℕ, ◌+◌, ◌-◌, ◌<◌, ◌≤◌, Bool, true, false, not, ◌&&◌, ◌||◌, ◌==◌, if◌then◌else◌, nat_lt, List, []}
 use Rattle.std.specs.Prelude.{◌++◌, length, All}
 use Rattle.grep_matcher.specs.Terminators.{byte_of}
 use Rattle.grep_matcher.specs.Lines.{lines}
 use Rattle.grep_matcher.specs.Matching.{Meaning}
 use Rattle.grep_lines.specs.Positions.{IsLineStart}
-use Rattle.grep_report.specs.declared.sink_context.SinkContextKind.TheVariants.{After, Other}
+use Rattle.grep_report.specs.declared.sink_context.SinkContextKind.TheVariants.{Other}
 use Rattle.grep_definitions.specs.Settings.{Settings}
 use Rattle.grep_definitions.specs.SinkCalls.{Turn}
 use Rattle.grep_definitions.specs.Below.{is_at}
-use Rattle.grep_definitions.specs.LineSearch.{turns_before}
+use Rattle.grep_definitions.specs.LineSearch.{differ, turns_before}
 use Rattle.grep_definitions.specs.LineWalks.{IsNear, IsOpen}
-use Rattle.grep_definitions.specs.LineTurns.{number_of, pending_turns, match_turns, context_turns}
+use Rattle.grep_definitions.specs.LineTurns.{number_of, matches_line, pending_turns, match_turns}
+use Rattle.grep_definitions.specs.LineTurns.{after_turns, context_turns}
 use Rattle.grep_definitions.specs.SinkRuns.{Outcome, all_true, stopped, failed, Steps, AreReported}
+use Rattle.grep_walk.specs.declared.walk.Verdict.{Verdict}
+use Rattle.grep_walk.specs.declared.walk.Verdict.TheVariants.{Chosen, Trailing, Missed}
 use Rattle.grep_walk.specs.declared.walk.Walk.{Walk}
+
+-- whether a line is chosen by a verdict, and whether it is trailing
+abbrev pub chooses : Verdict → Bool
+chooses Chosen = true
+chooses Trailing = false
+chooses Missed = false
+
+abbrev pub trails : Verdict → Bool
+trails Chosen = false
+trails Trailing = true
+trails Missed = false
+
+-- whether the line that a walk is at may be a match: the limit has room, or lines are left in the context after a match
+abbrev pub can_hit : Settings → Walk → Bool
+can_hit settings w = not (is_at w.match_count settings.max_matches) || nat_lt 0 w.after_context_left
+
+-- whether the line that a walk is at is chosen, and in the context after a match whether it is trailing
+pub record IsDecided (settings : Settings) (meaning : Meaning) (w : Walk) (line : List ℕ)
+    (chosen trailing : Bool) : Type 0 where
+  pub chosen_is : chosen ≡ (not (is_at w.match_count settings.max_matches)
+      && differ (matches_line settings meaning line) settings.invert_match)
+  pub trailing_is : 0 < w.after_context_left
+      → trailing ≡ (is_at w.match_count settings.max_matches
+      && differ (matches_line settings meaning line) settings.invert_match)
 
 -- where the line of these bytes ends in the whole input
 abbrev pub line_end : Walk → List ℕ → ℕ
 line_end w line = w.offset + length line
 
 -- the calls of the line that a walk is at
-abbrev pub line_turns : Settings → List ℕ → Walk → List ℕ → Bool → List Turn
-line_turns settings window w line chosen =
+abbrev pub line_turns : Settings → List ℕ → Walk → List ℕ → Bool → Bool → List Turn
+line_turns settings window w line chosen trailing =
     if chosen
     then pending_turns settings window w.reported_through w.line (line_end w line)
     w.reported_through (w.line - w.reported_through)
     ++ match_turns settings w.reported_through w.line w.offset (line_end w line) line
     else (if nat_lt 0 w.after_context_left
-    then context_turns After (number_of settings w.line) w.offset (line_end w line) line
+    then after_turns settings trailing w.reported_through w.line w.offset (line_end w line) line
     else (if settings.passthru
     then context_turns Other (number_of settings w.line) w.offset (line_end w line) line
     else []))

@@ -16,4 +16,4 @@ mod walk;
 pub use blocks::Blocks;
 pub use config::Config;
 pub use look_ahead::{Ahead, UNKNOWN};
-pub use walk::{START, Walk};
+pub use walk::{START, Verdict, Walk};

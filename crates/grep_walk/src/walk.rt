@@ -1,6 +1,6 @@
-//! A walk over the lines of some bytes: how far it has come, which line comes next, whether that is chosen, and whether
+//! A walk over the lines of some bytes: how far it has come, which line comes next, what it decides of that, and whether
 //! more lines have a turn.
-ghost use Rattle.std.specs.Prelude.{◌≡◌, ◌≤◌, ◌<◌, ◌+◌, ◌^◌, ◌&&◌, ℕ, not, false, length};
+ghost use Rattle.std.specs.Prelude.{◌≡◌, ◌≤◌, ◌<◌, ◌+◌, ◌^◌, ◌&&◌, ℕ, not, true, false, length};
 ghost use Rattle.std.specs.Prelude.{IfOk, IfErr, IfSome, IfNone, MatchBool, None};
 ghost use Rattle.grep_matcher.specs.Terminators.{byte_of};
 ghost use Rattle.grep_matcher.specs.Lines.{lines, strip};
@@ -10,6 +10,7 @@ ghost use Rattle.grep_definitions.specs.InputFronts.{IsClosed};
 ghost use Rattle.grep_definitions.specs.LineSearch.{differ};
 ghost use Rattle.grep_definitions.specs.LineTurns.{number_of, matches_line};
 ghost use Rattle.grep_walk.specs.Walks.{next_walk, walk_past, is_over, IsOrdered};
+ghost use Rattle.grep_walk.specs.Walks.{can_hit, chooses, trails, IsDecided};
 
 use crate::config::Config;
 use grep_lines::laws::lines_are_few;
@@ -41,6 +42,38 @@ pub const START: Walk = Walk {
     after_context_left: 0,
     match_count: 0,
 };
+
+/// What a walk decides of a line.
+#[derive(Clone, Copy)]
+pub enum Verdict {
+    /// It is chosen: it hits, and the limit has room.
+    Chosen,
+    /// It hits past the limit.
+    Trailing,
+    /// It doesn't hit.
+    Missed,
+}
+
+impl Verdict {
+    /// That of a line across lines, where no line is trailing.
+    pub fn of(chosen: bool) -> Self
+        ensures chosen { chooses result ≡ chosen }
+        ensures trailing { trails result ≡ false }
+    {
+        if chosen {
+            Verdict::Chosen
+        } else {
+            Verdict::Missed
+        }
+    }
+
+    /// Whether the line is chosen.
+    pub fn is_chosen(self) -> bool
+        ensures { result ≡ chooses self }
+    {
+        matches!(self, Verdict::Chosen)
+    }
+}
 
 impl Config {
     /// Where the line ends that begins at a position, in bytes; none at the end of the bytes. The caller ensures that
@@ -112,41 +145,63 @@ impl Config {
             || !self.passthru && self.is_full(walk) && walk.after_context_left == 0
     }
 
-    /// Whether the line that a walk is at is chosen. The matcher is asked about it without its terminator, but not if
-    /// it is `known` whether the line matches, nor once the limit is reached. An error is made of the matcher's.
-    pub fn is_chosen<A: Allocator + Copy, M: Matcher, E: SinkError<A>>(
+    /// Decides whether the line that a walk is at is chosen, or trailing in the context after a match. The matcher is
+    /// asked about it without its terminator, but not if it is `known` whether the line matches, nor past both the limit
+    /// and that context. An error is made of the matcher's.
+    pub fn judge<A: Allocator + Copy, M: Matcher, E: SinkError<A>>(
         &self,
         alloc: A,
         matcher: &M,
         line: &[u8],
         known: Option<bool>,
         walk: &Walk,
-    ) -> Result<bool, E>
-        ensures value { IfOk result (λ chosen.
+    ) -> Result<Verdict, E>
+        ensures decided { IfOk result (λ verdict.
             IfSome known (λ matches. matches
             ≡ matches_line self.now (M.meaning matcher.now) line.now)
-            → chosen ≡ (not (is_at walk.now.match_count self.now.max_matches)
-            && differ (matches_line self.now (M.meaning matcher.now) line.now)
-            self.now.invert_match)) }
-        ensures open { IfErr result
-            (λ e. is_at walk.now.match_count self.now.max_matches ≡ false) }
+            → IsDecided self.now (M.meaning matcher.now) walk.now line.now
+            (chooses verdict) (trails verdict)) }
+        ensures open { IfErr result (λ e. can_hit self.now walk.now ≡ true) }
         ensures unknown { IfErr result (λ e. known ≡ None) }
         ensures fault { IfErr result (λ e. (error : M.Error) × E.is_message (M.Error.output error) e
             × M.fails matcher.now (strip self.now.line_terminator line.now) error) }
     {
-        if self.is_full(walk) {
-            return Ok(false);
+        if !self.can_hit(walk) {
+            return Ok(Verdict::Missed);
         }
         if let Some(matches) = known {
-            return Ok(matches != self.invert_match);
+            return Ok(self.verdict(walk, matches));
         }
         match matcher.shortest_match(without_terminator(line, self.line_terminator)) {
-            Ok(position) => Ok(position.is_some() != self.invert_match),
+            Ok(position) => Ok(self.verdict(walk, position.is_some())),
             Err(e) => Err(E::error_message(alloc, e)),
         }
     }
 
-    /// The walk after a line, by whether that was chosen. The caller ensures that the offset of its end is below 2^64.
+    // Whether it matters if the line hits that a walk is at.
+    fn can_hit(&self, walk: &Walk) -> bool
+        ensures { result ≡ can_hit self.now walk.now }
+    {
+        !self.is_full(walk) || walk.after_context_left > 0
+    }
+
+    // The verdict on the line that a walk is at, by whether it matches.
+    fn verdict(&self, walk: &Walk, matches: bool) -> Verdict
+        ensures chosen { chooses result ≡ (not (is_at walk.now.match_count self.now.max_matches)
+            && differ matches self.now.invert_match) }
+        ensures trailing { trails result ≡ (is_at walk.now.match_count self.now.max_matches
+            && differ matches self.now.invert_match) }
+    {
+        if matches == self.invert_match {
+            Verdict::Missed
+        } else if self.is_full(walk) {
+            Verdict::Trailing
+        } else {
+            Verdict::Chosen
+        }
+    }
+
+    /// The walk after a line, by whether it was chosen. The caller ensures that the offset of its end is below 2^64.
     pub fn advance(&self, walk: &Walk, line: &[u8], chosen: bool) -> Walk
         requires fits { walk.now.offset + length line.now < 2 ^ 64 }
         requires number { walk.now.line + 1 < 2 ^ 64 }

@@ -77,7 +77,7 @@ const ROWS: &[Row] = &[
     Row {
         max: Some(1),
         near: 1,
-        asked: &[INPUT],
+        asked: &[INPUT, b"b"],
         calls: "begin;before 1 0 620a;match 2 2 610a;after 3 4 620a;finish 6 -;",
         ..WHOLE
     },
@@ -140,8 +140,8 @@ fn asks(alloc: Global, row: &Row, piece: Option<usize>) -> Result<bool, ConfigEr
     Ok(has_asked(&matcher, row, ended.is_err()) && recorder.text() == row.calls)
 }
 
-// One question for each line that matches, and none after an error or the limit; after a chosen line a search that
-// stops asks about each line alone. In single bytes each line is a window of its own.
+// One question for each line that matches, and none after an error. In the context after the limit, and after a chosen
+// line if the search stops, each line is asked about alone. In single bytes each line is a window of its own.
 #[test]
 fn questions(rt: HostRuntime) -> Result<(), Fail> {
     for (index, row) in ROWS.iter().enumerate() {

@@ -47,7 +47,7 @@ const ROWS: &[Row] = &[
     Row {
         max: Some(2),
         near: 2,
-        calls: 4,
+        calls: 5,
         ..WHOLE
     },
     Row {
@@ -58,7 +58,7 @@ const ROWS: &[Row] = &[
     Row {
         max: Some(1),
         near: 2,
-        calls: 2,
+        calls: 4,
         ..WHOLE
     },
     Row {
@@ -155,8 +155,8 @@ fn reader_asks(alloc: Global, row: &Row) -> Result<bool, ConfigError> {
     Ok(has_asked(&matcher, row, ended.is_err()))
 }
 
-// No line is asked about twice, none out of order, none after the last selected one that the limit allows, and none
-// after an error or false.
+// No line is asked about twice, none out of order, none after the context of the last selected one that the limit
+// allows, and none after an error or false.
 #[test]
 fn lines_of_a_slice(rt: HostRuntime) -> Result<(), Fail> {
     for (index, row) in ROWS.iter().enumerate() {

@@ -71,7 +71,7 @@ fn contexts_under_passthru(rt: HostRuntime) -> Result<(), Fail> {
     Ok(())
 }
 
-// A searcher that reports one match and a line after it.
+// A searcher that selects one line, and reports the line after it.
 fn near(alloc: Global) -> Result<Searcher, ConfigError> {
     SearcherBuilder::new()
         .after_context(1)
@@ -81,7 +81,7 @@ fn near(alloc: Global) -> Result<Searcher, ConfigError> {
 
 const INPUT: &[u8] = b"a\nb\nc\n";
 
-const CALLS: &str = "begin;match 1 0 610a;after 2 2 620a;finish 4 -;";
+const CALLS: &str = "begin;match 1 0 610a;match 2 2 620a;finish 4 -;";
 
 // Whether a searcher over a slice makes these calls.
 fn slice_calls(alloc: Global, searcher: &mut Searcher) -> Result<bool, SearchError> {

@@ -45,6 +45,12 @@ fold_while-joined settings meaning bytes text (i ∷ later) =
     fold_while-joined settings meaning bytes (text ++ line settings meaning bytes i) later
     ∙ append_assoc text (line settings meaning bytes i) (concat (map (line settings meaning bytes) later))
 
+pub fold_while-matched : (settings : Settings) (meaning : Meaning) (bytes text : List ℕ) (calls : List Call) (listed : List ℕ)
+    → text ≡ [] → calls ≡ map (match_of settings meaning bytes) listed
+    → fold_while (λ _ _. true) joined text calls ≡ concat (map (line settings meaning bytes) listed)
+fold_while-matched settings meaning bytes text calls listed empty is =
+    rw (empty, is) (fold_while-joined settings meaning bytes [] listed)
+
 -- what a report has of some calls
 pub fold-reported : (text : List ℕ) (turns : List Turn) → fold reported text (map (λ turn. turn.call) turns) ≡ text ++ report_of turns
 fold-reported text [] = sym (append-nil text)

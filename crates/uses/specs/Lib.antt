@@ -1,4 +1,4 @@
-pub mod SelectedLines
+pub mod MatchedLines
 pub mod DecodingErrors
 pub mod MatchSinks
 pub mod NumberedTexts

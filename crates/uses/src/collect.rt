@@ -7,16 +7,18 @@ ghost use Rattle.grep_searcher.specs.Questions.{IsLawfulFor};
 ghost use Rattle.grep_searcher.specs.Refusals.{refusal_of};
 ghost use Rattle.grep_searcher.specs.SearchErrors.{IsOutOfMemory};
 ghost use Rattle.uses.specs.DecodingErrors.{IsDecodingError};
-ghost use Rattle.uses.specs.SelectedLines.{selected_bytes};
+ghost use Rattle.uses.specs.MatchedLines.{matched_bytes};
 
-use grep_searcher::laws::{matches_are_selected, runs_fold_matches, searches_fail, searches_run};
+use grep_searcher::laws::{
+    matches_are_matched_lines, runs_fold_matches, searches_fail, searches_run,
+};
 use grep_searcher::{
     BinaryDetection, Matcher, SearchError, Searcher, Sink, SinkContext, SinkFinish, SinkMatch,
 };
 use std::alloc::{Allocator, Global};
 use std::marker::Model;
 
-/// Returns the selected lines of `bytes`, decoded and joined: each with its terminator, in order.
+/// Returns the matched lines of `bytes`, decoded and joined: each with its terminator, in order.
 /// That is promised of a search by line.
 ///
 /// An error is made of the matcher's, of a configuration that the searcher refuses, or of being out
@@ -35,7 +37,7 @@ pub fn matching_lines<M: Matcher + Drop>(
         → is_across searcher.old.settings (M.meaning matcher) ≡ false
         → searcher.old.settings.binary_detection ≡ BinaryDetection.None
         → IfOk result (λ text. text.items
-        ≡ selected_bytes searcher.old.settings (M.meaning matcher)
+        ≡ matched_bytes searcher.old.settings (M.meaning matcher)
         (searched_bytes searcher.old.settings bytes.now)) }
     ensures settings { searcher.new.settings ≡ searcher.old.settings }
     ensures buffers { searcher.old.has_buffers ≡ true → searcher.new.has_buffers ≡ true }
@@ -52,7 +54,7 @@ pub fn matching_lines<M: Matcher + Drop>(
     searcher.search_slice(matcher, bytes, &mut matches)?;
     searches_run::<Global, M, _>(&matches);
     runs_fold_matches::<MatchText>();
-    matches_are_selected();
+    matches_are_matched_lines();
     Ok(matches.into_text())
 }
 

@@ -6,7 +6,7 @@ ghost use Rattle.grep_searcher.specs.Modes.{is_across};
 ghost use Rattle.grep_searcher.specs.Questions.{IsLawfulFor};
 ghost use Rattle.grep_searcher.specs.Refusals.{refusal_of};
 ghost use Rattle.uses.specs.DecodingErrors.{IsDecodingError};
-ghost use Rattle.uses.specs.SelectedLines.{selected_count};
+ghost use Rattle.uses.specs.MatchedLines.{matched_count};
 
 use grep_searcher::laws::{
     matches_are_counted, matches_are_few, runs_fold_matches, searches_run, unchanged_is_searched,
@@ -16,8 +16,9 @@ use grep_searcher::{
 };
 use std::alloc::{Allocator, Global};
 
-/// Returns how many lines of `bytes` are selected. If the bytes have to be decoded, it is how many
-/// of the decoded lines are, up to the largest `u64`. The count is promised of a search by line:
+/// Returns how many lines of `bytes` are matched: selected, or hit past the limit in the context after
+/// a selected line. If the bytes have to be decoded, it is how many of the decoded lines are, up to
+/// the largest `u64`. The count is promised of a search by line:
 /// across lines, under `multi_line`, a match may be several lines.
 ///
 /// An error is made of the matcher's, or of a configuration that the searcher refuses. If the bytes
@@ -35,12 +36,12 @@ pub fn count_matching_lines<M: Matcher + Drop>(
         → is_across searcher.old.settings (M.meaning matcher) ≡ false
         → searcher.old.settings.binary_detection ≡ BinaryDetection.None
         → is_searched_unchanged searcher.old.settings bytes.now ≡ true → IfOk result (λ count.
-        count ≡ selected_count searcher.old.settings (M.meaning matcher) bytes.now) }
+        count ≡ matched_count searcher.old.settings (M.meaning matcher) bytes.now) }
     ensures decoded { IsLawfulFor searcher.old.settings (M.meaning matcher) (M.is_lawful matcher)
         → is_across searcher.old.settings (M.meaning matcher) ≡ false
         → searcher.old.settings.binary_detection ≡ BinaryDetection.None
         → IfOk result (λ count. count
-        ≡ min (selected_count searcher.old.settings (M.meaning matcher)
+        ≡ min (matched_count searcher.old.settings (M.meaning matcher)
         (searched_bytes searcher.old.settings bytes.now))
         (2 ^ 64 - 1)) }
     ensures settings { searcher.new.settings ≡ searcher.old.settings }

@@ -7,7 +7,7 @@ ghost use Rattle.grep_searcher.specs.Modes.{is_across};
 ghost use Rattle.grep_searcher.specs.Questions.{IsLawfulFor};
 ghost use Rattle.grep_searcher.specs.ReaderSearches.{Taken, IsUnread};
 ghost use Rattle.grep_searcher.specs.Refusals.{refusal_of};
-ghost use Rattle.uses.specs.SelectedLines.{first_selected};
+ghost use Rattle.uses.specs.MatchedLines.{first_selected};
 
 use grep_searcher::laws::{first_match_is_first, reader_searches_run, runs_fold_matches};
 use grep_searcher::{

@@ -4,7 +4,7 @@ ghost use Rattle.grep_searcher.specs.DecodedInputs.{searched_bytes};
 ghost use Rattle.grep_searcher.specs.Modes.{is_across};
 ghost use Rattle.grep_searcher.specs.Questions.{IsLawfulFor};
 ghost use Rattle.uses.specs.NumberedTexts.{texts_of};
-ghost use Rattle.uses.specs.SelectedLines.{numbered_lines_of};
+ghost use Rattle.uses.specs.MatchedLines.{numbered_lines_of};
 
 use grep_searcher::laws::{closures_keep_calls, searches_run};
 use grep_searcher::sinks::UTF8;
@@ -12,12 +12,12 @@ use grep_searcher::{BinaryDetection, Matcher, Searcher};
 use std::alloc::Global;
 use std::io;
 
-/// Returns the number and the text of each selected line of `bytes`, in order. The number is
+/// Returns the number and the text of each matched line of `bytes`, in order. The number is
 /// counted from 1, and the text ends in the line's terminator, if it has one. If the bytes have to
 /// be decoded, they are the decoded lines.
 ///
 /// An error of the kind `OutOfMemory` is of being out of memory. One of the kind `Other` is made of
-/// the matcher's, of a configuration that the searcher refuses, of a selected line that isn't
+/// the matcher's, of a configuration that the searcher refuses, of a matched line that isn't
 /// UTF-8, or of one without a number, if the searcher doesn't number lines. If the bytes have to be
 /// decoded, it may also be of the heap limit, or, of the kind `InvalidData`, of more than 2^64 - 1
 /// decoded bytes. What an error is isn't in the contract.

@@ -7,7 +7,7 @@ ghost use Rattle.grep_searcher.specs.Matching.{IsInfallible};
 ghost use Rattle.grep_searcher.specs.Modes.{is_across};
 ghost use Rattle.grep_searcher.specs.Questions.{IsLawfulFor};
 ghost use Rattle.grep_searcher.specs.Refusals.{refusal_of};
-ghost use Rattle.uses.specs.SelectedLines.{selected_count};
+ghost use Rattle.uses.specs.MatchedLines.{matched_count};
 
 use crate::count::MatchCount;
 use grep_searcher::laws::{known_files_run, matches_are_counted, runs_fold_matches};
@@ -16,7 +16,7 @@ use std::alloc::Global;
 use std::path::AsPath;
 use std::rt::Files;
 
-/// Opens the file at a path, and returns how many of its decoded lines are selected, up to the
+/// Opens the file at a path, and returns how many of its decoded lines are matched, up to the
 /// largest `u64`.
 ///
 /// An error is that of opening the file, or one of reading it; or it is made of the matcher's, of a
@@ -37,7 +37,7 @@ pub fn count_in_path<R: Files, M: Matcher + Drop, P: AsPath>(
         → searcher.old.settings.binary_detection ≡ BinaryDetection.None
         → IfOk result (λ count. (file : R.File) × ((input : List ℕ)
         → R.File.remaining file ≡ Some input → count
-        ≡ min (selected_count searcher.old.settings (M.meaning matcher)
+        ≡ min (matched_count searcher.old.settings (M.meaning matcher)
         (searched_bytes searcher.old.settings input))
         (2 ^ 64 - 1))) }
     ensures settings { searcher.new.settings ≡ searcher.old.settings }

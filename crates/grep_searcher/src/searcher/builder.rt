@@ -218,8 +218,10 @@ impl SearcherBuilder {
         self
     }
 
-    /// How many lines are selected at most; no limit by default. At 0 none is, and without `passthru`
-    /// nothing is reported. Across lines it is how many matches count, unless `invert_match` is set.
+    /// How many lines are selected at most; no limit by default. The lines after the last of them that
+    /// `after_context` has are reported too, as matches if they hit. At 0 no line is selected, and without
+    /// `passthru` nothing is reported. Across lines it is how many matches count, unless `invert_match`
+    /// is set, and lines that hit after these are context lines.
     pub fn max_matches(&mut self, limit: Option<u64>) -> &mut SearcherBuilder
         ensures reference { result.ghost_name ≡ self.entry.ghost_name }
         ensures set { result.now ≡ record self.old { max_matches = limit } }

@@ -3,7 +3,7 @@ use Rattle.grep_searcher.specs.SearchTurns.{search_turns}
 use Rattle.grep_searcher.specs.SearchLaws.{match_calls}
 use Rattle.grep_searcher.specs.DecodedInputs.{searched_bytes}
 use Rattle.uses.specs.MatchSinks.{counted}
-use Rattle.uses.specs.SelectedLines.{selected_count}
+use Rattle.uses.specs.MatchedLines.{matched_count}
 use Rattle.uses.proofs.FoldLemmas.{fold_while-counted_all}
 use Rattle.uses.proofs.count.count_matching_lines.Goals as goal
 
@@ -23,8 +23,8 @@ returns-clause-count g c = λ lawful by_line none unchanged.
     let settings = c.args.searcher.now.settings in
     let meaning = g.M.Matcher.meaning c.args.matcher in
     let input = c.args.bytes.now in
-    let count : c.search_slice.new.sink.count ≡ min (selected_count settings meaning input) (2 ^ 64 - 1) =
-    subst (λ bytes. c.search_slice.new.sink.count ≡ min (selected_count settings meaning bytes) (2 ^ 64 - 1))
+    let count : c.search_slice.new.sink.count ≡ min (matched_count settings meaning input) (2 ^ 64 - 1) =
+    subst (λ bytes. c.search_slice.new.sink.count ≡ min (matched_count settings meaning bytes) (2 ^ 64 - 1))
     (c.unchanged_is_searched.ensures.input settings input unchanged) (returns-clause-decoded g c lawful by_line none) in
     omega (
       arith,

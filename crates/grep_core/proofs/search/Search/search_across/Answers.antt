@@ -96,6 +96,7 @@ returns-in_err-sink_line-clause-fault g c =
     let chosen = c.next_chosen-next.ensures in
     let unit = c.end_across-end.ensures.unit in
     let line = c.end_across-end.ensures.line in
+    let reported = rw (c.of-verdict.ensures.chosen, c.of-verdict.ensures.trailing) at c.in_err-sink_line.ensures.reported in
     let bare = c.requires.configured.bare in
     let p = err_from_is_err_and c.from_residual-in_err-sink_line.result c.from_residual-in_err-sink_line.ensures.1 in
     let turned = turns.turned k meaning c.args.bytes.now bare c.lines.start c.end_across-end.result c.next_chosen-next.result
@@ -105,7 +106,7 @@ returns-in_err-sink_line-clause-fault g c =
     rw (p.1, p.2) (λ first begun. ends.fault-sink g.C.Calls.step _ _ k c.args.bytes.now first _ _ _ turned.across
     (ends.reported-next k meaning c.args.bytes.now g.C.Calls.step first c.lines.walk _ _ c.lines.sink turned.front
     (c.lines.invariant.reported first begun) (failed _) _
-    (c.in_err-sink_line.ensures.reported [] c.args.bytes.now
+    (reported [] c.args.bytes.now
     (turns.in-window k meaning c.args.bytes.now c.lines.walk c.lines.start c.lines.invariant.same c.lines.invariant.walk))))
 
 pub returns-then-not-branch-clause-reported : goal.returns-then-not-branch-clause-reported
@@ -119,7 +120,7 @@ returns-then-not-branch-clause-reported g c = λ first begun.
     let line = c.end_across-end.ensures.line in
     let bare = c.requires.configured.bare in
     let stops : c.in_ok-sink_line.field-0 ≡ false = search rules in
-    let reported = rw stops at c.in_ok-sink_line.ensures.reported in
+    let reported = rw (c.of-verdict.ensures.chosen, c.of-verdict.ensures.trailing, stops) at c.in_ok-sink_line.ensures.reported in
     let turned = turns.turned k meaning c.args.bytes.now bare c.lines.start c.end_across-end.result c.next_chosen-next.result
     c.lines.walk c.in_ok-unit.unit c.unit_at.new.blocks c.lines.invariant.walk c.lines.invariant.same ready
     ahead chosen c.end_across-end.ensures.low c.end_across-end.ensures.within
@@ -146,7 +147,7 @@ lines-preserved g c =
     let after = c.walk_after-walk.ensures in
     let bare = c.requires.configured.bare in
     let goes : c.in_ok-sink_line.field-0 ≡ true = search rules in
-    let reported = rw goes at c.in_ok-sink_line.ensures.reported in
+    let reported = rw (c.of-verdict.ensures.chosen, c.of-verdict.ensures.trailing, goes) at c.in_ok-sink_line.ensures.reported in
     let here = rw goes at c.in_ok-sink_line.ensures.called in
     let turned = turns.turned k meaning c.args.bytes.now bare c.lines.start c.end_across-end.result c.next_chosen-next.result
     c.lines.walk c.in_ok-unit.unit c.unit_at.new.blocks c.lines.invariant.walk c.lines.invariant.same ready

@@ -6,7 +6,7 @@ use Rattle.grep_matcher.specs.Lines.{lines}
 use Rattle.grep_definitions.specs.Searches.{ErrorMakers, MatcherFacts}
 use Rattle.grep_definitions.specs.Settings.{Settings}
 use Rattle.grep_definitions.specs.SinkRuns.{all_true, failed, stopped}
-use Rattle.grep_walk.specs.Walks.{is_over, line_end}
+use Rattle.grep_walk.specs.Walks.{chooses, trails, is_over, line_end, next_walk}
 use Rattle.grep_walk.proofs.SkipLemmas as skips
 use Rattle.grep_walk.proofs.WindowSearchLemmas as search
 use Rattle.grep_walk.proofs.WindowSearchLemmas.{ordered-next}
@@ -76,14 +76,14 @@ returns-in_default-clause-goes_on g c = λ lawful goes gone input first so_far.
     (subst (λ b. (i : ℕ) → IsLineStart b c.args.window.now c.skip-start.result i → i ≡ length (lines b c.args.window.now)) terminator
     c.in_default.ensures.last)
 
-pub returns-in_err-chosen-clause-fault : goal.returns-in_err-chosen-clause-fault
-returns-in_err-chosen-clause-fault g c =
+pub returns-in_err-verdict-clause-fault : goal.returns-in_err-verdict-clause-fault
+returns-in_err-verdict-clause-fault g c =
     let learns = c.in_ok-ahead.ensures.known in
     let position = c.skip-start.ensures.position in
     let skipped = c.skip-start.ensures.walk in
-    let p = err_from_is_err_and c.from_residual-in_err-chosen.result c.from_residual-in_err-chosen.ensures.1 in
-    let fault = c.in_err-chosen.ensures.fault in
-    let below = c.in_err-chosen.ensures.open in
+    let p = err_from_is_err_and c.from_residual-in_err-verdict.result c.from_residual-in_err-verdict.ensures.1 in
+    let fault = c.in_err-verdict.ensures.fault in
+    let below = c.in_err-verdict.ensures.open in
     rw (p.1, p.2) (λ lawful gone input first so_far.
     let bare = c.requires.configured.bare in
     let now = c.lines.invariant.searched lawful gone input first so_far in
@@ -102,7 +102,7 @@ returns-in_err-sink_line-clause-fault g c =
     let learns = c.in_ok-ahead.ensures.known in
     let position = c.skip-start.ensures.position in
     let skipped = c.skip-start.ensures.walk in
-    let value = c.in_ok-chosen.ensures.value in
+    let decided = c.in_ok-verdict.ensures.decided in
     let p = err_from_is_err_and c.from_residual-in_err-sink_line.result c.from_residual-in_err-sink_line.ensures.1 in
     rw (p.1, p.2) (λ lawful gone input first so_far.
     let bare = c.requires.configured.bare in
@@ -113,7 +113,7 @@ returns-in_err-sink_line-clause-fault g c =
     _ _ _ now c.in_ok-ahead.ensures.bounded known _ _ c.skip-start.ensures.low position skipped _ _ terminator
     c.in-Some.ensures.line _ c.at-known.ensures in
     search.failed-line _ (errors g) (facts g c.args.matcher.now) _ _ _ _ _ bare _ _ _ _ turn.here c.in-Some.ensures.within.0
-    c.in-Some.ensures.within.1 turn.line c.in_ok-chosen.chosen (value turn.agrees) _ _
+    c.in-Some.ensures.within.1 turn.line (chooses c.in_ok-verdict.verdict) (trails c.in_ok-verdict.verdict) (decided turn.agrees) _ _
     (c.in_err-sink_line.ensures.reported gone input turn.here.inside))
 
 pub returns-then-not-branch-clause-ends : goal.returns-then-not-branch-clause-ends
@@ -121,7 +121,7 @@ returns-then-not-branch-clause-ends g c = λ lawful ends.
     let learns = c.in_ok-ahead.ensures.known in
     let position = c.skip-start.ensures.position in
     let skipped = c.skip-start.ensures.walk in
-    let value = c.in_ok-chosen.ensures.value in
+    let decided = c.in_ok-verdict.ensures.decided in
     let stops : c.in_ok-sink_line.field-0 ≡ false = search rules in
     let reported = rw stops at c.in_ok-sink_line.ensures.reported in (
       stopped (line_end c.skip-start.new.walk (slice c.args.window.now c.skip-start.result c.in-Some.end)),
@@ -134,7 +134,7 @@ returns-then-not-branch-clause-ends g c = λ lawful ends.
           bare _ _ _ now c.in_ok-ahead.ensures.bounded known _ _ c.skip-start.ensures.low position skipped
           _ _ terminator c.in-Some.ensures.line _ c.at-known.ensures in
           search.counted-stopped _ (errors g) (facts g c.args.matcher.now) _ _ _ _ _ bare _ _ _ _ turn.here c.in-Some.ensures.within.0
-          c.in-Some.ensures.within.1 turn.line c.in_ok-chosen.chosen (value turn.agrees) _
+          c.in-Some.ensures.within.1 turn.line (chooses c.in_ok-verdict.verdict) (trails c.in_ok-verdict.verdict) (decided turn.agrees) _
           (reported gone input turn.here.inside),
     )
 
@@ -143,13 +143,15 @@ returns-then-is_over-clause-ends g c = λ lawful ends.
     let learns = c.in_ok-ahead.ensures.known in
     let position = c.skip-start.ensures.position in
     let skipped = c.skip-start.ensures.walk in
-    let value = c.in_ok-chosen.ensures.value in
-    let next = c.advance.ensures in
+    let decided = c.in_ok-verdict.ensures.decided in
+    let chosen = c.is_chosen-chosen.ensures in
+    let next = c.advance.ensures
+    ∙ ap (next_walk c.args.self.now.config c.skip-start.new.walk (slice c.args.window.now c.skip-start.result c.in-Some.end)) chosen in
     let over_is = c.is_over.ensures in
     let goes : c.in_ok-sink_line.field-0 ≡ true = search rules in
     let reported = rw goes at c.in_ok-sink_line.ensures.reported in
-    let over = ap (λ p. is_over c.args.self.now.config p c.in_ok-chosen.chosen) (sym next)
-    ∙ rw over_is at c.if-is_over.true in
+    let over = ap (λ p. is_over c.args.self.now.config p (chooses c.in_ok-verdict.verdict)) (sym next)
+    ∙ (ap (is_over c.args.self.now.config c.advance.result) (sym chosen) ∙ rw over_is at c.if-is_over.true) in
     rw next (
       all_true,
       λ gone input first so_far.
@@ -161,7 +163,7 @@ returns-then-is_over-clause-ends g c = λ lawful ends.
           bare _ _ _ now c.in_ok-ahead.ensures.bounded known _ _ c.skip-start.ensures.low position skipped
           _ _ terminator c.in-Some.ensures.line _ c.at-known.ensures in
           search.counted-over _ (errors g) (facts g c.args.matcher.now) _ _ _ _ _ bare _ _ _ _ turn.here c.in-Some.ensures.within.0
-          c.in-Some.ensures.within.1 turn.line c.in_ok-chosen.chosen (value turn.agrees) _
+          c.in-Some.ensures.within.1 turn.line (chooses c.in_ok-verdict.verdict) (trails c.in_ok-verdict.verdict) (decided turn.agrees) _
           (reported gone input turn.here.inside) over,
     )
 
@@ -170,14 +172,16 @@ lines-preserved g c =
     let learns = c.in_ok-ahead.ensures.known in
     let position = c.skip-start.ensures.position in
     let skipped = c.skip-start.ensures.walk in
-    let value = c.in_ok-chosen.ensures.value in
-    let next = c.advance.ensures in
+    let decided = c.in_ok-verdict.ensures.decided in
+    let chosen = c.is_chosen-chosen.ensures in
+    let next = c.advance.ensures
+    ∙ ap (next_walk c.args.self.now.config c.skip-start.new.walk (slice c.args.window.now c.skip-start.result c.in-Some.end)) chosen in
     let over_is = c.is_over.ensures in
     let goes : c.in_ok-sink_line.field-0 ≡ true = search rules in
     let reported = rw goes at c.in_ok-sink_line.ensures.reported in
     let here = rw goes at c.in_ok-sink_line.ensures.called in
-    let on = ap (λ p. is_over c.args.self.now.config p c.in_ok-chosen.chosen) (sym next)
-    ∙ rw over_is at c.if-is_over.false in
+    let on = ap (λ p. is_over c.args.self.now.config p (chooses c.in_ok-verdict.verdict)) (sym next)
+    ∙ (ap (is_over c.args.self.now.config c.advance.result) (sym chosen) ∙ rw over_is at c.if-is_over.false) in
     let size = length-take (c.in-Some.end - c.skip-start.result) (drop c.skip-start.result c.args.window.now) in
     rw next (record {
       within = c.in-Some.ensures.within.1;
@@ -192,7 +196,7 @@ lines-preserved g c =
       );
       ahead = omega (arith, c.lines.invariant.ahead, c.skip-start.ensures.low, c.in-Some.ensures.within.0);
       ordered = ordered-next c.args.self.now.config c.skip-start.new.walk c.skip-start.result c.in-Some.end c.args.window.now
-          c.in_ok-chosen.chosen c.in-Some.ensures.within.0 c.in-Some.ensures.within.1 c.skip-start.ensures.ordered;
+          (chooses c.in_ok-verdict.verdict) c.in-Some.ensures.within.0 c.in-Some.ensures.within.1 c.skip-start.ensures.ordered;
       bounded = c.in_ok-ahead.ensures.bounded;
       known = λ lawful gone input first so_far.
           let now = c.lines.invariant.searched lawful gone input first so_far in
@@ -208,7 +212,7 @@ lines-preserved g c =
           bare _ _ _ now c.in_ok-ahead.ensures.bounded known _ _ c.skip-start.ensures.low position skipped
           _ _ terminator c.in-Some.ensures.line _ c.at-known.ensures in
           search.searched-next _ (errors g) (facts g c.args.matcher.now) _ _ _ _ _ bare _ _ _ _ turn.here c.in-Some.ensures.within.0
-          c.in-Some.ensures.within.1 turn.line c.in_ok-chosen.chosen (value turn.agrees) _
+          c.in-Some.ensures.within.1 turn.line (chooses c.in_ok-verdict.verdict) (trails c.in_ok-verdict.verdict) (decided turn.agrees) _
           (reported gone input turn.here.inside) on;
       called = called-then g.C.Calls.step c.args.self.now.config c.args.sink.now c.lines.sink all_true c.sink_line.new.sink
           c.lines.invariant.called (here 0);
@@ -221,10 +225,10 @@ returns-in_err-ahead-clause-in_order g c =
     let fault = c.in_err-ahead.ensures.fault in
     rw (p.1, p.2) (of_question _ fault.0 fault.2 fault.1 c.lines.invariant.called)
 
-pub returns-in_err-chosen-clause-in_order : goal.returns-in_err-chosen-clause-in_order
-returns-in_err-chosen-clause-in_order g c =
-    let p = err_from_is_err_and c.from_residual-in_err-chosen.result c.from_residual-in_err-chosen.ensures.1 in
-    let fault = c.in_err-chosen.ensures.fault in
+pub returns-in_err-verdict-clause-in_order : goal.returns-in_err-verdict-clause-in_order
+returns-in_err-verdict-clause-in_order g c =
+    let p = err_from_is_err_and c.from_residual-in_err-verdict.result c.from_residual-in_err-verdict.ensures.1 in
+    let fault = c.in_err-verdict.ensures.fault in
     rw (p.1, p.2) (of_question _ fault.0 fault.2 fault.1 c.lines.invariant.called)
 
 pub returns-in_err-sink_line-clause-in_order : goal.returns-in_err-sink_line-clause-in_order

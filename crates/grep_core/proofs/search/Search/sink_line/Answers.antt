@@ -4,17 +4,18 @@ use Rattle.grep_lines.specs.Positions.{slice}
 use Rattle.grep_definitions.specs.LineTurns.{pending_turns, match_turns}
 use Rattle.grep_definitions.specs.SinkRuns.{failed, stopped, outcome_of}
 use Rattle.grep_definitions.proofs.SinkRunLemmas.{AreReported-append, AreReported-ended}
-use Rattle.grep_walk.specs.Walks.{line_end}
+use Rattle.grep_walk.specs.Walks.{chooses, line_end}
 use Rattle.grep_definitions.proofs.CallOrderLemmas.{called-match, called-one, called-then}
 use Rattle.grep_core.proofs.search.Search.sink_line.Goals as goal
 
 pub returns-in_err-sink_before_context-clause-reported : goal.returns-in_err-sink_before_context-clause-reported
 returns-in_err-sink_before_context-clause-reported g c =
     let w = c.args.walk.now in
+    let chosen : chooses c.args.verdict ≡ true = search rules in
     let here = slice c.args.window.now c.args.start c.args.end in
     let stop = line_end w here in
     let p = err_from_is_err_and c.from_residual.result c.from_residual.ensures.1 in
-    rw (p.1, p.2, c.if-chosen.true) (λ gone input inside. AreReported-ended g.C.Calls.step c.args.self.now.config
+    rw (p.1, p.2, chosen) (λ gone input inside. AreReported-ended g.C.Calls.step c.args.self.now.config
     (pending_turns c.args.self.now.config input w.reported_through w.line stop w.reported_through (w.line - w.reported_through))
     (match_turns c.args.self.now.config w.reported_through w.line w.offset stop here) c.args.sink.now
     (failed c.in_err-sink_before_context.field-0.0)
@@ -23,23 +24,25 @@ returns-in_err-sink_before_context-clause-reported g c =
 pub returns-then-not-branch-clause-reported : goal.returns-then-not-branch-clause-reported
 returns-then-not-branch-clause-reported g c =
     let w = c.args.walk.now in
+    let chosen : chooses c.args.verdict ≡ true = search rules in
     let here = slice c.args.window.now c.args.start c.args.end in
     let stop = line_end w here in
     let stops : c.in_ok-sink_before_context.field-0 ≡ false = search rules in
     let reported = rw stops at c.in_ok-sink_before_context.ensures.reported in
-    rw c.if-chosen.true (λ gone input inside. AreReported-ended g.C.Calls.step c.args.self.now.config
+    rw chosen (λ gone input inside. AreReported-ended g.C.Calls.step c.args.self.now.config
     (pending_turns c.args.self.now.config input w.reported_through w.line stop w.reported_through (w.line - w.reported_through))
     (match_turns c.args.self.now.config w.reported_through w.line w.offset stop here) c.args.sink.now (stopped stop)
     c.sink_before_context.new.sink (λ e. cc) (reported gone input inside stop))
 
-pub returns-then-chosen-clause-reported : goal.returns-then-chosen-clause-reported
-returns-then-chosen-clause-reported g c =
+pub returns-then-is_chosen-clause-reported : goal.returns-then-is_chosen-clause-reported
+returns-then-is_chosen-clause-reported g c =
     let w = c.args.walk.now in
+    let chosen : chooses c.args.verdict ≡ true = search rules in
     let here = slice c.args.window.now c.args.start c.args.end in
     let stop = line_end w here in
     let goes : c.in_ok-sink_before_context.field-0 ≡ true = search rules in
     let reported = rw goes at c.in_ok-sink_before_context.ensures.reported in
-    rw c.if-chosen.true (λ gone input inside. AreReported-append g.C.Calls.step c.args.self.now.config
+    rw chosen (λ gone input inside. AreReported-append g.C.Calls.step c.args.self.now.config
     (pending_turns c.args.self.now.config input w.reported_through w.line stop w.reported_through (w.line - w.reported_through))
     (match_turns c.args.self.now.config w.reported_through w.line w.offset stop here) c.args.sink.now c.sink_before_context.new.sink
     (outcome_of stop c.sink_matched.result) c.sink_matched.new.sink (reported gone input inside stop) (c.sink_matched.ensures.reported stop))
@@ -49,8 +52,8 @@ returns-then-not-branch-clause-called g c =
     let stops : c.in_ok-sink_before_context.field-0 ≡ false = search rules in
     rw stops at c.in_ok-sink_before_context.ensures.called
 
-pub returns-then-chosen-clause-called : goal.returns-then-chosen-clause-called
-returns-then-chosen-clause-called g c = λ stop.
+pub returns-then-is_chosen-clause-called : goal.returns-then-is_chosen-clause-called
+returns-then-is_chosen-clause-called g c = λ stop.
     let w = c.args.walk.now in
     let goes : c.in_ok-sink_before_context.field-0 ≡ true = search rules in
     let first = rw goes at c.in_ok-sink_before_context.ensures.called in
@@ -59,12 +62,7 @@ returns-then-chosen-clause-called g c = λ stop.
     w.offset stop (slice c.args.window.now c.args.start c.args.end) c.sink_before_context.new.sink (outcome_of stop c.sink_matched.result)
     c.sink_matched.new.sink (c.sink_matched.ensures.reported stop))
 
-pub returns-then-walk-gt0-clause-called : goal.returns-then-walk-gt0-clause-called
-returns-then-walk-gt0-clause-called g c = λ stop.
-    called-one g.C.Calls.step c.args.self.now.config _ stop c.args.sink.now c.sink_context.result c.sink_context.new.sink
-    c.sink_context.ensures.step refl
-
 pub returns-then-self-clause-called : goal.returns-then-self-clause-called
 returns-then-self-clause-called g c = λ stop.
-    called-one g.C.Calls.step c.args.self.now.config _ stop c.args.sink.now c.sink_context-then-self.result
-    c.sink_context-then-self.new.sink c.sink_context-then-self.ensures.step refl
+    called-one g.C.Calls.step c.args.self.now.config _ stop c.args.sink.now c.sink_context.result
+    c.sink_context.new.sink c.sink_context.ensures.step refl
