@@ -23,8 +23,9 @@ use Rattle.grep_definitions.proofs.BoolLemmas.{clash}
 use Rattle.grep_definitions.proofs.LimitLemmas.{turn_above}
 use Rattle.grep_walk.specs.declared.walk.Walk.{Walk}
 use Rattle.grep_core.specs.Rolls.{IsBetween, IsCountedFor, IsLast, IsNext, IsReady, HasEnded, HasMovedOn, start_in}
+use Rattle.grep_walk.specs.Walks.{AreCounts, recounted}
 use Rattle.grep_walk.specs.Windows.{HasPassed, HasSearched, IsInWindow}
-use Rattle.grep_walk.proofs.FrontLemmas.{count-after, lines-fit, longer-front}
+use Rattle.grep_walk.proofs.FrontLemmas.{count-after, lines-fit, longer-front, start-there}
 use Rattle.grep_walk.proofs.WalkLemmas as walks
 use Rattle.grep_walk.proofs.WindowLemmas.{closed-append, closed-drop, roll-input, start-all, start-same}
 use Rattle.grep_walk.proofs.WindowSearchLemmas.{passed-all, searched-rolled}
@@ -107,7 +108,8 @@ module _ (join : LinesJoin) (append : LinesAppend) {S E : Type 0} (step : Steps 
       → HasPassed step k meaning gone shown (gone ++ (shown ++ [])) first w now
       → IsCountedFor step k meaning first (gone ++ (shown ++ [])) w.offset all_true now
   counted-end gone shown first w now opens passed =
-      walks.counted-end k meaning (gone ++ (shown ++ [])) step first w now passed.searched.reported
+      walks.counted-end k meaning (gone ++ (shown ++ [])) step first
+      (recounted w passed.searched.line passed.searched.through) now passed.searched.walked.reported
       (passed.all ∙ (ap (λ xs. length (lines t gone) + length (lines t xs)) (sym (append-nil shown))
       ∙ sym (count-after join append t gone (shown ++ []) opens)))
 
@@ -173,9 +175,10 @@ module _ (join : LinesJoin) (append : LinesAppend) {S E : Type 0} (step : Steps 
         pub next-rolled : (r : ℕ) → r ≤ length old.shown → IsClosed t old.shown
             → ((gone : List ℕ) → IsClosed t gone → IsClosed t (gone ++ take r old.shown))
             → ((gone more after : List ℕ) → IsClosed t gone → (0 < length after → IsClosed t (drop r old.shown ++ more))
-            → IsInWindow k gone old.shown (gone ++ (old.shown ++ (more ++ after))) (length old.shown) w'
+            → (line through : ℕ) → AreCounts k w' line through
+            → IsInWindow k gone old.shown (gone ++ (old.shown ++ (more ++ after))) (length old.shown) (recounted w' line through)
             → IsInWindow k (gone ++ take r old.shown) (drop r old.shown ++ more) (gone ++ (old.shown ++ (more ++ after)))
-            (length old.shown - r) w')
+            (length old.shown - r) (recounted w' line through))
             → (gone : List ℕ) (first : S) → IsClosed t gone → IsReady step k meaning gone old.shown (start_in old w) first w now
             → IsClosed t (gone ++ take r old.shown)
             × IsNext step k meaning (gone ++ take r old.shown) (drop r old.shown) first w' now'
@@ -190,7 +193,8 @@ module _ (join : LinesJoin) (append : LinesAppend) {S E : Type 0} (step : Steps 
               (subst (λ p. HasSearched step k meaning (gone ++ take r old.shown) (drop r old.shown ++ more) input first p w' now')
               (sym (length-drop r old.shown))
               (searched-rolled step k meaning gone old.shown input first w' now' passed (gone ++ take r old.shown)
-              (drop r old.shown ++ more) (length old.shown - r) (keeps gone more after opens closes passed.searched.inside))),
+              (drop r old.shown ++ more) (length old.shown - r) (keeps gone more after opens closes _ _ passed.searched.counts
+              passed.searched.walked.inside))),
         )
 
   module _ (gone : List ℕ) (old : BufferState) (first : S) (w : Walk) (now : S)
@@ -238,13 +242,21 @@ module _ (join : LinesJoin) (append : LinesAppend) {S E : Type 0} (step : Steps 
             absurd (false≢true (sym more ∙ (ap (λ d. d && length (lines t seen) == 0) unread.detecting
             ∙ ap (λ xs. length (lines t xs) == 0) unread.none)))
         by-cases false busy more less =
-            let line : w.line ≡ length (lines t seen) = (here busy).all ∙ sym (count-after join append t gone old.shown between.opens) in
-            let walk = (between.next busy back [] nothing).reported.walk in
+            let searched = between.next busy back [] nothing in
+            let count = searched.line in
+            let line : count ≡ length (lines t seen) = omega (
+              arith,
+              searched.walked.inside.line.low,
+              start-same join append t (old.shown ++ back) (length old.shown) (count - length (lines t gone)) (length (lines t old.shown))
+                  searched.walked.inside.line.begins (start-there join append t old.shown back between.shut),
+              count-after join append t gone old.shown between.opens,
+            ) in
+            let walk = searched.walked.reported.walk in
             let input : gone ++ ((old.shown ++ back) ++ []) ≡ bytes =
             ap (λ xs. gone ++ xs) (append-nil (old.shown ++ back)) ∙ (sym (append_assoc gone old.shown back) ∙ sym is) in
             subst (λ i. i < LineSearch.turn_count k meaning bytes) line
-            (turn_above k meaning bytes w.line w.after_context_left w.match_count
-            (subst (λ xs. IsOpen k meaning xs w.line w.after_context_left w.match_count) input walk.opened)
+            (turn_above k meaning bytes count w.after_context_left w.match_count
+            (subst (λ xs. IsOpen k meaning xs count w.after_context_left w.match_count) input walk.opened)
             (subst (λ i. i < length (lines t bytes)) (sym line) less))
 
     module _ (new : BufferState) (given : List ℕ) (whole : held new ≡ held old ++ given) (ends_at : old.terminator ≡ t) where

@@ -148,15 +148,21 @@ module _ {S E : Type 0} (step : Steps S E) (k : Settings) where
               next = λ busy more after closes.
                   let there = so_far.between.next busy more after closes in
                   let bytes : List ℕ = so_far.gone ++ ((buffer.shown ++ more) ++ after) in
-                  let calls = turns_before k meaning bytes w.reported_through in
+                  let walked = there.walked in
+                  let calls = turns_before k meaning bytes there.through in
                   record {
-                    inside = there.inside;
-                    reported = record {
-                      walk = there.reported.walk;
-                      reported = jump calls (From old.binary) old o new (omega arith)
-                          (below o calls (past o is none) (low bytes w.reported_through) there.reported.walk.ended)
-                          (before bytes w.reported_through) (paired-before k meaning bytes w.reported_through) none
-                          there.reported.reported called name known told;
+                    line = there.line;
+                    through = there.through;
+                    counts = there.counts;
+                    walked = record {
+                      inside = walked.inside;
+                      reported = record {
+                        walk = walked.reported.walk;
+                        reported = jump calls (From old.binary) old o new (omega arith)
+                            (below o calls (past o is none) (low bytes there.through) walked.reported.walk.ended)
+                            (before bytes there.through) (paired-before k meaning bytes there.through) none
+                            walked.reported.reported called name known told;
+                      };
                     };
                   };
               idle = λ idle.

@@ -1,5 +1,5 @@
 //! What a walk reports of a line: the lines before a match, the match, a line after one, or any line under `passthru`.
-ghost use Rattle.std.specs.Prelude.{◌≤◌, ◌<◌, ◌+◌, ◌-◌, ◌^◌, ℕ, List, length};
+ghost use Rattle.std.specs.Prelude.{◌≡◌, ◌≤◌, ◌<◌, ◌+◌, ◌-◌, ◌^◌, ℕ, true, List, length};
 ghost use Rattle.std.specs.Prelude.{IsOk};
 ghost use Rattle.grep_lines.specs.Positions.{slice};
 ghost use Rattle.grep_definitions.specs.CallOrder.{HasCalled};
@@ -7,7 +7,7 @@ ghost use Rattle.grep_definitions.specs.SinkCalls.{context};
 ghost use Rattle.grep_definitions.specs.LineTurns.{number_of, is_gap, break_turns};
 ghost use Rattle.grep_definitions.specs.LineTurns.{after_turns, before_turns, pending_turns, match_turns};
 ghost use Rattle.grep_definitions.specs.SinkRuns.{AreReported, outcome_of, NeverFails};
-ghost use Rattle.grep_walk.specs.Walks.{chooses, trails, line_turns, line_end};
+ghost use Rattle.grep_walk.specs.Walks.{chooses, counts_lines, trails, line_turns, line_end};
 ghost use Rattle.grep_walk.specs.Windows.{IsInWindow, IsLineIn};
 ghost use Rattle.grep_core.specs.Configured.{IsConfigured};
 
@@ -38,7 +38,8 @@ impl<'c, A: Allocator + Copy, T> Search<'c, A, T> {
         requires configured { IsConfigured (C.settings self.now.searcher.now) self.now.config }
         requires may_call { C.may_call sink.old }
         ensures reported { (gone input : List ℕ)
-            → IsInWindow self.now.config gone window.now input start walk.now
+            → (counts_lines self.now.config ≡ true
+            → IsInWindow self.now.config gone window.now input start walk.now)
             → AreReported C.step self.now.config sink.old
             (line_turns self.now.config input walk.now (slice window.now start end)
             (chooses verdict) (trails verdict))
@@ -117,7 +118,8 @@ impl<'c, A: Allocator + Copy, T> Search<'c, A, T> {
         requires configured { IsConfigured (C.settings self.now.searcher.now) self.now.config }
         requires may_call { C.may_call sink.old }
         ensures reported { (gone input : List ℕ)
-            → IsInWindow self.now.config gone window.now input start walk.now
+            → (counts_lines self.now.config ≡ true
+            → IsInWindow self.now.config gone window.now input start walk.now)
             → (end : ℕ) → AreReported C.step self.now.config sink.old
             (pending_turns self.now.config input walk.now.reported_through walk.now.line end
             walk.now.reported_through (walk.now.line - walk.now.reported_through))

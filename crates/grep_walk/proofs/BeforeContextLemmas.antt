@@ -50,7 +50,7 @@ module _ (k : Settings) (bytes : List ℕ) (v i end : ℕ) where
       silent q from below = let far = lt-leb (i - q) k.before_context (omega arith) in rw far refl
 
   -- if it reaches none, there are no calls
-  pending-none : v ≤ i → min k.before_context (i - v) ≡ 0 → pending_turns k bytes v i end v (i - v) ≡ []
+  pub pending-none : v ≤ i → min k.before_context (i - v) ≡ 0 → pending_turns k bytes v i end v (i - v) ≡ []
   pending-none low none =
       let rest : i - i ≡ 0 = omega arith in
       pending-near i low (omega arith) ∙ ap (λ m. joined_from at_line i m) rest

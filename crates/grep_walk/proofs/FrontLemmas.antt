@@ -13,6 +13,7 @@ use Rattle.grep_matcher.specs.Terminators.{byte_of}
 use Rattle.grep_matcher.specs.Lines.{lines, line_start}
 use Rattle.grep_matcher.specs.Matching.{Meaning}
 use Rattle.grep_lines.specs.LineLaws.{LinesJoin, LinesAppend}
+use Rattle.grep_lines.specs.Positions.{IsLineStart}
 use Rattle.grep_definitions.specs.InputFronts.{IsClosed, IsCrowded, IsTooLong}
 use Rattle.grep_definitions.specs.Settings.{Settings}
 use Rattle.grep_definitions.proofs.LineLengthLemmas.{lines-within, lines-end, first-long, first-open}
@@ -55,6 +56,15 @@ module _ (join : LinesJoin) (append : LinesAppend) (t : ℕ) (front back : List 
   -- how many there are
   pub count-after : length (lines t (front ++ back)) ≡ length (lines t front) + length (lines t back)
   count-after = ap length (append t front back closed) ∙ length-append (lines t front) (lines t back)
+
+  -- where they begin
+  pub start-there : IsLineStart t (front ++ back) (length front) (length (lines t front))
+  start-there =
+      let none : length (lines t front) ≡ length (lines t front) + 0 = omega arith in
+      record {
+        listed = omega (arith, count-after);
+        begins = ap (line_start t (front ++ back)) none ∙ (start-after 0 ∙ omega arith);
+      }
 
   -- the first of them
   pub line-after : slice_index_or (lines t (front ++ back)) (length (lines t front)) [] ≡ slice_index_or (lines t back) 0 []

@@ -11,6 +11,7 @@ pub mod LookAheadLemmas
 pub mod QuestionLemmas
 pub mod SkipLemmas
 pub mod TouchedLemmas
+pub mod UncountedLemmas
 pub mod UnitStepLemmas
 pub mod WalkLemmas
 pub mod WindowLemmas

@@ -23,7 +23,7 @@ use Rattle.grep_walk.specs.declared.look_ahead.Ahead.{Ahead}
 use Rattle.grep_walk.specs.declared.walk.Walk.{Walk}
 use Rattle.grep_walk.specs.LookAheads.{IsBounded, IsExact, IsKnown, MayAskAhead, can_skip, known_at, skips}
 use Rattle.grep_walk.specs.Walks.{IsDecided, is_over, line_end, line_turns, next_walk, walk_past}
-use Rattle.grep_walk.specs.Windows.{HasSearched}
+use Rattle.grep_walk.specs.Windows.{HasWalked}
 use Rattle.grep_walk.proofs.LineRangeLemmas.{line-at, lines-between, starts-ordered}
 use Rattle.grep_walk.proofs.WalkLemmas.{Bare}
 use Rattle.grep_walk.proofs.WindowLemmas.{start-same}
@@ -91,20 +91,13 @@ module _ (k : Settings) (meaning : Meaning) (window : List ℕ) where
       go false true is_b is_c = sym (known.hit i p q line (ltb-false p a.misses is_b) (ltb-true p a.hits is_c))
       go false false is_b is_c = tt
 
--- what a turn of a walk has of the line from p up to q that it decides
-pub record HasLine {S E : Type 0} (step : Steps S E) (k : Settings) (meaning : Meaning) (gone window input : List ℕ) (first : S)
-    (p q : ℕ) (w : Walk) (now : S) (known : Option Bool) : Type 0 where
-  pub here : HasSearched step k meaning gone window input first p w now
-  pub line : (i : ℕ) → IsLineStart (byte_of k.line_terminator) window p i → IsLine (byte_of k.line_terminator) window i p q
-  pub agrees : IfSome known (λ matches. matches ≡ matches_line k meaning (slice window p q))
-
 module _ {S E F : Type 0} (join : LinesJoin) (append : LinesAppend) (step : Steps S E) (errors : ErrorMakers E)
     (matcher : MatcherFacts F) (k : Settings) (gone window input : List ℕ) (first now : S) (bare : Bare k matcher.meaning input) where
   abbrev t : ℕ
   t = byte_of k.line_terminator
 
-  abbrev Searched : ℕ → Walk → Type 0
-  Searched p w = HasSearched step k matcher.meaning gone window input first p w now
+  abbrev Walked : ℕ → Walk → Type 0
+  Walked p w = HasWalked step k matcher.meaning gone window input first p w now
 
   -- the lines from one position up to another don't match
   abbrev Misses : ℕ → ℕ → Type 0
@@ -114,7 +107,7 @@ module _ {S E F : Type 0} (join : LinesJoin) (append : LinesAppend) (step : Step
   moved w bytes count = record w { offset = w.offset + bytes; line = w.line + count }
 
   -- the line that a walk is at
-  line-there : (w : Walk) (p : ℕ) → Searched p w → p < length window
+  line-there : (w : Walk) (p : ℕ) → Walked p w → p < length window
       → (q : ℕ) × (p < q) × (q ≤ length window) × ((i : ℕ) → IsLineStart t window p i → IsLine t window i p q)
   line-there w p so_far less =
       let i = w.line - length (lines t gone) in
@@ -132,7 +125,7 @@ module _ {S E F : Type 0} (join : LinesJoin) (append : LinesAppend) (step : Step
       )
 
   -- the matcher's error for the lines from there on
-  pub failed-ahead : (w : Walk) (p : ℕ) → Searched p w → p < length window → MayAskAhead k matcher.meaning w
+  pub failed-ahead : (w : Walk) (p : ℕ) → Walked p w → p < length window → MayAskAhead k matcher.meaning w
       → (error : F) (e : E) → errors.is_message (matcher.text_of error) e → matcher.fails (drop p window) error
       → IsLineFault step errors matcher k input first e now
   failed-ahead w p so_far less may error e message fails =
@@ -144,9 +137,9 @@ module _ {S E F : Type 0} (join : LinesJoin) (append : LinesAppend) (step : Step
       message fails
 
   -- one line is skipped
-  searched-one : (w : Walk) (p q i : ℕ) → Searched p w → IsSkipping k w → IsLine t window i p q
-      → matches_line k matcher.meaning (slice window p q) ≡ false → Searched q (moved w (q - p) 1)
-  searched-one w p q i so_far skipping line missed = subst (Searched q) same
+  walked-one : (w : Walk) (p q i : ℕ) → Walked p w → IsSkipping k w → IsLine t window i p q
+      → matches_line k matcher.meaning (slice window p q) ≡ false → Walked q (moved w (q - p) 1)
+  walked-one w p q i so_far skipping line missed = subst (Walked q) same
       (searched-next step errors matcher k gone window input first bare p q w now so_far line.above line.within there false false value now
       silent goes_on)
     where
@@ -198,20 +191,20 @@ module _ {S E F : Type 0} (join : LinesJoin) (append : LinesAppend) (step : Step
           (omega (arith, skipping.none_left)) refl
 
   -- many lines are skipped
-  searched-lines : (n : ℕ) (w : Walk) (p q i : ℕ) → Searched p w → IsSkipping k w → IsLineStart t window p i
-      → IsLineStart t window q (i + n) → Misses p q → Searched q (moved w (q - p) n)
-  searched-lines zero w p q i so_far skipping from to misses =
+  walked-lines : (n : ℕ) (w : Walk) (p q i : ℕ) → Walked p w → IsSkipping k w → IsLineStart t window p i
+      → IsLineStart t window q (i + n) → Misses p q → Walked q (moved w (q - p) n)
+  walked-lines zero w p q i so_far skipping from to misses =
       let plain : i ≡ i + zero = omega arith in
       let same : p ≡ q = sym from.begins ∙ (ap (line_start t window) plain ∙ to.begins) in
-      subst (λ r. Searched r (moved w (q - p) zero)) same
-      (subst (Searched p) (sym (same-walk w _ _ _ _ _ (omega (arith, same)) (omega arith) refl refl refl)) so_far)
-  searched-lines (suc n) w p q i so_far skipping from to misses =
+      subst (λ r. Walked r (moved w (q - p) zero)) same
+      (subst (Walked p) (sym (same-walk w _ _ _ _ _ (omega (arith, same)) (omega arith) refl refl refl)) so_far)
+  walked-lines (suc n) w p q i so_far skipping from to misses =
       let end = line_start t window (i + 1) in
       let line = subst (λ s. IsLine t window i s end) from.begins (line-at t window i (omega (arith, to.listed))) in
       let within : end ≤ q = omega (arith, line_start-le t window (i + 1) (i + suc n) (omega arith), to.begins) in
-      let one = searched-one w p end i so_far skipping line (misses i p end line (omega arith) (omega (arith, line.above, within))) in
+      let one = walked-one w p end i so_far skipping line (misses i p end line (omega arith) (omega (arith, line.above, within))) in
       let sum : (i + 1) + n ≡ i + suc n = omega arith in
-      let later = searched-lines n (moved w (end - p) 1) end q (i + 1) one
+      let later = walked-lines n (moved w (end - p) 1) end q (i + 1) one
       (record {
         plain = skipping.plain;
         selects = skipping.selects;
@@ -221,53 +214,24 @@ module _ {S E F : Type 0} (join : LinesJoin) (append : LinesAppend) (step : Step
       (record { listed = omega (arith, to.listed); begins = refl })
       (subst (IsLineStart t window q) (sym sum) to)
       (λ j a b line low high. misses j a b line (omega (arith, low, line.above)) high) in
-      subst (Searched q)
+      subst (Walked q)
       (same-walk (moved w (q - p) (suc n)) _ _ _ _ _ (omega (arith, line.above, within)) (omega arith) refl refl refl) later
 
-  -- the lines that don't match are skipped, if the walk may skip them
-  pub searched-skipped : (w : Walk) (p : ℕ) (a : Ahead) → Searched p w → a.misses ≤ length window
-      → IsKnown k matcher.meaning window p a
-      → Searched (if skips k w p a.misses then a.misses else p)
-      (if skips k w p a.misses then walk_past k w (slice window p a.misses) else w)
-  searched-skipped w p a so_far within known = go (skips k w p a.misses) refl
-    where
-      go : (b : Bool) → skips k w p a.misses ≡ b
-          → Searched (if b then a.misses else p) (if b then walk_past k w (slice window p a.misses) else w)
-      go false is = so_far
-      go true is =
-          let parts = both_true (nat_lt p a.misses) (can_skip k w) is in
-          let less = ltb-true p a.misses parts.0 in
-          let i = w.line - length (lines t gone) in
-          let from = so_far.inside.line.begins in
-          let ordered = starts-ordered join t window p a.misses i known.index from known.at (omega (arith, less)) in
-          let sum : i + (known.index - i) ≡ known.index = omega (arith, ordered) in
-          let many = lines-between t window p a.misses i known.index from known.at (omega (arith, less)) within ordered in
-          let size : w.offset + (a.misses - p) ≡ w.offset + length (slice window p a.misses) =
-          omega (arith, length-take (a.misses - p) (drop p window), length-drop p window, within) in
-          subst (Searched a.misses)
-          (same-walk (walk_past k w (slice window p a.misses)) _ _ _ _ _ size (ap (λ n. w.line + n) (sym many)) refl refl refl)
-          (searched-lines (known.index - i) w p a.misses i so_far (is_skipping k w parts.1) from
-          (subst (IsLineStart t window a.misses) (sym sum) known.at) known.miss)
-
-  pub searched-on : (w : Walk) (p : ℕ) (a : Ahead) → Searched p w → a.misses ≤ length window → IsKnown k matcher.meaning window p a
-      → (r : ℕ) (next : Walk) → r ≡ (if skips k w p a.misses then a.misses else p)
-      → next ≡ (if skips k w p a.misses then walk_past k w (slice window p a.misses) else w) → Searched r next
-  searched-on w p a so_far within known r next is_r is_next = subst (λ q. Searched q next) (sym is_r)
-      (subst (Searched (if skips k w p a.misses then a.misses else p)) (sym is_next) (searched-skipped w p a so_far within known))
-
-  -- the line that the walk decides after that
-  pub line-reached : (w : Walk) (p : ℕ) (a : Ahead) → Searched p w → IsBounded window a → IsKnown k matcher.meaning window p a
-      → (r : ℕ) (next : Walk) → p ≤ r → r ≡ (if skips k w p a.misses then a.misses else p)
-      → next ≡ (if skips k w p a.misses then walk_past k w (slice window p a.misses) else w)
-      → (b q : ℕ) → b ≡ t → (IsExact b window a → (i : ℕ) → IsLineStart b window r i → IsLine b window i r q)
-      → (o : Option Bool) → o ≡ known_at a r → HasLine step k matcher.meaning gone window input first r q next now o
-  line-reached w p a so_far bounded known r next low is_r is_next b q is_b ends o is_o =
-      let here = searched-on w p a so_far (omega (arith, bounded.ordered, bounded.within)) known r next is_r is_next in
-      let line = subst (λ b. IsExact b window a → (i : ℕ) → IsLineStart b window r i → IsLine b window i r q) is_b ends known.exact in
-      record {
-        here = here;
-        line = line;
-        agrees = subst (λ o. IfSome o (λ m. m ≡ matches_line k matcher.meaning (slice window r q))) (sym is_o)
-            (known-line k matcher.meaning window a _ r q (known-later k matcher.meaning window p r a low known)
-            (line _ here.inside.line.begins));
-      }
+  -- the lines that don't match are passed, if the walk may skip them
+  pub walked-past : (w : Walk) (p : ℕ) (a : Ahead) → Walked p w → a.misses ≤ length window
+      → IsKnown k matcher.meaning window p a → skips k w p a.misses ≡ true
+      → Walked a.misses (walk_past k w (slice window p a.misses))
+  walked-past w p a so_far within known is =
+      let parts = both_true (nat_lt p a.misses) (can_skip k w) is in
+      let less = ltb-true p a.misses parts.0 in
+      let i = w.line - length (lines t gone) in
+      let from = so_far.inside.line.begins in
+      let ordered = starts-ordered join t window p a.misses i known.index from known.at (omega (arith, less)) in
+      let sum : i + (known.index - i) ≡ known.index = omega (arith, ordered) in
+      let many = lines-between t window p a.misses i known.index from known.at (omega (arith, less)) within ordered in
+      let size : w.offset + (a.misses - p) ≡ w.offset + length (slice window p a.misses) =
+      omega (arith, length-take (a.misses - p) (drop p window), length-drop p window, within) in
+      subst (Walked a.misses)
+      (same-walk (walk_past k w (slice window p a.misses)) _ _ _ _ _ size (ap (λ n. w.line + n) (sym many)) refl refl refl)
+      (walked-lines (known.index - i) w p a.misses i so_far (is_skipping k w parts.1) from
+      (subst (IsLineStart t window a.misses) (sym sum) known.at) known.miss)

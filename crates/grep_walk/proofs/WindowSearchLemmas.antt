@@ -17,10 +17,10 @@ use Rattle.grep_definitions.specs.Searches.{ErrorMakers, MatcherFacts, IsLineFau
 use Rattle.grep_matcher.specs.Terminators.{byte_of}
 use Rattle.grep_walk.specs.declared.walk.Walk.{Walk}
 use Rattle.grep_walk.specs.Walks.{IsDecided, IsOrdered, HasReported, Counted}
-use Rattle.grep_walk.specs.Walks.{can_hit, line_end, line_turns, next_walk, is_over, reports_line}
+use Rattle.grep_walk.specs.Walks.{can_hit, line_end, line_turns, next_walk, is_over, recounted, reports_line}
 use Rattle.grep_definitions.specs.Questions.{IsAsked}
 use Rattle.grep_walk.specs.LookAheads.{MayAskAhead}
-use Rattle.grep_walk.specs.Windows.{IsWindow, IsInWindow, HasSearched, HasPassed}
+use Rattle.grep_walk.specs.Windows.{IsWindow, IsInWindow, HasPassed, HasSearched, HasWalked}
 use Rattle.grep_walk.proofs.LineRangeLemmas.{line-at}
 use Rattle.grep_walk.proofs.WalkLemmas as walks
 use Rattle.grep_walk.proofs.WalkLemmas.{Bare, start_walk}
@@ -49,22 +49,32 @@ pub searched-start : {S E : Type 0} (step : Steps S E) (k : Settings) (meaning :
     → (not k.passthru && is_at 0 k.max_matches) ≡ false → step first k begins (Ok true) now
     → HasSearched step k meaning [] window input first 0 (start_walk k meaning input) now
 searched-start step k meaning window input first now shown busy begun = record {
-  inside = record {
-    shown = shown;
-    at = refl;
-    line = record { low = omega arith; begins = record { listed = omega arith; begins = refl } };
-    kept = omega arith;
+  line = 0;
+  through = 0;
+  counts = λ _. (refl, refl);
+  walked = record {
+    inside = record {
+      shown = shown;
+      at = refl;
+      line = record { low = omega arith; begins = record { listed = omega arith; begins = refl } };
+      kept = omega arith;
+    };
+    reported = walks.reported-start k meaning input step first now busy begun;
   };
-  reported = walks.reported-start k meaning input step first now busy begun;
 }
 
 -- it goes on with the next window: nothing of what was reported changes
 pub searched-rolled : {S E : Type 0} (step : Steps S E) (k : Settings) (meaning : Meaning) (gone window input : List ℕ) (first : S)
-    (w : Walk) (now : S) → HasPassed step k meaning gone window input first w now
-    → (gone' window' : List ℕ) (start : ℕ) → IsInWindow k gone' window' input start w
+    (w : Walk) (now : S) (passed : HasPassed step k meaning gone window input first w now)
+    → (gone' window' : List ℕ) (start : ℕ)
+    → IsInWindow k gone' window' input start (recounted w passed.searched.line passed.searched.through)
     → HasSearched step k meaning gone' window' input first start w now
-searched-rolled step k meaning gone window input first w now passed gone' window' start inside =
-    record { inside = inside; reported = passed.searched.reported }
+searched-rolled step k meaning gone window input first w now passed gone' window' start inside = record {
+  line = passed.searched.line;
+  through = passed.searched.through;
+  counts = passed.searched.counts;
+  walked = record { inside = inside; reported = passed.searched.walked.reported };
+}
 
 -- at the end of the window all its lines are passed
 pub passed-all : {S E : Type 0} (step : Steps S E) (k : Settings) (meaning : Meaning) (gone window input : List ℕ) (first : S)
@@ -72,10 +82,16 @@ pub passed-all : {S E : Type 0} (step : Steps S E) (k : Settings) (meaning : Mea
     → ((i : ℕ) → IsLineStart (byte_of k.line_terminator) window p i → i ≡ length (lines (byte_of k.line_terminator) window))
     → HasPassed step k meaning gone window input first w now
 passed-all step k meaning gone window input first p w now so_far end last = record {
-  searched = subst (λ p. HasSearched step k meaning gone window input first p w now) end so_far;
+  searched = record {
+    line = so_far.line;
+    through = so_far.through;
+    counts = so_far.counts;
+    walked = subst (λ p. HasWalked step k meaning gone window input first p (recounted w so_far.line so_far.through) now) end
+        so_far.walked;
+  };
   all =
       let before = length (lines (byte_of k.line_terminator) gone) in
-      omega (arith, so_far.inside.line.low, last (w.line - before) so_far.inside.line.begins);
+      omega (arith, so_far.walked.inside.line.low, last (so_far.line - before) so_far.walked.inside.line.begins);
 }
 
 -- once all lines of the input are passed, all calls were made and returned true
@@ -85,7 +101,8 @@ pub counted-passed : {S E : Type 0} (step : Steps S E) (k : Settings) (meaning :
     ≡ length (lines (byte_of k.line_terminator) input)
     → Counted step k first (turns k meaning input) (byte_count k meaning input) w.offset all_true now
 counted-passed step k meaning gone window input first w now passed all =
-    walks.counted-end k meaning input step first w now passed.searched.reported (passed.all ∙ all)
+    walks.counted-end k meaning input step first (recounted w passed.searched.line passed.searched.through) now
+    passed.searched.walked.reported (passed.all ∙ all)
 
 module _ {S E F : Type 0} (step : Steps S E) (errors : ErrorMakers E) (matcher : MatcherFacts F) (k : Settings)
     (gone window input : List ℕ) (first : S) where
@@ -108,7 +125,7 @@ module _ {S E F : Type 0} (step : Steps S E) (errors : ErrorMakers E) (matcher :
 
   -- one line, from p up to q of the window
   module _ (bare : Bare k matcher.meaning input) (p q : ℕ) (w : Walk) (now : S)
-      (so_far : HasSearched step k matcher.meaning gone window input first p w now) (below : p < q) (within : q ≤ length window)
+      (so_far : HasWalked step k matcher.meaning gone window input first p w now) (below : p < q) (within : q ≤ length window)
       (line : (i : ℕ) → IsLineStart t window p i → IsLine t window i p q) where
     abbrev here : List ℕ
     here = slice window p q
@@ -198,7 +215,7 @@ module _ {S E F : Type 0} (step : Steps S E) (errors : ErrorMakers E) (matcher :
 
       pub searched-next : (new : S) → AreReported step k now (line_turns k input w here chosen trailing) all_true new
           → is_over k (next_walk k w here chosen) chosen ≡ false
-          → HasSearched step k matcher.meaning gone window input first q (next_walk k w here chosen) new
+          → HasWalked step k matcher.meaning gone window input first q (next_walk k w here chosen) new
       searched-next new reported goes_on = record {
         inside = record {
           shown = so_far.inside.shown;

@@ -81,6 +81,28 @@ walk_past settings w passed = record w {
   line = w.line + length (lines (byte_of settings.line_terminator) passed);
 }
 
+-- whether a search counts its lines: if they are numbered, or reported around matches
+abbrev pub counts_lines : Settings → Bool
+counts_lines settings =
+    settings.line_number || nat_lt 0 settings.after_context || nat_lt 0 settings.before_context
+
+-- the walk after lines that were skipped, which are counted only if lines are
+abbrev pub skip_past : Settings → Walk → List ℕ → Walk
+skip_past settings w passed = record w {
+  offset = w.offset + length passed;
+  line = if counts_lines settings
+      then w.line + length (lines (byte_of settings.line_terminator) passed) else w.line;
+}
+
+-- a walk with its lines counted anew
+abbrev pub recounted : Walk → ℕ → ℕ → Walk
+recounted w line through = record w { line = line; reported_through = through }
+
+-- these are a walk's counts of lines, if it counts them
+abbrev pub AreCounts : Settings → Walk → ℕ → ℕ → Type 0
+AreCounts settings w line through =
+    counts_lines settings ≡ true → (line ≡ w.line) × (through ≡ w.reported_through)
+
 -- whether no later line has a turn, by whether the last line was chosen
 abbrev pub is_over : Settings → Walk → Bool → Bool
 is_over settings w chosen =

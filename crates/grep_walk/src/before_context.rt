@@ -7,6 +7,7 @@ ghost use Rattle.grep_matcher.specs.Lines.{lines};
 ghost use Rattle.grep_lines.specs.Positions.{IsLineStart};
 ghost use Rattle.grep_definitions.specs.InputFronts.{IsClosed};
 ghost use Rattle.grep_definitions.specs.LineTurns.{is_gap};
+ghost use Rattle.grep_walk.specs.Walks.{AreCounts, recounted};
 ghost use Rattle.grep_walk.specs.Windows.{IsInWindow};
 
 use crate::config::Config;
@@ -60,11 +61,12 @@ impl Config {
             → IsClosed (byte_of self.now.line_terminator) window.now
             → (0 < length after
             → IsClosed (byte_of self.now.line_terminator) (drop result window.now ++ more))
+            → (line through : ℕ) → AreCounts self.now walk.now line through
             → IsInWindow self.now gone window.now (gone ++ (window.now ++ (more ++ after)))
-            (length window.now) walk.now
+            (length window.now) (recounted walk.now line through)
             → IsInWindow self.now (gone ++ take result window.now)
             (drop result window.now ++ more) (gone ++ (window.now ++ (more ++ after)))
-            (length window.now - result) walk.now }
+            (length window.now - result) (recounted walk.now line through) }
     {
         lines_join();
         lines_append();

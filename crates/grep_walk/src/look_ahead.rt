@@ -10,7 +10,7 @@ ghost use Rattle.grep_matcher.specs.Terminators.{byte_of};
 ghost use Rattle.grep_definitions.specs.Questions.{IsLawfulFor};
 ghost use Rattle.grep_walk.specs.LookAheads.{known_at, IsBounded, IsExact, IsKnown, MayAskAhead};
 ghost use Rattle.grep_walk.specs.LookAheads.{can_skip, skips};
-ghost use Rattle.grep_walk.specs.Walks.{walk_past, IsOrdered};
+ghost use Rattle.grep_walk.specs.Walks.{skip_past, IsOrdered};
 
 use crate::config::Config;
 use crate::walk::Walk;
@@ -148,8 +148,9 @@ impl Config {
     }
 
     /// Skips the lines from `start` on that are known not to match, if none of them can be reported: moves the walk
-    /// past them and returns where it is then, in bytes of the window. The caller ensures that `start` is in the
-    /// window, where the walk is, and that the offset of the window's end is below 2^64.
+    /// past them and returns where it is then, in bytes of the window. They are counted only if lines are numbered or
+    /// have contexts. The caller ensures that `start` is in the window, where the walk is, and that the offset of the
+    /// window's end is below 2^64.
     pub fn skip(&self, window: &[u8], start: usize, ahead: &Ahead, walk: &mut Walk) -> usize
         requires bounded { IsBounded window.now ahead.now }
         requires inside { start ≤ length window.now }
@@ -158,7 +159,7 @@ impl Config {
         ensures position { result ≡ (if skips self.now walk.old start ahead.now.misses
             then ahead.now.misses else start) }
         ensures walk { walk.new ≡ (if skips self.now walk.old start ahead.now.misses
-            then walk_past self.now walk.old (slice window.now start ahead.now.misses)
+            then skip_past self.now walk.old (slice window.now start ahead.now.misses)
             else walk.old) }
         ensures ordered { IsOrdered walk.new }
         ensures moved { walk.new.offset + start ≡ walk.old.offset + result }
@@ -168,7 +169,12 @@ impl Config {
         if start >= ahead.misses || !self.can_skip(walk) {
             return start;
         }
-        *walk = self.walk_past(walk, &window[start..ahead.misses]);
+        let skipped = &window[start..ahead.misses];
+        if self.counts_lines() {
+            *walk = self.walk_past(walk, skipped);
+        } else {
+            walk.offset += skipped.len() as u64;
+        }
         ahead.misses
     }
 

@@ -9,7 +9,7 @@ ghost use Rattle.grep_definitions.specs.Below.{is_at};
 ghost use Rattle.grep_definitions.specs.InputFronts.{IsClosed};
 ghost use Rattle.grep_definitions.specs.LineSearch.{differ};
 ghost use Rattle.grep_definitions.specs.LineTurns.{number_of, matches_line};
-ghost use Rattle.grep_walk.specs.Walks.{next_walk, walk_past, is_over, IsOrdered};
+ghost use Rattle.grep_walk.specs.Walks.{counts_lines, next_walk, walk_past, is_over, IsOrdered};
 ghost use Rattle.grep_walk.specs.Walks.{can_hit, chooses, trails, IsDecided};
 
 use crate::config::Config;
@@ -19,14 +19,15 @@ use grep_matcher::Matcher;
 use grep_report::SinkError;
 use std::alloc::Allocator;
 
-/// How far a walk over lines has come. Offsets and counts of lines are those of the whole input.
+/// How far a walk over lines has come. Offsets and counts of lines are those of the whole input. A walk may skip lines
+/// that don't match, and counts them only if lines are numbered or have contexts.
 #[derive(Clone, Copy)]
 pub struct Walk {
     /// Where the next line begins, in bytes.
     pub offset: u64,
-    /// How many lines are before it.
+    /// How many lines are before it, without those that were skipped uncounted.
     pub line: u64,
-    /// How many lines there are up to the last reported one, and with it.
+    /// The same up to the last reported line, and with it.
     pub reported_through: u64,
     /// How many lines are still to be reported after a match.
     pub after_context_left: usize,
@@ -124,6 +125,13 @@ impl Config {
             Some(limit) => walk.match_count == limit,
             None => false,
         }
+    }
+
+    /// Whether lines are counted: if they are numbered, or reported around matches.
+    pub fn counts_lines(&self) -> bool
+        ensures { result ≡ counts_lines self.now }
+    {
+        self.line_number || self.after_context > 0 || self.before_context > 0
     }
 
     /// Whether no line has a turn.

@@ -107,7 +107,7 @@ returns-in_err-sink_line-clause-fault g c =
     (ends.reported-next k meaning c.args.bytes.now g.C.Calls.step first c.lines.walk _ _ c.lines.sink turned.front
     (c.lines.invariant.reported first begun) (failed _) _
     (reported [] c.args.bytes.now
-    (turns.in-window k meaning c.args.bytes.now c.lines.walk c.lines.start c.lines.invariant.same c.lines.invariant.walk))))
+    (λ _. turns.in-window k meaning c.args.bytes.now c.lines.walk c.lines.start c.lines.invariant.same c.lines.invariant.walk))))
 
 pub returns-then-not-branch-clause-reported : goal.returns-then-not-branch-clause-reported
 returns-then-not-branch-clause-reported g c = λ first begun.
@@ -132,7 +132,7 @@ returns-then-not-branch-clause-reported g c = λ first begun.
           (ends.reported-next k meaning c.args.bytes.now g.C.Calls.step first c.lines.walk _ _ c.lines.sink turned.front
           (c.lines.invariant.reported first begun) (stopped stop) _
           (reported [] c.args.bytes.now
-          (turns.in-window k meaning c.args.bytes.now c.lines.walk c.lines.start c.lines.invariant.same c.lines.invariant.walk))),
+          (λ _. turns.in-window k meaning c.args.bytes.now c.lines.walk c.lines.start c.lines.invariant.same c.lines.invariant.walk))),
     )
 
 pub lines-preserved : goal.lines-preserved
@@ -162,7 +162,7 @@ lines-preserved g c =
       reported = λ first begun. ends.reported-next k meaning c.args.bytes.now g.C.Calls.step first c.lines.walk _ _ c.lines.sink
           turned.front (c.lines.invariant.reported first begun) all_true _
           (reported [] c.args.bytes.now
-          (turns.in-window k meaning c.args.bytes.now c.lines.walk c.lines.start c.lines.invariant.same c.lines.invariant.walk));
+          (λ _. turns.in-window k meaning c.args.bytes.now c.lines.walk c.lines.start c.lines.invariant.same c.lines.invariant.walk));
       called = called-then g.C.Calls.step k c.args.sink.now c.lines.sink all_true c.sink_line.new.sink c.lines.invariant.called (here 0);
       may_call = c.in_ok-sink_line.ensures.may_call;
     })

@@ -76,7 +76,7 @@ returns-clause-goes_on g c = λ lawful _.
           (omega (arith, searched.within, same, c.absolute_byte_offset.ensures, c.requires.low))
           (searched.goes_on lawful goes) c.first_kept-count.result (omega (arith, c.first_kept-count.ensures.within, same)) closed
           (λ gone opens. first.closed gone opens closed)
-          (λ gone more after opens closes inside. first.kept gone more after opens closed closes inside);
+          (λ gone more after opens closes. first.kept gone more after opens closed closes);
     }
 
 pub returns-then-start-window-clause-in_order : goal.returns-then-start-window-clause-in_order

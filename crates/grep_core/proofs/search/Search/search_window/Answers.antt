@@ -10,6 +10,7 @@ use Rattle.grep_walk.specs.Walks.{chooses, trails, is_over, line_end, next_walk}
 use Rattle.grep_walk.proofs.SkipLemmas as skips
 use Rattle.grep_walk.proofs.WindowSearchLemmas as search
 use Rattle.grep_walk.proofs.WindowSearchLemmas.{ordered-next}
+use Rattle.grep_walk.proofs.UncountedLemmas as uncounted
 use Rattle.grep_core.proofs.search.Search.search_window.Given.{Over}
 use Rattle.grep_definitions.specs.CallOrder.{of_call, of_question}
 use Rattle.grep_definitions.proofs.CallOrderLemmas.{called-none, called-then}
@@ -54,10 +55,10 @@ returns-in_err-ahead-clause-fault g c =
     let ahead = c.in_err-ahead.ensures in
     let allowed = ahead.allowed in
     let fault = ahead.fault in
-    rw (p.1, p.2) (λ lawful gone input first so_far. skips.failed-ahead c.lines_join.ensures c.lines_append.ensures g.C.Calls.step
-    (errors g) (facts g c.args.matcher.now) c.args.self.now.config gone c.args.window.now input first c.lines.sink
+    rw (p.1, p.2) (λ lawful gone input first so_far. uncounted.failed-ahead g.C.Calls.step
+    (errors g) (facts g c.args.matcher.now) c.args.self.now.config gone c.args.window.now input first
     (λ passthru. absurd (false≢true (sym allowed.allowed.selects ∙ passthru)))
-    c.lines.walk c.lines.start (c.lines.invariant.searched lawful gone input first so_far) ahead.some allowed
+    c.lines_join.ensures c.lines_append.ensures c.lines.sink c.lines.walk c.lines.start (c.lines.invariant.searched lawful gone input first so_far) ahead.some allowed
     fault.0 _ fault.1 fault.2)
 
 pub returns-in_default-clause-goes_on : goal.returns-in_default-clause-goes_on
@@ -67,9 +68,9 @@ returns-in_default-clause-goes_on g c = λ lawful goes gone input first so_far.
     let skipped = c.skip-start.ensures.walk in
     let bare = c.requires.configured.bare in
     let now = c.lines.invariant.searched lawful gone input first so_far in
-    let known = learns lawful _ now.inside.line.begins (c.lines.invariant.known lawful gone input first so_far) in
-    let here = skips.searched-on c.lines_join.ensures c.lines_append.ensures _ (errors g) (facts g c.args.matcher.now) _ _ _ _ _ _ bare
-    _ _ c.in_ok-ahead.ahead now (omega (arith, c.in_ok-ahead.ensures.bounded.ordered, c.in_ok-ahead.ensures.bounded.within)) known _ _
+    let known = learns lawful _ now.walked.inside.line.begins (c.lines.invariant.known lawful gone input first so_far) in
+    let here = uncounted.searched-on _ (errors g) (facts g c.args.matcher.now) _ _ _ _ _ bare
+    c.lines_join.ensures c.lines_append.ensures _ _ _ c.in_ok-ahead.ahead now (omega (arith, c.in_ok-ahead.ensures.bounded.ordered, c.in_ok-ahead.ensures.bounded.within)) known _ _
     position skipped in
     let terminator = c.terminator-terminator.ensures in
     search.passed-all _ _ _ _ _ _ _ _ _ _ here c.in_default.ensures.end
@@ -87,15 +88,13 @@ returns-in_err-verdict-clause-fault g c =
     rw (p.1, p.2) (λ lawful gone input first so_far.
     let bare = c.requires.configured.bare in
     let now = c.lines.invariant.searched lawful gone input first so_far in
-    let known = learns lawful _ now.inside.line.begins (c.lines.invariant.known lawful gone input first so_far) in
+    let known = learns lawful _ now.walked.inside.line.begins (c.lines.invariant.known lawful gone input first so_far) in
     let terminator = c.terminator-terminator.ensures in
-    let turn = skips.line-reached c.lines_join.ensures c.lines_append.ensures _ (errors g) (facts g c.args.matcher.now) _ _ _ _ _ _ bare
-    _ _ _ now c.in_ok-ahead.ensures.bounded known _ _ c.skip-start.ensures.low position skipped _ _ terminator
+    let turn = uncounted.line-reached _ (errors g) (facts g c.args.matcher.now) _ _ _ _ _ bare c.lines_join.ensures
+          c.lines_append.ensures _ _ _ _ now c.in_ok-ahead.ensures.bounded known _ _ c.skip-start.ensures.low position skipped _ _ terminator
     c.in-Some.ensures.line _ c.at-known.ensures in
-    search.failed-matcher _ (errors g) (facts g c.args.matcher.now) _ _ _ _ _ bare _ _ _ _ turn.here c.in-Some.ensures.within.0
-    c.in-Some.ensures.within.1 turn.line below _ fault.0 _
-    (search.asked-line _ (errors g) (facts g c.args.matcher.now) _ _ _ _ _ bare _ _ _ _ turn.here c.in-Some.ensures.within.0
-    c.in-Some.ensures.within.1 turn.line) fault.1 fault.2)
+    uncounted.failed-asked _ (errors g) (facts g c.args.matcher.now) _ _ _ _ _ bare _ _ _ _ turn.here c.in-Some.ensures.within.0
+    c.in-Some.ensures.within.1 turn.line below fault.0 _ fault.1 fault.2)
 
 pub returns-in_err-sink_line-clause-fault : goal.returns-in_err-sink_line-clause-fault
 returns-in_err-sink_line-clause-fault g c =
@@ -107,14 +106,14 @@ returns-in_err-sink_line-clause-fault g c =
     rw (p.1, p.2) (λ lawful gone input first so_far.
     let bare = c.requires.configured.bare in
     let now = c.lines.invariant.searched lawful gone input first so_far in
-    let known = learns lawful _ now.inside.line.begins (c.lines.invariant.known lawful gone input first so_far) in
+    let known = learns lawful _ now.walked.inside.line.begins (c.lines.invariant.known lawful gone input first so_far) in
     let terminator = c.terminator-terminator.ensures in
-    let turn = skips.line-reached c.lines_join.ensures c.lines_append.ensures _ (errors g) (facts g c.args.matcher.now) _ _ _ _ _ _ bare
-    _ _ _ now c.in_ok-ahead.ensures.bounded known _ _ c.skip-start.ensures.low position skipped _ _ terminator
+    let turn = uncounted.line-reached _ (errors g) (facts g c.args.matcher.now) _ _ _ _ _ bare c.lines_join.ensures
+          c.lines_append.ensures _ _ _ _ now c.in_ok-ahead.ensures.bounded known _ _ c.skip-start.ensures.low position skipped _ _ terminator
     c.in-Some.ensures.line _ c.at-known.ensures in
-    search.failed-line _ (errors g) (facts g c.args.matcher.now) _ _ _ _ _ bare _ _ _ _ turn.here c.in-Some.ensures.within.0
+    uncounted.failed-line _ (errors g) (facts g c.args.matcher.now) _ _ _ _ _ bare _ _ _ _ turn.here c.in-Some.ensures.within.0
     c.in-Some.ensures.within.1 turn.line (chooses c.in_ok-verdict.verdict) (trails c.in_ok-verdict.verdict) (decided turn.agrees) _ _
-    (c.in_err-sink_line.ensures.reported gone input turn.here.inside))
+    (c.in_err-sink_line.ensures.reported gone input (uncounted.inside-counted _ (errors g) (facts g c.args.matcher.now) _ _ _ _ _ _ _ _ turn.here)))
 
 pub returns-then-not-branch-clause-ends : goal.returns-then-not-branch-clause-ends
 returns-then-not-branch-clause-ends g c = λ lawful ends.
@@ -128,14 +127,14 @@ returns-then-not-branch-clause-ends g c = λ lawful ends.
       λ gone input first so_far.
           let bare = c.requires.configured.bare in
           let now = c.lines.invariant.searched lawful gone input first so_far in
-          let known = learns lawful _ now.inside.line.begins (c.lines.invariant.known lawful gone input first so_far) in
+          let known = learns lawful _ now.walked.inside.line.begins (c.lines.invariant.known lawful gone input first so_far) in
           let terminator = c.terminator-terminator.ensures in
-          let turn = skips.line-reached c.lines_join.ensures c.lines_append.ensures _ (errors g) (facts g c.args.matcher.now) _ _ _ _ _ _
-          bare _ _ _ now c.in_ok-ahead.ensures.bounded known _ _ c.skip-start.ensures.low position skipped
+          let turn = uncounted.line-reached _ (errors g) (facts g c.args.matcher.now) _ _ _ _ _ bare c.lines_join.ensures
+          c.lines_append.ensures _ _ _ _ now c.in_ok-ahead.ensures.bounded known _ _ c.skip-start.ensures.low position skipped
           _ _ terminator c.in-Some.ensures.line _ c.at-known.ensures in
-          search.counted-stopped _ (errors g) (facts g c.args.matcher.now) _ _ _ _ _ bare _ _ _ _ turn.here c.in-Some.ensures.within.0
+          uncounted.counted-stopped _ (errors g) (facts g c.args.matcher.now) _ _ _ _ _ bare _ _ _ _ turn.here c.in-Some.ensures.within.0
           c.in-Some.ensures.within.1 turn.line (chooses c.in_ok-verdict.verdict) (trails c.in_ok-verdict.verdict) (decided turn.agrees) _
-          (reported gone input turn.here.inside),
+          (reported gone input (uncounted.inside-counted _ (errors g) (facts g c.args.matcher.now) _ _ _ _ _ _ _ _ turn.here)),
     )
 
 pub returns-then-is_over-clause-ends : goal.returns-then-is_over-clause-ends
@@ -157,14 +156,14 @@ returns-then-is_over-clause-ends g c = λ lawful ends.
       λ gone input first so_far.
           let bare = c.requires.configured.bare in
           let now = c.lines.invariant.searched lawful gone input first so_far in
-          let known = learns lawful _ now.inside.line.begins (c.lines.invariant.known lawful gone input first so_far) in
+          let known = learns lawful _ now.walked.inside.line.begins (c.lines.invariant.known lawful gone input first so_far) in
           let terminator = c.terminator-terminator.ensures in
-          let turn = skips.line-reached c.lines_join.ensures c.lines_append.ensures _ (errors g) (facts g c.args.matcher.now) _ _ _ _ _ _
-          bare _ _ _ now c.in_ok-ahead.ensures.bounded known _ _ c.skip-start.ensures.low position skipped
+          let turn = uncounted.line-reached _ (errors g) (facts g c.args.matcher.now) _ _ _ _ _ bare c.lines_join.ensures
+          c.lines_append.ensures _ _ _ _ now c.in_ok-ahead.ensures.bounded known _ _ c.skip-start.ensures.low position skipped
           _ _ terminator c.in-Some.ensures.line _ c.at-known.ensures in
-          search.counted-over _ (errors g) (facts g c.args.matcher.now) _ _ _ _ _ bare _ _ _ _ turn.here c.in-Some.ensures.within.0
+          uncounted.counted-over _ (errors g) (facts g c.args.matcher.now) _ _ _ _ _ bare _ _ _ _ turn.here c.in-Some.ensures.within.0
           c.in-Some.ensures.within.1 turn.line (chooses c.in_ok-verdict.verdict) (trails c.in_ok-verdict.verdict) (decided turn.agrees) _
-          (reported gone input turn.here.inside) over,
+          (reported gone input (uncounted.inside-counted _ (errors g) (facts g c.args.matcher.now) _ _ _ _ _ _ _ _ turn.here)) over,
     )
 
 pub lines-preserved : goal.lines-preserved
@@ -202,18 +201,18 @@ lines-preserved g c =
           let now = c.lines.invariant.searched lawful gone input first so_far in
           skips.known-later c.args.self.now.config (g.M.Matcher.meaning c.args.matcher.now) c.args.window.now c.lines.start
           c.in-Some.end c.in_ok-ahead.ahead (omega (arith, c.skip-start.ensures.low, c.in-Some.ensures.within.0))
-          (learns lawful _ now.inside.line.begins (c.lines.invariant.known lawful gone input first so_far));
+          (learns lawful _ now.walked.inside.line.begins (c.lines.invariant.known lawful gone input first so_far));
       searched = λ lawful gone input first so_far.
           let bare = c.requires.configured.bare in
           let now = c.lines.invariant.searched lawful gone input first so_far in
-          let known = learns lawful _ now.inside.line.begins (c.lines.invariant.known lawful gone input first so_far) in
+          let known = learns lawful _ now.walked.inside.line.begins (c.lines.invariant.known lawful gone input first so_far) in
           let terminator = c.terminator-terminator.ensures in
-          let turn = skips.line-reached c.lines_join.ensures c.lines_append.ensures _ (errors g) (facts g c.args.matcher.now) _ _ _ _ _ _
-          bare _ _ _ now c.in_ok-ahead.ensures.bounded known _ _ c.skip-start.ensures.low position skipped
+          let turn = uncounted.line-reached _ (errors g) (facts g c.args.matcher.now) _ _ _ _ _ bare c.lines_join.ensures
+          c.lines_append.ensures _ _ _ _ now c.in_ok-ahead.ensures.bounded known _ _ c.skip-start.ensures.low position skipped
           _ _ terminator c.in-Some.ensures.line _ c.at-known.ensures in
-          search.searched-next _ (errors g) (facts g c.args.matcher.now) _ _ _ _ _ bare _ _ _ _ turn.here c.in-Some.ensures.within.0
+          uncounted.searched-next _ (errors g) (facts g c.args.matcher.now) _ _ _ _ _ bare _ _ _ _ turn.here c.in-Some.ensures.within.0
           c.in-Some.ensures.within.1 turn.line (chooses c.in_ok-verdict.verdict) (trails c.in_ok-verdict.verdict) (decided turn.agrees) _
-          (reported gone input turn.here.inside) on;
+          (reported gone input (uncounted.inside-counted _ (errors g) (facts g c.args.matcher.now) _ _ _ _ _ _ _ _ turn.here)) on;
       called = called-then g.C.Calls.step c.args.self.now.config c.args.sink.now c.lines.sink all_true c.sink_line.new.sink
           c.lines.invariant.called (here 0);
       may_call = c.in_ok-sink_line.ensures.may_call;

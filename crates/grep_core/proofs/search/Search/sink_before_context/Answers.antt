@@ -4,6 +4,7 @@ use Rattle.grep_matcher.specs.Lines.{lines}
 use Rattle.grep_lines.specs.Positions.{IsLineStart}
 use Rattle.grep_walk.specs.Windows.{IsLineIn}
 use Rattle.grep_walk.proofs.BeforeContextLemmas as before
+use Rattle.grep_walk.proofs.UncountedLemmas.{counts-before}
 use Rattle.grep_core.proofs.search.Search.sink_before_context.Goals as goal
 
 pub returns-then-near-eq0-clause-reported : goal.returns-then-near-eq0-clause-reported
@@ -19,7 +20,8 @@ returns-clause-reported g c =
     let near = c.lines_before-near.result in
     let near_is = c.lines_before-near.ensures in
     let back = c.step_back-first.ensures.start in
-    λ gone input inside end.
+    λ gone input shown end.
+    let inside = shown (counts-before k (omega (arith, near_is, c.if-near-eq0.false))) in
     let gone_lines = length (lines (byte_of k.line_terminator) gone) in
     let first : IsLineIn k gone c.args.window.now c.step_back-first.result (w.line - near) = record {
       low = omega (arith, near_is, inside.kept);

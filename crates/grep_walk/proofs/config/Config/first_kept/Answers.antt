@@ -1,5 +1,7 @@
-use Rattle.std.proofs.Common.{arith}
+use Rattle.std.proofs.Common.{◌∙◌, sym, arith}
 use Rattle.grep_matcher.specs.Terminators.{byte_of}
+use Rattle.grep_walk.specs.Walks.{recounted}
+use Rattle.grep_walk.proofs.UncountedLemmas.{near-same}
 use Rattle.grep_walk.proofs.WindowLemmas.{gone-closed, rolled, rest-few}
 use Rattle.grep_walk.proofs.config.Config.first_kept.Goals as goal
 
@@ -18,8 +20,9 @@ returns-clause-closed c = λ gone opens closed.
     c.args.window.now c.step_back.result c.lines_before-near.result back.within back.closed opens closed
 
 pub returns-clause-kept : goal.returns-clause-kept
-returns-clause-kept c = λ gone more after opens closed closes inside.
+returns-clause-kept c = λ gone more after opens closed closes line through counts inside.
     let back = c.step_back.ensures in
     rolled c.lines_join.ensures c.lines_append.ensures c.lines_are_numbered.ensures c.lines_are_few.ensures c.args.self.now gone
     c.args.window.now c.step_back.result c.lines_before-near.result back.within back.closed opens closed
-    more after c.args.walk.now c.lines_before-near.ensures closes back.start inside
+    more after (recounted c.args.walk.now line through)
+    (c.lines_before-near.ensures ∙ sym (near-same c.args.self.now c.args.walk.now line through counts)) closes back.start inside
