@@ -1,4 +1,5 @@
 pub mod LineLemmas
+pub mod LaneLemmas
 pub mod LawLemmas
 pub mod WalkLemmas
 pub mod PositionLemmas

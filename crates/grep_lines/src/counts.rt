@@ -1,5 +1,6 @@
 //! How often a byte occurs in some bytes, and how many lines they have.
-ghost use Rattle.std.specs.Prelude.{◌≡◌, ◌==◌, length, count_by};
+ghost use Rattle.std.specs.Prelude.{◌≡◌, ◌≤◌, ◌+◌, ◌==◌, ℕ, length, count_by};
+ghost use lib.Lanes.{Each1, sum_l};
 ghost use Rattle.grep_matcher.specs.Lines.{lines};
 
 use std::simd::prelude::*;
@@ -10,18 +11,20 @@ const WIDE: usize = 64;
 // The same if fewer are left.
 const NARROW: usize = 16;
 
+// From how many bytes on what is equal is summed lane by lane: adding up the lanes costs as much as a few parts.
+const LONG: usize = 512;
+
+// How many bytes are summed before the lanes are added up: a lane is full at 255.
+const BLOCK: usize = 255 * WIDE;
+
 /// How many of the bytes are `terminator`.
 pub fn count(bytes: &[u8], terminator: u8) -> u64
     ensures { result ≡ count_by (λ b. b == terminator) bytes.now }
 {
-    let mut total = 0;
-    let mut rest = bytes;
-    while rest.len() >= WIDE {
-        let (part, others) = rest.split_at(WIDE);
-        total += count_wide(part, terminator);
-        rest = others;
+    if bytes.len() < LONG {
+        return count_short(bytes, terminator);
     }
-    total + count_rest(rest, terminator)
+    count_long(bytes, terminator)
 }
 
 /// How many lines the bytes have: one for each `terminator`, and one more if bytes come after the
@@ -38,6 +41,70 @@ pub fn line_count(bytes: &[u8], terminator: u8) -> u64
     } else {
         terminators + 1
     }
+}
+
+// How many of the bytes are `terminator`, block by block.
+#[inline(never)]
+fn count_long(bytes: &[u8], terminator: u8) -> u64
+    ensures { result ≡ count_by (λ b. b == terminator) bytes.now }
+{
+    let mut total = 0;
+    let mut rest = bytes;
+    while !rest.is_empty() {
+        let (block, others) = rest.split_at(rest.len().min(BLOCK));
+        total += count_block(block, terminator);
+        rest = others;
+    }
+    total
+}
+
+// How many of the bytes are `terminator`, for a block of them, summed lane by lane.
+fn count_block(block: &[u8], terminator: u8) -> u64
+    requires { length block.now ≤ BLOCK }
+    ensures { result ≡ count_by (λ b. b == terminator) block.now }
+{
+    let mut lanes = u8x64::splat(0);
+    let mut rest = block;
+    while rest.len() >= WIDE {
+        let (part, others) = rest.split_at(WIDE);
+        lanes = add_equal(lanes, u8x64::from_slice(part), terminator);
+        rest = others;
+    }
+    sum_lanes(lanes) + count_rest(rest, terminator)
+}
+
+// The lanes, each with one more where the vector has the terminator.
+#[inline(always)]
+fn add_equal(lanes: u8x64, bytes: u8x64, terminator: u8) -> u8x64
+    requires { Each1 (λ n. n ≤ 254) lanes }
+    ensures sum { sum_l result ≡ sum_l lanes + count_by (λ b. b == terminator) bytes }
+    ensures grown { (most : ℕ) → Each1 (λ n. n ≤ most) lanes → Each1 (λ n. n ≤ most + 1) result }
+{
+    let equal = bytes.simd_eq(u8x64::splat(terminator));
+    lanes.strict_add(equal.select(u8x64::splat(1), u8x64::splat(0)))
+}
+
+// What the lanes come to.
+#[inline(always)]
+fn sum_lanes(lanes: u8x64) -> u64
+    ensures { result ≡ sum_l lanes }
+{
+    lanes.cast::<u16>().strict_reduce_sum() as u64
+}
+
+// How many of the bytes are `terminator`, for few bytes.
+#[inline(always)]
+fn count_short(bytes: &[u8], terminator: u8) -> u64
+    ensures { result ≡ count_by (λ b. b == terminator) bytes.now }
+{
+    let mut total = 0;
+    let mut rest = bytes;
+    while rest.len() >= WIDE {
+        let (part, others) = rest.split_at(WIDE);
+        total += count_wide(part, terminator);
+        rest = others;
+    }
+    total + count_rest(rest, terminator)
 }
 
 // How many of the bytes are `terminator`, for fewer bytes than a wide part.
