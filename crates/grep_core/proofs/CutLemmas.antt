@@ -21,7 +21,7 @@ use Rattle.grep_definitions.specs.DecodedInputs.{IsInput}
 use Rattle.grep_definitions.specs.LineSearch.{turns}
 use Rattle.grep_definitions.specs.LineTurns.{one_turn}
 use Rattle.grep_definitions.specs.NotedSinks.{noted}
-use Rattle.grep_definitions.specs.ReaderSearches.{is_idle, IsLineUnread, IsReaderFaultIn, IsStreamSearched, Taken, of_reading}
+use Rattle.grep_definitions.specs.ReaderSearches.{reports_nothing, IsLineUnread, IsReaderFaultIn, IsStreamSearched, Taken, of_reading}
 use Rattle.grep_definitions.specs.InputFronts.{IsClosed, IsFront}
 use Rattle.grep_definitions.specs.Searches.{ErrorMakers, MatcherFacts, IsClearFault, IsLineFault}
 use Rattle.grep_definitions.specs.Settings.{Settings}
@@ -217,7 +217,7 @@ module _ {R : Type 0} (remaining : R → Option (List ℕ)) (read_step : R → R
       raw = so_far.given ++ held_now.0
 
       -- the search of what it shows
-      module _ (busy : is_idle k ≡ false) (fitting : IsFitting k.heap_limit t old) (uncut : is_cut new ≡ false)
+      module _ (busy : reports_nothing k ≡ false) (fitting : IsFitting k.heap_limit t old) (uncut : is_cut new ≡ false)
           (filled : IsFilled old new) (room : length (held new) ≤ new.size) (within : IsWithin new.limit new.size)
           (done : (old.has_ended ≡ true → is_cut old ≡ false → IsDone d) → new.has_ended ≡ true → is_cut new ≡ false → IsDone d') where
         -- it came to its end
@@ -302,7 +302,7 @@ module _ {R : Type 0} (remaining : R → Option (List ℕ)) (read_step : R → R
           so_far
 
       -- no line may have a turn: the search ends once the first bytes are read
-      pub counted-idle : is_idle k ≡ true → is_cut new ≡ false → length (held new) ≤ new.size → IsWithin new.limit new.size
+      pub counted-idle : reports_nothing k ≡ true → is_cut new ≡ false → length (held new) ≤ new.size → IsWithin new.limit new.size
           → IsFitting k.heap_limit t old → HasNoted sink → sink.binary ≡ new.binary
           → IsSettled d'.mode → (d'.mode ≡ Passing → (length d'.ready ≤ 3) × (d'.held ≡ []))
           → HasCounted (noted step) k meaning remaining read_step reader (first, None) w.offset sink.binary r'

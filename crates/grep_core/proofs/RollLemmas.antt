@@ -16,7 +16,7 @@ use Rattle.grep_definitions.specs.BinaryBytes.{is_detecting}
 use Rattle.grep_definitions.specs.InputFronts.{GoesOnAfter, IsClosed, IsTooLong}
 use Rattle.grep_definitions.specs.LineSearch
 use Rattle.grep_definitions.specs.LineWalks.{IsOpen}
-use Rattle.grep_definitions.specs.ReaderSearches.{is_idle}
+use Rattle.grep_definitions.specs.ReaderSearches.{reports_nothing}
 use Rattle.grep_definitions.specs.Settings.{Settings}
 use Rattle.grep_definitions.specs.SinkRuns.{Steps, Outcome, all_true}
 use Rattle.grep_definitions.proofs.BoolLemmas.{clash}
@@ -205,15 +205,15 @@ module _ (join : LinesJoin) (append : LinesAppend) {S E : Type 0} (step : Steps 
     pub walk-at : w.offset ≡ length gone + length old.shown
     walk-at = between.at
 
-    here : is_idle k ≡ false → HasPassed step k meaning gone old.shown (gone ++ (old.shown ++ [])) first w now
+    here : reports_nothing k ≡ false → HasPassed step k meaning gone old.shown (gone ++ (old.shown ++ [])) first w now
     here busy = passed-end gone old.shown (length old.shown) first w now
         (subst (λ xs. IsReady step k meaning gone xs (length old.shown) first w now) (append-nil old.shown) (between.next busy [])) refl
 
     -- the calls so far are those over the lines that were seen
     pub counted-seen : IsCountedFor step k meaning first seen w.offset all_true now
-    counted-seen = by-cases (is_idle k) refl
+    counted-seen = by-cases (reports_nothing k) refl
       where
-        by-cases : (idle : Bool) → is_idle k ≡ idle → IsCountedFor step k meaning first seen w.offset all_true now
+        by-cases : (idle : Bool) → reports_nothing k ≡ idle → IsCountedFor step k meaning first seen w.offset all_true now
         by-cases false busy = subst (λ xs. IsCountedFor step k meaning first (gone ++ xs) w.offset all_true now) (append-nil old.shown)
             (counted-end gone old.shown first w now between.opens (here busy))
         by-cases true idle =
@@ -228,13 +228,13 @@ module _ (join : LinesJoin) (append : LinesAppend) {S E : Type 0} (step : Steps 
     goes-on bytes back is = record {
       front = record { after = back; whole = is; closed = λ _. shut; held = between.fits };
       closed = shut;
-      has_turn = by-cases (is_idle k) refl;
+      has_turn = by-cases (reports_nothing k) refl;
     }
       where
         shut : IsClosed t seen
         shut = closed-append t gone old.shown between.opens between.shut
 
-        by-cases : (idle : Bool) → is_idle k ≡ idle → (is_detecting k.binary_detection && length (lines t seen) == 0) ≡ false
+        by-cases : (idle : Bool) → reports_nothing k ≡ idle → (is_detecting k.binary_detection && length (lines t seen) == 0) ≡ false
             → length (lines t seen) < LineSearch.line_count k meaning bytes
             → length (lines t seen) < LineSearch.turn_count k meaning bytes
         by-cases true idle more less =
@@ -261,7 +261,7 @@ module _ (join : LinesJoin) (append : LinesAppend) {S E : Type 0} (step : Steps 
 
     module _ (new : BufferState) (given : List ℕ) (whole : held new ≡ held old ++ given) (ends_at : old.terminator ≡ t) where
       -- what a fill shows is searched from the end of what was shown
-      pub filled-ready : is_idle k ≡ false → IsUncut old new → IsReady step k meaning gone new.shown (length old.shown) first w now
+      pub filled-ready : reports_nothing k ≡ false → IsUncut old new → IsReady step k meaning gone new.shown (length old.shown) first w now
       filled-ready busy filled =
           let split : new.shown ≡ old.shown ++ drop (length old.shown) new.shown =
           longer-front old.shown (old.rest ++ given) new.shown new.rest (sym (whole ∙ append_assoc old.shown old.rest given))
@@ -293,7 +293,7 @@ module _ (join : LinesJoin) (append : LinesAppend) {S E : Type 0} (step : Steps 
           right = lines-fit join t limit new.shown (omega (arith, room, within)) (full filled)
 
       -- the next fill, after the walk passed what is shown
-      pub between-next : is_idle k ≡ false → IsUncut old new → new.offset ≡ old.offset → length new.shown ≤ new.size
+      pub between-next : reports_nothing k ≡ false → IsUncut old new → new.offset ≡ old.offset → length new.shown ≤ new.size
           → ((limit : ℕ) → k.heap_limit ≡ Some limit → new.size ≤ limit)
           → (moved : BufferState) (w' : Walk) (now' : S) (on : HasMovedOn step k meaning new w now moved w' now')
           → IsBetween step k meaning (gone ++ take on.count new.shown) moved first w' now'

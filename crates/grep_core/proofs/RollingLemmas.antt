@@ -22,7 +22,7 @@ use Rattle.grep_definitions.specs.BinaryBytes.{binary_of, is_detecting, view_of}
 use Rattle.grep_definitions.specs.DecodedInputs.{IsInput}
 use Rattle.grep_definitions.specs.InputFronts.{IsClosed, IsFront}
 use Rattle.grep_definitions.specs.LineSearch
-use Rattle.grep_definitions.specs.ReaderSearches.{IsReaderFaultIn, Taken, is_idle, reads_lines, of_search}
+use Rattle.grep_definitions.specs.ReaderSearches.{IsReaderFaultIn, Taken, reports_nothing, reads_lines, of_search}
 use Rattle.grep_definitions.specs.Searches.{ErrorMakers, MatcherFacts, IsClearFault, IsFaultIn, IsLineFault, of_matcher, of_sink}
 use Rattle.grep_definitions.specs.StreamSearches.{stream_calls}
 use Rattle.grep_definitions.specs.Settings.{Settings}
@@ -83,7 +83,7 @@ module _ {R : Type 0} (remaining : R → Option (List ℕ)) (read_step : R → R
           → HasSearched-at (xs ++ more) (xs ++ more) (length xs) after) (sym shown)
           (λ more after closes. searched-start step k meaning more (more ++ after) first now
           (windows.shown join append numbered few t [] more after (λ none. rolls.nothing none) closes) some begun);
-      idle = λ idle. record { none = shown; detecting = idle-detects (is_idle k) (is_detecting k.binary_detection) idle busy; begun = begun };
+      idle = λ idle. record { none = shown; detecting = idle-detects (reports_nothing k) (is_detecting k.binary_detection) idle busy; begun = begun };
     };
     given = [];
     holds = record {
@@ -126,7 +126,7 @@ module _ {R : Type 0} (remaining : R → Option (List ℕ)) (read_step : R → R
     seen = gone ++ old.shown
 
     -- it succeeded
-    module _ (busy : is_idle k ≡ false) (given : List ℕ) (whole : held new ≡ held old ++ given) (filled : rolls.IsUncut old new)
+    module _ (busy : reports_nothing k ≡ false) (given : List ℕ) (whole : held new ≡ held old ++ given) (filled : rolls.IsUncut old new)
         (room : length (held new) ≤ new.size)
         (within : IsWithin new.limit new.size) (raw : List ℕ)
         (shows : (later : List ℕ) → view_of k (raw ++ later) ≡ (gone ++ held new) ++ view_of k later)
@@ -298,7 +298,7 @@ module _ {R : Type 0} (remaining : R → Option (List ℕ)) (read_step : R → R
         }
 
   -- what comes after a fill that succeeded
-  module _ (busy : is_idle k ≡ false) (capacity : ℕ) (reader : R) (decoder : DecoderState)
+  module _ (busy : reports_nothing k ≡ false) (capacity : ℕ) (reader : R) (decoder : DecoderState)
       (begun : decoder ≡ started capacity k.encoding k.bom_sniffing) (first : S) (old new : BufferState) (d d' : DecoderState)
       (r r' : R) (w : Walk) (now : S)
       (so_far : IsRolling step k meaning remaining read_step decoder reader first old d r w now)

@@ -16,7 +16,7 @@ use Rattle.grep_definitions.specs.DecodedInputs.{IsInput}
 use Rattle.grep_definitions.specs.InputFronts.{IsFront}
 use Rattle.grep_definitions.specs.LineSearch.{byte_count}
 use Rattle.grep_definitions.specs.NotedSinks.{noted}
-use Rattle.grep_definitions.specs.ReaderSearches.{Taken, Came, is_idle, reads_lines, IsStreamSearched, of_search}
+use Rattle.grep_definitions.specs.ReaderSearches.{Taken, Came, reports_nothing, reads_lines, IsStreamSearched, of_search}
 use Rattle.grep_definitions.specs.Searches.{ErrorMakers, MatcherFacts, IsClearFault, IsFaultIn, IsLineFault, of_sink}
 use Rattle.grep_definitions.specs.Settings.{Settings, SearcherState}
 use Rattle.grep_definitions.specs.SinkCalls.{begins}
@@ -108,7 +108,7 @@ module _ {R : Type 0} (remaining : R → Option (List ℕ)) (read_step : R → R
         (λ bytes. walks.counted-unbegun k meaning bytes (noted step) (old, None) (new, None) stops)
 
     -- no line may have a turn
-    pub counted-idle : LinesJoin → LinesAppend → (reader : R) (old new : S) → is_idle k ≡ true → step old k begins (Ok true) new
+    pub counted-idle : LinesJoin → LinesAppend → (reader : R) (old new : S) → reports_nothing k ≡ true → step old k begins (Ok true) new
         → IsStreamCounted step k meaning remaining read_step reader old 0 None reader new
     counted-idle join append reader old new idle goes =
         counted-unread join append reader old all_true new

@@ -17,7 +17,7 @@ use Rattle.grep_definitions.specs.InputFronts.{IsClosed, IsFront, IsTooLong}
 use Rattle.grep_definitions.specs.LineSearch.{turns, turn_count, byte_count}
 use Rattle.grep_definitions.specs.LineTurns.{one_turn}
 use Rattle.grep_definitions.specs.NotedSinks.{noted}
-use Rattle.grep_definitions.specs.ReaderSearches.{Taken, is_idle, reads_lines}
+use Rattle.grep_definitions.specs.ReaderSearches.{Taken, reports_nothing, reads_lines}
 use Rattle.grep_definitions.specs.Settings.{Settings}
 use Rattle.grep_definitions.specs.SinkCalls.{begins, binary_data}
 use Rattle.grep_definitions.specs.SinkRuns.{Steps, Outcome, all_true, AreReported}
@@ -73,8 +73,8 @@ module _ {S E : Type 0} (step : Steps S E) (settings : Settings) (meaning : Mean
         → All (λ line. IsTooLong (byte_of settings.line_terminator) limit line → ⊥)
         (lines (byte_of settings.line_terminator) (gone ++ buffer.shown))
     pub at : w.offset ≡ length gone + length buffer.shown
-    pub next : is_idle settings ≡ false → IsNext gone buffer.shown first w now
-    pub idle : is_idle settings ≡ true → IsIdle gone buffer first now
+    pub next : reports_nothing settings ≡ false → IsNext gone buffer.shown first w now
+    pub idle : reports_nothing settings ≡ true → IsIdle gone buffer first now
 
   -- a walk went to the end of what a buffer shows, which are whole lines, and the buffer moved past some of them
   pub record HasMovedOn (old : BufferState) (w : Walk) (now : S) (new : BufferState) (w' : Walk)

@@ -16,7 +16,7 @@ use crate::search::Search;
 use grep_lines::laws::{lines_append, lines_join};
 use grep_matcher::Matcher;
 use grep_report::SinkError;
-use grep_walk::{START, UNKNOWN, Walk};
+use grep_walk::{NOTHING_AHEAD, WALK_START, Walk};
 use std::alloc::Allocator;
 
 impl<'c, A: Allocator + Copy, T> Search<'c, A, T> {
@@ -55,10 +55,10 @@ impl<'c, A: Allocator + Copy, T> Search<'c, A, T> {
         if !C::begin(self, sink)? {
             return Ok(0);
         }
-        if self.config.is_idle() {
+        if self.config.reports_nothing() {
             return Ok(0);
         }
-        let mut walk = START;
+        let mut walk = WALK_START;
         let _ = self.search_window::<M, C>(matcher, bytes, 0, &mut walk, sink)?;
         Ok(walk.offset)
     }
@@ -126,12 +126,12 @@ impl<'c, A: Allocator + Copy, T> Search<'c, A, T> {
         lines_append();
         let terminator = self.terminator();
         let mut start = start;
-        let mut ahead = UNKNOWN;
+        let mut ahead = NOTHING_AHEAD;
         'lines: loop {
             ahead = self
                 .config
                 .look_ahead::<A, M, C::Error>(self.alloc, matcher, window, start, walk, ahead)?;
-            start = self.config.skip(window, start, &ahead, walk);
+            start = self.config.skip_unmatched(window, start, &ahead, walk);
             let Some(end) = ahead.line_end(window, start, terminator) else {
                 return Ok(true);
             };
@@ -145,7 +145,7 @@ impl<'c, A: Allocator + Copy, T> Search<'c, A, T> {
                 return Ok(false);
             }
             let chosen = verdict.is_chosen();
-            *walk = self.config.advance(walk, line, chosen);
+            *walk = self.config.after_line(walk, line, chosen);
             if self.config.is_over(walk, chosen) {
                 return Ok(false);
             }

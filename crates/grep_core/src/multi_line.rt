@@ -14,7 +14,7 @@ use crate::calls::Calls;
 use crate::search::Search;
 use grep_matcher::{Match, Matcher};
 use grep_report::SinkError;
-use grep_walk::{START, Verdict};
+use grep_walk::{Verdict, WALK_START};
 use std::alloc::Allocator;
 
 impl<'c, A: Allocator + Copy, T> Search<'c, A, T> {
@@ -89,7 +89,7 @@ impl<'c, A: Allocator + Copy, T> Search<'c, A, T> {
             .config
             .first_block::<A, M, C::Error>(self.alloc, matcher, bytes)?;
         let mut unit = Match::zero(0);
-        let mut walk = START;
+        let mut walk = WALK_START;
         let mut start = 0;
         'lines: while start < bytes.len() {
             unit = self.config.unit_at::<A, M, C::Error>(
@@ -107,7 +107,7 @@ impl<'c, A: Allocator + Copy, T> Search<'c, A, T> {
                 if next == bytes.len() {
                     return Ok(next as u64);
                 }
-                walk = self.config.walk_past(&walk, &bytes[start..next]);
+                walk = self.config.skip_lines(&walk, &bytes[start..next]);
                 start = next;
                 continue;
             }
@@ -117,7 +117,7 @@ impl<'c, A: Allocator + Copy, T> Search<'c, A, T> {
             if !self.sink_line::<C>(bytes, start, end, &walk, verdict, sink)? {
                 return Ok(end as u64);
             }
-            walk = self.config.walk_after(&walk, &bytes[start..end], chosen);
+            walk = self.config.after_lines(&walk, &bytes[start..end], chosen);
             start = end;
         }
         Ok(walk.offset)

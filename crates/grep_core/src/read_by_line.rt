@@ -34,7 +34,7 @@ use grep_line_buffer::{Detection, FillError, LineBuffer};
 use grep_lines::laws::{lines_append, lines_are_few, lines_are_numbered, lines_join};
 use grep_matcher::Matcher;
 use grep_report::{BinaryDetection, SinkError, SinkFinish};
-use grep_walk::{START, Walk};
+use grep_walk::{WALK_START, Walk};
 use std::alloc::Allocator;
 use std::io;
 
@@ -261,7 +261,7 @@ impl<'c, A: Allocator + Copy, T> Search<'c, A, T> {
         lines_append();
         lines_are_numbered();
         lines_are_few();
-        let mut walk = START;
+        let mut walk = WALK_START;
         'fills: loop {
             if let Err(error) = lines.fill(decoder, reader) {
                 return Err(C::Error::error_io(self.alloc, io_error(error)));
@@ -269,7 +269,7 @@ impl<'c, A: Allocator + Copy, T> Search<'c, A, T> {
             if !self.passes_binary::<C>(lines.binary_byte_offset(), sink)? {
                 return Ok(walk.offset);
             }
-            if self.config.is_idle() {
+            if self.config.reports_nothing() {
                 return Ok(walk.offset);
             }
             if !self.search_shown::<M, NotedCalls<'_, C>>(matcher, lines, &mut walk, sink)? {

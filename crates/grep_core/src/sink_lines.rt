@@ -34,7 +34,7 @@ impl<'c, A: Allocator + Copy, T> Search<'c, A, T> {
         requires after { start ≤ walk.now.offset }
         requires fits { walk.now.offset + (length window.now - start) < 2 ^ 64 }
         requires number { walk.now.line + 1 < 2 ^ 64 }
-        requires through { walk.now.reported_through ≤ walk.now.line }
+        requires through { walk.now.next_unreported ≤ walk.now.line }
         requires configured { IsConfigured (C.settings self.now.searcher.now) self.now.config }
         requires may_call { C.may_call sink.old }
         ensures reported { (gone input : List ℕ)
@@ -83,7 +83,7 @@ impl<'c, A: Allocator + Copy, T> Search<'c, A, T> {
         requires configured { IsConfigured (C.settings self.now.searcher.now) self.now.config }
         requires may_call { C.may_call sink.old }
         ensures reported { (stop : ℕ) → AreReported C.step self.now.config sink.old
-            (after_turns self.now.config (trails verdict) walk.now.reported_through walk.now.line
+            (after_turns self.now.config (trails verdict) walk.now.next_unreported walk.now.line
             walk.now.offset stop (slice window.now start end))
             (outcome_of stop result) sink.new }
         ensures succeeds { NeverFails C.step C.may_call → IsOk result }
@@ -114,15 +114,15 @@ impl<'c, A: Allocator + Copy, T> Search<'c, A, T> {
         requires after { start ≤ walk.now.offset }
         requires fits { walk.now.offset + (length window.now - start) < 2 ^ 64 }
         requires number { walk.now.line + 1 < 2 ^ 64 }
-        requires through { walk.now.reported_through ≤ walk.now.line }
+        requires through { walk.now.next_unreported ≤ walk.now.line }
         requires configured { IsConfigured (C.settings self.now.searcher.now) self.now.config }
         requires may_call { C.may_call sink.old }
         ensures reported { (gone input : List ℕ)
             → (counts_lines self.now.config ≡ true
             → IsInWindow self.now.config gone window.now input start walk.now)
             → (end : ℕ) → AreReported C.step self.now.config sink.old
-            (pending_turns self.now.config input walk.now.reported_through walk.now.line end
-            walk.now.reported_through (walk.now.line - walk.now.reported_through))
+            (pending_turns self.now.config input walk.now.next_unreported walk.now.line end
+            walk.now.next_unreported (walk.now.line - walk.now.next_unreported))
             (outcome_of end result) sink.new }
         ensures succeeds { NeverFails C.step C.may_call → IsOk result }
         ensures called { (end : ℕ) → HasCalled C.step self.now.config sink.old
@@ -161,7 +161,7 @@ impl<'c, A: Allocator + Copy, T> Search<'c, A, T> {
             → IsInWindow self.now.config gone window.now input start walk.now
             → IsLineIn self.now.config gone window.now first index
             → (end : ℕ) → AreReported C.step self.now.config sink.old
-            (pending_turns self.now.config input walk.now.reported_through walk.now.line end
+            (pending_turns self.now.config input walk.now.next_unreported walk.now.line end
             index (walk.now.line - index))
             (outcome_of end result) sink.new }
         ensures succeeds { NeverFails C.step C.may_call → IsOk result }
@@ -203,7 +203,7 @@ impl<'c, A: Allocator + Copy, T> Search<'c, A, T> {
         requires configured { IsConfigured (C.settings self.now.searcher.now) self.now.config }
         requires may_call { C.may_call sink.old }
         ensures reported { (end : ℕ) → AreReported C.step self.now.config sink.old
-            (before_turns self.now.config walk.now.reported_through index walk.now.line
+            (before_turns self.now.config walk.now.next_unreported index walk.now.line
             (number_of self.now.config index) offset end line.now)
             (outcome_of end result) sink.new }
         ensures succeeds { NeverFails C.step C.may_call → IsOk result }
@@ -233,7 +233,7 @@ impl<'c, A: Allocator + Copy, T> Search<'c, A, T> {
         requires configured { IsConfigured (C.settings self.now.searcher.now) self.now.config }
         requires may_call { C.may_call sink.old }
         ensures reported { (stop : ℕ) → AreReported C.step self.now.config sink.old
-            (match_turns self.now.config walk.now.reported_through walk.now.line walk.now.offset
+            (match_turns self.now.config walk.now.next_unreported walk.now.line walk.now.offset
             stop
             (slice window.now start end))
             (outcome_of stop result) sink.new }

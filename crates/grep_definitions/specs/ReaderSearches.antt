@@ -30,12 +30,12 @@ use Rattle.grep_definitions.specs.StreamSearches.{IsClear, IsCutRun, IsNotedFor,
 use Rattle.grep_definitions.specs.SinkRuns.{Steps, Outcome, all_true, AreReported, IsFinished, IsRun, count_of}
 
 -- whether no line may have a turn
-abbrev pub is_idle : Settings → Bool
-is_idle settings = not settings.passthru && is_at 0 settings.max_matches
+abbrev pub reports_nothing : Settings → Bool
+reports_nothing settings = not settings.passthru && is_at 0 settings.max_matches
 
 -- whether a search by line may read after `begin`: a line may have a turn, or it looks for a binary byte
 abbrev pub reads_lines : Settings → Bool
-reads_lines settings = not (is_idle settings) || is_detecting settings.binary_detection
+reads_lines settings = not (reports_nothing settings) || is_detecting settings.binary_detection
 
 module _ {R : Type 0} (remaining : R → Option (List ℕ))
     (read_step : R → ReadResult → R → Type 0) where

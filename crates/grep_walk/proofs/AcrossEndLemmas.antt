@@ -25,7 +25,7 @@ use Rattle.grep_definitions.proofs.LineStartLemmas.{line_start-ascends, line_sta
 use Rattle.grep_definitions.proofs.SinkRunLemmas.{AreReported-append, AreReported-ended}
 use Rattle.grep_walk.specs.declared.walk.Walk.{Walk}
 use Rattle.grep_walk.specs.AcrossWalks.{IsAcross, is_done, turns_before}
-use Rattle.grep_walk.specs.Walks.{Counted, walk_past}
+use Rattle.grep_walk.specs.Walks.{Counted, skip_lines}
 use Rattle.grep_definitions.proofs.AcrossWalkLemmas as calls
 use Rattle.grep_walk.proofs.AcrossStepLemmas as steps
 use Rattle.grep_walk.proofs.AcrossUnitLemmas.{IsNext, limit-some}
@@ -41,7 +41,7 @@ module _ (k : Settings) (meaning : Meaning) (bytes : List ℕ) where
   abbrev front : ℕ → List Turn
   front = turns_before k meaning bytes
 
-  passed-few : (w : Walk) → IsAcross k meaning bytes w → w.reported_through ≤ n
+  passed-few : (w : Walk) → IsAcross k meaning bytes w → w.next_unreported ≤ n
   passed-few w across = omega (arith, across.placed.low, across.placed.at.listed)
 
   module _ {State E : Type 0} (step : Steps State E) (first : State) where
@@ -55,12 +55,12 @@ module _ (k : Settings) (meaning : Meaning) (bytes : List ℕ) where
     reported-begin now goes = inl (now, goes, (refl, refl))
 
     -- more calls
-    pub reported-next : (w : Walk) (v : ℕ) (own : List Turn) (now : State) → front v ≡ front w.reported_through ++ own
-        → AreReported step k first (front w.reported_through) all_true now → (outcome : Outcome E) (new : State)
+    pub reported-next : (w : Walk) (v : ℕ) (own : List Turn) (now : State) → front v ≡ front w.next_unreported ++ own
+        → AreReported step k first (front w.next_unreported) all_true now → (outcome : Outcome E) (new : State)
         → AreReported step k now own outcome new → AreReported step k first (front v) outcome new
     reported-next w v own now is reported outcome new later =
         subst (λ ts. AreReported step k first ts outcome new) (sym is)
-        (AreReported-append step k (front w.reported_through) own first now outcome new reported later)
+        (AreReported-append step k (front w.next_unreported) own first now outcome new reported later)
 
     -- what ended early ended the whole
     ended-whole : (v : ℕ) (outcome : Outcome E) (new : State) → v ≤ n → (outcome ≡ all_true → ⊥)
@@ -70,16 +70,16 @@ module _ (k : Settings) (meaning : Meaning) (bytes : List ℕ) where
         (AreReported-ended step k (front v) (joined_from T v (n - v)) first outcome new ended reported)
 
     pub counted-stopped : (w : Walk) (end count : ℕ) (new : State) → IsAcross k meaning bytes w → count ≡ end
-        → AreReported step k first (front w.reported_through) (stopped end) new → IsCounted count (stopped end) new
+        → AreReported step k first (front w.next_unreported) (stopped end) new → IsCounted count (stopped end) new
     counted-stopped w end count new across same reported = record {
-      reported = ended-whole w.reported_through (stopped end) new (passed-few w across) (λ same. cc) reported;
+      reported = ended-whole w.next_unreported (stopped end) new (passed-few w across) (λ same. cc) reported;
       is_count = same;
     }
 
     pub failed-whole : (w : Walk) (e : E) (new : State) → IsAcross k meaning bytes w
-        → AreReported step k first (front w.reported_through) (failed e) new
+        → AreReported step k first (front w.next_unreported) (failed e) new
         → AreReported step k first (turns k meaning bytes) (failed e) new
-    failed-whole w e new across reported = ended-whole w.reported_through (failed e) new (passed-few w across) (λ same. cc) reported
+    failed-whole w e new across reported = ended-whole w.next_unreported (failed e) new (passed-few w across) (λ same. cc) reported
 
     -- at the end of the bytes all lines were passed
     all-passed : (w : Walk) → IsAcross k meaning bytes w → w.offset ≡ length bytes → w.line ≡ n
@@ -95,13 +95,13 @@ module _ (k : Settings) (meaning : Meaning) (bytes : List ℕ) where
         (cases_lt w.line n)
 
     pub counted-end : (w : Walk) (new : State) → IsAcross k meaning bytes w → w.offset ≡ length bytes
-        → AreReported step k first (front w.reported_through) all_true new → IsCounted w.offset all_true new
+        → AreReported step k first (front w.next_unreported) all_true new → IsCounted w.offset all_true new
     counted-end w new across end reported =
         let all = all-passed w across end in
         record {
           reported = subst (λ ts. AreReported step k first ts all_true new)
-              (sym (calls.front-done k meaning bytes w.reported_through w.after_context_left
-              (subst (λ i. calls.Near k meaning bytes w.reported_through i w.after_context_left) all across.near)))
+              (sym (calls.front-done k meaning bytes w.next_unreported w.after_context_left
+              (subst (λ i. calls.Near k meaning bytes w.next_unreported i w.after_context_left) all across.near)))
               reported;
           is_count = sym across.placed.at.begins ∙ ap (start k meaning bytes) all;
         }
@@ -109,13 +109,13 @@ module _ (k : Settings) (meaning : Meaning) (bytes : List ℕ) where
     -- the lines up to the end are passed unreported
     pub counted-past : (w : Walk) (p q : ℕ) → w.offset ≡ p → IsAcross k meaning bytes w → IsNext k meaning bytes w p q
         → q ≡ length bytes → k.passthru ≡ false → w.after_context_left ≡ 0 → (new : State)
-        → AreReported step k first (front w.reported_through) all_true new → IsCounted q all_true new
+        → AreReported step k first (front w.next_unreported) all_true new → IsCounted q all_true new
     counted-past w p q same across next end plain none new reported =
         let past = steps.across-past k meaning bytes w p q same across next plain none in
         let size : w.offset + length (slice bytes p q) ≡ q =
         omega (arith, same, next.from, next.within, length-take (q - p) (drop p bytes), length-drop p bytes) in
         subst (λ count. IsCounted count all_true new) size
-        (counted-end (walk_past k w (slice bytes p q)) new past (size ∙ end) reported)
+        (counted-end (skip_lines k w (slice bytes p q)) new past (size ∙ end) reported)
 
 -- how it ends in a fault
 module _ {State E F : Type 0} (step : Steps State E) (errors : ErrorMakers E) (matcher : MatcherFacts F) (k : Settings)
@@ -130,25 +130,25 @@ module _ {State E F : Type 0} (step : Steps State E) (errors : ErrorMakers E) (m
   fault-begin e new fails = failed-run e new (inr (inr (e, refl, fails)))
 
   pub fault-sink : (w : Walk) (e : E) (new : State) → IsAcross k matcher.meaning bytes w
-      → AreReported step k first (turns_before k matcher.meaning bytes w.reported_through) (failed e) new → IsFaulty e new
+      → AreReported step k first (turns_before k matcher.meaning bytes w.next_unreported) (failed e) new → IsFaulty e new
   fault-sink w e new across reported = failed-run e new (failed-whole k matcher.meaning bytes step first w e new across reported)
 
   -- a question at the line that a walk is at
   pub fault-matcher : (w : Walk) (now : State) → IsAcross k matcher.meaning bytes w
-      → AreReported step k first (turns_before k matcher.meaning bytes w.reported_through) all_true now
+      → AreReported step k first (turns_before k matcher.meaning bytes w.next_unreported) all_true now
       → (haystack : List ℕ) (error : F) (e : E) → IsAskedAt k matcher.meaning bytes w.line haystack
       → is_done k w ≡ false → matcher.fails haystack error → errors.is_message (matcher.text_of error) e → IsFaulty e now
   fault-matcher w now across reported haystack error e asked goes fails message =
-      of_matcher haystack error (turns_before k matcher.meaning bytes w.reported_through)
+      of_matcher haystack error (turns_before k matcher.meaning bytes w.next_unreported)
       (record {
         index = w.line;
         question = asked;
         room = λ inverted.
             (across.limited inverted).below
             ∙ ap not (sym (ap (λ b. b && is_at w.match_count k.max_matches) inverted) ∙ goes);
-        before = sym (through-is k matcher.meaning bytes w.reported_through w.line w.after_context_left across.near
+        before = sym (through-is k matcher.meaning bytes w.next_unreported w.line w.after_context_left across.near
             (asked-inside k matcher.meaning bytes w.line haystack asked)
-            (subst (λ o. All (λ turn. turn.end ≤ o) (turns_before k matcher.meaning bytes w.reported_through))
+            (subst (λ o. All (λ turn. turn.end ≤ o) (turns_before k matcher.meaning bytes w.next_unreported))
             (sym across.placed.at.begins) across.ended));
       })
       fails message reported
@@ -162,7 +162,7 @@ module _ {State E F : Type 0} (step : Steps State E) (errors : ErrorMakers E) (m
       (reported-begin k matcher.meaning bytes step first now begun) haystack error e asked goes fails message
     where
       start : Walk
-      start = record { offset = 0; line = 0; reported_through = 0; after_context_left = 0; match_count = 0 }
+      start = record { offset = 0; line = 0; next_unreported = 0; after_context_left = 0; match_count = 0 }
 
       limited : k.invert_match ≡ true → is_below 0 k.max_matches ≡ false → ⊥
       limited inverted none =

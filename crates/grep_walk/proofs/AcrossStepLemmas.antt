@@ -18,8 +18,8 @@ use Rattle.grep_definitions.specs.SinkCalls.{Turn}
 use Rattle.grep_definitions.proofs.BelowLemmas.{below_next, below_none, count_below-le, is_below-le}
 use Rattle.grep_definitions.proofs.BoolLemmas.{both_true, clash}
 use Rattle.grep_walk.specs.declared.walk.Walk.{Walk}
-use Rattle.grep_walk.specs.AcrossWalks.{IsAcross, IsLimited, turns_before, walk_after}
-use Rattle.grep_walk.specs.Walks.{line_end, line_turns, next_walk, walk_past}
+use Rattle.grep_walk.specs.AcrossWalks.{IsAcross, IsLimited, turns_before, after_lines}
+use Rattle.grep_walk.specs.Walks.{line_end, line_turns, after_line, skip_lines}
 use Rattle.grep_definitions.proofs.AcrossWalkLemmas as calls
 use Rattle.grep_walk.proofs.AcrossUnitLemmas.{IsChosen, IsNext, selected-inverted}
 use Rattle.grep_walk.proofs.LineRangeLemmas.{lines-between}
@@ -118,8 +118,8 @@ module _ (k : Settings) (meaning : Meaning) (bytes : List ℕ) where
 
     abbrev unit-turns : ℕ → ℕ → List ℕ → List Turn
     unit-turns offset end unit =
-        pending_turns k bytes w.reported_through w.line end w.reported_through (w.line - w.reported_through)
-        ++ match_turns k w.reported_through w.line offset end unit
+        pending_turns k bytes w.next_unreported w.line end w.next_unreported (w.line - w.next_unreported)
+        ++ match_turns k w.next_unreported w.line offset end unit
 
     -- lines that are passed unreported
     module _ (next : IsNext k meaning bytes w p q) where
@@ -132,10 +132,10 @@ module _ (k : Settings) (meaning : Meaning) (bytes : List ℕ) where
       count : w.line + length (lines t here) ≡ next.last
       count = omega (arith, lines-between t bytes p q w.line next.last at-start next.at next.from next.within next.low, next.low)
 
-      pub across-past : k.passthru ≡ false → w.after_context_left ≡ 0 → IsAcross k meaning bytes (walk_past k w here)
+      pub across-past : k.passthru ≡ false → w.after_context_left ≡ 0 → IsAcross k meaning bytes (skip_lines k w here)
       across-past plain none =
-          let near = calls.near-skipped k meaning bytes w.reported_through w.line next.last
-          (subst (λ l. calls.Near k meaning bytes w.reported_through w.line l) none across.near) plain next.low next.at.listed
+          let near = calls.near-skipped k meaning bytes w.next_unreported w.line next.last
+          (subst (λ l. calls.Near k meaning bytes w.next_unreported w.line l) none across.near) plain next.low next.at.listed
           next.missed in
           record {
             placed = record {
@@ -144,32 +144,32 @@ module _ (k : Settings) (meaning : Meaning) (bytes : List ℕ) where
               low = omega (arith, across.placed.low);
               few = omega (arith, across.placed.few);
             };
-            near = subst (λ e. calls.Near k meaning bytes w.reported_through e w.after_context_left) (sym count)
-                (subst (λ l. calls.Near k meaning bytes w.reported_through next.last l) (sym none) near);
+            near = subst (λ e. calls.Near k meaning bytes w.next_unreported e w.after_context_left) (sym count)
+                (subst (λ l. calls.Near k meaning bytes w.next_unreported next.last l) (sym none) near);
             limited = λ inverted. limited-lines inverted (length (lines t here)) w.line w.match_count (across.limited inverted)
                 (λ j low high. next.missed j low (omega (arith, high, count)));
             ended = All-weaker (λ turn. turn.end ≤ w.offset) (λ turn. turn.end ≤ w.offset + length here)
-                (λ turn low. omega (arith, low)) (front w.reported_through) across.ended;
+                (λ turn low. omega (arith, low)) (front w.next_unreported) across.ended;
           }
 
     -- a line that isn't chosen
     module _ (bare : Bare) (line : IsLine t bytes w.line p q) (missed : S w.line ≡ false) where
-      pub front-missed : front (next_walk k w here false).reported_through ≡ front w.reported_through ++ line_turns k bytes w here false false
+      pub front-missed : front (after_line k w here false).next_unreported ≡ front w.next_unreported ++ line_turns k bytes w here false false
       front-missed =
-          calls.front-missed k meaning bytes bare w.reported_through w.line w.after_context_left across.near line.listed missed
-          ∙ ap (λ turns. front w.reported_through ++ turns)
+          calls.front-missed k meaning bytes bare w.next_unreported w.line w.after_context_left across.near line.listed missed
+          ∙ ap (λ turns. front w.next_unreported ++ turns)
           (ap (λ o. line-turns o (starts (w.line + 1)) (slice bytes (starts w.line) (starts (w.line + 1)))) (line.begins ∙ sym same)
           ∙ (ap (λ e. line-turns w.offset e (slice bytes (starts w.line) (starts (w.line + 1))))
           (start-after k meaning bytes w p q same line)
           ∙ ap₂ (λ a b. line-turns w.offset (line_end w here) (slice bytes a b)) line.begins line.ends))
 
-      pub across-missed : IsAcross k meaning bytes (next_walk k w here false)
+      pub across-missed : IsAcross k meaning bytes (after_line k w here false)
       across-missed = record {
         placed = placed-next k meaning bytes w p q same line across.placed false;
-        near = calls.near-missed k meaning bytes bare w.reported_through w.line w.after_context_left across.near line.listed missed;
+        near = calls.near-missed k meaning bytes bare w.next_unreported w.line w.after_context_left across.near line.listed missed;
         limited = λ inverted. limited-missed inverted w.line w.match_count (across.limited inverted) missed;
         ended = subst (All (λ turn. turn.end ≤ line_end w here)) (sym front-missed)
-            (ended-next k bytes w here false false (front w.reported_through) across.ended);
+            (ended-next k bytes w here false false (front w.next_unreported) across.ended);
       }
 
     -- a chosen line, or a unit of them
@@ -189,25 +189,25 @@ module _ (k : Settings) (meaning : Meaning) (bytes : List ℕ) where
       walk-to e = record {
         offset = line_end w here;
         line = e;
-        reported_through = e;
+        next_unreported = e;
         after_context_left = k.after_context;
         match_count = w.match_count + 1;
       }
 
-      pub walk-is : walk_after k w here true ≡ walk-to chosen.last
+      pub walk-is : after_lines k w here true ≡ walk-to chosen.last
       walk-is = go k.invert_match refl
         where
           go : (b : Bool) → k.invert_match ≡ b
-              → (if true && not b then walk-to (w.line + length (lines t here)) else next_walk k w here true) ≡ walk-to chosen.last
+              → (if true && not b then walk-to (w.line + length (lines t here)) else after_line k w here true) ≡ walk-to chosen.last
           go true is = ap walk-to (sym (chosen.single is))
           go false is = ap walk-to count-chosen
 
-      pub front-chosen : front (walk_after k w here true).reported_through ≡ front w.reported_through ++ line_turns k bytes w here true false
+      pub front-chosen : front (after_lines k w here true).next_unreported ≡ front w.next_unreported ++ line_turns k bytes w here true false
       front-chosen =
-          ap (λ (next : Walk). front next.reported_through) walk-is
-          ∙ (calls.front-unit k meaning bytes w.reported_through w.line w.after_context_left chosen.last across.near chosen.some
+          ap (λ (next : Walk). front next.next_unreported) walk-is
+          ∙ (calls.front-unit k meaning bytes w.next_unreported w.line w.after_context_left chosen.last across.near chosen.some
           chosen.at.listed chosen.hits chosen.closed chosen.single chosen.first
-          ∙ ap (λ turns. front w.reported_through ++ turns)
+          ∙ ap (λ turns. front w.next_unreported ++ turns)
           (ap (λ e. unit-turns (starts w.line) e (slice bytes (starts w.line) (starts chosen.last))) (chosen.at.begins ∙ sym unit-end)
           ∙ (ap (λ o. unit-turns o (line_end w here) (slice bytes (starts w.line) (starts chosen.last))) across.placed.at.begins
           ∙ ap₂ (λ a b. unit-turns w.offset (line_end w here) (slice bytes a b)) (across.placed.at.begins ∙ same) chosen.at.begins)))
@@ -225,9 +225,9 @@ module _ (k : Settings) (meaning : Meaning) (bytes : List ℕ) where
             (limited-hit inverted w.line w.match_count (across.limited inverted) (chosen.room inverted)
             (chosen.hits w.line (omega arith) chosen.some));
         ended = subst (All (λ turn. turn.end ≤ line_end w here))
-            (sym (sym (ap (λ (next : Walk). front next.reported_through) walk-is) ∙ front-chosen))
-            (ended-next k bytes w here true false (front w.reported_through) across.ended);
+            (sym (sym (ap (λ (next : Walk). front next.next_unreported) walk-is) ∙ front-chosen))
+            (ended-next k bytes w here true false (front w.next_unreported) across.ended);
       }
 
-      pub across-chosen : IsAcross k meaning bytes (walk_after k w here true)
+      pub across-chosen : IsAcross k meaning bytes (after_lines k w here true)
       across-chosen = subst (IsAcross k meaning bytes) (sym walk-is) across-to

@@ -12,7 +12,7 @@ use Rattle.grep_definitions.specs.Settings.{Settings}
 use Rattle.grep_definitions.proofs.BoolLemmas.{clash}
 use Rattle.grep_walk.specs.declared.blocks.Blocks.{Blocks}
 use Rattle.grep_walk.specs.declared.walk.Walk.{Walk}
-use Rattle.grep_walk.specs.AcrossWalks.{IsAcross, IsReady, is_done, is_joined, next_chosen, turns_before, walk_after}
+use Rattle.grep_walk.specs.AcrossWalks.{IsAcross, IsReady, is_done, is_joined, next_chosen, turns_before, after_lines}
 use Rattle.grep_walk.specs.Walks.{IsOrdered, line_end, line_turns}
 use Rattle.grep_walk.specs.Windows.{IsInWindow}
 use Rattle.grep_walk.proofs.AcrossStepLemmas as steps
@@ -50,11 +50,11 @@ module _ (k : Settings) (meaning : Meaning) (bytes : List ℕ) where
 
   -- the walk after it, its calls, and the unit that is next
   pub record IsTurned (start end : ℕ) (w : Walk) (unit : ℕ × ℕ) (blocks : Blocks) (chosen : Bool) : Type 0 where
-    pub across : IsAcross k meaning bytes (walk_after k w (slice bytes start end) chosen)
-    pub front : turns_before k meaning bytes (walk_after k w (slice bytes start end) chosen).reported_through
-        ≡ turns_before k meaning bytes w.reported_through ++ line_turns k bytes w (slice bytes start end) chosen false
-    pub ready : IsReady k meaning bytes end (walk_after k w (slice bytes start end) chosen) unit blocks
-    pub offset : (walk_after k w (slice bytes start end) chosen).offset ≡ end
+    pub across : IsAcross k meaning bytes (after_lines k w (slice bytes start end) chosen)
+    pub front : turns_before k meaning bytes (after_lines k w (slice bytes start end) chosen).next_unreported
+        ≡ turns_before k meaning bytes w.next_unreported ++ line_turns k bytes w (slice bytes start end) chosen false
+    pub ready : IsReady k meaning bytes end (after_lines k w (slice bytes start end) chosen) unit blocks
+    pub offset : (after_lines k w (slice bytes start end) chosen).offset ≡ end
     pub end_is : line_end w (slice bytes start end) ≡ end
 
   module _ (bare : Bare) (start end next : ℕ) (w : Walk) (unit : ℕ × ℕ) (blocks : Blocks) (across : IsAcross k meaning bytes w)

@@ -99,10 +99,10 @@ module _ (k : Settings) (gone window input : List ℕ) (w : Walk) (start : ℕ) 
     (at : IsLineIn k gone window p q)
     (line : (j : ℕ) → IsLineStart (byte_of k.line_terminator) window p j → IsLine (byte_of k.line_terminator) window j p next)
     (same : offset + start ≡ w.offset + p) (low : first ≤ q)
-    (before : AreReported step k old (pending_turns k input w.reported_through w.line end first (q - first)) all_true mid)
+    (before : AreReported step k old (pending_turns k input w.next_unreported w.line end first (q - first)) all_true mid)
     (outcome : Outcome E)
     (here : AreReported step k mid
-    (before_turns k w.reported_through q w.line (number_of k q) offset end (slice window p next)) outcome new) where
+    (before_turns k w.next_unreported q w.line (number_of k q) offset end (slice window p next)) outcome new) where
   own_line : IsLine (byte_of k.line_terminator) window (q - length (lines (byte_of k.line_terminator) gone)) p next
   own_line = line (q - length (lines (byte_of k.line_terminator) gone)) at.begins
 
@@ -113,13 +113,13 @@ module _ (k : Settings) (gone window input : List ℕ) (w : Walk) (start : ℕ) 
   shown_bytes = windows.slice-in gone window inside.shown.after input inside.shown.whole p next
       (omega (arith, own_line.above)) own_line.within
 
-  pub window-more : AreReported step k old (pending_turns k input w.reported_through w.line end first ((q + 1) - first)) outcome new
-  window-more = reported-more k input w.reported_through w.line end step old mid new first q (length gone + p) (length gone + next) offset
+  pub window-more : AreReported step k old (pending_turns k input w.next_unreported w.line end first ((q + 1) - first)) outcome new
+  window-more = reported-more k input w.next_unreported w.line end step old mid new first q (length gone + p) (length gone + next) offset
       shown_line (slice window p next) shown_bytes (omega (arith, same, inside.at)) low before outcome here
 
   pub window-ended : q < w.line → (outcome ≡ all_true → ⊥)
-      → AreReported step k old (pending_turns k input w.reported_through w.line end first (w.line - first)) outcome new
-  window-ended = reported-ended k input w.reported_through w.line end step old mid new first q (length gone + p) (length gone + next) offset
+      → AreReported step k old (pending_turns k input w.next_unreported w.line end first (w.line - first)) outcome new
+  window-ended = reported-ended k input w.next_unreported w.line end step old mid new first q (length gone + p) (length gone + next) offset
       shown_line (slice window p next) shown_bytes (omega (arith, same, inside.at)) low before outcome here
 
 -- a window that has the lines before a walk does not end among them

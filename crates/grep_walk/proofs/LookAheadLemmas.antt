@@ -161,7 +161,7 @@ module _ (k : Settings) (meaning : Meaning) (window : List ℕ) (start first : �
 
   -- if nothing was found, no line matches
   pub known-none : IsLawfulResult k.line_terminator meaning asked None
-      → IsKnown k meaning window start (record { misses = length window; hits = length window })
+      → IsKnown k meaning window start (record { candidate = length window; match_end = length window })
   known-none lawful = record {
     index = length (lines t window);
     at = record { listed = omega arith; begins = line_start-last AreLines-lines t window };
@@ -174,18 +174,18 @@ module _ (k : Settings) (meaning : Meaning) (window : List ℕ) (start first : �
 
   -- if a line was found
   module _ (found : LineMatchKind) (lawful : IsLawfulResult k.line_terminator meaning asked (Some found))
-      (line : ℕ × ℕ) (at : IsLocated t asked (position_of found) line) (misses : ℕ) (begins : misses ≡ start + line.0) where
+      (line : ℕ × ℕ) (at : IsLocated t asked (position_of found) line) (candidate : ℕ) (begins : candidate ≡ start + line.0) where
     abbrev located : ℕ
     located = lines_before t asked (position_of found)
 
-    start-located : IsLineStart t window misses (first + located)
+    start-located : IsLineStart t window candidate (first + located)
     start-located = record {
       listed = omega (arith, later-count t window start first here, before-few t asked (position_of found));
       begins = omega (arith, later-start t window start first here located, begins, at.begins);
     }
 
     -- no line before it matches
-    miss-before : (i p q : ℕ) → IsLine t window i p q → start ≤ p → p < misses → matches_line k meaning (slice window p q) ≡ false
+    miss-before : (i p q : ℕ) → IsLine t window i p q → start ≤ p → p < candidate → matches_line k meaning (slice window p q) ≡ false
     miss-before i p q own after early =
         let inside = IsLater-line t window start first here i p q own after in
         let before : i - first < located = ⊎_elim
@@ -198,7 +198,7 @@ module _ (k : Settings) (meaning : Meaning) (window : List ℕ) (start first : �
         )
 
     -- if it isn't known whether it matches
-    pub known-candidate : IsKnown k meaning window start (record { misses = misses; hits = misses })
+    pub known-candidate : IsKnown k meaning window start (record { candidate = candidate; match_end = candidate })
     known-candidate = record {
       index = first + located;
       at = start-located;
@@ -208,23 +208,23 @@ module _ (k : Settings) (meaning : Meaning) (window : List ℕ) (start first : �
     }
 
     -- if it matches
-    pub known-confirmed : is_confirmed found ≡ true → (hits : ℕ) → hits ≡ start + line.1
-        → IsKnown k meaning window start (record { misses = misses; hits = hits })
-    known-confirmed confirmed hits ends = record {
+    pub known-confirmed : is_confirmed found ≡ true → (match_end : ℕ) → match_end ≡ start + line.1
+        → IsKnown k meaning window start (record { candidate = candidate; match_end = match_end })
+    known-confirmed confirmed match_end ends = record {
       index = first + located;
       at = start-located;
       exact = λ some i begun.
           let listed : located < length (lines t asked) = ⊎_elim (λ less. less)
           (λ over. absurd (omega (arith, some, begins, ends, at.begins, at.ends, none-after over)))
           (cases_lt located (length (lines t asked))) in
-          let same : i ≡ first + located = start-same AreLines-lines lines-append t window misses i (first + located) begun start-located in
+          let same : i ≡ first + located = start-same AreLines-lines lines-append t window candidate i (first + located) begun start-located in
           let next : (first + located) + 1 ≡ first + (located + 1) = omega arith in
-          let is_start : line_start t window (first + located) ≡ misses = start-located.begins in
-          let is_end : line_start t window ((first + located) + 1) ≡ hits =
+          let is_start : line_start t window (first + located) ≡ candidate = start-located.begins in
+          let is_end : line_start t window ((first + located) + 1) ≡ match_end =
           ap (line_start t window) next ∙ (later-start t window start first here (located + 1)
           ∙ omega (arith, ends, at.ends)) in
-          subst (λ n. IsLine t window n misses hits) (sym same)
-          (subst (λ p. IsLine t window (first + located) p hits) is_start
+          subst (λ n. IsLine t window n candidate match_end) (sym same)
+          (subst (λ p. IsLine t window (first + located) p match_end) is_start
           (subst (IsLine t window (first + located) (line_start t window (first + located))) is_end
           (line-at t window (first + located) (omega (arith, listed, later-count t window start first here)))));
       miss = miss-before;

@@ -22,7 +22,7 @@ use Rattle.grep_definitions.specs.SinkRuns.{Steps, all_true, AreReported}
 use Rattle.grep_walk.specs.declared.look_ahead.Ahead.{Ahead}
 use Rattle.grep_walk.specs.declared.walk.Walk.{Walk}
 use Rattle.grep_walk.specs.LookAheads.{IsBounded, IsExact, IsKnown, MayAskAhead, can_skip, known_at, skips}
-use Rattle.grep_walk.specs.Walks.{IsDecided, is_over, line_end, line_turns, next_walk, walk_past}
+use Rattle.grep_walk.specs.Walks.{IsDecided, is_over, line_end, line_turns, after_line, skip_lines}
 use Rattle.grep_walk.specs.Windows.{HasWalked}
 use Rattle.grep_walk.proofs.LineRangeLemmas.{line-at, lines-between, starts-ordered}
 use Rattle.grep_walk.proofs.WalkLemmas.{Bare}
@@ -50,9 +50,9 @@ is_skipping k w can =
     }
 
 -- walks of the same numbers are the same
-same-walk : (w : Walk) (offset line reported left count : ℕ) → offset ≡ w.offset → line ≡ w.line → reported ≡ w.reported_through
+same-walk : (w : Walk) (offset line reported left count : ℕ) → offset ≡ w.offset → line ≡ w.line → reported ≡ w.next_unreported
     → left ≡ w.after_context_left → count ≡ w.match_count
-    → record { offset = offset; line = line; reported_through = reported; after_context_left = left; match_count = count } ≡ w
+    → record { offset = offset; line = line; next_unreported = reported; after_context_left = left; match_count = count } ≡ w
 same-walk w offset line reported left count a b c d e = rw (a, b, c, d, e) refl
 
 and-false : (b : Bool) → (b && false) ≡ false
@@ -61,7 +61,7 @@ and-false false = refl
 
 module _ (k : Settings) (meaning : Meaning) (window : List ℕ) where
   -- at first nothing is known
-  pub known-nothing : (p : ℕ) → IsKnown k meaning window p (record { misses = 0; hits = 0 })
+  pub known-nothing : (p : ℕ) → IsKnown k meaning window p (record { candidate = 0; match_end = 0 })
   known-nothing p = record {
     index = 0;
     at = record { listed = omega arith; begins = refl };
@@ -83,12 +83,12 @@ module _ (k : Settings) (meaning : Meaning) (window : List ℕ) where
   -- and is so of the line there
   pub known-line : (a : Ahead) (i p q : ℕ) → IsKnown k meaning window p a → IsLine (byte_of k.line_terminator) window i p q
       → IfSome (known_at a p) (λ matches. matches ≡ matches_line k meaning (slice window p q))
-  known-line a i p q known line = go (nat_lt p a.misses) (nat_lt p a.hits) refl refl
+  known-line a i p q known line = go (nat_lt p a.candidate) (nat_lt p a.match_end) refl refl
     where
-      go : (b c : Bool) → nat_lt p a.misses ≡ b → nat_lt p a.hits ≡ c
+      go : (b c : Bool) → nat_lt p a.candidate ≡ b → nat_lt p a.match_end ≡ c
           → IfSome (if b then Some false else (if c then Some true else None)) (λ m. m ≡ matches_line k meaning (slice window p q))
-      go true c is_b is_c = sym (known.miss i p q line (omega arith) (ltb-true p a.misses is_b))
-      go false true is_b is_c = sym (known.hit i p q line (ltb-false p a.misses is_b) (ltb-true p a.hits is_c))
+      go true c is_b is_c = sym (known.miss i p q line (omega arith) (ltb-true p a.candidate is_b))
+      go false true is_b is_c = sym (known.hit i p q line (ltb-false p a.candidate is_b) (ltb-true p a.match_end is_c))
       go false false is_b is_c = tt
 
 module _ {S E F : Type 0} (join : LinesJoin) (append : LinesAppend) (step : Steps S E) (errors : ErrorMakers E)
@@ -178,15 +178,15 @@ module _ {S E F : Type 0} (join : LinesJoin) (append : LinesAppend) (step : Step
           (λ is. is)
           (cases_Bool full)
 
-      goes_on : is_over k (next_walk k w here false) false ≡ false
+      goes_on : is_over k (after_line k w here false) false ≡ false
       goes_on = ap (λ x. (x && true) || ((not k.passthru && full) && (w.after_context_left - 1 == 0))) skipping.unstopped
           ∙ (ap (λ y. (not k.passthru && y) && (w.after_context_left - 1 == 0)) room
           ∙ ap (λ z. z && (w.after_context_left - 1 == 0)) (and-false (not k.passthru)))
 
-      same : next_walk k w here false ≡ moved w (q - p) 1
+      same : after_line k w here false ≡ moved w (q - p) 1
       same = same-walk (moved w (q - p) 1) _ _ _ _ _ (omega (arith, length-take (q - p) (drop p window), length-drop p window, line.within))
           refl
-          (ap (λ b. if b then w.line + 1 else w.reported_through)
+          (ap (λ b. if b then w.line + 1 else w.next_unreported)
           (ap (λ b. b || k.passthru) none_left ∙ skipping.selects))
           (omega (arith, skipping.none_left)) refl
 
@@ -218,20 +218,20 @@ module _ {S E F : Type 0} (join : LinesJoin) (append : LinesAppend) (step : Step
       (same-walk (moved w (q - p) (suc n)) _ _ _ _ _ (omega (arith, line.above, within)) (omega arith) refl refl refl) later
 
   -- the lines that don't match are passed, if the walk may skip them
-  pub walked-past : (w : Walk) (p : ℕ) (a : Ahead) → Walked p w → a.misses ≤ length window
-      → IsKnown k matcher.meaning window p a → skips k w p a.misses ≡ true
-      → Walked a.misses (walk_past k w (slice window p a.misses))
+  pub walked-past : (w : Walk) (p : ℕ) (a : Ahead) → Walked p w → a.candidate ≤ length window
+      → IsKnown k matcher.meaning window p a → skips k w p a.candidate ≡ true
+      → Walked a.candidate (skip_lines k w (slice window p a.candidate))
   walked-past w p a so_far within known is =
-      let parts = both_true (nat_lt p a.misses) (can_skip k w) is in
-      let less = ltb-true p a.misses parts.0 in
+      let parts = both_true (nat_lt p a.candidate) (can_skip k w) is in
+      let less = ltb-true p a.candidate parts.0 in
       let i = w.line - length (lines t gone) in
       let from = so_far.inside.line.begins in
-      let ordered = starts-ordered join t window p a.misses i known.index from known.at (omega (arith, less)) in
+      let ordered = starts-ordered join t window p a.candidate i known.index from known.at (omega (arith, less)) in
       let sum : i + (known.index - i) ≡ known.index = omega (arith, ordered) in
-      let many = lines-between t window p a.misses i known.index from known.at (omega (arith, less)) within ordered in
-      let size : w.offset + (a.misses - p) ≡ w.offset + length (slice window p a.misses) =
-      omega (arith, length-take (a.misses - p) (drop p window), length-drop p window, within) in
-      subst (Walked a.misses)
-      (same-walk (walk_past k w (slice window p a.misses)) _ _ _ _ _ size (ap (λ n. w.line + n) (sym many)) refl refl refl)
-      (walked-lines (known.index - i) w p a.misses i so_far (is_skipping k w parts.1) from
-      (subst (IsLineStart t window a.misses) (sym sum) known.at) known.miss)
+      let many = lines-between t window p a.candidate i known.index from known.at (omega (arith, less)) within ordered in
+      let size : w.offset + (a.candidate - p) ≡ w.offset + length (slice window p a.candidate) =
+      omega (arith, length-take (a.candidate - p) (drop p window), length-drop p window, within) in
+      subst (Walked a.candidate)
+      (same-walk (skip_lines k w (slice window p a.candidate)) _ _ _ _ _ size (ap (λ n. w.line + n) (sym many)) refl refl refl)
+      (walked-lines (known.index - i) w p a.candidate i so_far (is_skipping k w parts.1) from
+      (subst (IsLineStart t window a.candidate) (sym sum) known.at) known.miss)

@@ -19,8 +19,8 @@ use Rattle.grep_definitions.specs.SinkRuns.{Steps, Outcome, all_true, failed, st
 use Rattle.grep_walk.specs.declared.look_ahead.Ahead.{Ahead}
 use Rattle.grep_walk.specs.declared.walk.Walk.{Walk}
 use Rattle.grep_walk.specs.LookAheads.{IsBounded, IsExact, IsKnown, MayAskAhead, known_at, skips}
-use Rattle.grep_walk.specs.Walks.{AreCounts, Counted, IsDecided, can_hit, counts_lines, is_over, line_end, line_turns, next_walk}
-use Rattle.grep_walk.specs.Walks.{recounted, reports_line, skip_past, walk_past}
+use Rattle.grep_walk.specs.Walks.{AreCounts, Counted, IsDecided, can_hit, counts_lines, is_over, line_end, line_turns, after_line}
+use Rattle.grep_walk.specs.Walks.{recounted, reports_line, skip_unmatched, skip_lines}
 use Rattle.grep_walk.specs.Windows.{HasSearched, IsInWindow}
 use Rattle.grep_walk.proofs.BeforeContextLemmas.{pending-none}
 use Rattle.grep_walk.proofs.SkipLemmas as skips
@@ -59,11 +59,11 @@ counts-before k some = go k.line_number (nat_lt 0 k.after_context) (nat_lt 0 k.b
 
 module _ (k : Settings) (w : Walk) (line through : ℕ) (counts : AreCounts k w line through) where
   -- as many lines are near
-  pub near-same : min k.before_context (line - through) ≡ min k.before_context (w.line - w.reported_through)
+  pub near-same : min k.before_context (line - through) ≡ min k.before_context (w.line - w.next_unreported)
   near-same = go (counts_lines k) refl
     where
       go : (b : Bool) → counts_lines k ≡ b
-          → min k.before_context (line - through) ≡ min k.before_context (w.line - w.reported_through)
+          → min k.before_context (line - through) ≡ min k.before_context (w.line - w.next_unreported)
       go true is = ap₂ (λ a b. min k.before_context (a - b)) (counts is).0 (counts is).1
       go false is = omega (arith, (is_uncounted k is).none_before)
 
@@ -77,7 +77,7 @@ module _ (k : Settings) (w : Walk) (line through : ℕ) (counts : AreCounts k w 
       (cases_lt i v)
 
   match-same : IsUncounted k → (end : ℕ) (here : List ℕ)
-      → match_turns k through line w.offset end here ≡ match_turns k w.reported_through w.line w.offset end here
+      → match_turns k through line w.offset end here ≡ match_turns k w.next_unreported w.line w.offset end here
   match-same un end here = rw (un.none_after, un.unnumbered) refl
 
   -- the calls of a line are the ones of the recounted walk
@@ -87,9 +87,9 @@ module _ (k : Settings) (w : Walk) (line through : ℕ) (counts : AreCounts k w 
     where
       uncounted : IsUncounted k → (c t : Bool) (left : ℕ)
           → line_turns k input (record w { after_context_left = left }) here c t
-          ≡ line_turns k input (record w { line = line; reported_through = through; after_context_left = left }) here c t
+          ≡ line_turns k input (record w { line = line; next_unreported = through; after_context_left = left }) here c t
       uncounted un true t left = ap₂ (λ xs ys. xs ++ ys)
-          (pending-silent un input w.reported_through w.line (line_end w here)
+          (pending-silent un input w.next_unreported w.line (line_end w here)
           ∙ sym (pending-silent un input through line (line_end w here)))
           (sym (match-same un (line_end w here) here))
       uncounted un false t left = rw (un.none_after, un.unnumbered) refl
@@ -100,7 +100,7 @@ module _ (k : Settings) (w : Walk) (line through : ℕ) (counts : AreCounts k w 
       go false is = uncounted (is_uncounted k is) chosen trailing w.after_context_left
 
   -- the next walk's counts
-  pub counts-next : (here : List ℕ) (chosen : Bool) → AreCounts k (next_walk k w here chosen) (line + 1)
+  pub counts-next : (here : List ℕ) (chosen : Bool) → AreCounts k (after_line k w here chosen) (line + 1)
       (if reports_line k w chosen then line + 1 else through)
   counts-next here chosen is = (
     ap (λ n. n + 1) (counts is).0,
@@ -109,7 +109,7 @@ module _ (k : Settings) (w : Walk) (line through : ℕ) (counts : AreCounts k w 
 
   -- the counts after lines that were skipped
   pub counts-past : (passed : List ℕ)
-      → AreCounts k (skip_past k w passed) (line + length (lines (byte_of k.line_terminator) passed)) through
+      → AreCounts k (skip_unmatched k w passed) (line + length (lines (byte_of k.line_terminator) passed)) through
   counts-past passed is = (
     ap (λ n. n + length (lines (byte_of k.line_terminator) passed)) (counts is).0
         ∙ sym (ap (λ b. if b then w.line + length (lines (byte_of k.line_terminator) passed) else w.line) is),
@@ -181,12 +181,12 @@ module _ {S E F : Type 0} (step : Steps S E) (errors : ErrorMakers E) (matcher :
             (reported-exact (stopped (line_end w here)) new reported)
 
         pub counted-over : (new : S) → AreReported step k now (line_turns k input w here chosen trailing) all_true new
-            → is_over k (next_walk k w here chosen) chosen ≡ true → IsCounted (line_end w here) all_true new
+            → is_over k (after_line k w here chosen) chosen ≡ true → IsCounted (line_end w here) all_true new
         counted-over new reported over = search.counted-over step errors matcher k gone window input first bare p q exact now
             so_far.walked below within line chosen trailing decided-exact new (reported-exact all_true new reported) over
 
         pub searched-next : (new : S) → AreReported step k now (line_turns k input w here chosen trailing) all_true new
-            → is_over k (next_walk k w here chosen) chosen ≡ false → Searched q (next_walk k w here chosen) new
+            → is_over k (after_line k w here chosen) chosen ≡ false → Searched q (after_line k w here chosen) new
         searched-next new reported goes_on = record {
           line = so_far.line + 1;
           through = if reports_line k w chosen then so_far.line + 1 else so_far.through;
@@ -204,40 +204,40 @@ module _ {S E F : Type 0} (step : Steps S E) (errors : ErrorMakers E) (matcher :
           (recounted w so_far.line so_far.through) p so_far.walked less
           (record { allowed = may.allowed; room = may.room; unstopped = may.unstopped })
 
-      searched-skipped : (w : Walk) (p : ℕ) (a : Ahead) → Searched p w now → a.misses ≤ length window
+      searched-skipped : (w : Walk) (p : ℕ) (a : Ahead) → Searched p w now → a.candidate ≤ length window
           → IsKnown k matcher.meaning window p a
-          → Searched (if skips k w p a.misses then a.misses else p)
-          (if skips k w p a.misses then skip_past k w (slice window p a.misses) else w) now
-      searched-skipped w p a so_far within known = go (skips k w p a.misses) refl
+          → Searched (if skips k w p a.candidate then a.candidate else p)
+          (if skips k w p a.candidate then skip_unmatched k w (slice window p a.candidate) else w) now
+      searched-skipped w p a so_far within known = go (skips k w p a.candidate) refl
         where
           exact : Walk
           exact = recounted w so_far.line so_far.through
 
-          go : (b : Bool) → skips k w p a.misses ≡ b → Searched (if b then a.misses else p)
-              (if b then skip_past k w (slice window p a.misses) else w) now
+          go : (b : Bool) → skips k w p a.candidate ≡ b → Searched (if b then a.candidate else p)
+              (if b then skip_unmatched k w (slice window p a.candidate) else w) now
           go false is = so_far
           go true is = record {
-            line = so_far.line + length (lines t (slice window p a.misses));
+            line = so_far.line + length (lines t (slice window p a.candidate));
             through = so_far.through;
-            counts = counts-past k w so_far.line so_far.through so_far.counts (slice window p a.misses);
+            counts = counts-past k w so_far.line so_far.through so_far.counts (slice window p a.candidate);
             walked = skips.walked-past join append step errors matcher k gone window input first now bare exact p a so_far.walked within
                 known is;
           }
 
       -- the lines that don't match are skipped, if the walk may skip them
-      pub searched-on : (w : Walk) (p : ℕ) (a : Ahead) → Searched p w now → a.misses ≤ length window
+      pub searched-on : (w : Walk) (p : ℕ) (a : Ahead) → Searched p w now → a.candidate ≤ length window
           → IsKnown k matcher.meaning window p a → (r : ℕ) (next : Walk)
-          → r ≡ (if skips k w p a.misses then a.misses else p)
-          → next ≡ (if skips k w p a.misses then skip_past k w (slice window p a.misses) else w) → Searched r next now
+          → r ≡ (if skips k w p a.candidate then a.candidate else p)
+          → next ≡ (if skips k w p a.candidate then skip_unmatched k w (slice window p a.candidate) else w) → Searched r next now
       searched-on w p a so_far within known r next is_r is_next = subst (λ q. Searched q next now) (sym is_r)
-          (subst (λ v. Searched (if skips k w p a.misses then a.misses else p) v now) (sym is_next)
+          (subst (λ v. Searched (if skips k w p a.candidate then a.candidate else p) v now) (sym is_next)
           (searched-skipped w p a so_far within known))
 
       -- the line that the walk decides after that
       pub line-reached : (w : Walk) (p : ℕ) (a : Ahead) → Searched p w now → IsBounded window a
           → IsKnown k matcher.meaning window p a → (r : ℕ) (next : Walk) → p ≤ r
-          → r ≡ (if skips k w p a.misses then a.misses else p)
-          → next ≡ (if skips k w p a.misses then skip_past k w (slice window p a.misses) else w)
+          → r ≡ (if skips k w p a.candidate then a.candidate else p)
+          → next ≡ (if skips k w p a.candidate then skip_unmatched k w (slice window p a.candidate) else w)
           → (b q : ℕ) → b ≡ t → (IsExact b window a → (i : ℕ) → IsLineStart b window r i → IsLine b window i r q)
           → (o : Option Bool) → o ≡ known_at a r → HasLine r q next now o
       line-reached w p a so_far bounded known r next low is_r is_next b q is_b ends o is_o =

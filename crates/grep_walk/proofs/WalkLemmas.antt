@@ -31,7 +31,7 @@ use Rattle.grep_definitions.proofs.ContextLemmas.{turns_at-passed, turns_at-hit,
 use Rattle.grep_definitions.proofs.TurnEndLemmas.{ends-one, ends-pending, ends-match, ends-late, ends-passed}
 use Rattle.grep_walk.specs.declared.walk.Walk.{Walk}
 use Rattle.grep_walk.specs.Walks.{IsDecided, IsPlaced, IsWalk, HasReported, Counted}
-use Rattle.grep_walk.specs.Walks.{can_hit, line_end, line_turns, next_walk, is_over, reports_line}
+use Rattle.grep_walk.specs.Walks.{can_hit, line_end, line_turns, after_line, is_over, reports_line}
 use Rattle.grep_definitions.proofs.BoolLemmas.{above_zero, and-swap, both_true, clash, neither, not_false, or-cases}
 use Rattle.grep_definitions.proofs.ListLemmas.{All-joined_from, filter-all, filter-none}
 
@@ -49,14 +49,14 @@ ended-next k window w line chosen trailing made ended =
     E turn = turn.end ≡ line_end w line
 
     go : (b r a p : Bool) → All E (if b
-        then pending_turns k window w.reported_through w.line (line_end w line) w.reported_through (w.line - w.reported_through)
-        ++ match_turns k w.reported_through w.line w.offset (line_end w line) line
-        else (if a then after_turns k r w.reported_through w.line w.offset (line_end w line) line
+        then pending_turns k window w.next_unreported w.line (line_end w line) w.next_unreported (w.line - w.next_unreported)
+        ++ match_turns k w.next_unreported w.line w.offset (line_end w line) line
+        else (if a then after_turns k r w.next_unreported w.line w.offset (line_end w line) line
         else (if p then context_turns Other (number_of k w.line) w.offset (line_end w line) line else [])))
     go true r a p = All-append E _ _
-        (ends-pending k window w.reported_through w.line (line_end w line) w.reported_through (w.line - w.reported_through))
-        (ends-match k window w.reported_through w.line (line_end w line) w.offset line)
-    go false true true p = ends-match k window w.reported_through w.line (line_end w line) w.offset line
+        (ends-pending k window w.next_unreported w.line (line_end w line) w.next_unreported (w.line - w.next_unreported))
+        (ends-match k window w.next_unreported w.line (line_end w line) w.offset line)
+    go false true true p = ends-match k window w.next_unreported w.line (line_end w line) w.offset line
     go false false true p = ends-one (context After (number_of k w.line) w.offset line) (line_end w line)
     go false r false true = ends-one (context Other (number_of k w.line) w.offset line) (line_end w line)
     go false r false false = All-nil E
@@ -85,7 +85,7 @@ module _ (k : Settings) (meaning : Meaning) (bytes : List ℕ) where
   front i = record { call = begins; end = 0 } ∷ joined_from T 0 i
 
   abbrev pub start_walk : Walk
-  start_walk = record { offset = 0; line = 0; reported_through = 0; after_context_left = 0; match_count = 0 }
+  start_walk = record { offset = 0; line = 0; next_unreported = 0; after_context_left = 0; match_count = 0 }
 
   pub placed-start : IsPlaced k meaning bytes start_walk
   placed-start = record {
@@ -132,10 +132,10 @@ module _ (k : Settings) (meaning : Meaning) (bytes : List ℕ) where
     within = omega (arith, end-is, line.within)
 
     -- where the walk is after the line
-    pub placed-next : IsPlaced k meaning bytes w → (chosen : Bool) → IsPlaced k meaning bytes (next_walk k w here chosen)
+    pub placed-next : IsPlaced k meaning bytes w → (chosen : Bool) → IsPlaced k meaning bytes (after_line k w here chosen)
     placed-next placed chosen = record { at = after; inside = within; low = low (reports_line k w chosen); few = few chosen }
       where
-        low : (b : Bool) → (if b then w.line + 1 else w.reported_through) ≤ w.line + 1
+        low : (b : Bool) → (if b then w.line + 1 else w.next_unreported) ≤ w.line + 1
         low true = omega arith
         low false = omega (arith, placed.low)
 
@@ -182,67 +182,67 @@ module _ (k : Settings) (meaning : Meaning) (bytes : List ℕ) where
       room-here can =
           ap (λ o. o || LineSearch.follows_selected k meaning bytes w.line) walk.opened.below
           ∙ (ap (λ f. not (is_at w.match_count k.max_matches) || f)
-          (follows-selected k meaning bytes w.reported_through w.line w.after_context_left walk.near) ∙ can)
+          (follows-selected k meaning bytes w.next_unreported w.line w.after_context_left walk.near) ∙ can)
 
       selected : (b : Bool) → LineSearch.is_chosen k meaning bytes w.line ≡ b → LineSearch.is_selected k meaning bytes w.line ≡ b
       selected b is = selected-is k meaning bytes w.line w.after_context_left w.match_count walk.opened ∙ is
 
       pending-is : LineSearch.is_selected k meaning bytes w.line ≡ true
-          → joined_from T w.reported_through (w.line - w.reported_through)
-          ≡ pending_turns k bytes w.reported_through w.line (line_end w here) w.reported_through (w.line - w.reported_through)
-      pending-is hit = joined_from-equal T _ w.reported_through (w.line - w.reported_through) (λ j low high.
-          turns_at-passed k meaning bytes w.reported_through w.line w.after_context_left walk.near line.listed has hit
+          → joined_from T w.next_unreported (w.line - w.next_unreported)
+          ≡ pending_turns k bytes w.next_unreported w.line (line_end w here) w.next_unreported (w.line - w.next_unreported)
+      pending-is hit = joined_from-equal T _ w.next_unreported (w.line - w.next_unreported) (λ j low high.
+          turns_at-passed k meaning bytes w.next_unreported w.line w.after_context_left walk.near line.listed has hit
           j _ (line_end w here) _ low (omega (arith, walk.near.low)) refl start-after refl)
 
       hit-is : LineSearch.is_selected k meaning bytes w.line ≡ true → T w.line
-          ≡ match_turns k w.reported_through w.line w.offset (line_end w here) here
-      hit-is hit = turns_at-hit k meaning bytes w.reported_through w.line w.after_context_left walk.near line.listed has hit
+          ≡ match_turns k w.next_unreported w.line w.offset (line_end w here) here
+      hit-is hit = turns_at-hit k meaning bytes w.next_unreported w.line w.after_context_left walk.near line.listed has hit
           w.offset (line_end w here) _ number-is start-is start-after line.line
 
       -- the calls of the line
       pub front-step : (chosen trailing : Bool) → LineSearch.is_chosen k meaning bytes w.line ≡ chosen
           → (0 < w.after_context_left → LineSearch.is_trailing k meaning bytes w.line ≡ trailing)
-          → front (next_walk k w here chosen).reported_through
-          ≡ front w.reported_through ++ line_turns k bytes w here chosen trailing
+          → front (after_line k w here chosen).next_unreported
+          ≡ front w.next_unreported ++ line_turns k bytes w here chosen trailing
       front-step true trailing is late =
           let hit = selected true is in
-          let pending = pending_turns k bytes w.reported_through w.line (line_end w here) w.reported_through
-          (w.line - w.reported_through) in
-          headed-many (record { call = begins; end = 0 }) T w.reported_through w.line walk.near.low
-          ∙ (ap (λ xs. front w.reported_through ++ (xs ++ T w.line)) (pending-is hit)
-          ∙ ap (λ xs. front w.reported_through ++ (pending ++ xs)) (hit-is hit))
+          let pending = pending_turns k bytes w.next_unreported w.line (line_end w here) w.next_unreported
+          (w.line - w.next_unreported) in
+          headed-many (record { call = begins; end = 0 }) T w.next_unreported w.line walk.near.low
+          ∙ (ap (λ xs. front w.next_unreported ++ (xs ++ T w.line)) (pending-is hit)
+          ∙ ap (λ xs. front w.next_unreported ++ (pending ++ xs)) (hit-is hit))
       front-step false trailing is late =
-          headed-missed k (LineSearch.is_selected k meaning bytes) (LineSearch.is_trailing k meaning bytes) n turned w.reported_through w.line w.after_context_left walk.near
+          headed-missed k (LineSearch.is_selected k meaning bytes) (LineSearch.is_trailing k meaning bytes) n turned w.next_unreported w.line w.after_context_left walk.near
           (record { call = begins; end = 0 }) T _ _ after_is other_is
         where
           miss : LineSearch.is_selected k meaning bytes w.line ≡ false
           miss = selected false is
 
           after_is : 0 < w.after_context_left
-              → T w.line ≡ after_turns k trailing w.reported_through w.line w.offset (line_end w here) here
+              → T w.line ≡ after_turns k trailing w.next_unreported w.line w.offset (line_end w here) here
           after_is some =
-              turns_at-after k meaning bytes w.reported_through w.line w.after_context_left walk.near line.listed has
+              turns_at-after k meaning bytes w.next_unreported w.line w.after_context_left walk.near line.listed has
               w.offset (line_end w here) _ miss some number-is start-is start-after line.line
-              ∙ ap (λ r. after_turns k r w.reported_through w.line w.offset (line_end w here) here) (late some)
+              ∙ ap (λ r. after_turns k r w.next_unreported w.line w.offset (line_end w here) here) (late some)
 
           other_is : w.after_context_left ≡ 0 → k.passthru ≡ true
               → T w.line ≡ context_turns Other (number_of k w.line) w.offset (line_end w here) here
           other_is none is_p =
-              turns_at-other k meaning bytes w.reported_through w.line w.after_context_left walk.near line.listed has
+              turns_at-other k meaning bytes w.next_unreported w.line w.after_context_left walk.near line.listed has
               w.offset (line_end w here) _ miss none is_p (bare is_p).1 number-is start-is start-after line.line
 
       pub near-next : (chosen : Bool) → LineSearch.is_chosen k meaning bytes w.line ≡ chosen
-          → IsNear k meaning bytes (next_walk k w here chosen).reported_through (w.line + 1)
-          (next_walk k w here chosen).after_context_left
-      near-next true is = IsNear-hit k meaning bytes w.reported_through w.line w.after_context_left walk.near line.listed has
+          → IsNear k meaning bytes (after_line k w here chosen).next_unreported (w.line + 1)
+          (after_line k w here chosen).after_context_left
+      near-next true is = IsNear-hit k meaning bytes w.next_unreported w.line w.after_context_left walk.near line.listed has
           (selected true is)
       near-next false is =
-          IsNear-missed k meaning bytes w.reported_through w.line w.after_context_left walk.near line.listed has
+          IsNear-missed k meaning bytes w.next_unreported w.line w.after_context_left walk.near line.listed has
           (λ is_p. (bare is_p).1) (selected false is)
 
-      open-next : (chosen : Bool) → LineSearch.is_chosen k meaning bytes w.line ≡ chosen → is_over k (next_walk k w here chosen) chosen
+      open-next : (chosen : Bool) → LineSearch.is_chosen k meaning bytes w.line ≡ chosen → is_over k (after_line k w here chosen) chosen
           ≡ false
-          → IsOpen k meaning bytes (w.line + 1) (next_walk k w here chosen).after_context_left (next_walk k w here chosen).match_count
+          → IsOpen k meaning bytes (w.line + 1) (after_line k w here chosen).after_context_left (after_line k w here chosen).match_count
       open-next true is goes =
           let parts = neither _ _ goes in
           IsOpen-chosen k meaning bytes w.line w.after_context_left w.match_count walk.opened line.listed is
@@ -262,18 +262,18 @@ module _ (k : Settings) (meaning : Meaning) (bytes : List ℕ) where
 
       pub walk-next : (chosen trailing : Bool) → LineSearch.is_chosen k meaning bytes w.line ≡ chosen
           → (0 < w.after_context_left → LineSearch.is_trailing k meaning bytes w.line ≡ trailing)
-          → is_over k (next_walk k w here chosen) chosen ≡ false
-          → IsWalk k meaning bytes (next_walk k w here chosen)
+          → is_over k (after_line k w here chosen) chosen ≡ false
+          → IsWalk k meaning bytes (after_line k w here chosen)
       walk-next chosen trailing is late goes = record {
         placed = placed-next walk.placed chosen;
         near = near-next chosen is;
         opened = open-next chosen is goes;
         ended = subst (All (λ turn. turn.end ≤ line_end w here)) (sym (front-step chosen trailing is late))
-            (ended-next k bytes w here chosen trailing (front w.reported_through) walk.ended);
+            (ended-next k bytes w here chosen trailing (front w.next_unreported) walk.ended);
       }
 
       pub done-next : (chosen : Bool) → LineSearch.is_chosen k meaning bytes w.line ≡ chosen
-          → is_over k (next_walk k w here chosen) chosen ≡ true
+          → is_over k (after_line k w here chosen) chosen ≡ true
           → IsDone k meaning bytes (w.line + 1)
       done-next true is over = ⊎_elim
           (λ stop. absurd (clash (both_true _ _ stop).1 refl))
@@ -297,17 +297,17 @@ module _ (k : Settings) (meaning : Meaning) (bytes : List ℕ) where
           (or-cases _ _ over)
 
       -- just the calls so far end at or before the start of the line
-      through-is : turns_through k meaning bytes (starts w.line) ≡ front w.reported_through
+      through-is : turns_through k meaning bytes (starts w.line) ≡ front w.next_unreported
       through-is =
-          let split = ap (filter passes) (front-through w.reported_through turned (omega (arith, has, walk.near.low)))
-          ∙ filter-append passes (front w.reported_through) (joined_from T w.reported_through (turned - w.reported_through)) in
-          let early = filter-all passes (front w.reported_through) (All-weaker (λ turn. turn.end ≤ w.offset) (λ turn. passes turn ≡ true)
-          (λ turn low. le-leb turn.end (starts w.line) (omega (arith, low, start-is))) (front w.reported_through) walk.ended) in
-          let late = filter-none passes (joined_from T w.reported_through (turned - w.reported_through))
-          (All-joined_from (λ turn. passes turn ≡ false) T w.reported_through (turned - w.reported_through) (λ j low high. later j low))
+          let split = ap (filter passes) (front-through w.next_unreported turned (omega (arith, has, walk.near.low)))
+          ∙ filter-append passes (front w.next_unreported) (joined_from T w.next_unreported (turned - w.next_unreported)) in
+          let early = filter-all passes (front w.next_unreported) (All-weaker (λ turn. turn.end ≤ w.offset) (λ turn. passes turn ≡ true)
+          (λ turn low. le-leb turn.end (starts w.line) (omega (arith, low, start-is))) (front w.next_unreported) walk.ended) in
+          let late = filter-none passes (joined_from T w.next_unreported (turned - w.next_unreported))
+          (All-joined_from (λ turn. passes turn ≡ false) T w.next_unreported (turned - w.next_unreported) (λ j low high. later j low))
           in
-          split ∙ (ap (λ xs. xs ++ filter passes (joined_from T w.reported_through (turned - w.reported_through))) early
-          ∙ (ap (λ xs. front w.reported_through ++ xs) late ∙ append-nil (front w.reported_through)))
+          split ∙ (ap (λ xs. xs ++ filter passes (joined_from T w.next_unreported (turned - w.next_unreported))) early
+          ∙ (ap (λ xs. front w.next_unreported ++ xs) late ∙ append-nil (front w.next_unreported)))
         where
           passes : Turn → Bool
           passes turn = nat_le turn.end (starts w.line)
@@ -315,9 +315,9 @@ module _ (k : Settings) (meaning : Meaning) (bytes : List ℕ) where
           fails : (turn : Turn) → starts (w.line + 1) ≤ turn.end → passes turn ≡ false
           fails turn low = lt-leb turn.end (starts w.line) (omega (arith, low, line.begins, line.ends, line.above))
 
-          later : (j : ℕ) → w.reported_through ≤ j → All (λ turn. passes turn ≡ false) (T j)
+          later : (j : ℕ) → w.next_unreported ≤ j → All (λ turn. passes turn ≡ false) (T j)
           later j low = All-weaker (λ turn. starts (w.line + 1) ≤ turn.end) (λ turn. passes turn ≡ false) fails (T j)
-              (⊎_elim (λ less. ends-passed k meaning bytes w.reported_through w.line w.after_context_left walk.near j low less)
+              (⊎_elim (λ less. ends-passed k meaning bytes w.next_unreported w.line w.after_context_left walk.near j low less)
               (λ above. ends-late k meaning bytes w.line j above) (cases_lt j w.line))
 
   -- after the last line
@@ -329,10 +329,10 @@ module _ (k : Settings) (meaning : Meaning) (bytes : List ℕ) where
   }
 
   -- after the last turn nothing is reported of the lines that were passed
-  rest-is : (w : Walk) → IsNear k meaning bytes w.reported_through w.line w.after_context_left → IsDone k meaning bytes w.line
-      → joined_from T w.reported_through (turned - w.reported_through) ≡ []
-  rest-is w near done = joined_from-none T w.reported_through (turned - w.reported_through) (λ j low high.
-      turns_at-done k meaning bytes w.reported_through w.line w.after_context_left near done.silent j low
+  rest-is : (w : Walk) → IsNear k meaning bytes w.next_unreported w.line w.after_context_left → IsDone k meaning bytes w.line
+      → joined_from T w.next_unreported (turned - w.next_unreported) ≡ []
+  rest-is w near done = joined_from-none T w.next_unreported (turned - w.next_unreported) (λ j low high.
+      turns_at-done k meaning bytes w.next_unreported w.line w.after_context_left near done.silent j low
       (omega (arith, done.last, near.low)))
 
   module _ {S E : Type 0} (step : Steps S E) (old : S) where
@@ -348,12 +348,12 @@ module _ (k : Settings) (meaning : Meaning) (bytes : List ℕ) where
 
     -- no more calls are to come
     counted-done : (w : Walk) (new : S) → IsLineStart t bytes w.offset w.line
-        → IsNear k meaning bytes w.reported_through w.line w.after_context_left → IsDone k meaning bytes w.line
-        → AreReported step k old (front w.reported_through) all_true new → IsCounted w.offset all_true new
+        → IsNear k meaning bytes w.next_unreported w.line w.after_context_left → IsDone k meaning bytes w.line
+        → AreReported step k old (front w.next_unreported) all_true new → IsCounted w.offset all_true new
     counted-done w new at near done reported = record {
       reported = subst (λ ts. AreReported step k old ts all_true new)
-          (sym (front-through w.reported_through turned (omega (arith, done.last, near.low))))
-          (AreReported-append step k (front w.reported_through) (joined_from T w.reported_through (turned - w.reported_through)) old new
+          (sym (front-through w.next_unreported turned (omega (arith, done.last, near.low))))
+          (AreReported-append step k (front w.next_unreported) (joined_from T w.next_unreported (turned - w.next_unreported)) old new
           all_true
           new reported
           (subst (λ ts. AreReported step k new ts all_true new) (sym (rest-is w near done)) (refl, refl)));
@@ -399,19 +399,19 @@ module _ (k : Settings) (meaning : Meaning) (bytes : List ℕ) where
       own = line_turns k bytes w (here w start end same line) chosen trailing
 
       abbrev next : Walk
-      next = next_walk k w (here w start end same line) chosen
+      next = after_line k w (here w start end same line) chosen
 
       reported-line : (outcome : Outcome E) (new : S) → AreReported step k mid own outcome new
-          → AreReported step k old (front next.reported_through) outcome new
+          → AreReported step k old (front next.next_unreported) outcome new
       reported-line outcome new reported =
           subst (λ ts. AreReported step k old ts outcome new)
           (sym (front-step w start end same line bare so_far.walk chosen trailing is late))
-          (AreReported-append step k (front w.reported_through) own old mid outcome new so_far.reported reported)
+          (AreReported-append step k (front w.next_unreported) own old mid outcome new so_far.reported reported)
 
-      few : next.reported_through ≤ turned
+      few : next.next_unreported ≤ turned
       few = go (reports_line k w chosen)
         where
-          go : (b : Bool) → (if b then w.line + 1 else w.reported_through) ≤ turned
+          go : (b : Bool) → (if b then w.line + 1 else w.next_unreported) ≤ turned
           go true = omega (arith, has w start end same line bare so_far.walk)
           go false = omega (arith, has w start end same line bare so_far.walk, so_far.walk.near.low)
 
@@ -457,7 +457,7 @@ module _ {S E F : Type 0} (step : Steps S E) (errors : ErrorMakers E) (matcher :
       → IsAsked k matcher.meaning bytes w.line haystack → errors.is_message (matcher.text_of error) e
       → matcher.fails haystack error → IsLineFault step errors matcher k bytes old e new
   fault-matcher w new so_far start end same line bare room haystack error e asked message fails = of_matcher haystack error
-      (front k matcher.meaning bytes w.reported_through)
+      (front k matcher.meaning bytes w.next_unreported)
       (record {
         index = w.line;
         has_turn = has k matcher.meaning bytes w start end same line bare so_far.walk;

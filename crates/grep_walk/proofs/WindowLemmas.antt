@@ -239,7 +239,7 @@ module _ (join : LinesJoin) (append : LinesAppend) (numbered : LinesAreNumbered)
   pub gone-closed : IsClosed t (gone ++ front)
   gone-closed = closed-append t gone front opens shut
 
-  pub rolled : (more after : List ℕ) (w : Walk) → near ≡ min k.before_context (w.line - w.reported_through)
+  pub rolled : (more after : List ℕ) (w : Walk) → near ≡ min k.before_context (w.line - w.next_unreported)
       → (0 < length after → IsClosed t (rest ++ more))
       → ((i : ℕ) → IsLineStart t window (length window) i → IsLineStart t window r (i - near))
       → IsInWindow k gone window (gone ++ (window ++ (more ++ after))) (length window) w

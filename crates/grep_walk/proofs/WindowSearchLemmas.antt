@@ -17,7 +17,7 @@ use Rattle.grep_definitions.specs.Searches.{ErrorMakers, MatcherFacts, IsLineFau
 use Rattle.grep_matcher.specs.Terminators.{byte_of}
 use Rattle.grep_walk.specs.declared.walk.Walk.{Walk}
 use Rattle.grep_walk.specs.Walks.{IsDecided, IsOrdered, HasReported, Counted}
-use Rattle.grep_walk.specs.Walks.{can_hit, line_end, line_turns, next_walk, is_over, recounted, reports_line}
+use Rattle.grep_walk.specs.Walks.{can_hit, line_end, line_turns, after_line, is_over, recounted, reports_line}
 use Rattle.grep_definitions.specs.Questions.{IsAsked}
 use Rattle.grep_walk.specs.LookAheads.{MayAskAhead}
 use Rattle.grep_walk.specs.Windows.{IsWindow, IsInWindow, HasPassed, HasSearched, HasWalked}
@@ -28,14 +28,14 @@ use Rattle.grep_walk.proofs.WindowLemmas as windows
 
 -- a line leaves the counts of a walk in order
 pub ordered-next : (k : Settings) (w : Walk) (p q : ℕ) (window : List ℕ) (chosen : Bool) → p < q → q ≤ length window → IsOrdered w
-    → IsOrdered (next_walk k w (slice window p q) chosen)
+    → IsOrdered (after_line k w (slice window p q) chosen)
 ordered-next k w p q window chosen below within ordered = record {
   few = omega (arith, ordered.few, length-take (q - p) (drop p window), length-drop p window);
   low = low (reports_line k w chosen);
   chosen = count chosen;
 }
   where
-    low : (b : Bool) → (if b then w.line + 1 else w.reported_through) ≤ w.line + 1
+    low : (b : Bool) → (if b then w.line + 1 else w.next_unreported) ≤ w.line + 1
     low true = omega arith
     low false = omega (arith, ordered.low)
 
@@ -197,25 +197,25 @@ module _ {S E F : Type 0} (step : Steps S E) (errors : ErrorMakers E) (matcher :
           (length gone + p) (length gone + q) so_far.inside.at at chosen trailing is new reported)
 
       pub counted-over : (new : S) → AreReported step k now (line_turns k input w here chosen trailing) all_true new
-          → is_over k (next_walk k w here chosen) chosen ≡ true → IsCounted (line_end w here) all_true new
+          → is_over k (after_line k w here chosen) chosen ≡ true → IsCounted (line_end w here) all_true new
       counted-over new = matched
           (λ xs. AreReported step k now (line_turns k input w xs chosen trailing) all_true new
-          → is_over k (next_walk k w xs chosen) chosen ≡ true → IsCounted (line_end w xs) all_true new)
+          → is_over k (after_line k w xs chosen) chosen ≡ true → IsCounted (line_end w xs) all_true new)
           (λ is reported over. walks.counted-over k matcher.meaning input step first bare w now so_far.reported
           (length gone + p) (length gone + q) so_far.inside.at at chosen trailing is new reported over)
 
       -- the window still has the lines that may be reported
-      kept-next : length (lines t gone) + min k.before_context ((w.line + 1) - (next_walk k w here chosen).reported_through) ≤ w.line + 1
+      kept-next : length (lines t gone) + min k.before_context ((w.line + 1) - (after_line k w here chosen).next_unreported) ≤ w.line + 1
       kept-next = go (reports_line k w chosen)
         where
           go : (b : Bool)
-              → length (lines t gone) + min k.before_context ((w.line + 1) - (if b then w.line + 1 else w.reported_through)) ≤ w.line + 1
+              → length (lines t gone) + min k.before_context ((w.line + 1) - (if b then w.line + 1 else w.next_unreported)) ≤ w.line + 1
           go true = omega (arith, so_far.inside.line.low)
           go false = omega (arith, so_far.inside.kept)
 
       pub searched-next : (new : S) → AreReported step k now (line_turns k input w here chosen trailing) all_true new
-          → is_over k (next_walk k w here chosen) chosen ≡ false
-          → HasWalked step k matcher.meaning gone window input first q (next_walk k w here chosen) new
+          → is_over k (after_line k w here chosen) chosen ≡ false
+          → HasWalked step k matcher.meaning gone window input first q (after_line k w here chosen) new
       searched-next new reported goes_on = record {
         inside = record {
           shown = so_far.inside.shown;
@@ -232,8 +232,8 @@ module _ {S E F : Type 0} (step : Steps S E) (errors : ErrorMakers E) (matcher :
         };
         reported = matched
             (λ xs. AreReported step k now (line_turns k input w xs chosen trailing) all_true new
-            → is_over k (next_walk k w xs chosen) chosen ≡ false
-            → HasReported k matcher.meaning input step first (next_walk k w xs chosen) new)
+            → is_over k (after_line k w xs chosen) chosen ≡ false
+            → HasReported k matcher.meaning input step first (after_line k w xs chosen) new)
             (λ is reported goes_on. walks.reported-next k matcher.meaning input step first bare w now so_far.reported
             (length gone + p) (length gone + q) so_far.inside.at at chosen trailing is new reported goes_on)
             reported goes_on;

@@ -14,7 +14,7 @@ use Rattle.grep_definitions.specs.SinkCalls.{Turn, begins}
 use Rattle.grep_walk.specs.declared.blocks.Blocks.{Blocks}
 use Rattle.grep_walk.specs.declared.walk.Walk.{Walk}
 use Rattle.grep_walk.specs.Units.{AreLeft, IsUnit, is_hit}
-use Rattle.grep_walk.specs.Walks.{IsPlaced, line_end, next_walk}
+use Rattle.grep_walk.specs.Walks.{IsPlaced, line_end, after_line}
 
 -- whether as many lines were chosen under inversion as the limit has
 abbrev pub is_done : Settings → Walk → Bool
@@ -32,17 +32,17 @@ abbrev pub is_joined : Settings → Bool → Bool
 is_joined settings chosen = chosen && not settings.invert_match
 
 -- the walk after a line, or after a unit of chosen lines
-abbrev pub walk_after : Settings → Walk → List ℕ → Bool → Walk
-walk_after settings w unit chosen =
+abbrev pub after_lines : Settings → Walk → List ℕ → Bool → Walk
+after_lines settings w unit chosen =
     if is_joined settings chosen
     then record {
       offset = line_end w unit;
       line = w.line + length (lines (byte_of settings.line_terminator) unit);
-      reported_through = w.line + length (lines (byte_of settings.line_terminator) unit);
+      next_unreported = w.line + length (lines (byte_of settings.line_terminator) unit);
       after_context_left = settings.after_context;
       match_count = w.match_count + 1;
     }
-    else next_walk settings w unit chosen
+    else after_line settings w unit chosen
 
 module _ (settings : Settings) (meaning : Meaning) (bytes : List ℕ) where
   -- `begin`, and the calls of the first i lines
@@ -62,9 +62,9 @@ module _ (settings : Settings) (meaning : Meaning) (bytes : List ℕ) where
     pub placed : IsPlaced settings meaning bytes w
     pub near : IsNear settings (is_selected settings meaning bytes) no_line
         (line_count settings meaning bytes) (line_count settings meaning bytes)
-        w.reported_through w.line w.after_context_left
+        w.next_unreported w.line w.after_context_left
     pub limited : settings.invert_match ≡ true → IsLimited w.line w.match_count
-    pub ended : All (λ turn. turn.end ≤ w.offset) (turns_before w.reported_through)
+    pub ended : All (λ turn. turn.end ≤ w.offset) (turns_before w.next_unreported)
 
   -- a walk at `start` comes to a unit or is in it: without inversion it comes to it. No match touches the line before
   -- the unit

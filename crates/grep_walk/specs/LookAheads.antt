@@ -15,32 +15,32 @@ use Rattle.grep_walk.specs.declared.walk.Walk.{Walk}
 -- whether the line that begins at a position matches, if that is known
 abbrev pub known_at : Ahead → ℕ → Option Bool
 known_at ahead start =
-    if nat_lt start ahead.misses then Some false
-    else (if nat_lt start ahead.hits then Some true else None)
+    if nat_lt start ahead.candidate then Some false
+    else (if nat_lt start ahead.match_end then Some true else None)
 
 -- its positions are in the window
 pub record IsBounded (window : List ℕ) (ahead : Ahead) : Type 0 where
-  pub ordered : ahead.misses ≤ ahead.hits
-  pub within : ahead.hits ≤ length window
+  pub ordered : ahead.candidate ≤ ahead.match_end
+  pub within : ahead.match_end ≤ length window
 
 -- if it has a line that matches, that is the line which begins there
 abbrev pub IsExact : ℕ → List ℕ → Ahead → Type 0
 IsExact t window ahead =
-    ahead.misses < ahead.hits → (i : ℕ) → IsLineStart t window ahead.misses i
-    → IsLine t window i ahead.misses ahead.hits
+    ahead.candidate < ahead.match_end → (i : ℕ) → IsLineStart t window ahead.candidate i
+    → IsLine t window i ahead.candidate ahead.match_end
 
 -- what is known of the lines of a window from `start` on is so
 pub record IsKnown (settings : Settings) (meaning : Meaning) (window : List ℕ) (start : ℕ)
     (ahead : Ahead)
     : Type 0 where
   pub index : ℕ
-  pub at : IsLineStart (byte_of settings.line_terminator) window ahead.misses index
+  pub at : IsLineStart (byte_of settings.line_terminator) window ahead.candidate index
   pub exact : IsExact (byte_of settings.line_terminator) window ahead
   pub miss : (i p q : ℕ) → IsLine (byte_of settings.line_terminator) window i p q
-      → start ≤ p → p < ahead.misses
+      → start ≤ p → p < ahead.candidate
       → matches_line settings meaning (slice window p q) ≡ false
   pub hit : (i p q : ℕ) → IsLine (byte_of settings.line_terminator) window i p q
-      → ahead.misses ≤ p → p < ahead.hits
+      → ahead.candidate ≤ p → p < ahead.match_end
       → matches_line settings meaning (slice window p q) ≡ true
 
 -- a walk may ask about many lines at once

@@ -51,11 +51,11 @@ line_end w line = w.offset + length line
 abbrev pub line_turns : Settings → List ℕ → Walk → List ℕ → Bool → Bool → List Turn
 line_turns settings window w line chosen trailing =
     if chosen
-    then pending_turns settings window w.reported_through w.line (line_end w line)
-    w.reported_through (w.line - w.reported_through)
-    ++ match_turns settings w.reported_through w.line w.offset (line_end w line) line
+    then pending_turns settings window w.next_unreported w.line (line_end w line)
+    w.next_unreported (w.line - w.next_unreported)
+    ++ match_turns settings w.next_unreported w.line w.offset (line_end w line) line
     else (if nat_lt 0 w.after_context_left
-    then after_turns settings trailing w.reported_through w.line w.offset (line_end w line) line
+    then after_turns settings trailing w.next_unreported w.line w.offset (line_end w line) line
     else (if settings.passthru
     then context_turns Other (number_of settings w.line) w.offset (line_end w line) line
     else []))
@@ -65,18 +65,18 @@ abbrev pub reports_line : Settings → Walk → Bool → Bool
 reports_line settings w chosen = chosen || nat_lt 0 w.after_context_left || settings.passthru
 
 -- the walk after that line
-abbrev pub next_walk : Settings → Walk → List ℕ → Bool → Walk
-next_walk settings w line chosen = record {
+abbrev pub after_line : Settings → Walk → List ℕ → Bool → Walk
+after_line settings w line chosen = record {
   offset = line_end w line;
   line = w.line + 1;
-  reported_through = if reports_line settings w chosen then w.line + 1 else w.reported_through;
+  next_unreported = if reports_line settings w chosen then w.line + 1 else w.next_unreported;
   after_context_left = if chosen then settings.after_context else w.after_context_left - 1;
   match_count = if chosen then w.match_count + 1 else w.match_count;
 }
 
 -- the walk after lines that were passed unreported
-abbrev pub walk_past : Settings → Walk → List ℕ → Walk
-walk_past settings w passed = record w {
+abbrev pub skip_lines : Settings → Walk → List ℕ → Walk
+skip_lines settings w passed = record w {
   offset = w.offset + length passed;
   line = w.line + length (lines (byte_of settings.line_terminator) passed);
 }
@@ -87,8 +87,8 @@ counts_lines settings =
     settings.line_number || nat_lt 0 settings.after_context || nat_lt 0 settings.before_context
 
 -- the walk after lines that were skipped, which are counted only if lines are
-abbrev pub skip_past : Settings → Walk → List ℕ → Walk
-skip_past settings w passed = record w {
+abbrev pub skip_unmatched : Settings → Walk → List ℕ → Walk
+skip_unmatched settings w passed = record w {
   offset = w.offset + length passed;
   line = if counts_lines settings
       then w.line + length (lines (byte_of settings.line_terminator) passed) else w.line;
@@ -96,12 +96,12 @@ skip_past settings w passed = record w {
 
 -- a walk with its lines counted anew
 abbrev pub recounted : Walk → ℕ → ℕ → Walk
-recounted w line through = record w { line = line; reported_through = through }
+recounted w line through = record w { line = line; next_unreported = through }
 
 -- these are a walk's counts of lines, if it counts them
 abbrev pub AreCounts : Settings → Walk → ℕ → ℕ → Type 0
 AreCounts settings w line through =
-    counts_lines settings ≡ true → (line ≡ w.line) × (through ≡ w.reported_through)
+    counts_lines settings ≡ true → (line ≡ w.line) × (through ≡ w.next_unreported)
 
 -- whether no later line has a turn, by whether the last line was chosen
 abbrev pub is_over : Settings → Walk → Bool → Bool
@@ -126,7 +126,7 @@ pub record Counted {S E : Type 0} (step : Steps S E) (settings : Settings) (old 
 -- the counts of a walk are in order
 pub record IsOrdered (w : Walk) : Type 0 where
   pub few : w.line ≤ w.offset
-  pub low : w.reported_through ≤ w.line
+  pub low : w.next_unreported ≤ w.line
   pub chosen : w.match_count ≤ w.line
 
 module _ (settings : Settings) (meaning : Meaning) (bytes : List ℕ) where
@@ -134,21 +134,21 @@ module _ (settings : Settings) (meaning : Meaning) (bytes : List ℕ) where
   pub record IsPlaced (w : Walk) : Type 0 where
     pub at : IsLineStart (byte_of settings.line_terminator) bytes w.offset w.line
     pub inside : w.offset ≤ length bytes
-    pub low : w.reported_through ≤ w.line
+    pub low : w.next_unreported ≤ w.line
     pub few : w.match_count ≤ w.line
 
   -- a walk that goes on: which lines were reported, what is known of limit and stop, and that the turns so far have
   -- ended
   pub record IsWalk (w : Walk) : Type 0 where
     pub placed : IsPlaced w
-    pub near : IsNear settings meaning bytes w.reported_through w.line w.after_context_left
+    pub near : IsNear settings meaning bytes w.next_unreported w.line w.after_context_left
     pub opened : IsOpen settings meaning bytes w.line w.after_context_left w.match_count
     pub ended : All (λ turn. turn.end ≤ w.offset)
-        (turns_before settings meaning bytes w.reported_through)
+        (turns_before settings meaning bytes w.next_unreported)
 
   -- the calls that are defined up to a walk were made from a first state on, and all returned true
   pub record HasReported {S E : Type 0} (step : Steps S E) (first : S) (w : Walk)
       (now : S) : Type 0 where
     pub walk : IsWalk w
     pub reported : AreReported step settings first
-        (turns_before settings meaning bytes w.reported_through) all_true now
+        (turns_before settings meaning bytes w.next_unreported) all_true now

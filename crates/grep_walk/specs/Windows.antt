@@ -30,7 +30,7 @@ pub record IsInWindow (settings : Settings) (gone window input : List ℕ) (star
   pub at : w.offset ≡ length gone + start
   pub line : IsLineIn settings gone window start w.line
   pub kept : length (lines (byte_of settings.line_terminator) gone)
-      + min settings.before_context (w.line - w.reported_through) ≤ w.line
+      + min settings.before_context (w.line - w.next_unreported) ≤ w.line
 
 -- such a walk has made the calls of the lines before it, from a first state on
 pub record HasWalked {S E : Type 0} (step : Steps S E) (settings : Settings) (meaning : Meaning)

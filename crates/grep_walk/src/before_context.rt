@@ -19,9 +19,9 @@ impl Config {
     /// How many lines before the one that a walk is at are reported with it, if that is chosen.
     pub fn lines_before(&self, walk: &Walk) -> usize
         ensures { result ≡ min self.now.before_context
-            (walk.now.line - walk.now.reported_through) }
+            (walk.now.line - walk.now.next_unreported) }
     {
-        let passed = walk.line.saturating_sub(walk.reported_through) as usize;
+        let passed = walk.line.saturating_sub(walk.next_unreported) as usize;
         self.before_context.min(passed)
     }
 
@@ -80,17 +80,17 @@ impl Config {
     /// is at, or is that line: the caller ensures that it is no later one.
     pub fn is_gap(&self, index: u64, walk: &Walk) -> bool
         requires { index ≤ walk.now.line }
-        ensures { result ≡ is_gap self.now walk.now.reported_through index walk.now.line }
+        ensures { result ≡ is_gap self.now walk.now.next_unreported index walk.now.line }
     {
         let is_first = walk.line - index == self.before_context as u64;
-        walk.reported_through > 0 && walk.reported_through < index && is_first
+        walk.next_unreported > 0 && walk.next_unreported < index && is_first
     }
 
     /// Whether lines were left out before the chosen one that a walk is at. If there are lines before a match, the
     /// break comes before the first of them.
     pub fn is_gap_before_match(&self, walk: &Walk) -> bool
         ensures { result ≡ (nat_lt 0 self.now.after_context
-            && is_gap self.now walk.now.reported_through walk.now.line walk.now.line) }
+            && is_gap self.now walk.now.next_unreported walk.now.line walk.now.line) }
     {
         self.after_context > 0 && self.is_gap(walk.line, walk)
     }

@@ -140,6 +140,6 @@ impl Config {
     pub fn reads_lines(&self) -> bool
         ensures { result ≡ reads_lines self.now }
     {
-        !self.is_idle() || !matches!(self.binary_detection, BinaryDetection::None)
+        !self.reports_nothing() || !matches!(self.binary_detection, BinaryDetection::None)
     }
 }

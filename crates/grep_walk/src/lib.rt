@@ -15,5 +15,5 @@ mod walk;
 
 pub use blocks::Blocks;
 pub use config::Config;
-pub use look_ahead::{Ahead, UNKNOWN};
-pub use walk::{START, Verdict, Walk};
+pub use look_ahead::{Ahead, NOTHING_AHEAD};
+pub use walk::{Verdict, WALK_START, Walk};

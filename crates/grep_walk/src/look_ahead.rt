@@ -10,7 +10,7 @@ ghost use Rattle.grep_matcher.specs.Terminators.{byte_of};
 ghost use Rattle.grep_definitions.specs.Questions.{IsLawfulFor};
 ghost use Rattle.grep_walk.specs.LookAheads.{known_at, IsBounded, IsExact, IsKnown, MayAskAhead};
 ghost use Rattle.grep_walk.specs.LookAheads.{can_skip, skips};
-ghost use Rattle.grep_walk.specs.Walks.{skip_past, IsOrdered};
+ghost use Rattle.grep_walk.specs.Walks.{skip_unmatched, IsOrdered};
 
 use crate::config::Config;
 use crate::walk::Walk;
@@ -22,23 +22,26 @@ use std::alloc::Allocator;
 /// What is known of the lines of a window from a walk's line on, by positions in the window.
 #[derive(Clone, Copy)]
 pub struct Ahead {
-    /// The lines that begin before this position don't match.
-    pub misses: usize,
-    /// The line that begins at `misses`, if this position is after it, ends here and matches.
-    pub hits: usize,
+    /// Where the next line begins that may match: those that begin before don't.
+    pub candidate: usize,
+    /// Where that line ends, if it surely matches; if not, a position that isn't after its start.
+    pub match_end: usize,
 }
 
 /// Nothing is known.
-pub const UNKNOWN: Ahead = Ahead { misses: 0, hits: 0 };
+pub const NOTHING_AHEAD: Ahead = Ahead {
+    candidate: 0,
+    match_end: 0,
+};
 
 impl Ahead {
     /// Whether the line that begins at a position matches, if that is known.
     pub fn at(&self, start: usize) -> Option<bool>
         ensures { result ≡ known_at self.now start }
     {
-        if start < self.misses {
+        if start < self.candidate {
             Some(false)
-        } else if start < self.hits {
+        } else if start < self.match_end {
             Some(true)
         } else {
             None
@@ -56,8 +59,8 @@ impl Ahead {
         ensures last { IfNone result ((i : ℕ) → IsLineStart terminator window.now start i
             → i ≡ length (lines terminator window.now)) }
     {
-        if start == self.misses && start < self.hits {
-            return Some(self.hits);
+        if start == self.candidate && start < self.match_end {
+            return Some(self.match_end);
         }
         let (_, end) = LineStep::new(terminator, start, window.len()).next(window)?;
         Some(end)
@@ -86,13 +89,13 @@ impl Config {
             → IsKnown self.now (M.meaning matcher.now) window.now start ahead
             → IsKnown self.now (M.meaning matcher.now) window.now start next) }
         ensures some { IfErr result (λ e. start < length window.now) }
-        ensures unknown { IfErr result (λ e. ahead.hits ≤ start) }
+        ensures unknown { IfErr result (λ e. ahead.match_end ≤ start) }
         ensures allowed { IfErr result
             (λ e. MayAskAhead self.now (M.meaning matcher.now) walk.now) }
         ensures fault { IfErr result (λ e. (error : M.Error) × E.is_message (M.Error.output error) e
             × M.fails matcher.now (drop start window.now) error) }
     {
-        if start < ahead.hits || start == window.len() || !self.asks_ahead(matcher, walk) {
+        if start < ahead.match_end || start == window.len() || !self.asks_ahead(matcher, walk) {
             return Ok(ahead);
         }
         match matcher.find_candidate_line(&window[start..]) {
@@ -130,19 +133,19 @@ impl Config {
     {
         let Some(found) = found else {
             return Ahead {
-                misses: window.len(),
-                hits: window.len(),
+                candidate: window.len(),
+                match_end: window.len(),
             };
         };
         let terminator = self.line_terminator.as_byte();
         let line = line_of(&window[start..], terminator, found.position());
-        let misses = start + line.start();
+        let candidate = start + line.start();
         Ahead {
-            misses,
-            hits: if found.is_confirmed() {
+            candidate,
+            match_end: if found.is_confirmed() {
                 start + line.end()
             } else {
-                misses
+                candidate
             },
         }
     }
@@ -151,31 +154,31 @@ impl Config {
     /// past them and returns where it is then, in bytes of the window. They are counted only if lines are numbered or
     /// have contexts. The caller ensures that `start` is in the window, where the walk is, and that the offset of the
     /// window's end is below 2^64.
-    pub fn skip(&self, window: &[u8], start: usize, ahead: &Ahead, walk: &mut Walk) -> usize
+    pub fn skip_unmatched(&self, window: &[u8], start: usize, ahead: &Ahead, walk: &mut Walk) -> usize
         requires bounded { IsBounded window.now ahead.now }
         requires inside { start ≤ length window.now }
         requires fits { walk.old.offset + (length window.now - start) < 2 ^ 64 }
         requires ordered { IsOrdered walk.old }
-        ensures position { result ≡ (if skips self.now walk.old start ahead.now.misses
-            then ahead.now.misses else start) }
-        ensures walk { walk.new ≡ (if skips self.now walk.old start ahead.now.misses
-            then skip_past self.now walk.old (slice window.now start ahead.now.misses)
+        ensures position { result ≡ (if skips self.now walk.old start ahead.now.candidate
+            then ahead.now.candidate else start) }
+        ensures walk { walk.new ≡ (if skips self.now walk.old start ahead.now.candidate
+            then skip_unmatched self.now walk.old (slice window.now start ahead.now.candidate)
             else walk.old) }
         ensures ordered { IsOrdered walk.new }
         ensures moved { walk.new.offset + start ≡ walk.old.offset + result }
         ensures low { start ≤ result }
         ensures within { result ≤ length window.now }
     {
-        if start >= ahead.misses || !self.can_skip(walk) {
+        if start >= ahead.candidate || !self.can_skip(walk) {
             return start;
         }
-        let skipped = &window[start..ahead.misses];
+        let skipped = &window[start..ahead.candidate];
         if self.counts_lines() {
-            *walk = self.walk_past(walk, skipped);
+            *walk = self.skip_lines(walk, skipped);
         } else {
             walk.offset += skipped.len() as u64;
         }
-        ahead.misses
+        ahead.candidate
     }
 
     // Whether a walk may skip lines that don't match.

@@ -3,7 +3,7 @@ ghost use Rattle.std.specs.Prelude.{◌≡◌, ◌≤◌, ◌<◌, ◌+◌, ◌^
 ghost use Rattle.grep_matcher.specs.Terminators.{byte_of};
 ghost use Rattle.grep_lines.specs.Positions.{IsLine, IsLineStart};
 ghost use Rattle.grep_definitions.specs.AcrossQuestions.{IsAskedAt};
-ghost use Rattle.grep_walk.specs.AcrossWalks.{is_done, is_joined, next_chosen, walk_after};
+ghost use Rattle.grep_walk.specs.AcrossWalks.{is_done, is_joined, next_chosen, after_lines};
 ghost use Rattle.grep_walk.specs.AcrossWalks.{IsReady};
 ghost use Rattle.grep_walk.specs.Walks.{IsOrdered};
 
@@ -90,17 +90,17 @@ impl Config {
 
     /// The walk after a line, or after a unit of chosen lines. The caller ensures that it has a byte, and that the
     /// offset of its end is below 2^64.
-    pub fn walk_after(&self, walk: &Walk, lines: &[u8], chosen: bool) -> Walk
+    pub fn after_lines(&self, walk: &Walk, lines: &[u8], chosen: bool) -> Walk
         requires fits { walk.now.offset + length lines.now < 2 ^ 64 }
         requires some { 0 < length lines.now }
         requires ordered { IsOrdered walk.now }
-        ensures { result ≡ walk_after self.now walk.now lines.now chosen }
+        ensures { result ≡ after_lines self.now walk.now lines.now chosen }
     {
         lines_are_few();
-        let mut next = self.advance(walk, lines, chosen);
+        let mut next = self.after_line(walk, lines, chosen);
         if chosen && !self.invert_match {
             next.line = walk.line + line_count(lines, self.line_terminator.as_byte());
-            next.reported_through = next.line;
+            next.next_unreported = next.line;
         }
         next
     }

@@ -9,7 +9,7 @@ ghost use Rattle.grep_definitions.specs.Below.{is_at};
 ghost use Rattle.grep_definitions.specs.InputFronts.{IsClosed};
 ghost use Rattle.grep_definitions.specs.LineSearch.{differ};
 ghost use Rattle.grep_definitions.specs.LineTurns.{number_of, matches_line};
-ghost use Rattle.grep_walk.specs.Walks.{counts_lines, next_walk, walk_past, is_over, IsOrdered};
+ghost use Rattle.grep_walk.specs.Walks.{counts_lines, after_line, skip_lines, is_over, IsOrdered};
 ghost use Rattle.grep_walk.specs.Walks.{can_hit, chooses, trails, IsDecided};
 
 use crate::config::Config;
@@ -28,7 +28,7 @@ pub struct Walk {
     /// How many lines are before it, without those that were skipped uncounted.
     pub line: u64,
     /// The same up to the last reported line, and with it.
-    pub reported_through: u64,
+    pub next_unreported: u64,
     /// How many lines are still to be reported after a match.
     pub after_context_left: usize,
     /// How many lines were chosen.
@@ -36,10 +36,10 @@ pub struct Walk {
 }
 
 /// Before the first line.
-pub const START: Walk = Walk {
+pub const WALK_START: Walk = Walk {
     offset: 0,
     line: 0,
-    reported_through: 0,
+    next_unreported: 0,
     after_context_left: 0,
     match_count: 0,
 };
@@ -135,7 +135,7 @@ impl Config {
     }
 
     /// Whether no line has a turn.
-    pub fn is_idle(&self) -> bool
+    pub fn reports_nothing(&self) -> bool
         ensures { result ≡ (not self.now.passthru
             && is_at 0 self.now.max_matches) }
     {
@@ -210,20 +210,20 @@ impl Config {
     }
 
     /// The walk after a line, by whether it was chosen. The caller ensures that the offset of its end is below 2^64.
-    pub fn advance(&self, walk: &Walk, line: &[u8], chosen: bool) -> Walk
+    pub fn after_line(&self, walk: &Walk, line: &[u8], chosen: bool) -> Walk
         requires fits { walk.now.offset + length line.now < 2 ^ 64 }
         requires number { walk.now.line + 1 < 2 ^ 64 }
         requires few { walk.now.match_count ≤ walk.now.line }
-        ensures { result ≡ next_walk self.now walk.now line.now chosen }
+        ensures { result ≡ after_line self.now walk.now line.now chosen }
     {
         let is_reported = chosen || walk.after_context_left > 0 || self.passthru;
         Walk {
             offset: walk.offset + line.len() as u64,
             line: walk.line + 1,
-            reported_through: if is_reported {
+            next_unreported: if is_reported {
                 walk.line + 1
             } else {
-                walk.reported_through
+                walk.next_unreported
             },
             after_context_left: if chosen {
                 self.after_context
@@ -239,10 +239,10 @@ impl Config {
     }
 
     /// The walk after lines that are passed unreported. The caller ensures that the offset of their end is below 2^64.
-    pub fn walk_past(&self, walk: &Walk, lines: &[u8]) -> Walk
+    pub fn skip_lines(&self, walk: &Walk, lines: &[u8]) -> Walk
         requires fits { walk.now.offset + length lines.now < 2 ^ 64 }
         requires ordered { IsOrdered walk.now }
-        ensures walk { result ≡ walk_past self.now walk.now lines.now }
+        ensures walk { result ≡ skip_lines self.now walk.now lines.now }
         ensures ordered { IsOrdered result }
     {
         lines_are_few();

@@ -23,34 +23,34 @@ returns-then-not-branch-clause-reported g c = λ lawful.
           c.args.sink.now _ (rw unbegun at c.in_ok-begin.ensures.step),
     )
 
-pub returns-then-is_idle-clause-reported : goal.returns-then-is_idle-clause-reported
-returns-then-is_idle-clause-reported g c = λ lawful.
-    let idle = c.is_idle.ensures in
+pub returns-then-reports_nothing-clause-reported : goal.returns-then-reports_nothing-clause-reported
+returns-then-reports_nothing-clause-reported g c = λ lawful.
+    let idle = c.reports_nothing.ensures in
     let goes : c.in_ok-begin.field-0 ≡ true = search rules in (
       all_true,
       walks.counted-idle c.args.self.now.config (g.M.Matcher.meaning c.args.matcher.now) c.args.bytes.now g.C.Calls.step
-          c.args.sink.now _ (sym idle ∙ c.if-is_idle.true) (rw goes at c.in_ok-begin.ensures.step),
+          c.args.sink.now _ (sym idle ∙ c.if-reports_nothing.true) (rw goes at c.in_ok-begin.ensures.step),
     )
 
 pub returns-in_err-search_window-clause-fault : goal.returns-in_err-search_window-clause-fault
 returns-in_err-search_window-clause-fault g c =
     let p = err_from_is_err_and c.from_residual-in_err-search_window.result c.from_residual-in_err-search_window.ensures.1 in
-    let idle = c.is_idle.ensures in
+    let idle = c.reports_nothing.ensures in
     let goes : c.in_ok-begin.field-0 ≡ true = search rules in
     let begun = rw goes at c.in_ok-begin.ensures.step in
     rw (p.1, p.2) (λ lawful. c.in_err-search_window.ensures.fault lawful [] c.args.bytes.now c.args.sink.now
     (search.searched-start g.C.Calls.step c.args.self.now.config (g.M.Matcher.meaning c.args.matcher.now) c.args.bytes.now c.args.bytes.now
     c.args.sink.now c.begin.new.sink (own-window (byte_of c.args.self.now.config.line_terminator) c.args.bytes.now)
-    (sym idle ∙ c.if-is_idle.false) begun))
+    (sym idle ∙ c.if-reports_nothing.false) begun))
 
 pub returns-clause-reported : goal.returns-clause-reported
 returns-clause-reported g c = λ lawful.
-    let idle = c.is_idle.ensures in
+    let idle = c.reports_nothing.ensures in
     let goes : c.in_ok-begin.field-0 ≡ true = search rules in
     let begun = rw goes at c.in_ok-begin.ensures.step in
     let start = search.searched-start g.C.Calls.step c.args.self.now.config (g.M.Matcher.meaning c.args.matcher.now) c.args.bytes.now
     c.args.bytes.now c.args.sink.now c.begin.new.sink (own-window (byte_of c.args.self.now.config.line_terminator)
-    c.args.bytes.now) (sym idle ∙ c.if-is_idle.false) begun in
+    c.args.bytes.now) (sym idle ∙ c.if-reports_nothing.false) begun in
     search.counted-either g.C.Calls.step
     (record { is_message = g.C.Error.SinkError.is_message; is_io = g.C.Error.SinkError.is_io; is_config = g.C.Error.SinkError.is_config })
     (record {
@@ -75,8 +75,8 @@ pub returns-then-not-branch-clause-in_order : goal.returns-then-not-branch-claus
 returns-then-not-branch-clause-in_order g c =
     order.begun-to-0 g.C.Calls.step c.args.self.now.config c.args.sink.now _ _ c.in_ok-begin.ensures.step
 
-pub returns-then-is_idle-clause-in_order : goal.returns-then-is_idle-clause-in_order
-returns-then-is_idle-clause-in_order g c =
+pub returns-then-reports_nothing-clause-in_order : goal.returns-then-reports_nothing-clause-in_order
+returns-then-reports_nothing-clause-in_order g c =
     order.begun-to-0 g.C.Calls.step c.args.self.now.config c.args.sink.now _ _ c.in_ok-begin.ensures.step
 
 pub returns-in_err-search_window-clause-in_order : goal.returns-in_err-search_window-clause-in_order

@@ -1,7 +1,7 @@
 use Rattle.std.proofs.Common.{◌∙◌, sym, true, false, refl, subst, Ok, Err}
 use Rattle.grep_definitions.specs.BinaryBytes.{is_detecting}
 use Rattle.grep_definitions.specs.SinkCalls.{begins}
-use Rattle.grep_definitions.specs.ReaderSearches.{IsStreamSearched, is_idle}
+use Rattle.grep_definitions.specs.ReaderSearches.{IsStreamSearched, reports_nothing}
 use Rattle.std.proofs.lemmas.Result.{err_from_is_err_and}
 use Rattle.grep_definitions.specs.Searches.{ErrorMakers, MatcherFacts, errors_by, facts_by}
 use Rattle.grep_core.proofs.StreamBeginLemmas as streams
@@ -48,7 +48,7 @@ returns-then-not-reads_lines-clause-counted g c = λ lawful.
     let reads = c.reads_lines.ensures in
     rw c.new-then-not-reads_lines.ensures (streams.counted-idle g.R.Source.remaining g.R.Source.step g.C.Calls.step c.args.self.now.config
     (g.M.Matcher.meaning c.args.matcher.now) c.lines_join.ensures c.lines_append.ensures c.args.reader.now c.args.sink.now c.begin.new.sink
-    (idle-unread (is_idle c.args.self.now.config) (is_detecting c.args.self.now.config.binary_detection)
+    (idle-unread (reports_nothing c.args.self.now.config) (is_detecting c.args.self.now.config.binary_detection)
     (sym reads ∙ c.if-not-reads_lines.true)) (rw c.if-not-branch.false at c.in_ok-begin.ensures.step))
 
 pub returns-in-Err-clause-succeeds : goal.returns-in-Err-clause-succeeds

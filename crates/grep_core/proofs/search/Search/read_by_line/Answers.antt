@@ -180,7 +180,7 @@ returns-in_err-search_shown-clause-fault g c =
     (c.fills.invariant.noted lawful) c.fills.invariant.called c.binary_byte_offset.result
     (c.binary_byte_offset.ensures.exact fill.fits) c.in_ok-passes_binary.field-0 (search rules) c.in_ok-passes_binary.ensures.passes
     c.passes_binary.ensures.same_sink in
-    let busy = (sym c.is_idle.ensures ∙ c.if-is_idle.false) in
+    let busy = (sym c.reports_nothing.ensures ∙ c.if-reports_nothing.false) in
     let kept = (order.goes-keeps (Notes g.C.Calls.step) c.args.self.now.config
     (errors_by g.C.Error.SinkError.is_message g.C.Error.SinkError.is_io g.C.Error.SinkError.is_config)
     (facts_by g.M.Matcher.meaning g.M.Matcher.fails g.M.Matcher.is_lawful g.M.Error.Display.output c.args.matcher.now)
@@ -196,9 +196,9 @@ returns-in_err-search_shown-clause-fault g c =
     errors facts c.in_err-search_shown.field-0.0 c.search_shown.new.sink (c.in_err-search_shown.ensures.fault lawful)
     c.search_shown.ensures.may_call.1 (kept ∙ there.known) has_buffers)
 
-pub returns-then-is_idle-clause-counted : goal.returns-then-is_idle-clause-counted
-returns-then-is_idle-clause-counted g c = λ lawful first begun.
-    let idle = (sym c.is_idle.ensures ∙ c.if-is_idle.true) in
+pub returns-then-reports_nothing-clause-counted : goal.returns-then-reports_nothing-clause-counted
+returns-then-reports_nothing-clause-counted g c = λ lawful first begun.
+    let idle = (sym c.reports_nothing.ensures ∙ c.if-reports_nothing.true) in
     let so_far = c.fills.invariant.rolling lawful first begun in
     let fill = c.in_default.ensures in
     let k = c.args.self.now.config in
@@ -233,7 +233,7 @@ returns-then-not-branch-2-clause-counted g c = λ lawful first begun.
     (c.fills.invariant.noted lawful) c.fills.invariant.called c.binary_byte_offset.result
     (c.binary_byte_offset.ensures.exact fill.fits) c.in_ok-passes_binary.field-0 (search rules) c.in_ok-passes_binary.ensures.passes
     c.passes_binary.ensures.same_sink in
-    let busy = (sym c.is_idle.ensures ∙ c.if-is_idle.false) in
+    let busy = (sym c.reports_nothing.ensures ∙ c.if-reports_nothing.false) in
     let kept = (order.goes-keeps (Notes g.C.Calls.step) c.args.self.now.config
     (errors_by g.C.Error.SinkError.is_message g.C.Error.SinkError.is_io g.C.Error.SinkError.is_config)
     (facts_by g.M.Matcher.meaning g.M.Matcher.fails g.M.Matcher.is_lawful g.M.Error.Display.output c.args.matcher.now)
@@ -315,7 +315,7 @@ fills-preserved g c =
           (c.fills.invariant.noted lawful) c.fills.invariant.called c.binary_byte_offset.result
           (c.binary_byte_offset.ensures.exact fill.fits) c.in_ok-passes_binary.field-0 (search rules) c.in_ok-passes_binary.ensures.passes
           c.passes_binary.ensures.same_sink in
-          let busy = (sym c.is_idle.ensures ∙ c.if-is_idle.false) in
+          let busy = (sym c.reports_nothing.ensures ∙ c.if-reports_nothing.false) in
           let next = rolling.rolling-next g.R.Source.remaining g.R.Source.step c.lines_join.ensures c.lines_append.ensures
           (Notes g.C.Calls.step) k meaning busy c.args.decoder.now.capacity c.args.reader.now
           c.args.decoder.now c.requires.started _ c.fills.lines c.fill.new.self c.fills.decoder c.fill.new.decoder
@@ -391,8 +391,8 @@ returns-then-not-branch-clause-noted g c =
     (passed.detects-passed step k c.binary_byte_offset.result clear c.fills.sink c.passes_binary.new.sink _
     c.fills.invariant.noted_detects c.in_ok-passes_binary.ensures.passes)
 
-pub returns-then-is_idle-clause-in_order : goal.returns-then-is_idle-clause-in_order
-returns-then-is_idle-clause-in_order g c =
+pub returns-then-reports_nothing-clause-in_order : goal.returns-then-reports_nothing-clause-in_order
+returns-then-reports_nothing-clause-in_order g c =
     let step = g.C.Calls.step in
     let k = c.args.self.now.config in
     let fill = c.in_default.ensures in
@@ -410,8 +410,8 @@ returns-then-is_idle-clause-in_order g c =
     c.fills.invariant.noted_detects passes in
     record { outcome = all_true; ends = tt; called = first }
 
-pub returns-then-is_idle-clause-noted : goal.returns-then-is_idle-clause-noted
-returns-then-is_idle-clause-noted g c =
+pub returns-then-reports_nothing-clause-noted : goal.returns-then-reports_nothing-clause-noted
+returns-then-reports_nothing-clause-noted g c =
     let step = g.C.Calls.step in
     let k = c.args.self.now.config in
     let fill = c.in_default.ensures in

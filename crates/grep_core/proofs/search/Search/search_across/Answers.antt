@@ -58,7 +58,7 @@ lines-preserved-then-walk-eq0 g c =
     let ready = c.in_ok-unit.ensures.ready in
     let ahead = c.in_ok-unit.ensures.ahead in
     let chosen = c.next_chosen-next.ensures in
-    let past = c.walk_past-walk.ensures.walk in
+    let past = c.skip_lines-walk.ensures.walk in
     let at = subst (λ o. IsLineStart (byte_of k.line_terminator) c.args.bytes.now o c.lines.walk.line) c.lines.invariant.same
     c.lines.invariant.walk.placed.at in
     let next = subst (units.IsNext k meaning c.args.bytes.now c.lines.walk c.lines.start) (sym chosen)
@@ -76,7 +76,7 @@ lines-preserved-then-walk-eq0 g c =
             (drop c.lines.start c.args.bytes.now),
         length-drop c.lines.start c.args.bytes.now,
       );
-      ordered = rw past at c.walk_past-walk.ensures.ordered;
+      ordered = rw past at c.skip_lines-walk.ensures.ordered;
       ready = units.ready-past k meaning c.args.bytes.now c.lines.start c.lines.walk c.in_ok-unit.unit c.unit_at.new.blocks
           c.lines.invariant.walk at ready c.lines-test.true ahead _ c.next_chosen-next.result
           chosen refl;
@@ -144,7 +144,7 @@ lines-preserved g c =
     let chosen = c.next_chosen-next.ensures in
     let unit = c.end_across-end.ensures.unit in
     let line = c.end_across-end.ensures.line in
-    let after = c.walk_after-walk.ensures in
+    let after = c.after_lines-walk.ensures in
     let bare = c.requires.configured.bare in
     let goes : c.in_ok-sink_line.field-0 ≡ true = search rules in
     let reported = rw (c.of-verdict.ensures.chosen, c.of-verdict.ensures.trailing, goes) at c.in_ok-sink_line.ensures.reported in

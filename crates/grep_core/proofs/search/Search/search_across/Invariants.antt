@@ -16,7 +16,7 @@ invariant-lines g l = record {
   walk : IsAcross l.self.config (g.M.Matcher.meaning l.matcher) l.bytes l.walk;
   reported : (first : g.row.C-Sink.Denot) → g.C.Calls.step first l.self.config begins (Ok true) l.fn.sink
       → AreReported g.C.Calls.step l.self.config first
-      (turns_before l.self.config (g.M.Matcher.meaning l.matcher) l.bytes l.walk.reported_through) all_true l.sink;
+      (turns_before l.self.config (g.M.Matcher.meaning l.matcher) l.bytes l.walk.next_unreported) all_true l.sink;
   called : HasCalled g.C.Calls.step l.self.config l.fn.sink all_true l.sink;
   may_call : g.C.Calls.may_call l.sink;
 }

@@ -6,7 +6,7 @@ use Rattle.grep_matcher.specs.Lines.{lines}
 use Rattle.grep_definitions.specs.Searches.{ErrorMakers, MatcherFacts}
 use Rattle.grep_definitions.specs.Settings.{Settings}
 use Rattle.grep_definitions.specs.SinkRuns.{all_true, failed, stopped}
-use Rattle.grep_walk.specs.Walks.{chooses, trails, is_over, line_end, next_walk}
+use Rattle.grep_walk.specs.Walks.{chooses, trails, is_over, line_end, after_line}
 use Rattle.grep_walk.proofs.SkipLemmas as skips
 use Rattle.grep_walk.proofs.WindowSearchLemmas as search
 use Rattle.grep_walk.proofs.WindowSearchLemmas.{ordered-next}
@@ -64,8 +64,8 @@ returns-in_err-ahead-clause-fault g c =
 pub returns-in_default-clause-goes_on : goal.returns-in_default-clause-goes_on
 returns-in_default-clause-goes_on g c = λ lawful goes gone input first so_far.
     let learns = c.in_ok-ahead.ensures.known in
-    let position = c.skip-start.ensures.position in
-    let skipped = c.skip-start.ensures.walk in
+    let position = c.skip_unmatched-start.ensures.position in
+    let skipped = c.skip_unmatched-start.ensures.walk in
     let bare = c.requires.configured.bare in
     let now = c.lines.invariant.searched lawful gone input first so_far in
     let known = learns lawful _ now.walked.inside.line.begins (c.lines.invariant.known lawful gone input first so_far) in
@@ -74,14 +74,14 @@ returns-in_default-clause-goes_on g c = λ lawful goes gone input first so_far.
     position skipped in
     let terminator = c.terminator-terminator.ensures in
     search.passed-all _ _ _ _ _ _ _ _ _ _ here c.in_default.ensures.end
-    (subst (λ b. (i : ℕ) → IsLineStart b c.args.window.now c.skip-start.result i → i ≡ length (lines b c.args.window.now)) terminator
+    (subst (λ b. (i : ℕ) → IsLineStart b c.args.window.now c.skip_unmatched-start.result i → i ≡ length (lines b c.args.window.now)) terminator
     c.in_default.ensures.last)
 
 pub returns-in_err-verdict-clause-fault : goal.returns-in_err-verdict-clause-fault
 returns-in_err-verdict-clause-fault g c =
     let learns = c.in_ok-ahead.ensures.known in
-    let position = c.skip-start.ensures.position in
-    let skipped = c.skip-start.ensures.walk in
+    let position = c.skip_unmatched-start.ensures.position in
+    let skipped = c.skip_unmatched-start.ensures.walk in
     let p = err_from_is_err_and c.from_residual-in_err-verdict.result c.from_residual-in_err-verdict.ensures.1 in
     let fault = c.in_err-verdict.ensures.fault in
     let below = c.in_err-verdict.ensures.open in
@@ -91,7 +91,7 @@ returns-in_err-verdict-clause-fault g c =
     let known = learns lawful _ now.walked.inside.line.begins (c.lines.invariant.known lawful gone input first so_far) in
     let terminator = c.terminator-terminator.ensures in
     let turn = uncounted.line-reached _ (errors g) (facts g c.args.matcher.now) _ _ _ _ _ bare c.lines_join.ensures
-          c.lines_append.ensures _ _ _ _ now c.in_ok-ahead.ensures.bounded known _ _ c.skip-start.ensures.low position skipped _ _ terminator
+          c.lines_append.ensures _ _ _ _ now c.in_ok-ahead.ensures.bounded known _ _ c.skip_unmatched-start.ensures.low position skipped _ _ terminator
     c.in-Some.ensures.line _ c.at-known.ensures in
     uncounted.failed-asked _ (errors g) (facts g c.args.matcher.now) _ _ _ _ _ bare _ _ _ _ turn.here c.in-Some.ensures.within.0
     c.in-Some.ensures.within.1 turn.line below fault.0 _ fault.1 fault.2)
@@ -99,8 +99,8 @@ returns-in_err-verdict-clause-fault g c =
 pub returns-in_err-sink_line-clause-fault : goal.returns-in_err-sink_line-clause-fault
 returns-in_err-sink_line-clause-fault g c =
     let learns = c.in_ok-ahead.ensures.known in
-    let position = c.skip-start.ensures.position in
-    let skipped = c.skip-start.ensures.walk in
+    let position = c.skip_unmatched-start.ensures.position in
+    let skipped = c.skip_unmatched-start.ensures.walk in
     let decided = c.in_ok-verdict.ensures.decided in
     let p = err_from_is_err_and c.from_residual-in_err-sink_line.result c.from_residual-in_err-sink_line.ensures.1 in
     rw (p.1, p.2) (λ lawful gone input first so_far.
@@ -109,7 +109,7 @@ returns-in_err-sink_line-clause-fault g c =
     let known = learns lawful _ now.walked.inside.line.begins (c.lines.invariant.known lawful gone input first so_far) in
     let terminator = c.terminator-terminator.ensures in
     let turn = uncounted.line-reached _ (errors g) (facts g c.args.matcher.now) _ _ _ _ _ bare c.lines_join.ensures
-          c.lines_append.ensures _ _ _ _ now c.in_ok-ahead.ensures.bounded known _ _ c.skip-start.ensures.low position skipped _ _ terminator
+          c.lines_append.ensures _ _ _ _ now c.in_ok-ahead.ensures.bounded known _ _ c.skip_unmatched-start.ensures.low position skipped _ _ terminator
     c.in-Some.ensures.line _ c.at-known.ensures in
     uncounted.failed-line _ (errors g) (facts g c.args.matcher.now) _ _ _ _ _ bare _ _ _ _ turn.here c.in-Some.ensures.within.0
     c.in-Some.ensures.within.1 turn.line (chooses c.in_ok-verdict.verdict) (trails c.in_ok-verdict.verdict) (decided turn.agrees) _ _
@@ -118,19 +118,19 @@ returns-in_err-sink_line-clause-fault g c =
 pub returns-then-not-branch-clause-ends : goal.returns-then-not-branch-clause-ends
 returns-then-not-branch-clause-ends g c = λ lawful ends.
     let learns = c.in_ok-ahead.ensures.known in
-    let position = c.skip-start.ensures.position in
-    let skipped = c.skip-start.ensures.walk in
+    let position = c.skip_unmatched-start.ensures.position in
+    let skipped = c.skip_unmatched-start.ensures.walk in
     let decided = c.in_ok-verdict.ensures.decided in
     let stops : c.in_ok-sink_line.field-0 ≡ false = search rules in
     let reported = rw stops at c.in_ok-sink_line.ensures.reported in (
-      stopped (line_end c.skip-start.new.walk (slice c.args.window.now c.skip-start.result c.in-Some.end)),
+      stopped (line_end c.skip_unmatched-start.new.walk (slice c.args.window.now c.skip_unmatched-start.result c.in-Some.end)),
       λ gone input first so_far.
           let bare = c.requires.configured.bare in
           let now = c.lines.invariant.searched lawful gone input first so_far in
           let known = learns lawful _ now.walked.inside.line.begins (c.lines.invariant.known lawful gone input first so_far) in
           let terminator = c.terminator-terminator.ensures in
           let turn = uncounted.line-reached _ (errors g) (facts g c.args.matcher.now) _ _ _ _ _ bare c.lines_join.ensures
-          c.lines_append.ensures _ _ _ _ now c.in_ok-ahead.ensures.bounded known _ _ c.skip-start.ensures.low position skipped
+          c.lines_append.ensures _ _ _ _ now c.in_ok-ahead.ensures.bounded known _ _ c.skip_unmatched-start.ensures.low position skipped
           _ _ terminator c.in-Some.ensures.line _ c.at-known.ensures in
           uncounted.counted-stopped _ (errors g) (facts g c.args.matcher.now) _ _ _ _ _ bare _ _ _ _ turn.here c.in-Some.ensures.within.0
           c.in-Some.ensures.within.1 turn.line (chooses c.in_ok-verdict.verdict) (trails c.in_ok-verdict.verdict) (decided turn.agrees) _
@@ -140,17 +140,17 @@ returns-then-not-branch-clause-ends g c = λ lawful ends.
 pub returns-then-is_over-clause-ends : goal.returns-then-is_over-clause-ends
 returns-then-is_over-clause-ends g c = λ lawful ends.
     let learns = c.in_ok-ahead.ensures.known in
-    let position = c.skip-start.ensures.position in
-    let skipped = c.skip-start.ensures.walk in
+    let position = c.skip_unmatched-start.ensures.position in
+    let skipped = c.skip_unmatched-start.ensures.walk in
     let decided = c.in_ok-verdict.ensures.decided in
     let chosen = c.is_chosen-chosen.ensures in
-    let next = c.advance.ensures
-    ∙ ap (next_walk c.args.self.now.config c.skip-start.new.walk (slice c.args.window.now c.skip-start.result c.in-Some.end)) chosen in
+    let next = c.after_line.ensures
+    ∙ ap (after_line c.args.self.now.config c.skip_unmatched-start.new.walk (slice c.args.window.now c.skip_unmatched-start.result c.in-Some.end)) chosen in
     let over_is = c.is_over.ensures in
     let goes : c.in_ok-sink_line.field-0 ≡ true = search rules in
     let reported = rw goes at c.in_ok-sink_line.ensures.reported in
     let over = ap (λ p. is_over c.args.self.now.config p (chooses c.in_ok-verdict.verdict)) (sym next)
-    ∙ (ap (is_over c.args.self.now.config c.advance.result) (sym chosen) ∙ rw over_is at c.if-is_over.true) in
+    ∙ (ap (is_over c.args.self.now.config c.after_line.result) (sym chosen) ∙ rw over_is at c.if-is_over.true) in
     rw next (
       all_true,
       λ gone input first so_far.
@@ -159,7 +159,7 @@ returns-then-is_over-clause-ends g c = λ lawful ends.
           let known = learns lawful _ now.walked.inside.line.begins (c.lines.invariant.known lawful gone input first so_far) in
           let terminator = c.terminator-terminator.ensures in
           let turn = uncounted.line-reached _ (errors g) (facts g c.args.matcher.now) _ _ _ _ _ bare c.lines_join.ensures
-          c.lines_append.ensures _ _ _ _ now c.in_ok-ahead.ensures.bounded known _ _ c.skip-start.ensures.low position skipped
+          c.lines_append.ensures _ _ _ _ now c.in_ok-ahead.ensures.bounded known _ _ c.skip_unmatched-start.ensures.low position skipped
           _ _ terminator c.in-Some.ensures.line _ c.at-known.ensures in
           uncounted.counted-over _ (errors g) (facts g c.args.matcher.now) _ _ _ _ _ bare _ _ _ _ turn.here c.in-Some.ensures.within.0
           c.in-Some.ensures.within.1 turn.line (chooses c.in_ok-verdict.verdict) (trails c.in_ok-verdict.verdict) (decided turn.agrees) _
@@ -169,38 +169,38 @@ returns-then-is_over-clause-ends g c = λ lawful ends.
 pub lines-preserved : goal.lines-preserved
 lines-preserved g c =
     let learns = c.in_ok-ahead.ensures.known in
-    let position = c.skip-start.ensures.position in
-    let skipped = c.skip-start.ensures.walk in
+    let position = c.skip_unmatched-start.ensures.position in
+    let skipped = c.skip_unmatched-start.ensures.walk in
     let decided = c.in_ok-verdict.ensures.decided in
     let chosen = c.is_chosen-chosen.ensures in
-    let next = c.advance.ensures
-    ∙ ap (next_walk c.args.self.now.config c.skip-start.new.walk (slice c.args.window.now c.skip-start.result c.in-Some.end)) chosen in
+    let next = c.after_line.ensures
+    ∙ ap (after_line c.args.self.now.config c.skip_unmatched-start.new.walk (slice c.args.window.now c.skip_unmatched-start.result c.in-Some.end)) chosen in
     let over_is = c.is_over.ensures in
     let goes : c.in_ok-sink_line.field-0 ≡ true = search rules in
     let reported = rw goes at c.in_ok-sink_line.ensures.reported in
     let here = rw goes at c.in_ok-sink_line.ensures.called in
     let on = ap (λ p. is_over c.args.self.now.config p (chooses c.in_ok-verdict.verdict)) (sym next)
-    ∙ (ap (is_over c.args.self.now.config c.advance.result) (sym chosen) ∙ rw over_is at c.if-is_over.false) in
-    let size = length-take (c.in-Some.end - c.skip-start.result) (drop c.skip-start.result c.args.window.now) in
+    ∙ (ap (is_over c.args.self.now.config c.after_line.result) (sym chosen) ∙ rw over_is at c.if-is_over.false) in
+    let size = length-take (c.in-Some.end - c.skip_unmatched-start.result) (drop c.skip_unmatched-start.result c.args.window.now) in
     rw next (record {
       within = c.in-Some.ensures.within.1;
       same = omega (
         arith,
         size,
-        length-drop c.skip-start.result c.args.window.now,
+        length-drop c.skip_unmatched-start.result c.args.window.now,
         c.in-Some.ensures.within.0,
         c.in-Some.ensures.within.1,
-        c.skip-start.ensures.moved,
+        c.skip_unmatched-start.ensures.moved,
         c.lines.invariant.same,
       );
-      ahead = omega (arith, c.lines.invariant.ahead, c.skip-start.ensures.low, c.in-Some.ensures.within.0);
-      ordered = ordered-next c.args.self.now.config c.skip-start.new.walk c.skip-start.result c.in-Some.end c.args.window.now
-          (chooses c.in_ok-verdict.verdict) c.in-Some.ensures.within.0 c.in-Some.ensures.within.1 c.skip-start.ensures.ordered;
+      ahead = omega (arith, c.lines.invariant.ahead, c.skip_unmatched-start.ensures.low, c.in-Some.ensures.within.0);
+      ordered = ordered-next c.args.self.now.config c.skip_unmatched-start.new.walk c.skip_unmatched-start.result c.in-Some.end c.args.window.now
+          (chooses c.in_ok-verdict.verdict) c.in-Some.ensures.within.0 c.in-Some.ensures.within.1 c.skip_unmatched-start.ensures.ordered;
       bounded = c.in_ok-ahead.ensures.bounded;
       known = λ lawful gone input first so_far.
           let now = c.lines.invariant.searched lawful gone input first so_far in
           skips.known-later c.args.self.now.config (g.M.Matcher.meaning c.args.matcher.now) c.args.window.now c.lines.start
-          c.in-Some.end c.in_ok-ahead.ahead (omega (arith, c.skip-start.ensures.low, c.in-Some.ensures.within.0))
+          c.in-Some.end c.in_ok-ahead.ahead (omega (arith, c.skip_unmatched-start.ensures.low, c.in-Some.ensures.within.0))
           (learns lawful _ now.walked.inside.line.begins (c.lines.invariant.known lawful gone input first so_far));
       searched = λ lawful gone input first so_far.
           let bare = c.requires.configured.bare in
@@ -208,7 +208,7 @@ lines-preserved g c =
           let known = learns lawful _ now.walked.inside.line.begins (c.lines.invariant.known lawful gone input first so_far) in
           let terminator = c.terminator-terminator.ensures in
           let turn = uncounted.line-reached _ (errors g) (facts g c.args.matcher.now) _ _ _ _ _ bare c.lines_join.ensures
-          c.lines_append.ensures _ _ _ _ now c.in_ok-ahead.ensures.bounded known _ _ c.skip-start.ensures.low position skipped
+          c.lines_append.ensures _ _ _ _ now c.in_ok-ahead.ensures.bounded known _ _ c.skip_unmatched-start.ensures.low position skipped
           _ _ terminator c.in-Some.ensures.line _ c.at-known.ensures in
           uncounted.searched-next _ (errors g) (facts g c.args.matcher.now) _ _ _ _ _ bare _ _ _ _ turn.here c.in-Some.ensures.within.0
           c.in-Some.ensures.within.1 turn.line (chooses c.in_ok-verdict.verdict) (trails c.in_ok-verdict.verdict) (decided turn.agrees) _
@@ -241,7 +241,7 @@ returns-then-not-branch-clause-in_order g c =
     let stops : c.in_ok-sink_line.field-0 ≡ false = search rules in
     let here = rw stops at c.in_ok-sink_line.ensures.called in
     record {
-      outcome = stopped (c.skip-start.new.walk.offset + length (slice c.args.window.now c.skip-start.result c.in-Some.end));
+      outcome = stopped (c.skip_unmatched-start.new.walk.offset + length (slice c.args.window.now c.skip_unmatched-start.result c.in-Some.end));
       ends = refl;
       called = called-then g.C.Calls.step c.args.self.now.config c.args.sink.now c.lines.sink (stopped _) c.sink_line.new.sink
           c.lines.invariant.called (here _);

@@ -7,7 +7,7 @@ use Rattle.grep_core.proofs.search.Search.sink_after_context.Goals as goal
 pub returns-in-Trailing-clause-called : goal.returns-in-Trailing-clause-called
 returns-in-Trailing-clause-called g c = λ stop.
     let w = c.args.walk.now in
-    called-match g.C.Calls.step c.args.self.now.config w.reported_through w.line w.offset stop
+    called-match g.C.Calls.step c.args.self.now.config w.next_unreported w.line w.offset stop
     (slice c.args.window.now c.args.start c.args.end) c.args.sink.now (outcome_of stop c.sink_matched.result) c.sink_matched.new.sink
     (c.sink_matched.ensures.reported stop)
 

@@ -10,7 +10,7 @@ use Rattle.grep_core.proofs.search.Search.sink_before_context.Goals as goal
 pub returns-then-near-eq0-clause-reported : goal.returns-then-near-eq0-clause-reported
 returns-then-near-eq0-clause-reported g c =
     let w = c.args.walk.now in
-    λ gone input inside end. before.reported-none c.args.self.now.config input w.reported_through w.line end g.C.Calls.step c.args.sink.now
+    λ gone input inside end. before.reported-none c.args.self.now.config input w.next_unreported w.line end g.C.Calls.step c.args.sink.now
     c.requires.through ((sym c.lines_before-near.ensures ∙ c.if-near-eq0.true))
 
 pub returns-clause-reported : goal.returns-clause-reported
@@ -30,6 +30,6 @@ returns-clause-reported g c =
           subst (IsLineStart (byte_of k.line_terminator) c.args.window.now c.step_back-first.result) same
           (back (w.line - gone_lines) inside.line.begins);
     } in
-    rw (before.pending-near k input w.reported_through w.line end
+    rw (before.pending-near k input w.next_unreported w.line end
     (w.line - near) c.requires.through (omega (arith, near_is)))
     (c.sink_before_lines.ensures.reported gone input inside first end)

@@ -50,7 +50,7 @@ returns-clause-reported g c = λ gone input inside from end.
     let w = c.args.walk.now in
     let all : c.loop-at.at ≡ w.line = omega (arith, c.loop-at.invariant.below, c.loop-at-test.false) in
     subst (λ m. AreReported g.C.Calls.step c.args.self.now.config c.args.sink.now
-    (pending_turns c.args.self.now.config input w.reported_through w.line end c.args.index (m - c.args.index)) all_true
+    (pending_turns c.args.self.now.config input w.next_unreported w.line end c.args.index (m - c.args.index)) all_true
     c.loop-at.sink) all
     (c.loop-at.invariant.reported gone input inside from end)
 
@@ -83,7 +83,7 @@ loop-at-preserved g c =
           c.loop-at.invariant.same c.loop-at.invariant.low (c.loop-at.invariant.reported gone input inside from end)
           all_true (here end);
       called = called-then g.C.Calls.step k c.args.sink.now c.loop-at.sink all_true c.sink_before_line.new.sink
-          c.loop-at.invariant.called (called-before g.C.Calls.step k w.reported_through c.loop-at.at w.line (number_of k c.loop-at.at)
+          c.loop-at.invariant.called (called-before g.C.Calls.step k w.next_unreported c.loop-at.at w.line (number_of k c.loop-at.at)
           c.loop-at.offset 0 (slice window c.loop-at.position c.in-Some.next) c.loop-at.sink all_true c.sink_before_line.new.sink
           (here 0));
       may_call = c.in_ok-sink_before_line.ensures.may_call;
@@ -94,7 +94,7 @@ returns-in_err-sink_before_line-clause-called g c =
     let p = err_from_is_err_and c.from_residual.result c.from_residual.ensures.1 in
     rw (p.1, p.2) (λ end. called-then g.C.Calls.step c.args.self.now.config c.args.sink.now c.loop-at.sink (failed _)
     c.sink_before_line.new.sink c.loop-at.invariant.called (called-before g.C.Calls.step c.args.self.now.config
-    c.args.walk.now.reported_through c.loop-at.at c.args.walk.now.line (number_of c.args.self.now.config c.loop-at.at) c.loop-at.offset
+    c.args.walk.now.next_unreported c.loop-at.at c.args.walk.now.line (number_of c.args.self.now.config c.loop-at.at) c.loop-at.offset
     end (slice c.args.window.now c.loop-at.position c.in-Some.next) c.loop-at.sink _ c.sink_before_line.new.sink
     (c.in_err-sink_before_line.ensures.reported end)))
 
@@ -104,5 +104,5 @@ returns-then-not-branch-clause-called g c = λ end.
     let here = rw stops at c.in_ok-sink_before_line.ensures.reported in
     called-then g.C.Calls.step c.args.self.now.config c.args.sink.now c.loop-at.sink (stopped end)
     c.sink_before_line.new.sink c.loop-at.invariant.called (called-before g.C.Calls.step c.args.self.now.config
-    c.args.walk.now.reported_through c.loop-at.at c.args.walk.now.line (number_of c.args.self.now.config c.loop-at.at) c.loop-at.offset
+    c.args.walk.now.next_unreported c.loop-at.at c.args.walk.now.line (number_of c.args.self.now.config c.loop-at.at) c.loop-at.offset
     end (slice c.args.window.now c.loop-at.position c.in-Some.next) c.loop-at.sink (stopped end) c.sink_before_line.new.sink (here end))

@@ -14,7 +14,7 @@ returns-then-not-branch-clause-reported g c =
     let stops : c.in_ok-sink_break.field-0 ≡ false = search rules in
     let reported = rw (stops, gap) at c.in_ok-sink_break.ensures.reported in
     λ stop. AreReported-unbroken g.C.Calls.step c.args.self.now.config
-    (nat_lt 0 c.args.self.now.config.after_context && is_gap c.args.self.now.config w.reported_through w.line w.line)
+    (nat_lt 0 c.args.self.now.config.after_context && is_gap c.args.self.now.config w.next_unreported w.line w.line)
     (matches (number_of c.args.self.now.config w.line) w.offset (slice c.args.window.now c.args.start c.args.end)) stop
     c.args.sink.now (stopped stop) c.sink_break.new.sink (λ x. cc) (reported stop)
 
@@ -27,6 +27,6 @@ returns-clause-reported g c =
     let number = c.number-number.ensures in
     let step = rw (c.new-found.ensures, number) at c.matched.ensures.step in
     λ stop. AreReported-broken g.C.Calls.step c.args.self.now.config
-    (nat_lt 0 c.args.self.now.config.after_context && is_gap c.args.self.now.config w.reported_through w.line w.line)
+    (nat_lt 0 c.args.self.now.config.after_context && is_gap c.args.self.now.config w.next_unreported w.line w.line)
     (matches (number_of c.args.self.now.config w.line) w.offset (slice c.args.window.now c.args.start c.args.end)) stop
     c.args.sink.now c.sink_break.new.sink c.matched.result c.matched.new.sink (reported stop) step

@@ -1,5 +1,5 @@
 use Rattle.std.proofs.Common.{rules}
-use Rattle.grep_walk.proofs.config.Config.advance.Goals as goal
+use Rattle.grep_walk.proofs.config.Config.after_line.Goals as goal
 
 pub returns-then-chosen-3 : goal.returns-then-chosen-3
 returns-then-chosen-3 c = search rules
