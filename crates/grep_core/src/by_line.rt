@@ -128,18 +128,23 @@ impl<'c, A: Allocator + Copy, T> Search<'c, A, T> {
         let mut start = start;
         let mut ahead = NOTHING_AHEAD;
         'lines: loop {
-            ahead = self
+            ahead = match self
                 .config
-                .look_ahead::<A, M, C::Error>(self.alloc, matcher, window, start, walk, ahead)?;
+                .look_ahead(matcher, window, start, walk, ahead)
+            {
+                Ok(ahead) => ahead,
+                Err(error) => return Err(C::Error::error_message(self.alloc, error)),
+            };
             start = self.config.skip_unmatched(window, start, &ahead, walk);
             let Some(end) = ahead.line_end(window, start, terminator) else {
                 return Ok(true);
             };
             let line = &window[start..end];
             let known = ahead.at(start);
-            let verdict = self
-                .config
-                .judge::<A, M, C::Error>(self.alloc, matcher, line, known, walk)?;
+            let verdict = match self.config.judge(matcher, line, known, walk) {
+                Ok(verdict) => verdict,
+                Err(error) => return Err(C::Error::error_message(self.alloc, error)),
+            };
             if !self.sink_line::<C>(window, start, end, walk, verdict, sink)? {
                 walk.offset += line.len() as u64;
                 return Ok(false);

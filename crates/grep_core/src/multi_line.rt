@@ -85,22 +85,21 @@ impl<'c, A: Allocator + Copy, T> Search<'c, A, T> {
             sink.old result sink.new }
         ensures may_call { C.may_call sink.new }
     {
-        let mut blocks = self
-            .config
-            .first_block::<A, M, C::Error>(self.alloc, matcher, bytes)?;
+        let mut blocks = match self.config.first_block(matcher, bytes) {
+            Ok(blocks) => blocks,
+            Err(error) => return Err(C::Error::error_message(self.alloc, error)),
+        };
         let mut unit = Match::zero(0);
         let mut walk = WALK_START;
         let mut start = 0;
         'lines: while start < bytes.len() {
-            unit = self.config.unit_at::<A, M, C::Error>(
-                self.alloc,
-                matcher,
-                bytes,
-                start,
-                &walk,
-                unit,
-                &mut blocks,
-            )?;
+            unit = match self
+                .config
+                .unit_at(matcher, bytes, start, &walk, unit, &mut blocks)
+            {
+                Ok(unit) => unit,
+                Err(error) => return Err(C::Error::error_message(self.alloc, error)),
+            };
             let next = self.config.next_chosen(bytes, start, &unit, &walk);
             if start < next && !self.config.passthru && walk.after_context_left == 0 {
                 // Nothing is reported after these lines, so they needn't be counted.

@@ -12,8 +12,6 @@ ghost use Rattle.grep_walk.specs.Units.{AreFound, AreLeft, IsFound, HasNoMore, I
 use crate::config::Config;
 use grep_lines::locate;
 use grep_matcher::{Match, Matcher};
-use grep_report::SinkError;
-use std::alloc::Allocator;
 
 /// How far a search across lines has looked for matches. The block of a match is the whole lines that it extends over,
 /// and a unit is a longest run of lines that matches touch.
@@ -30,18 +28,13 @@ pub struct Blocks {
 }
 
 impl Config {
-    /// Finds the first match. An error is made of the matcher's.
-    pub fn first_block<A: Allocator + Copy, M: Matcher, E: SinkError<A>>(
-        &self,
-        alloc: A,
-        matcher: &M,
-        bytes: &[u8],
-    ) -> Result<Blocks, E>
+    /// Finds the first match. The error is the matcher's.
+    pub fn first_block<M: Matcher>(&self, matcher: &M, bytes: &[u8]) -> Result<Blocks, M::Error>
         ensures left { IfOk result (AreLeft self.now (M.meaning matcher.now) bytes.now) }
         ensures end { IfOk result (λ blocks. blocks.end ≡ 0) }
-        ensures fault { IfErr result (λ e. (haystack : List ℕ) × (error : M.Error)
+        ensures fault { IfErr result (λ error. (haystack : List ℕ)
             × IsAskedAt self.now (M.meaning matcher.now) bytes.now 0 haystack
-            × M.fails matcher.now haystack error × E.is_message (M.Error.output error) e) }
+            × M.fails matcher.now haystack error) }
     {
         let mut blocks = Blocks {
             position: 0,
@@ -49,7 +42,7 @@ impl Config {
             end: 0,
             next: None,
         };
-        let Some(found) = self.next_match::<A, M, E>(alloc, matcher, bytes, &mut blocks)? else {
+        let Some(found) = self.next_match(matcher, bytes, &mut blocks)? else {
             return Ok(blocks);
         };
         blocks.next = Some(self.block_from(bytes, 0, found));
@@ -67,34 +60,31 @@ impl Config {
         self.max_matches
     }
 
-    /// Returns the next unit, and moves past it. At the end of the bytes, if there is no other, it is empty. An error
-    /// is made of the matcher's. The caller ensures that the blocks are those that the step before left.
-    pub fn next_unit<A: Allocator + Copy, M: Matcher, E: SinkError<A>>(
+    /// Returns the next unit, and moves past it. At the end of the bytes, if there is no other, it is empty. The error is
+    /// the matcher's. The caller ensures that the blocks are those that the step before left.
+    pub fn next_unit<M: Matcher>(
         &self,
-        alloc: A,
         matcher: &M,
         bytes: &[u8],
         blocks: &mut Blocks,
-    ) -> Result<Match, E>
+    ) -> Result<Match, M::Error>
         requires { AreLeft self.now (M.meaning matcher.now) bytes.now blocks.old }
         ensures unit { IfOk result
             (IsUnit self.now (M.meaning matcher.now) bytes.now blocks.old.end) }
         ensures end { IfOk result (λ unit. blocks.new.end ≡ unit.1) }
         ensures left { IfOk result (λ unit.
             AreLeft self.now (M.meaning matcher.now) bytes.now blocks.new) }
-        ensures fault { IfErr result (λ e. (i : ℕ)
+        ensures fault { IfErr result (λ error. (i : ℕ)
             → IsLineStart (byte_of self.now.line_terminator) bytes.now blocks.old.end i
-            → (haystack : List ℕ) × (error : M.Error)
+            → (haystack : List ℕ)
             × IsAskedAt self.now (M.meaning matcher.now) bytes.now i haystack
-            × M.fails matcher.now haystack error × E.is_message (M.Error.output error) e) }
+            × M.fails matcher.now haystack error) }
     {
         let Some(mut unit) = blocks.next.take() else {
             blocks.end = bytes.len();
             return Ok(Match::zero(bytes.len()));
         };
-        'matches: while let Some(found) = self.next_match::<A, M, E>(
-            alloc, matcher, bytes, blocks,
-        )? {
+        'matches: while let Some(found) = self.next_match(matcher, bytes, blocks)? {
             if is_passed(found, unit.end()) {
                 continue;
             }
@@ -111,13 +101,12 @@ impl Config {
     }
 
     // Finds the next match that counts.
-    fn next_match<A: Allocator + Copy, M: Matcher, E: SinkError<A>>(
+    fn next_match<M: Matcher>(
         &self,
-        alloc: A,
         matcher: &M,
         bytes: &[u8],
         blocks: &mut Blocks,
-    ) -> Result<Option<Match>, E>
+    ) -> Result<Option<Match>, M::Error>
         ensures some { IfOk result (λ found. IfSome found
             (IsFound self.now (M.meaning matcher.now) bytes.now blocks.old blocks.new)) }
         ensures none { IfOk result (λ found. IfNone found
@@ -125,19 +114,19 @@ impl Config {
         ensures end { blocks.new.end ≡ blocks.old.end }
         ensures next { blocks.new.next ≡ blocks.old.next }
         ensures inside { IfErr result (λ e. blocks.old.position < length bytes.now) }
-        ensures fault { IfErr result (λ e. (found : List (ℕ × ℕ))
+        ensures fault { IfErr result (λ error. (found : List (ℕ × ℕ))
             → AreFound self.now (M.meaning matcher.now) bytes.now
             blocks.old.position blocks.old.left found
-            → (haystack : List ℕ) × (error : M.Error)
+            → (haystack : List ℕ)
             × IsAskedAfter self.now (M.meaning matcher.now) bytes.now found haystack
-            × M.fails matcher.now haystack error × E.is_message (M.Error.output error) e) }
+            × M.fails matcher.now haystack error) }
     {
         if blocks.position >= bytes.len() || !has_room(blocks.left) {
             return Ok(None);
         }
         let found = match matcher.find(&bytes[blocks.position..]) {
             Ok(found) => found,
-            Err(e) => return Err(E::error_message(alloc, e)),
+            Err(error) => return Err(error),
         };
         let Some(found) = found else {
             blocks.position = bytes.len();

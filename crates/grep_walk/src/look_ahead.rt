@@ -16,8 +16,6 @@ use crate::config::Config;
 use crate::walk::Walk;
 use grep_lines::{LineStep, line_of};
 use grep_matcher::{LineMatchKind, LineTerminator, Matcher};
-use grep_report::SinkError;
-use std::alloc::Allocator;
 
 /// What is known of the lines of a window from a walk's line on, by positions in the window.
 #[derive(Clone, Copy)]
@@ -70,16 +68,15 @@ impl Ahead {
 impl Config {
     /// Learns more if nothing is known of the line at `start`, and the matcher may be asked about many lines at once.
     /// The caller ensures that a line of the window begins there. What is learnt is true of a matcher that is lawful
-    /// for the terminator. An error is made of the matcher's.
-    pub fn look_ahead<A: Allocator + Copy, M: Matcher, E: SinkError<A>>(
+    /// for the terminator. The error is the matcher's.
+    pub fn look_ahead<M: Matcher>(
         &self,
-        alloc: A,
         matcher: &M,
         window: &[u8],
         start: usize,
         walk: &Walk,
         ahead: Ahead,
-    ) -> Result<Ahead, E>
+    ) -> Result<Ahead, M::Error>
         requires inside { start ≤ length window.now }
         requires bounded { IsBounded window.now ahead }
         ensures bounded { IfOk result (IsBounded window.now) }
@@ -92,15 +89,14 @@ impl Config {
         ensures unknown { IfErr result (λ e. ahead.match_end ≤ start) }
         ensures allowed { IfErr result
             (λ e. MayAskAhead self.now (M.meaning matcher.now) walk.now) }
-        ensures fault { IfErr result (λ e. (error : M.Error) × E.is_message (M.Error.output error) e
-            × M.fails matcher.now (drop start window.now) error) }
+        ensures fault { IfErr result (M.fails matcher.now (drop start window.now)) }
     {
         if start < ahead.match_end || start == window.len() || !self.asks_ahead(matcher, walk) {
             return Ok(ahead);
         }
         match matcher.find_candidate_line(&window[start..]) {
             Ok(found) => Ok(self.ahead_of(window, start, found)),
-            Err(e) => Err(E::error_message(alloc, e)),
+            Err(error) => Err(error),
         }
     }
 

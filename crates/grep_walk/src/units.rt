@@ -13,23 +13,20 @@ use crate::walk::Walk;
 use grep_lines::laws::lines_are_few;
 use grep_lines::line_count;
 use grep_matcher::{Match, Matcher};
-use grep_report::SinkError;
-use std::alloc::Allocator;
 
 impl Config {
     /// The unit that a walk at `start` comes to or is in: the next one, if the last one is passed. None is looked for
-    /// if no more lines are chosen. An error is made of the matcher's. The caller ensures that a line begins at
-    /// `start`, and that the unit and the blocks are those of the step before.
-    pub fn unit_at<A: Allocator + Copy, M: Matcher, E: SinkError<A>>(
+    /// if no more lines are chosen. The error is the matcher's. The caller ensures that a line begins at `start`, and
+    /// that the unit and the blocks are those of the step before.
+    pub fn unit_at<M: Matcher>(
         &self,
-        alloc: A,
         matcher: &M,
         bytes: &[u8],
         start: usize,
         walk: &Walk,
         unit: Match,
         blocks: &mut Blocks,
-    ) -> Result<Match, E>
+    ) -> Result<Match, M::Error>
         requires some { start < length bytes.now }
         requires at { IsLineStart (byte_of self.now.line_terminator) bytes.now start
             walk.now.line }
@@ -41,14 +38,14 @@ impl Config {
         ensures ahead { IfOk result (λ next.
             is_done self.now walk.now ≡ false → start < next.1) }
         ensures open { IfErr result (λ e. is_done self.now walk.now ≡ false) }
-        ensures fault { IfErr result (λ e. (haystack : List ℕ) × (error : M.Error)
+        ensures fault { IfErr result (λ error. (haystack : List ℕ)
             × IsAskedAt self.now (M.meaning matcher.now) bytes.now walk.now.line haystack
-            × M.fails matcher.now haystack error × E.is_message (M.Error.output error) e) }
+            × M.fails matcher.now haystack error) }
     {
         if start < unit.end() || self.invert_match && self.is_full(walk) {
             return Ok(unit);
         }
-        self.next_unit(alloc, matcher, bytes, blocks)
+        self.next_unit(matcher, bytes, blocks)
     }
 
     /// Where the next chosen line begins, as far as is known from the unit that a walk at `start` comes to or is in.

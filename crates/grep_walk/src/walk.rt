@@ -16,8 +16,6 @@ use crate::config::Config;
 use grep_lines::laws::lines_are_few;
 use grep_lines::{LineStep, line_count, without_terminator};
 use grep_matcher::Matcher;
-use grep_report::SinkError;
-use std::alloc::Allocator;
 
 /// How far a walk over lines has come. Offsets and counts of lines are those of the whole input. A walk may skip lines
 /// that don't match, and counts them only if lines are numbered or have contexts.
@@ -155,15 +153,14 @@ impl Config {
 
     /// Decides whether the line that a walk is at is chosen, or trailing in the context after a match. The matcher is
     /// asked about it without its terminator, but not if it is `known` whether the line matches, nor past both the limit
-    /// and that context. An error is made of the matcher's.
-    pub fn judge<A: Allocator + Copy, M: Matcher, E: SinkError<A>>(
+    /// and that context. The error is the matcher's.
+    pub fn judge<M: Matcher>(
         &self,
-        alloc: A,
         matcher: &M,
         line: &[u8],
         known: Option<bool>,
         walk: &Walk,
-    ) -> Result<Verdict, E>
+    ) -> Result<Verdict, M::Error>
         ensures decided { IfOk result (λ verdict.
             IfSome known (λ matches. matches
             ≡ matches_line self.now (M.meaning matcher.now) line.now)
@@ -171,8 +168,8 @@ impl Config {
             (chooses verdict) (trails verdict)) }
         ensures open { IfErr result (λ e. can_hit self.now walk.now ≡ true) }
         ensures unknown { IfErr result (λ e. known ≡ None) }
-        ensures fault { IfErr result (λ e. (error : M.Error) × E.is_message (M.Error.output error) e
-            × M.fails matcher.now (strip self.now.line_terminator line.now) error) }
+        ensures fault { IfErr result
+            (M.fails matcher.now (strip self.now.line_terminator line.now)) }
     {
         if !self.can_hit(walk) {
             return Ok(Verdict::Missed);
@@ -182,7 +179,7 @@ impl Config {
         }
         match matcher.shortest_match(without_terminator(line, self.line_terminator)) {
             Ok(position) => Ok(self.verdict(walk, position.is_some())),
-            Err(e) => Err(E::error_message(alloc, e)),
+            Err(error) => Err(error),
         }
     }
 

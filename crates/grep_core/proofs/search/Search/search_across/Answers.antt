@@ -17,32 +17,30 @@ use Rattle.grep_core.proofs.search.Search.search_across.Goals as goal
 abbrev Bare : Settings → Type 0
 Bare settings = settings.passthru ≡ true → (settings.after_context ≡ 0) × (settings.before_context ≡ 0)
 
-pub returns-in_err-blocks-clause-fault : goal.returns-in_err-blocks-clause-fault
-returns-in_err-blocks-clause-fault g c =
-    let p = err_from_is_err_and c.from_residual.result c.from_residual.ensures.1 in
-    let fault = c.in_err-blocks.ensures.fault in
-    rw (p.1, p.2) (λ first begun. ends.fault-first g.C.Calls.step _ _ c.args.self.now.config c.args.bytes.now first c.args.sink.now
-    begun fault.0 fault.1 _ fault.2 fault.3 fault.4)
+pub returns-in-Err-clause-fault : goal.returns-in-Err-clause-fault
+returns-in-Err-clause-fault g c =
+    let fault = c.in-Err.ensures.fault in
+    λ first begun. ends.fault-first g.C.Calls.step _ _ c.args.self.now.config c.args.bytes.now first c.args.sink.now
+    begun fault.0 c.in-Err.error _ fault.1 fault.2 c.error_message.ensures
 
-pub returns-in_err-unit-clause-fault : goal.returns-in_err-unit-clause-fault
-returns-in_err-unit-clause-fault g c =
-    let p = err_from_is_err_and c.from_residual-in_err-unit.result c.from_residual-in_err-unit.ensures.1 in
-    let fault = c.in_err-unit.ensures.fault in
-    rw (p.1, p.2) (λ first begun. ends.fault-matcher g.C.Calls.step _ _ c.args.self.now.config c.args.bytes.now first c.lines.walk
+pub returns-in-Err-unit_at-clause-fault : goal.returns-in-Err-unit_at-clause-fault
+returns-in-Err-unit_at-clause-fault g c =
+    let fault = c.in-Err-unit_at.ensures.fault in
+    λ first begun. ends.fault-matcher g.C.Calls.step _ _ c.args.self.now.config c.args.bytes.now first c.lines.walk
     c.lines.sink c.lines.invariant.walk (c.lines.invariant.reported first begun)
-    fault.0 fault.1 _ fault.2 c.in_err-unit.ensures.open fault.3 fault.4)
+    fault.0 c.in-Err-unit_at.error _ fault.1 c.in-Err-unit_at.ensures.open fault.2 c.error_message-in-Err-unit_at.ensures
 
 pub returns-then-next-bytes-clause-reported : goal.returns-then-next-bytes-clause-reported
 returns-then-next-bytes-clause-reported g c = λ first begun.
     let k = c.args.self.now.config in
     let meaning = g.M.Matcher.meaning c.args.matcher.now in
-    let ready = c.in_ok-unit.ensures.ready in
-    let ahead = c.in_ok-unit.ensures.ahead in
+    let ready = c.in-Ok-unit_at.ensures.ready in
+    let ahead = c.in-Ok-unit_at.ensures.ahead in
     let chosen = c.next_chosen-next.ensures in
     let at = subst (λ o. IsLineStart (byte_of k.line_terminator) c.args.bytes.now o c.lines.walk.line) c.lines.invariant.same
     c.lines.invariant.walk.placed.at in
     let next = subst (units.IsNext k meaning c.args.bytes.now c.lines.walk c.lines.start) (sym chosen)
-    (units.next-is k meaning c.args.bytes.now c.lines.start c.lines.walk c.in_ok-unit.unit c.unit_at.new.blocks c.lines.invariant.walk
+    (units.next-is k meaning c.args.bytes.now c.lines.start c.lines.walk c.in-Ok-unit_at.unit c.unit_at.new.blocks c.lines.invariant.walk
     at ready c.lines-test.true ahead) in
     let plain : k.passthru ≡ false = search rules in (
       all_true,
@@ -55,14 +53,14 @@ pub lines-preserved-then-walk-eq0 : goal.lines-preserved-then-walk-eq0
 lines-preserved-then-walk-eq0 g c =
     let k = c.args.self.now.config in
     let meaning = g.M.Matcher.meaning c.args.matcher.now in
-    let ready = c.in_ok-unit.ensures.ready in
-    let ahead = c.in_ok-unit.ensures.ahead in
+    let ready = c.in-Ok-unit_at.ensures.ready in
+    let ahead = c.in-Ok-unit_at.ensures.ahead in
     let chosen = c.next_chosen-next.ensures in
     let past = c.skip_lines-walk.ensures.walk in
     let at = subst (λ o. IsLineStart (byte_of k.line_terminator) c.args.bytes.now o c.lines.walk.line) c.lines.invariant.same
     c.lines.invariant.walk.placed.at in
     let next = subst (units.IsNext k meaning c.args.bytes.now c.lines.walk c.lines.start) (sym chosen)
-    (units.next-is k meaning c.args.bytes.now c.lines.start c.lines.walk c.in_ok-unit.unit c.unit_at.new.blocks c.lines.invariant.walk
+    (units.next-is k meaning c.args.bytes.now c.lines.start c.lines.walk c.in-Ok-unit_at.unit c.unit_at.new.blocks c.lines.invariant.walk
     at ready c.lines-test.true ahead) in
     let plain : k.passthru ≡ false = search rules in
     rw past (record {
@@ -77,7 +75,7 @@ lines-preserved-then-walk-eq0 g c =
         length-drop c.lines.start c.args.bytes.now,
       );
       ordered = rw past at c.skip_lines-walk.ensures.ordered;
-      ready = units.ready-past k meaning c.args.bytes.now c.lines.start c.lines.walk c.in_ok-unit.unit c.unit_at.new.blocks
+      ready = units.ready-past k meaning c.args.bytes.now c.lines.start c.lines.walk c.in-Ok-unit_at.unit c.unit_at.new.blocks
           c.lines.invariant.walk at ready c.lines-test.true ahead _ c.next_chosen-next.result
           chosen refl;
       walk = steps.across-past k meaning c.args.bytes.now c.lines.walk c.lines.start c.next_chosen-next.result c.lines.invariant.same
@@ -91,16 +89,16 @@ pub returns-in_err-sink_line-clause-fault : goal.returns-in_err-sink_line-clause
 returns-in_err-sink_line-clause-fault g c =
     let k = c.args.self.now.config in
     let meaning = g.M.Matcher.meaning c.args.matcher.now in
-    let ready = c.in_ok-unit.ensures.ready in
-    let ahead = c.in_ok-unit.ensures.ahead in
+    let ready = c.in-Ok-unit_at.ensures.ready in
+    let ahead = c.in-Ok-unit_at.ensures.ahead in
     let chosen = c.next_chosen-next.ensures in
     let unit = c.end_across-end.ensures.unit in
     let line = c.end_across-end.ensures.line in
     let reported = rw (c.of-verdict.ensures.chosen, c.of-verdict.ensures.trailing) at c.in_err-sink_line.ensures.reported in
     let bare = c.requires.configured.bare in
-    let p = err_from_is_err_and c.from_residual-in_err-sink_line.result c.from_residual-in_err-sink_line.ensures.1 in
+    let p = err_from_is_err_and c.from_residual.result c.from_residual.ensures.1 in
     let turned = turns.turned k meaning c.args.bytes.now bare c.lines.start c.end_across-end.result c.next_chosen-next.result
-    c.lines.walk c.in_ok-unit.unit c.unit_at.new.blocks c.lines.invariant.walk c.lines.invariant.same ready
+    c.lines.walk c.in-Ok-unit_at.unit c.unit_at.new.blocks c.lines.invariant.walk c.lines.invariant.same ready
     ahead chosen c.end_across-end.ensures.low c.end_across-end.ensures.within
     (c.lines.start == c.next_chosen-next.result) refl unit line in
     rw (p.1, p.2) (λ first begun. ends.fault-sink g.C.Calls.step _ _ k c.args.bytes.now first _ _ _ turned.across
@@ -113,8 +111,8 @@ pub returns-then-not-branch-clause-reported : goal.returns-then-not-branch-claus
 returns-then-not-branch-clause-reported g c = λ first begun.
     let k = c.args.self.now.config in
     let meaning = g.M.Matcher.meaning c.args.matcher.now in
-    let ready = c.in_ok-unit.ensures.ready in
-    let ahead = c.in_ok-unit.ensures.ahead in
+    let ready = c.in-Ok-unit_at.ensures.ready in
+    let ahead = c.in-Ok-unit_at.ensures.ahead in
     let chosen = c.next_chosen-next.ensures in
     let unit = c.end_across-end.ensures.unit in
     let line = c.end_across-end.ensures.line in
@@ -122,7 +120,7 @@ returns-then-not-branch-clause-reported g c = λ first begun.
     let stops : c.in_ok-sink_line.field-0 ≡ false = search rules in
     let reported = rw (c.of-verdict.ensures.chosen, c.of-verdict.ensures.trailing, stops) at c.in_ok-sink_line.ensures.reported in
     let turned = turns.turned k meaning c.args.bytes.now bare c.lines.start c.end_across-end.result c.next_chosen-next.result
-    c.lines.walk c.in_ok-unit.unit c.unit_at.new.blocks c.lines.invariant.walk c.lines.invariant.same ready
+    c.lines.walk c.in-Ok-unit_at.unit c.unit_at.new.blocks c.lines.invariant.walk c.lines.invariant.same ready
     ahead chosen c.end_across-end.ensures.low c.end_across-end.ensures.within
     (c.lines.start == c.next_chosen-next.result) refl unit line in
     let stop = line_end c.lines.walk (slice c.args.bytes.now c.lines.start c.end_across-end.result) in (
@@ -139,8 +137,8 @@ pub lines-preserved : goal.lines-preserved
 lines-preserved g c =
     let k = c.args.self.now.config in
     let meaning = g.M.Matcher.meaning c.args.matcher.now in
-    let ready = c.in_ok-unit.ensures.ready in
-    let ahead = c.in_ok-unit.ensures.ahead in
+    let ready = c.in-Ok-unit_at.ensures.ready in
+    let ahead = c.in-Ok-unit_at.ensures.ahead in
     let chosen = c.next_chosen-next.ensures in
     let unit = c.end_across-end.ensures.unit in
     let line = c.end_across-end.ensures.line in
@@ -150,7 +148,7 @@ lines-preserved g c =
     let reported = rw (c.of-verdict.ensures.chosen, c.of-verdict.ensures.trailing, goes) at c.in_ok-sink_line.ensures.reported in
     let here = rw goes at c.in_ok-sink_line.ensures.called in
     let turned = turns.turned k meaning c.args.bytes.now bare c.lines.start c.end_across-end.result c.next_chosen-next.result
-    c.lines.walk c.in_ok-unit.unit c.unit_at.new.blocks c.lines.invariant.walk c.lines.invariant.same ready
+    c.lines.walk c.in-Ok-unit_at.unit c.unit_at.new.blocks c.lines.invariant.walk c.lines.invariant.same ready
     ahead chosen c.end_across-end.ensures.low c.end_across-end.ensures.within
     (c.lines.start == c.next_chosen-next.result) refl unit line in
     rw after (record {
@@ -177,24 +175,21 @@ returns-clause-reported g c = λ first begun.
           (c.lines.invariant.reported first begun),
     )
 
-pub returns-in_err-blocks-clause-in_order : goal.returns-in_err-blocks-clause-in_order
-returns-in_err-blocks-clause-in_order g c =
-    let p = err_from_is_err_and c.from_residual.result c.from_residual.ensures.1 in
-    let fault = c.in_err-blocks.ensures.fault in
-    rw (p.1, p.2) (of_question _ fault.1 fault.3 fault.4 (called-none g.C.Calls.step c.args.self.now.config c.args.sink.now))
+pub returns-in-Err-clause-in_order : goal.returns-in-Err-clause-in_order
+returns-in-Err-clause-in_order g c =
+    of_question _ c.in-Err.error c.in-Err.ensures.fault.2 c.error_message.ensures
+    (called-none g.C.Calls.step c.args.self.now.config c.args.sink.now)
 
-pub returns-in_err-unit-clause-in_order : goal.returns-in_err-unit-clause-in_order
-returns-in_err-unit-clause-in_order g c =
-    let p = err_from_is_err_and c.from_residual-in_err-unit.result c.from_residual-in_err-unit.ensures.1 in
-    let fault = c.in_err-unit.ensures.fault in
-    rw (p.1, p.2) (of_question _ fault.1 fault.3 fault.4 c.lines.invariant.called)
+pub returns-in-Err-unit_at-clause-in_order : goal.returns-in-Err-unit_at-clause-in_order
+returns-in-Err-unit_at-clause-in_order g c =
+    of_question _ c.in-Err-unit_at.error c.in-Err-unit_at.ensures.fault.2 c.error_message-in-Err-unit_at.ensures c.lines.invariant.called
 
 pub returns-then-next-bytes-clause-in_order : goal.returns-then-next-bytes-clause-in_order
 returns-then-next-bytes-clause-in_order g c = record { outcome = all_true; ends = tt; called = c.lines.invariant.called }
 
 pub returns-in_err-sink_line-clause-in_order : goal.returns-in_err-sink_line-clause-in_order
 returns-in_err-sink_line-clause-in_order g c =
-    let p = err_from_is_err_and c.from_residual-in_err-sink_line.result c.from_residual-in_err-sink_line.ensures.1 in
+    let p = err_from_is_err_and c.from_residual.result c.from_residual.ensures.1 in
     rw (p.1, p.2) (of_call (called-then g.C.Calls.step c.args.self.now.config c.args.sink.now c.lines.sink (failed _)
     c.sink_line.new.sink c.lines.invariant.called (c.in_err-sink_line.ensures.called 0)))
 

@@ -49,78 +49,75 @@ lines-init g c = record {
   may_call = c.requires.may_call;
 }
 
-pub returns-in_err-ahead-clause-fault : goal.returns-in_err-ahead-clause-fault
-returns-in_err-ahead-clause-fault g c =
-    let p = err_from_is_err_and c.from_residual.result c.from_residual.ensures.1 in
-    let ahead = c.in_err-ahead.ensures in
-    let allowed = ahead.allowed in
-    let fault = ahead.fault in
-    rw (p.1, p.2) (λ lawful gone input first so_far. uncounted.failed-ahead g.C.Calls.step
+pub returns-in-Err-clause-fault : goal.returns-in-Err-clause-fault
+returns-in-Err-clause-fault g c =
+    let ahead = c.in-Err.ensures in
+    λ lawful gone input first so_far. uncounted.failed-ahead g.C.Calls.step
     (errors g) (facts g c.args.matcher.now) c.args.self.now.config gone c.args.window.now input first
-    (λ passthru. absurd (false≢true (sym allowed.allowed.selects ∙ passthru)))
-    c.lines_join.ensures c.lines_append.ensures c.lines.sink c.lines.walk c.lines.start (c.lines.invariant.searched lawful gone input first so_far) ahead.some allowed
-    fault.0 _ fault.1 fault.2)
+    (λ passthru. absurd (false≢true (sym ahead.allowed.allowed.selects ∙ passthru)))
+    c.lines_join.ensures c.lines_append.ensures c.lines.sink c.lines.walk c.lines.start
+    (c.lines.invariant.searched lawful gone input first so_far) ahead.some ahead.allowed c.in-Err.error _
+    c.error_message.ensures ahead.fault
 
 pub returns-in_default-clause-goes_on : goal.returns-in_default-clause-goes_on
 returns-in_default-clause-goes_on g c = λ lawful goes gone input first so_far.
-    let learns = c.in_ok-ahead.ensures.known in
+    let learns = c.in-Ok.ensures.known in
     let position = c.skip_unmatched-start.ensures.position in
     let skipped = c.skip_unmatched-start.ensures.walk in
     let bare = c.requires.configured.bare in
     let now = c.lines.invariant.searched lawful gone input first so_far in
     let known = learns lawful _ now.walked.inside.line.begins (c.lines.invariant.known lawful gone input first so_far) in
     let here = uncounted.searched-on _ (errors g) (facts g c.args.matcher.now) _ _ _ _ _ bare
-    c.lines_join.ensures c.lines_append.ensures _ _ _ c.in_ok-ahead.ahead now (omega (arith, c.in_ok-ahead.ensures.bounded.ordered, c.in_ok-ahead.ensures.bounded.within)) known _ _
+    c.lines_join.ensures c.lines_append.ensures _ _ _ c.in-Ok.ahead now (omega (arith, c.in-Ok.ensures.bounded.ordered, c.in-Ok.ensures.bounded.within)) known _ _
     position skipped in
     let terminator = c.terminator-terminator.ensures in
     search.passed-all _ _ _ _ _ _ _ _ _ _ here c.in_default.ensures.end
     (subst (λ b. (i : ℕ) → IsLineStart b c.args.window.now c.skip_unmatched-start.result i → i ≡ length (lines b c.args.window.now)) terminator
     c.in_default.ensures.last)
 
-pub returns-in_err-verdict-clause-fault : goal.returns-in_err-verdict-clause-fault
-returns-in_err-verdict-clause-fault g c =
-    let learns = c.in_ok-ahead.ensures.known in
+pub returns-in-Err-judge-clause-fault : goal.returns-in-Err-judge-clause-fault
+returns-in-Err-judge-clause-fault g c =
+    let learns = c.in-Ok.ensures.known in
     let position = c.skip_unmatched-start.ensures.position in
     let skipped = c.skip_unmatched-start.ensures.walk in
-    let p = err_from_is_err_and c.from_residual-in_err-verdict.result c.from_residual-in_err-verdict.ensures.1 in
-    let fault = c.in_err-verdict.ensures.fault in
-    let below = c.in_err-verdict.ensures.open in
-    rw (p.1, p.2) (λ lawful gone input first so_far.
+    let below = c.in-Err-judge.ensures.open in
+    λ lawful gone input first so_far.
     let bare = c.requires.configured.bare in
     let now = c.lines.invariant.searched lawful gone input first so_far in
     let known = learns lawful _ now.walked.inside.line.begins (c.lines.invariant.known lawful gone input first so_far) in
     let terminator = c.terminator-terminator.ensures in
     let turn = uncounted.line-reached _ (errors g) (facts g c.args.matcher.now) _ _ _ _ _ bare c.lines_join.ensures
-          c.lines_append.ensures _ _ _ _ now c.in_ok-ahead.ensures.bounded known _ _ c.skip_unmatched-start.ensures.low position skipped _ _ terminator
+          c.lines_append.ensures _ _ _ _ now c.in-Ok.ensures.bounded known _ _ c.skip_unmatched-start.ensures.low position skipped _ _ terminator
     c.in-Some.ensures.line _ c.at-known.ensures in
     uncounted.failed-asked _ (errors g) (facts g c.args.matcher.now) _ _ _ _ _ bare _ _ _ _ turn.here c.in-Some.ensures.within.0
-    c.in-Some.ensures.within.1 turn.line below fault.0 _ fault.1 fault.2)
+    c.in-Some.ensures.within.1 turn.line below c.in-Err-judge.error _ c.error_message-in-Err-judge.ensures
+    c.in-Err-judge.ensures.fault
 
 pub returns-in_err-sink_line-clause-fault : goal.returns-in_err-sink_line-clause-fault
 returns-in_err-sink_line-clause-fault g c =
-    let learns = c.in_ok-ahead.ensures.known in
+    let learns = c.in-Ok.ensures.known in
     let position = c.skip_unmatched-start.ensures.position in
     let skipped = c.skip_unmatched-start.ensures.walk in
-    let decided = c.in_ok-verdict.ensures.decided in
-    let p = err_from_is_err_and c.from_residual-in_err-sink_line.result c.from_residual-in_err-sink_line.ensures.1 in
+    let decided = c.in-Ok-judge.ensures.decided in
+    let p = err_from_is_err_and c.from_residual.result c.from_residual.ensures.1 in
     rw (p.1, p.2) (λ lawful gone input first so_far.
     let bare = c.requires.configured.bare in
     let now = c.lines.invariant.searched lawful gone input first so_far in
     let known = learns lawful _ now.walked.inside.line.begins (c.lines.invariant.known lawful gone input first so_far) in
     let terminator = c.terminator-terminator.ensures in
     let turn = uncounted.line-reached _ (errors g) (facts g c.args.matcher.now) _ _ _ _ _ bare c.lines_join.ensures
-          c.lines_append.ensures _ _ _ _ now c.in_ok-ahead.ensures.bounded known _ _ c.skip_unmatched-start.ensures.low position skipped _ _ terminator
+          c.lines_append.ensures _ _ _ _ now c.in-Ok.ensures.bounded known _ _ c.skip_unmatched-start.ensures.low position skipped _ _ terminator
     c.in-Some.ensures.line _ c.at-known.ensures in
     uncounted.failed-line _ (errors g) (facts g c.args.matcher.now) _ _ _ _ _ bare _ _ _ _ turn.here c.in-Some.ensures.within.0
-    c.in-Some.ensures.within.1 turn.line (chooses c.in_ok-verdict.verdict) (trails c.in_ok-verdict.verdict) (decided turn.agrees) _ _
+    c.in-Some.ensures.within.1 turn.line (chooses c.in-Ok-judge.verdict) (trails c.in-Ok-judge.verdict) (decided turn.agrees) _ _
     (c.in_err-sink_line.ensures.reported gone input (uncounted.inside-counted _ (errors g) (facts g c.args.matcher.now) _ _ _ _ _ _ _ _ turn.here)))
 
 pub returns-then-not-branch-clause-ends : goal.returns-then-not-branch-clause-ends
 returns-then-not-branch-clause-ends g c = λ lawful ends.
-    let learns = c.in_ok-ahead.ensures.known in
+    let learns = c.in-Ok.ensures.known in
     let position = c.skip_unmatched-start.ensures.position in
     let skipped = c.skip_unmatched-start.ensures.walk in
-    let decided = c.in_ok-verdict.ensures.decided in
+    let decided = c.in-Ok-judge.ensures.decided in
     let stops : c.in_ok-sink_line.field-0 ≡ false = search rules in
     let reported = rw stops at c.in_ok-sink_line.ensures.reported in (
       stopped (line_end c.skip_unmatched-start.new.walk (slice c.args.window.now c.skip_unmatched-start.result c.in-Some.end)),
@@ -130,26 +127,26 @@ returns-then-not-branch-clause-ends g c = λ lawful ends.
           let known = learns lawful _ now.walked.inside.line.begins (c.lines.invariant.known lawful gone input first so_far) in
           let terminator = c.terminator-terminator.ensures in
           let turn = uncounted.line-reached _ (errors g) (facts g c.args.matcher.now) _ _ _ _ _ bare c.lines_join.ensures
-          c.lines_append.ensures _ _ _ _ now c.in_ok-ahead.ensures.bounded known _ _ c.skip_unmatched-start.ensures.low position skipped
+          c.lines_append.ensures _ _ _ _ now c.in-Ok.ensures.bounded known _ _ c.skip_unmatched-start.ensures.low position skipped
           _ _ terminator c.in-Some.ensures.line _ c.at-known.ensures in
           uncounted.counted-stopped _ (errors g) (facts g c.args.matcher.now) _ _ _ _ _ bare _ _ _ _ turn.here c.in-Some.ensures.within.0
-          c.in-Some.ensures.within.1 turn.line (chooses c.in_ok-verdict.verdict) (trails c.in_ok-verdict.verdict) (decided turn.agrees) _
+          c.in-Some.ensures.within.1 turn.line (chooses c.in-Ok-judge.verdict) (trails c.in-Ok-judge.verdict) (decided turn.agrees) _
           (reported gone input (uncounted.inside-counted _ (errors g) (facts g c.args.matcher.now) _ _ _ _ _ _ _ _ turn.here)),
     )
 
 pub returns-then-is_over-clause-ends : goal.returns-then-is_over-clause-ends
 returns-then-is_over-clause-ends g c = λ lawful ends.
-    let learns = c.in_ok-ahead.ensures.known in
+    let learns = c.in-Ok.ensures.known in
     let position = c.skip_unmatched-start.ensures.position in
     let skipped = c.skip_unmatched-start.ensures.walk in
-    let decided = c.in_ok-verdict.ensures.decided in
+    let decided = c.in-Ok-judge.ensures.decided in
     let chosen = c.is_chosen-chosen.ensures in
     let next = c.after_line.ensures
     ∙ ap (after_line c.args.self.now.config c.skip_unmatched-start.new.walk (slice c.args.window.now c.skip_unmatched-start.result c.in-Some.end)) chosen in
     let over_is = c.is_over.ensures in
     let goes : c.in_ok-sink_line.field-0 ≡ true = search rules in
     let reported = rw goes at c.in_ok-sink_line.ensures.reported in
-    let over = ap (λ p. is_over c.args.self.now.config p (chooses c.in_ok-verdict.verdict)) (sym next)
+    let over = ap (λ p. is_over c.args.self.now.config p (chooses c.in-Ok-judge.verdict)) (sym next)
     ∙ (ap (is_over c.args.self.now.config c.after_line.result) (sym chosen) ∙ rw over_is at c.if-is_over.true) in
     rw next (
       all_true,
@@ -159,19 +156,19 @@ returns-then-is_over-clause-ends g c = λ lawful ends.
           let known = learns lawful _ now.walked.inside.line.begins (c.lines.invariant.known lawful gone input first so_far) in
           let terminator = c.terminator-terminator.ensures in
           let turn = uncounted.line-reached _ (errors g) (facts g c.args.matcher.now) _ _ _ _ _ bare c.lines_join.ensures
-          c.lines_append.ensures _ _ _ _ now c.in_ok-ahead.ensures.bounded known _ _ c.skip_unmatched-start.ensures.low position skipped
+          c.lines_append.ensures _ _ _ _ now c.in-Ok.ensures.bounded known _ _ c.skip_unmatched-start.ensures.low position skipped
           _ _ terminator c.in-Some.ensures.line _ c.at-known.ensures in
           uncounted.counted-over _ (errors g) (facts g c.args.matcher.now) _ _ _ _ _ bare _ _ _ _ turn.here c.in-Some.ensures.within.0
-          c.in-Some.ensures.within.1 turn.line (chooses c.in_ok-verdict.verdict) (trails c.in_ok-verdict.verdict) (decided turn.agrees) _
+          c.in-Some.ensures.within.1 turn.line (chooses c.in-Ok-judge.verdict) (trails c.in-Ok-judge.verdict) (decided turn.agrees) _
           (reported gone input (uncounted.inside-counted _ (errors g) (facts g c.args.matcher.now) _ _ _ _ _ _ _ _ turn.here)) over,
     )
 
 pub lines-preserved : goal.lines-preserved
 lines-preserved g c =
-    let learns = c.in_ok-ahead.ensures.known in
+    let learns = c.in-Ok.ensures.known in
     let position = c.skip_unmatched-start.ensures.position in
     let skipped = c.skip_unmatched-start.ensures.walk in
-    let decided = c.in_ok-verdict.ensures.decided in
+    let decided = c.in-Ok-judge.ensures.decided in
     let chosen = c.is_chosen-chosen.ensures in
     let next = c.after_line.ensures
     ∙ ap (after_line c.args.self.now.config c.skip_unmatched-start.new.walk (slice c.args.window.now c.skip_unmatched-start.result c.in-Some.end)) chosen in
@@ -179,7 +176,7 @@ lines-preserved g c =
     let goes : c.in_ok-sink_line.field-0 ≡ true = search rules in
     let reported = rw goes at c.in_ok-sink_line.ensures.reported in
     let here = rw goes at c.in_ok-sink_line.ensures.called in
-    let on = ap (λ p. is_over c.args.self.now.config p (chooses c.in_ok-verdict.verdict)) (sym next)
+    let on = ap (λ p. is_over c.args.self.now.config p (chooses c.in-Ok-judge.verdict)) (sym next)
     ∙ (ap (is_over c.args.self.now.config c.after_line.result) (sym chosen) ∙ rw over_is at c.if-is_over.false) in
     let size = length-take (c.in-Some.end - c.skip_unmatched-start.result) (drop c.skip_unmatched-start.result c.args.window.now) in
     rw next (record {
@@ -195,12 +192,12 @@ lines-preserved g c =
       );
       ahead = omega (arith, c.lines.invariant.ahead, c.skip_unmatched-start.ensures.low, c.in-Some.ensures.within.0);
       ordered = ordered-next c.args.self.now.config c.skip_unmatched-start.new.walk c.skip_unmatched-start.result c.in-Some.end c.args.window.now
-          (chooses c.in_ok-verdict.verdict) c.in-Some.ensures.within.0 c.in-Some.ensures.within.1 c.skip_unmatched-start.ensures.ordered;
-      bounded = c.in_ok-ahead.ensures.bounded;
+          (chooses c.in-Ok-judge.verdict) c.in-Some.ensures.within.0 c.in-Some.ensures.within.1 c.skip_unmatched-start.ensures.ordered;
+      bounded = c.in-Ok.ensures.bounded;
       known = λ lawful gone input first so_far.
           let now = c.lines.invariant.searched lawful gone input first so_far in
           skips.known-later c.args.self.now.config (g.M.Matcher.meaning c.args.matcher.now) c.args.window.now c.lines.start
-          c.in-Some.end c.in_ok-ahead.ahead (omega (arith, c.skip_unmatched-start.ensures.low, c.in-Some.ensures.within.0))
+          c.in-Some.end c.in-Ok.ahead (omega (arith, c.skip_unmatched-start.ensures.low, c.in-Some.ensures.within.0))
           (learns lawful _ now.walked.inside.line.begins (c.lines.invariant.known lawful gone input first so_far));
       searched = λ lawful gone input first so_far.
           let bare = c.requires.configured.bare in
@@ -208,31 +205,27 @@ lines-preserved g c =
           let known = learns lawful _ now.walked.inside.line.begins (c.lines.invariant.known lawful gone input first so_far) in
           let terminator = c.terminator-terminator.ensures in
           let turn = uncounted.line-reached _ (errors g) (facts g c.args.matcher.now) _ _ _ _ _ bare c.lines_join.ensures
-          c.lines_append.ensures _ _ _ _ now c.in_ok-ahead.ensures.bounded known _ _ c.skip_unmatched-start.ensures.low position skipped
+          c.lines_append.ensures _ _ _ _ now c.in-Ok.ensures.bounded known _ _ c.skip_unmatched-start.ensures.low position skipped
           _ _ terminator c.in-Some.ensures.line _ c.at-known.ensures in
           uncounted.searched-next _ (errors g) (facts g c.args.matcher.now) _ _ _ _ _ bare _ _ _ _ turn.here c.in-Some.ensures.within.0
-          c.in-Some.ensures.within.1 turn.line (chooses c.in_ok-verdict.verdict) (trails c.in_ok-verdict.verdict) (decided turn.agrees) _
+          c.in-Some.ensures.within.1 turn.line (chooses c.in-Ok-judge.verdict) (trails c.in-Ok-judge.verdict) (decided turn.agrees) _
           (reported gone input (uncounted.inside-counted _ (errors g) (facts g c.args.matcher.now) _ _ _ _ _ _ _ _ turn.here)) on;
       called = called-then g.C.Calls.step c.args.self.now.config c.args.sink.now c.lines.sink all_true c.sink_line.new.sink
           c.lines.invariant.called (here 0);
       may_call = c.in_ok-sink_line.ensures.may_call;
     })
 
-pub returns-in_err-ahead-clause-in_order : goal.returns-in_err-ahead-clause-in_order
-returns-in_err-ahead-clause-in_order g c =
-    let p = err_from_is_err_and c.from_residual.result c.from_residual.ensures.1 in
-    let fault = c.in_err-ahead.ensures.fault in
-    rw (p.1, p.2) (of_question _ fault.0 fault.2 fault.1 c.lines.invariant.called)
+pub returns-in-Err-clause-in_order : goal.returns-in-Err-clause-in_order
+returns-in-Err-clause-in_order g c =
+    of_question _ c.in-Err.error c.in-Err.ensures.fault c.error_message.ensures c.lines.invariant.called
 
-pub returns-in_err-verdict-clause-in_order : goal.returns-in_err-verdict-clause-in_order
-returns-in_err-verdict-clause-in_order g c =
-    let p = err_from_is_err_and c.from_residual-in_err-verdict.result c.from_residual-in_err-verdict.ensures.1 in
-    let fault = c.in_err-verdict.ensures.fault in
-    rw (p.1, p.2) (of_question _ fault.0 fault.2 fault.1 c.lines.invariant.called)
+pub returns-in-Err-judge-clause-in_order : goal.returns-in-Err-judge-clause-in_order
+returns-in-Err-judge-clause-in_order g c =
+    of_question _ c.in-Err-judge.error c.in-Err-judge.ensures.fault c.error_message-in-Err-judge.ensures c.lines.invariant.called
 
 pub returns-in_err-sink_line-clause-in_order : goal.returns-in_err-sink_line-clause-in_order
 returns-in_err-sink_line-clause-in_order g c =
-    let p = err_from_is_err_and c.from_residual-in_err-sink_line.result c.from_residual-in_err-sink_line.ensures.1 in
+    let p = err_from_is_err_and c.from_residual.result c.from_residual.ensures.1 in
     rw (p.1, p.2) (of_call (called-then g.C.Calls.step c.args.self.now.config c.args.sink.now c.lines.sink (failed _)
     c.sink_line.new.sink c.lines.invariant.called (c.in_err-sink_line.ensures.called 0)))
 

@@ -53,9 +53,7 @@ returns-in-Err-clause-fault g c = λ asked so_far.
     let bytes = c.args.bytes.now in
     let meaning = g.M.Matcher.meaning c.args.matcher.now in (
       drop b.position bytes,
-      c.in-Err.e,
       asked-next c.args.self.now meaning bytes b.position b.left asked so_far
           (omega (arith, c.if-blocks-bytes.false)) (sym c.has_room.ensures ∙ c.if-not-has_room.false),
-      subst (λ rest. g.M.Matcher.fails c.args.matcher.now rest c.in-Err.e) (rest-is bytes b.position) c.in-Err.ensures.error,
-      c.error_message.ensures,
+      subst (λ rest. g.M.Matcher.fails c.args.matcher.now rest c.in-Err.error) (rest-is bytes b.position) c.in-Err.ensures.error,
     )
