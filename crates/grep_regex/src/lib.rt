@@ -1,0 +1,16 @@
+//! Matchers of regular expressions, over the kit's engines, for a line-oriented search.
+#![tactic(auto)]
+
+mod builder;
+mod error;
+mod frame;
+mod locality;
+mod matcher;
+mod options;
+mod regex;
+
+pub use builder::RegexMatcherBuilder;
+pub use error::Error;
+pub use matcher::RegexMatcher;
+pub use options::Options;
+pub use regex::Regex;
