@@ -1,6 +1,11 @@
 pub mod LocalityLemmas
 pub mod EngineLemmas
 pub mod OptionsLemmas
-pub mod TieLemmas
+pub mod WrittenLemmas
+pub mod ClearLemmas
+pub mod StrippedLemmas
+pub mod StrippedTreeLemmas
+pub mod FindLemmas
 pub mod EdgeLemmas
 pub mod LineLemmas
+pub mod TrustLemmas

@@ -1,18 +1,17 @@
 -- What a local pattern's first match in many lines says of each of them.
-use Rattle.std.proofs.Common.{◌≡◌, ◌≢◌, ℕ, zero, suc, ◌+◌, ◌-◌, ◌<◌, ◌≤◌, ◌⊎◌, Bool, true, false, not, cond, List, []}
-use Rattle.std.proofs.Common.{◌∷◌, ◌++◌, length, take, drop, slice_get, slice_index, slice_index_or, Option, Some, None}
+use Rattle.std.proofs.Common.{◌≡◌, ◌≢◌, ℕ, zero, suc, ◌+◌, ◌-◌, ◌<◌, ◌≤◌, ◌⊎◌, true, false, List, []}
+use Rattle.std.proofs.Common.{◌∷◌, ◌++◌, length, take, drop, slice_get, slice_index, slice_index_or, Some, None}
 use Rattle.std.proofs.Common.{is_some, option_map, refl, sym, ap, ◌∙◌, subst, inl, inr, ⊎_elim, arith, length-append}
-use Rattle.std.proofs.Common.{length-drop, length-take, slice_range, add-one, append_assoc, ◌==◌, get_or-drop}
-use Rattle.std.proofs.Common.{true≢false}
+use Rattle.std.proofs.Common.{length-drop, add-one, append_assoc, ◌==◌, get_or-drop}
+use Rattle.std.proofs.Common.{true≢false, get_or}
 use Rattle.std.proofs.lemmas.Bool.{cases_lt, cases_Bool}
 use Rattle.std.proofs.lemmas.Bool.Decides.{Decides-eqb}
-use Rattle.std.proofs.lemmas.Option.{none-some, same_Some, slice_get-get_or, get_or_from_slice_get}
+use Rattle.std.proofs.lemmas.Option.{none-some, slice_get-get_or, get_or_from_slice_get}
 use Rattle.std.proofs.Math.Seq.{get_or-append_seam, take-length}
 use Rattle.std.proofs.lemmas.Slice.Eq.{ends_is}
-use Rattle.std.proofs.lemmas.List.{get_or-take}
+use Rattle.std.proofs.lemmas.List.{get_or_append_left, get_or_past}
 use Rattle.std.specs.List.{concat, ends_with}
 use Rattle.std.specs.Prelude.{nat_eq}
-use Rattle.memchr.specs.Find.{IsFirstByte, is_byte}
 use Rattle.regex_hir.specs.Find.{Match, find}
 use Rattle.regex_hir.specs.Matches.{Matches}
 use Rattle.regex_hir.specs.Re.{Re, accept, attempt}
@@ -22,20 +21,13 @@ use Rattle.regex_hir.proofs.MatchesLemmas.{Matches-IsSpan}
 use Rattle.regex_hir.proofs.OptionLemmas.{option_cases, value_of_IsSome}
 use Rattle.regex_hir.proofs.TextLemmas.{byte_before-add-one}
 use Rattle.regex_vm.specs.Found.{span}
-use Rattle.grep_matcher.specs.declared.line_match_kind.LineMatchKind.{LineMatchKind}
-use Rattle.grep_matcher.specs.declared.line_match_kind.LineMatchKind.TheVariants.{Candidate}
-use Rattle.grep_matcher.specs.declared.line_terminator.LineTerminator.{LineTerminator}
 use Rattle.grep_matcher.specs.declared.line_terminator.LineTerminator.TheVariants.{Byte}
-use Rattle.grep_matcher.specs.Lawful.{HoldsPosition, EndsBefore, IsLawfulResult, ExcludesTerminator, IsTrusted}
-use Rattle.grep_matcher.specs.Lawful.{position_of, is_confirmed}
+use Rattle.grep_matcher.specs.Lawful.{HoldsPosition, EndsBefore}
 use Rattle.grep_matcher.specs.Lines.{lines, line_start, strip, onto_first}
-use Rattle.grep_matcher.specs.Terminators.{byte_of}
 use Rattle.grep_matcher.specs.Matching.{Meaning, IsWithin}
 use Rattle.grep_matcher.proofs.LineLemmas.{IsLine, line-is}
-use Rattle.grep_regex.specs.Locality.{is_local, IsClear}
-use Rattle.grep_regex.specs.Patterns.{regex_match}
-use Rattle.grep_regex.specs.Views.{regex_re, regex_meaning}
-use Rattle.grep_regex.specs.declared.regex.Regex.{Regex}
+use Rattle.grep_regex.specs.Locality.{is_local}
+use Rattle.grep_regex.specs.Patterns.{leftmost_match}
 use Rattle.grep_regex.proofs.EdgeLemmas.{IsPart, matches-in, matches-out}
 
 found-to : (re : Re) (hay : List ℕ) (m : Match) → find re hay 0 ≡ Some m → m.start ≤ length hay
@@ -43,7 +35,7 @@ unfolding find
 found-to re hay m e = (IsFirst-of_first_between (attempt hay re accept) 0 (length hay) m e).to
 
 -- a match lies within its haystack
-pub match-within : (re : Re) (hay : List ℕ) → IsWithin hay (regex_match re hay)
+pub match-within : (re : Re) (hay : List ℕ) → IsWithin hay (leftmost_match re hay)
 match-within re hay = ⊎_elim
     (λ none. subst (λ o. IsWithin hay (option_map span o)) (sym none) tt)
     (λ some.
@@ -85,16 +77,16 @@ whole-lines t (b ∷ bytes) = ⊎_elim
     (cases_Bool (b == t))
 
 module _ (bytes : List ℕ) where
-  abbrev line : ℕ → List ℕ
+  abbrev pub line : ℕ → List ℕ
   line i = slice_index_or (lines 10 bytes) i []
 
-  abbrev start : ℕ → ℕ
+  abbrev pub start : ℕ → ℕ
   start i = line_start 10 bytes i
 
-  abbrev kept : ℕ → List ℕ
+  abbrev pub kept : ℕ → List ℕ
   kept i = strip (Byte 10) (line i)
 
-  abbrev IsListed : ℕ → Type 0
+  abbrev pub IsListed : ℕ → Type 0
   IsListed i = i < length (lines 10 bytes)
 
   last-start : (n : ℕ) → n ≡ length (lines 10 bytes) → start n ≡ length bytes
@@ -176,9 +168,21 @@ module _ (bytes : List ℕ) where
       is : IsLine 10 bytes (line i) (start i) (start (i + 1))
       is = line-is 10 bytes i listed
 
+  -- a line without its terminator is made of bytes if all is
+  pub kept-small : ((k : ℕ) → get_or bytes k 0 < 256) → (i : ℕ) → IsListed i → (k : ℕ) → get_or (kept i) k 0 < 256
+  kept-small small i listed k = ⊎_elim
+      (λ (inside : k < length (kept i)).
+      let it = kept-is i listed in
+      let same : get_or (kept i) k 0 ≡ get_or bytes (start i + k) 0 = sym (get_or_append_left (kept i) it.post 0 k inside)
+      ∙ (ap (λ l. get_or l k 0) (sym it.part.front) ∙ get_or-drop (start i) bytes k 0) in
+      let low : get_or bytes (start i + k) 0 < 256 = small (start i + k) in
+      omega (arith, same, low))
+      (λ (past : length (kept i) ≤ k). let zeroth : get_or (kept i) k 0 ≡ 0 = get_or_past (kept i) k 0 past in omega (arith, zeroth))
+      (cases_lt k (length (kept i)))
+
   module _ (re : Re) (ok : is_local re ≡ true) where
     -- a line that matches alone matches in the bytes too
-    outer : (i : ℕ) → IsListed i → is_some (regex_match re (kept i)) ≡ true →
+    outer : (i : ℕ) → IsListed i → is_some (leftmost_match re (kept i)) ≡ true →
         (a : ℕ) × (b : ℕ) × (a ≤ length (kept i)) × Matches bytes re (start i + a) (start i + b)
     outer i listed does = ⊎_elim
         (λ none. absurd (true≢false (sym does ∙ ap (λ o. is_some (option_map span o)) none)))
@@ -190,7 +194,7 @@ module _ (bytes : List ℕ) where
         (option_cases (find re (kept i) 0))
 
     inner : (i x y : ℕ) → IsListed i → start i ≤ x → y ≤ start i + length (kept i) → Matches bytes re x y →
-        is_some (regex_match re (kept i)) ≡ true
+        is_some (leftmost_match re (kept i)) ≡ true
     inner i x y listed low top m =
         let it = kept-is i listed in
         let spans = Matches-IsSpan bytes re x y m in
@@ -199,7 +203,7 @@ module _ (bytes : List ℕ) where
         ap (λ o. is_some (option_map span o)) some.1
 
     -- if nothing is found, no line matches
-    missed-all : find re bytes 0 ≡ None → (i : ℕ) → IsListed i → is_some (regex_match re (kept i)) ≡ false
+    pub missed-all : find re bytes 0 ≡ None → (i : ℕ) → IsListed i → is_some (leftmost_match re (kept i)) ≡ false
     missed-all none i listed = ⊎_elim
         (λ does.
         let m = outer i listed does in
@@ -209,12 +213,12 @@ module _ (bytes : List ℕ) where
         (λ last. omega (arith, m.2, last.0)) it.end) m.3) in
         absurd (none-some some.0 (sym none ∙ some.1)))
         (λ doesnt. doesnt)
-        (cases_Bool (is_some (regex_match re (kept i))))
+        (cases_Bool (is_some (leftmost_match re (kept i))))
 
     module _ (m : Match) (found : find re bytes 0 ≡ Some m) where
       -- a line that ends before the first match doesn't match
-      missed : (meaning : Meaning) (i : ℕ) → IsListed i → EndsBefore (Byte 10) meaning bytes i m.start →
-          is_some (regex_match re (kept i)) ≡ false
+      pub missed : (meaning : Meaning) (i : ℕ) → IsListed i → EndsBefore (Byte 10) meaning bytes i m.start →
+          is_some (leftmost_match re (kept i)) ≡ false
       missed meaning i listed ends = ⊎_elim
           (λ does.
           let o = outer i listed does in
@@ -228,7 +232,7 @@ module _ (bytes : List ℕ) where
           (kept-is i listed).end)
           (cases_lt (start i + o.0) m.start))
           (λ doesnt. doesnt)
-          (cases_Bool (is_some (regex_match re (kept i))))
+          (cases_Bool (is_some (leftmost_match re (kept i))))
         where
           only : (i : ℕ) → IsListed i → start (i + 1) ≡ length bytes → i + 1 ≡ length (lines 10 bytes)
           only i listed whole = ⊎_elim
@@ -237,8 +241,8 @@ module _ (bytes : List ℕ) where
               (cases_lt (i + 1) (length (lines 10 bytes)))
 
       -- the line that holds the start of a match without line feed matches
-      matched : (meaning : Meaning) (i : ℕ) → IsListed i → HoldsPosition (Byte 10) meaning bytes i m.start →
-          ((k : ℕ) → m.start ≤ k → k < m.trace.end → slice_index bytes k ≢ 10) → is_some (regex_match re (kept i)) ≡ true
+      pub matched : (meaning : Meaning) (i : ℕ) → IsListed i → HoldsPosition (Byte 10) meaning bytes i m.start →
+          ((k : ℕ) → m.start ≤ k → k < m.trace.end → slice_index bytes k ≢ 10) → is_some (leftmost_match re (kept i)) ≡ true
       matched meaning i listed holds clear =
           let sound = find_sound re bytes 0 m found in
           let to = found-to re bytes m found in
@@ -261,59 +265,3 @@ module _ (bytes : List ℕ) where
           (cases_lt (start i + length (kept i)) m.trace.end))
           (λ last. omega (arith, spans, to, last.0))
           (kept-is i listed).end) sound.1
-
--- ---- what can be trusted
-
-declared-is : (b : Bool) (terminator : LineTerminator) → cond b (Some (Byte 10)) None ≡ Some terminator → terminator ≡ Byte 10
-declared-is true terminator e = sym (same_Some _ _ e)
-declared-is false terminator e = absurd (none-some _ e)
-
-excluded : (p : Regex) (terminator : LineTerminator) → ExcludesTerminator terminator (regex_meaning p) → terminator ≡ Byte 10
-excluded p terminator (inl declared) = declared-is p.options.by_line terminator declared
-excluded p terminator (inr absent) = absurd (true≢false (sym absent))
-
-none-of : (re : Re) (bytes : List ℕ) → regex_match re bytes ≡ None → find re bytes 0 ≡ None
-none-of re bytes e = ⊎_elim (λ none. none) (λ some. absurd (none-some _ (sym e ∙ ap (option_map span) some.1))) (option_cases (find re bytes 0))
-
-some-of : (re : Re) (bytes : List ℕ) (a b : ℕ) → regex_match re bytes ≡ Some (a, b) →
-    (m : Match) × (find re bytes 0 ≡ Some m) × (m.start ≡ a) × (m.trace.end ≡ b)
-some-of re bytes a b e = ⊎_elim
-    (λ none. absurd (none-some _ (sym (ap (option_map span) none) ∙ e)))
-    (λ some.
-    let same = same_Some _ _ (sym (ap (option_map span) some.1) ∙ e) in
-    (some.0, some.1, ap (λ (x : ℕ × ℕ). x.0) same, ap (λ (x : ℕ × ℕ). x.1) same))
-    (option_cases (find re bytes 0))
-
-module _ (p : Regex) (is_lawful : LineTerminator → Type 0) (bytes : List ℕ) (ok : is_local (regex_re p) ≡ true) where
-  pub trusted-none : regex_match (regex_re p) bytes ≡ None → IsTrusted (regex_meaning p) is_lawful bytes None
-  trusted-none none terminator lawful excludes =
-      subst (λ t. IsLawfulResult t (regex_meaning p) bytes None) (sym (excluded p terminator excludes))
-      (missed-all bytes (regex_re p) ok (none-of _ bytes none))
-
-  pub trusted-some : (found : LineMatchKind) (b : ℕ) → regex_match (regex_re p) bytes ≡ Some (position_of found, b) →
-      (is_confirmed found ≡ true → IsClear bytes (position_of found) b) → IsTrusted (regex_meaning p) is_lawful bytes (Some found)
-  trusted-some found b e clear terminator lawful excludes =
-      subst (λ t. IsLawfulResult t (regex_meaning p) bytes (Some found)) (sym (excluded p terminator excludes))
-      (let m = some-of _ bytes _ b e in (
-        λ i listed ends. missed bytes (regex_re p) ok m.0 m.1 (regex_meaning p) i listed (rw m.2 ends),
-        λ i listed holds confirmed. matched bytes (regex_re p) ok m.0 m.1 (regex_meaning p) i listed (rw m.2 holds)
-            (λ k low high. clear confirmed k (omega (arith, m.2)) (omega (arith, m.3))),
-      ))
-
--- the first line as a candidate says nothing
-pub trusted-first : (meaning : Meaning) (is_lawful : LineTerminator → Type 0) (bytes : List ℕ) → IsTrusted meaning is_lawful bytes (Some (Candidate 0))
-trusted-first meaning is_lawful bytes terminator lawful excludes = (
-  λ i listed ends. let is = line-is (byte_of terminator) bytes i listed in absurd (omega (arith, is.ends, is.filled, ends.0)),
-  λ i listed held confirmed. absurd (cc),
-)
-
--- a range in which no line feed is found has none
-pub clear-of : (bytes : List ℕ) (a b : ℕ) (r : Option ℕ) (is_none : Bool) → IsFirstByte (is_byte 10) (slice_range bytes a b) r →
-    is_some r ≡ not is_none → is_none ≡ true → b ≤ length bytes → IsClear bytes a b
-clear-of bytes a b (Some k) is_none first same none fits = absurd (true≢false (same ∙ ap not none))
-clear-of bytes a b None is_none first same none fits = λ k low high feed.
-    let back : a + (k - a) ≡ k = omega arith in
-    let below : k - a < b - a = omega arith in
-    let reads : slice_index (slice_range bytes a b) (k - a) ≡ 10 =
-    get_or-take (b - a) (drop a bytes) (k - a) 0 below ∙ (get_or-drop a bytes (k - a) 0 ∙ (ap (slice_index bytes) back ∙ feed)) in
-    first (k - a) (omega arith) (omega (arith, length-take (b - a) (drop a bytes), length-drop a bytes)) (ap (λ x. x == 10) reads)

@@ -1,18 +1,22 @@
--- What a pattern means under its options.
-use Rattle.std.specs.Prelude.{◌≡◌, ℕ, true, false, if◌then◌else◌, List, Option, option_map, chars}
-use Rattle.std.specs.Prelude.{encode_utf8_all}
-use Rattle.regex_hir.specs.Re.{Re, empty, look, cat}
+-- What patterns mean under their options.
+use Rattle.std.specs.Prelude.{◌≡◌, ◌<◌, ℕ, true, false, if◌then◌else◌, List, [], map, Option, None, Some}
+use Rattle.std.specs.Prelude.{All, option_map, chars, encode_utf8_all}
 use Rattle.regex_hir.specs.Find.{find}
-use Rattle.regex_hir.specs.Meaning.{meaning}
-use Rattle.regex_hir.specs.declared.hir.Hir.{Hir}
+use Rattle.regex_hir.specs.Meaning.{alt_all}
+use Rattle.regex_hir.specs.Re.{Re, empty, byte_in, look, cat}
 use Rattle.regex_hir.specs.declared.look.Look.{Look}
-use Rattle.regex_hir.specs.declared.look.Look.TheVariants.{StartLf, EndLf, WordStartHalfAscii}
-use Rattle.regex_hir.specs.declared.look.Look.TheVariants.{WordEndHalfAscii, WordStartHalfUnicode}
+use Rattle.regex_hir.specs.declared.look.Look.TheVariants.{StartLf, EndLf}
+use Rattle.regex_hir.specs.declared.look.Look.TheVariants.{WordStartHalfAscii, WordEndHalfAscii}
+use Rattle.regex_hir.specs.declared.look.Look.TheVariants.{WordStartHalfUnicode}
 use Rattle.regex_hir.specs.declared.look.Look.TheVariants.{WordEndHalfUnicode}
-use Rattle.regex_syntax.specs.Grammar.{Names}
-use Rattle.regex_syntax.specs.Verdict.{Reads, default_config, default_flags, escaped_text}
+use Rattle.regex_syntax.specs.Brackets.{Nested}
+use Rattle.regex_syntax.specs.Grammar.{Names, read}
+use Rattle.regex_syntax.specs.Verdict.{default_config, default_flags, escaped_text}
 use Rattle.regex_syntax.specs.declared.Config.{Config}
 use Rattle.regex_vm.specs.Found.{span}
+use Rattle.grep_matcher.specs.Terminators.{bytes_of}
+use Rattle.grep_matcher.specs.declared.line_terminator.LineTerminator.{LineTerminator}
+use Rattle.grep_regex.specs.Clear.{find_clear}
 use Rattle.grep_regex.specs.declared.options.Options.{Options}
 
 -- the options that a builder begins with
@@ -25,10 +29,11 @@ default_options = record {
   multi_line = false;
   dot_matches_new_line = false;
   unicode = true;
-  by_line = false;
+  line_terminator = None;
+  size_limit = 10485760;
 }
 
--- the flags with which the text is read
+-- the flags with which a text is read
 abbrev pub config_of : Options → Config
 config_of o = record default_config {
   flags = record default_flags {
@@ -42,13 +47,22 @@ config_of o = record default_config {
 
 -- the text that is read: of a literal, its escape
 abbrev pub text_of : Options → List ℕ → List ℕ
-text_of o source = if o.fixed_strings then encode_utf8_all (escaped_text (chars source)) else source
+text_of o pattern =
+    if o.fixed_strings then encode_utf8_all (escaped_text (chars pattern)) else pattern
 
--- the pattern between two assertions
+-- what the grammar reads in a text; nothing matches a text that is no pattern
+abbrev pub re_of : Option (Nested Re × Names) → Re
+re_of None = byte_in []
+re_of (Some (re, names)) = re.value
+
+abbrev pub read_re : Options → List ℕ → Re
+read_re o pattern = re_of (read (config_of o) (chars (text_of o pattern)))
+
+-- a pattern between two assertions
 abbrev pub between : Look → Look → Re → Re
 between before after re = cat (look before) (cat re (cat (look after) empty))
 
--- the pattern within what the options put around it
+-- a pattern within what the options put around it
 abbrev pub framed : Options → Re → Re
 framed o re =
     if o.whole_line then between StartLf EndLf re
@@ -57,13 +71,26 @@ framed o re =
     else between WordStartHalfAscii WordEndHalfAscii re)
     else re
 
--- the pattern is what the grammar reads in the text, within its frame
-pub record IsWritten (o : Options) (source : List ℕ) (re : Re) : Type 0 where
-  pub hir : Hir
-  pub names : Names
-  pub reads : Reads (config_of o) (text_of o source) hir names
-  pub is : re ≡ framed o (meaning hir)
+-- the first of the patterns that works, within what the options put around it
+abbrev pub written_re : Options → List (List ℕ) → Re
+written_re o patterns = framed o (alt_all (map (read_re o) patterns))
 
--- the leftmost match, by its start and its end
-abbrev pub regex_match : Re → List ℕ → Option (ℕ × ℕ)
-regex_match re hay = option_map span (find re hay 0)
+-- the bytes that no match holds: those of the line terminator, if there is one
+abbrev pub excluded_bytes : Option LineTerminator → List ℕ
+excluded_bytes None = []
+excluded_bytes (Some terminator) = bytes_of terminator
+
+-- the first match of a haystack, by its start and its end: the leftmost that holds no excluded byte,
+-- and of those the one that the pattern prefers
+abbrev pub first_match : Options → List (List ℕ) → List ℕ → Option (ℕ × ℕ)
+first_match o patterns haystack =
+    option_map span (find_clear (excluded_bytes o.line_terminator) (written_re o patterns) haystack)
+
+-- the leftmost match of a pattern with no regard to bytes
+abbrev pub leftmost_match : Re → List ℕ → Option (ℕ × ℕ)
+leftmost_match re haystack = option_map span (find re haystack 0)
+
+-- the pattern finds in each haystack what the texts of the patterns find there
+pub record FindsAs (o : Options) (patterns : List (List ℕ)) (re : Re) : Type 0 where
+  pub at : (haystack : List ℕ) → All (λ x. x < 256) haystack →
+      leftmost_match re haystack ≡ first_match o patterns haystack

@@ -1,45 +1,50 @@
--- What contracts see of a compiled pattern.
-use Rattle.std.specs.Prelude.{ℕ, false, if◌then◌else◌, List, None, Some, string_bytes}
-use Rattle.regex_hir.specs.Re.{Re}
+-- What contracts see of a compiled expression.
+use Rattle.std.specs.Prelude.{ℕ, false, List, Option, map, string_bytes}
 use Rattle.regex_hir.specs.Meaning.{meaning}
+use Rattle.regex_hir.specs.Re.{Re}
 use Rattle.regex_meta.specs.declared.program.Program.{Program}
 use Rattle.regex_meta.specs.declared.searcher.Searcher.{Searcher}
 use Rattle.grep_matcher.specs.Matching.{Meaning}
-use Rattle.grep_matcher.specs.declared.line_terminator.LineTerminator.TheVariants.{Byte}
-use Rattle.grep_regex.specs.Patterns.{regex_match}
+use Rattle.grep_regex.specs.Patterns.{first_match}
+use Rattle.grep_regex.specs.declared.engine.Engine.{Engine}
+use Rattle.grep_regex.specs.declared.matcher.RegexMatcher.{RegexMatcher}
 use Rattle.grep_regex.specs.declared.options.Options.{Options}
 use Rattle.grep_regex.specs.declared.regex.Regex.{Regex}
-use Rattle.grep_regex.specs.declared.matcher.Engine.{Engine}
-use Rattle.grep_regex.specs.declared.matcher.RegexMatcher.{RegexMatcher}
 
--- the pattern of what was compiled, its text and its options
-abbrev pub regex_re : Regex → Re
-regex_re r = meaning r.program.hir
-
-abbrev pub regex_source : Regex → List ℕ
-regex_source r = string_bytes r.source
-
+-- its options, and the texts of its patterns
 abbrev pub regex_options : Regex → Options
 regex_options r = r.options
 
--- what was compiled, and what the searcher searches for
+abbrev pub regex_patterns : Regex → List (List ℕ)
+regex_patterns r = map string_bytes r.patterns.items
+
+-- what was compiled, and what a searcher searches for
 abbrev pub regex_program : Regex → Program
 regex_program r = r.program
 
 abbrev pub searcher_program : Searcher → Program
 searcher_program s = s.program.now
 
--- the pattern for which the searcher was made
-abbrev pub engine_re : Engine → Re
-engine_re c = regex_re c.regex.now
+-- the pattern that was compiled
+abbrev pub program_re : Regex → Re
+program_re r = meaning r.program.hir
 
+-- the first match of a haystack
+abbrev pub regex_first : Regex → List ℕ → Option (ℕ × ℕ)
+regex_first r = first_match r.options (map string_bytes r.patterns.items)
+
+-- the expression for which an engine was made
+abbrev pub engine_regex : Engine → Regex
+engine_regex engine = engine.regex.now
+
+-- what the matchers of an expression mean
 abbrev pub regex_meaning : Regex → Meaning
 regex_meaning r = record {
-  first = regex_match (regex_re r);
-  terminator = if r.options.by_line then Some (Byte 10) else None;
+  first = regex_first r;
+  terminator = r.options.line_terminator;
   absent = λ byte. false;
 }
 
--- the pattern of a matcher
+-- the expression of a matcher
 abbrev pub matcher_regex : RegexMatcher → Regex
 matcher_regex m = m.regex.now

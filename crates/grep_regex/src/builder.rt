@@ -1,11 +1,12 @@
 //! The builder of regular expressions.
-ghost use Rattle.std.specs.Prelude.{◌≡◌, IfOk};
-ghost use Rattle.grep_regex.specs.Patterns.{default_options, IsWritten};
-ghost use Rattle.grep_regex.specs.Views.{regex_options, regex_re, regex_source};
+ghost use Rattle.std.specs.Prelude.{◌≡◌, true, [], ◌∷◌, map, option_map, IfOk};
+ghost use Rattle.grep_regex.specs.Patterns.{default_options};
+ghost use Rattle.grep_regex.specs.Views.{regex_options, regex_patterns};
 
 use crate::error::Error;
 use crate::options::Options;
 use crate::regex::Regex;
+use grep_matcher::LineTerminator;
 use std::alloc::{AllocError, Global};
 use std::marker::Model;
 
@@ -64,20 +65,44 @@ impl RegexMatcherBuilder {
                 multi_line: false,
                 dot_matches_new_line: false,
                 unicode: true,
-                by_line: false,
+                line_terminator: None,
+                size_limit: 10 << 20,
             },
         }
     }
 
-    /// Compiles a pattern: the text of a regular expression, or under `fixed_strings` a literal. An
-    /// error is `Syntax` if the text is no pattern or nested too deep, `TooBig` if the compiled
-    /// pattern is larger than 10 MiB or has too many groups, and `Memory` if there is none.
+    /// Compiles a pattern: the text of a regular expression, or under `fixed_strings` a literal. See
+    /// `build_many` for errors.
     pub fn build(&self, alloc: Global, pattern: &str) -> Result<Regex, Error>
         ensures options { IfOk result (λ regex. regex_options regex ≡ self.now) }
-        ensures source { IfOk result (λ regex. regex_source regex ≡ pattern.now) }
-        ensures written { IfOk result (λ regex. ∥ IsWritten self.now pattern.now (regex_re regex) ∥₁) }
+        ensures patterns { IfOk result (λ regex. regex_patterns regex ≡ pattern.now ∷ []) }
     {
-        Regex::new(alloc, self.options, pattern)
+        Regex::new(alloc, self.options, &[pattern])
+    }
+
+    /// Compiles patterns, of which the first that works matches at a position. Of none there is no
+    /// match. An error is `InvalidLineTerminator` if the line terminator isn't ASCII, `Syntax` if a
+    /// text is no pattern or nested too deep, `NotAllowed` if a pattern needs a byte of the line
+    /// terminator, `TooBig` if the compiled patterns are larger than the limit or have too many
+    /// groups, and `Memory` if there is none for them.
+    pub fn build_many(&self, alloc: Global, patterns: &[&str]) -> Result<Regex, Error>
+        ensures options { IfOk result (λ regex. regex_options regex ≡ self.now) }
+        ensures patterns { IfOk result
+            (λ regex. regex_patterns regex ≡ map (λ p. p.now) patterns.now) }
+    {
+        Regex::new(alloc, self.options, patterns)
+    }
+
+    /// Compiles literals, as `build_many` does under `fixed_strings`.
+    pub fn build_literals(&self, alloc: Global, literals: &[&str]) -> Result<Regex, Error>
+        ensures options { IfOk result
+            (λ regex. regex_options regex ≡ record self.now { fixed_strings = true }) }
+        ensures patterns { IfOk result
+            (λ regex. regex_patterns regex ≡ map (λ p. p.now) literals.now) }
+    {
+        let mut options = self.options;
+        options.fixed_strings = true;
+        Regex::new(alloc, options, literals)
     }
 
     /// Whether letters match in either case; not by default.
@@ -144,13 +169,27 @@ impl RegexMatcherBuilder {
         self
     }
 
-    /// Whether matchers declare the line feed as their line terminator; not by default. A search
-    /// then runs line by line, and may ask about many lines at once.
-    pub fn by_line(&mut self, yes: bool) -> &mut RegexMatcherBuilder
+    /// What matchers declare as their line terminator, none by default. Its byte is taken out of the
+    /// classes of patterns and refused in literals, so that no match holds it, and a search runs line
+    /// by line and may ask about many lines at once.
+    pub fn line_terminator(&mut self, terminator: Option<u8>) -> &mut RegexMatcherBuilder
         ensures reference { result.ghost_name ≡ self.entry.ghost_name }
-        ensures set { result.now ≡ record self.old { by_line = yes } }
+        ensures set { result.now
+            ≡ record self.old { line_terminator = option_map LineTerminator.Byte terminator } }
     {
-        self.options.by_line = yes;
+        self.options.line_terminator = match terminator {
+            Some(byte) => Some(LineTerminator::Byte(byte)),
+            None => None,
+        };
+        self
+    }
+
+    /// About how large the compiled patterns may be, in bytes; 10 MiB by default.
+    pub fn size_limit(&mut self, bytes: usize) -> &mut RegexMatcherBuilder
+        ensures reference { result.ghost_name ≡ self.entry.ghost_name }
+        ensures set { result.now ≡ record self.old { size_limit = bytes } }
+    {
+        self.options.size_limit = bytes;
         self
     }
 }

@@ -1,21 +1,52 @@
-//! Why a pattern can't be compiled.
-use regex_syntax::Error as SyntaxError;
+//! Why patterns can't be compiled.
+use regex_compile::Error as CompileError;
+use regex_syntax::{Error as SyntaxError, ErrorKind};
 use std::alloc::{AllocError, AllocFailed};
 use thiserror::Error;
 
-/// Why a pattern can't be compiled.
+/// Why patterns can't be compiled.
 #[derive(Debug, Drop, Error)]
 pub enum Error {
-    /// The text is no pattern, or nested too deep. The error of the parser has the kind and the
-    /// position in the text, in bytes.
-    #[error("{0}")]
-    Syntax(SyntaxError),
-    /// The compiled pattern is larger than the limit, or has more groups than can be numbered.
+    /// A text is no pattern, or nested too deep.
+    #[error("pattern {pattern}: {error}")]
+    Syntax {
+        /// Which of the patterns, from 0.
+        pattern: usize,
+        /// The parser's error: its kind, and its position in the text that is read, in bytes; of a
+        /// literal that is its escape.
+        error: SyntaxError,
+    },
+    /// A literal of a pattern has this byte of the line terminator, or a class has no other member.
+    #[error("a pattern matches the byte {0} of the line terminator")]
+    NotAllowed(u8),
+    /// The line terminator is this byte, which isn't ASCII.
+    #[error("the line terminator {0} isn't ASCII")]
+    InvalidLineTerminator(u8),
+    /// The compiled patterns are larger than the limit, or have more groups than can be numbered.
     #[error("the compiled pattern is too big")]
     TooBig,
-    /// There is no memory for the compiled pattern.
+    /// There is no memory for the compiled patterns.
     #[error("out of memory")]
     Memory,
+}
+
+impl Error {
+    // The error for one of the parser, at one of the patterns.
+    pub(crate) fn of_parser(pattern: usize, error: SyntaxError) -> Error {
+        if error.kind == ErrorKind::OutOfMemory {
+            Error::Memory
+        } else {
+            Error::Syntax { pattern, error }
+        }
+    }
+
+    // The error for one of the compiler.
+    pub(crate) fn of_compiler(error: CompileError) -> Error {
+        match error {
+            CompileError::TooBig | CompileError::Malformed => Error::TooBig,
+            CompileError::OutOfMemory => Error::Memory,
+        }
+    }
 }
 
 impl From<AllocError> for Error {

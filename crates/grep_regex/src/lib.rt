@@ -2,12 +2,15 @@
 #![tactic(auto)]
 
 mod builder;
+mod engine;
 mod error;
 mod frame;
 mod locality;
 mod matcher;
 mod options;
+mod parse;
 mod regex;
+mod strip;
 
 pub use builder::RegexMatcherBuilder;
 pub use error::Error;

@@ -1,60 +1,13 @@
 //! The matcher of a regular expression.
-ghost use Rattle.std.specs.Prelude.{◌≡◌, ◌≤◌, length, is_some, option_map, IfOk, IsTrue};
-ghost use Rattle.regex_hir.specs.Find.{find};
-ghost use Rattle.regex_hir.specs.Meaning.{meaning};
-ghost use Rattle.regex_vm.specs.Found.{span};
+ghost use Rattle.std.specs.Prelude.{◌≡◌, is_some, IfOk};
 ghost use Rattle.grep_matcher.specs.Matching.{IsWithin};
-ghost use Rattle.grep_regex.specs.Locality.{IsClear};
-ghost use Rattle.grep_regex.specs.Patterns.{regex_match};
+ghost use Rattle.grep_regex.specs.Views.{regex_first};
 
+use crate::engine::Engine;
 use crate::regex::Regex;
 use grep_matcher::{ByteSet, LineMatchKind, LineTerminator, Match, Matcher};
-use memchr::memchr;
-use regex_meta::Searcher;
 use std::alloc::{AllocError, Global};
 use std::cell::RefCell;
-
-// What searches for an expression, with the expression that it was made for.
-pub(crate) struct Engine<'r> {
-    regex: &'r Regex,
-    searcher: Searcher<'r>,
-    ghost same: { ∥ searcher.program.now ≡ regex.now.program ∥₁ },
-}
-
-// Written out, so that a caller's proof sees one call.
-impl<'r> Drop for Engine<'r> {
-    fn drop(self) {
-        let Engine {
-            regex: _regex,
-            searcher: _searcher,
-        } = self;
-    }
-}
-
-impl<'r> Engine<'r> {
-    ghost use Rattle.grep_regex.specs.Views.{engine_re};
-
-    fn new(alloc: Global, regex: &'r Regex) -> Result<Engine<'r>, AllocError>
-        ensures { IfOk result (λ engine. engine.regex.now ≡ regex.now) }
-    {
-        let searcher = regex.searcher(alloc)?;
-        Ok(Engine { regex, searcher })
-    }
-
-    fn find(&mut self, haystack: &[u8]) -> Option<(usize, usize)>
-        ensures value { result ≡ regex_match (engine_re self.old) haystack.now }
-        ensures same { self.new.regex.now ≡ self.old.regex.now }
-    {
-        self.searcher.find(haystack, 0)
-    }
-
-    fn is_match(&mut self, haystack: &[u8]) -> bool
-        ensures value { result ≡ is_some (regex_match (engine_re self.old) haystack.now) }
-        ensures same { self.new.regex.now ≡ self.old.regex.now }
-    {
-        self.searcher.is_match(haystack, 0)
-    }
-}
 
 /// The matcher of a regular expression. It keeps what its engines write to in a cell, so that it is
 /// asked by `&self`.
@@ -92,8 +45,7 @@ fn find_by<'r>(
     cell: &RefCell<Engine<'r>>,
     haystack: &[u8],
 ) -> Result<Option<(usize, usize)>, AllocError>
-    ensures value { IfOk result (λ found.
-        found ≡ regex_match (meaning regex.now.program.hir) haystack.now) }
+    ensures value { IfOk result (λ found. found ≡ regex_first regex.now haystack.now) }
     ensures within { IfOk result (IsWithin haystack.now) }
 {
     if let Ok(mut borrowed) = cell.try_borrow_mut() {
@@ -113,8 +65,7 @@ fn is_match_by<'r>(
     cell: &RefCell<Engine<'r>>,
     haystack: &[u8],
 ) -> Result<bool, AllocError>
-    ensures { IfOk result (λ matches.
-        matches ≡ is_some (regex_match (meaning regex.now.program.hir) haystack.now)) }
+    ensures { IfOk result (λ matches. matches ≡ is_some (regex_first regex.now haystack.now)) }
 {
     if let Ok(mut borrowed) = cell.try_borrow_mut() {
         let engine = &mut *borrowed;
@@ -124,14 +75,6 @@ fn is_match_by<'r>(
     }
     let mut engine = Engine::new(alloc, regex)?;
     Ok(engine.is_match(haystack))
-}
-
-// Whether the range of the haystack has no line feed.
-fn is_clear(haystack: &[u8], start: usize, end: usize) -> bool
-    requires { (start ≤ end) × (end ≤ length haystack.now) }
-    ensures { IsTrue result → IsClear haystack.now start end }
-{
-    memchr(b'\n', &haystack[start..end]).is_none()
 }
 
 impl Matcher for RegexMatcher<'_> {
@@ -163,23 +106,13 @@ impl Matcher for RegexMatcher<'_> {
             return Ok(Some(LineMatchKind::Candidate(0)));
         }
         match find_by(self.alloc, self.regex, &self.engine, haystack)? {
+            Some((start, _)) => Ok(Some(LineMatchKind::Confirmed(start))),
             None => Ok(None),
-            Some((start, end)) => {
-                if is_clear(haystack, start, end) {
-                    Ok(Some(LineMatchKind::Confirmed(start)))
-                } else {
-                    Ok(Some(LineMatchKind::Candidate(start)))
-                }
-            }
         }
     }
 
     fn line_terminator(&self) -> Option<LineTerminator> {
-        if self.regex.options().by_line {
-            Some(LineTerminator::Byte(b'\n'))
-        } else {
-            None
-        }
+        self.regex.options().line_terminator
     }
 
     fn non_matching_bytes(&self) -> Option<&ByteSet> {

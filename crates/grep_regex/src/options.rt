@@ -1,11 +1,14 @@
-//! How a pattern is read, and what its matcher declares.
+//! How patterns are read, and what their matchers declare.
+ghost use Rattle.std.specs.Prelude.{◌≡◌, IsTrue};
 
-/// How a pattern is read, and what its matcher declares.
+use grep_matcher::LineTerminator;
+
+/// How patterns are read, and what their matchers declare.
 #[derive(Clone, Copy, Debug)]
 pub struct Options {
     /// Letters match in either case.
     pub case_insensitive: bool,
-    /// The text is a literal.
+    /// The texts are literals.
     pub fixed_strings: bool,
     /// A match is a whole word.
     pub word: bool,
@@ -17,13 +20,25 @@ pub struct Options {
     pub dot_matches_new_line: bool,
     /// Classes, case folding and words are Unicode's.
     pub unicode: bool,
-    /// The matcher declares the line feed as its line terminator.
-    pub by_line: bool,
+    /// What matchers declare as their line terminator, of which no match holds a byte.
+    pub line_terminator: Option<LineTerminator>,
+    /// About how large the compiled patterns may be, in bytes.
+    pub size_limit: usize,
+}
+
+// Whether both are the same line terminator, or none.
+fn are_same(ours: Option<LineTerminator>, others: Option<LineTerminator>) -> bool
+    ensures { IsTrue result → ours ≡ others }
+{
+    match (ours, others) {
+        (None, None) => true,
+        (Some(LineTerminator::Crlf), Some(LineTerminator::Crlf)) => true,
+        (Some(LineTerminator::Byte(byte)), Some(LineTerminator::Byte(other))) => byte == other,
+        _ => false,
+    }
 }
 
 impl Options {
-    ghost use Rattle.std.specs.Prelude.{◌≡◌, IsTrue};
-
     // Whether the options are equal.
     pub(crate) fn is_equal(&self, other: &Options) -> bool
         ensures { IsTrue result → self.now ≡ other.now }
@@ -49,9 +64,9 @@ impl Options {
         if self.unicode != other.unicode {
             return false;
         }
-        if self.by_line != other.by_line {
+        if self.size_limit != other.size_limit {
             return false;
         }
-        true
+        are_same(self.line_terminator, other.line_terminator)
     }
 }

@@ -1,34 +1,33 @@
 //! A compiled regular expression.
-ghost use Rattle.std.specs.Prelude.{◌≡◌, IfOk, IsTrue, true, string_bytes, map, option_map};
+ghost use Rattle.std.specs.Prelude.{◌≡◌, IfOk, OnOk, IsTrue, true, None, Some, string_bytes, map};
 ghost use Rattle.regex_hir.specs.Meaning.{meaning};
-ghost use Rattle.regex_syntax.specs.Verdict.{Reads};
+ghost use Rattle.grep_matcher.specs.declared.line_terminator.LineTerminator.TheVariants.{Byte};
 ghost use Rattle.grep_regex.specs.Locality.{is_local};
-ghost use Rattle.grep_regex.specs.Patterns.{IsWritten, config_of, text_of};
+ghost use Rattle.grep_regex.specs.Patterns.{excluded_bytes, FindsAs};
+ghost use Rattle.grep_regex.specs.Stripped.{AreAscii};
 
 use crate::error::Error;
 use crate::frame::framed;
 use crate::locality::is_local;
 use crate::matcher::RegexMatcher;
 use crate::options::Options;
+use crate::parse::{Choice, read_choice};
+use crate::strip::without_bytes;
+use grep_matcher::LineTerminator;
+use regex_hir::Hir;
 use regex_meta::{Program, Searcher};
-use regex_syntax::{Config, Flags, Parsed};
 use std::alloc::{AllocError, Global};
 
-// How large a compiled pattern may be, in bytes.
-const SIZE_LIMIT: usize = 10 << 20;
-
-// How deep a pattern may nest.
-const NEST_LIMIT: u32 = 250;
-
-/// A compiled regular expression, with its text and its options. It doesn't search: `matcher` gives
-/// what does.
+/// A compiled regular expression, with its options and the texts of its patterns. It doesn't search:
+/// `matcher` gives what does.
 pub struct Regex {
     options: Options,
-    source: String,
+    patterns: Vec<String>,
     program: Program,
     local: bool,
-    ghost written: { ∥ IsWritten options (string_bytes source) (meaning program.hir) ∥₁ },
-    ghost is_read: { ∥ (local ≡ true → is_local (meaning program.hir) ≡ true) ∥₁ },
+    ghost finds: { ∥ FindsAs options (map string_bytes patterns.items) (meaning program.hir) ∥₁ },
+    ghost by_line: { ∥ (local ≡ true → (options.line_terminator ≡ Some (Byte 10))
+        × (is_local (meaning program.hir) ≡ true)) ∥₁ },
 }
 
 // Written out, so that a caller's proof sees one call.
@@ -36,7 +35,7 @@ impl Drop for Regex {
     fn drop(self) {
         let Regex {
             options: _options,
-            source: _source,
+            patterns: _patterns,
             program: _program,
             local: _local,
         } = self;
@@ -44,29 +43,24 @@ impl Drop for Regex {
 }
 
 impl Regex {
-    ghost use Rattle.grep_regex.specs.Views.{regex_re, regex_source, regex_options};
+    ghost use Rattle.grep_regex.specs.Views.{regex_options, regex_patterns, program_re};
     ghost use Rattle.grep_regex.specs.Views.{regex_program, searcher_program, matcher_regex};
 
-    // Compiles the text of a pattern.
-    pub(crate) fn new(alloc: Global, options: Options, source: &str) -> Result<Regex, Error>
+    // Compiles the first of the patterns that works.
+    pub(crate) fn new(alloc: Global, options: Options, patterns: &[&str]) -> Result<Regex, Error>
         ensures options { IfOk result (λ r. regex_options r ≡ options) }
-        ensures source { IfOk result (λ r. regex_source r ≡ source.now) }
-        ensures written { IfOk result (λ r. ∥ IsWritten options source.now (regex_re r) ∥₁) }
+        ensures patterns { IfOk result (λ r. regex_patterns r ≡ map (λ p. p.now) patterns.now) }
     {
-        let config = config_of(&options);
-        let Parsed { hir, names } = parsed(alloc, &options, source, &config)?;
-        let Ok(groups) = u32::try_from(names.len()) else {
-            return Err(Error::TooBig);
-        };
+        check_terminator(options.line_terminator)?;
+        let Choice { hir, groups } = read_choice(alloc, &options, patterns)?;
         let whole = framed(alloc, &options, hir)?;
-        let local = is_local(&whole);
-        let Ok(program) = Program::new(alloc, whole, groups, SIZE_LIMIT) else {
-            return Err(Error::TooBig);
-        };
-        let source = String::from_str(alloc, source)?;
+        let stripped = without_bytes(alloc, &whole, excluded_bytes(&options.line_terminator))?;
+        let local = is_by_line(options.line_terminator, &stripped);
+        let program = compiled(alloc, stripped, groups, options.size_limit)?;
+        let patterns = copies(alloc, patterns)?;
         Ok(Regex {
             options,
-            source,
+            patterns,
             program,
             local,
         })
@@ -87,66 +81,112 @@ impl Regex {
         self.options
     }
 
-    // Whether each assertion of the pattern holds beside a line feed where it holds at the edge.
+    // Whether its matches end at line feeds, and each assertion holds beside a line feed where it
+    // holds at the edge of a haystack.
     pub(crate) fn is_local(&self) -> bool
-        ensures { IsTrue result → IsTrue (is_local (regex_re self.now)) }
+        ensures terminator { IsTrue result →
+            (regex_options self.now).line_terminator ≡ Some (Byte 10) }
+        ensures local { IsTrue result → IsTrue (is_local (program_re self.now)) }
     {
         self.local
     }
 
-    // What searches for the pattern.
+    // What searches for the expression.
     pub(crate) fn searcher(&self, alloc: Global) -> Result<Searcher<'_>, AllocError>
         ensures { IfOk result (λ s. searcher_program s ≡ regex_program self.now) }
     {
         Searcher::new(alloc, &self.program)
     }
 
-    // Whether the text and the options are equal.
+    // Whether the options and the texts are equal.
     pub(crate) fn is_equal(&self, other: &Regex) -> bool
         ensures options { IsTrue result → regex_options self.now ≡ regex_options other.now }
-        ensures source { IsTrue result → regex_source self.now ≡ regex_source other.now }
+        ensures patterns { IsTrue result → regex_patterns self.now ≡ regex_patterns other.now }
     {
-        self.options.is_equal(&other.options) && self.source.as_str() == other.source.as_str()
+        self.options.is_equal(&other.options)
+            && are_equal(self.patterns.as_slice(), other.patterns.as_slice())
     }
 }
 
-fn config_of(options: &Options) -> Config
-    ensures { result ≡ config_of options.now }
+// Whether the texts are equal.
+fn are_equal(ours: &[String], others: &[String]) -> bool
+    ensures { IsTrue result → map string_bytes ours.now ≡ map string_bytes others.now }
 {
-    Config {
-        flags: Flags {
-            case_insensitive: options.case_insensitive,
-            multi_line: options.multi_line,
-            dot_matches_new_line: options.dot_matches_new_line,
-            swap_greed: false,
-            unicode: options.unicode,
-            crlf: false,
-            ignore_whitespace: false,
-        },
-        octal: false,
-        utf8: false,
-        nest_limit: NEST_LIMIT,
+    if ours.len() != others.len() {
+        return false;
+    }
+    for i in 0..ours.len() {
+        if !is_equal_text(ours[i].as_str(), others[i].as_str()) {
+            return false;
+        }
+    }
+    true
+}
+
+// Whether two texts are equal.
+fn is_equal_text(ours: &str, other: &str) -> bool
+    ensures { IsTrue result → ours.now ≡ other.now }
+{
+    ours == other
+}
+
+// Copies of the texts.
+fn copies(alloc: Global, patterns: &[&str]) -> Result<Vec<String>, AllocError>
+    ensures { IfOk result (λ copies.
+        map string_bytes copies.items ≡ map (λ p. p.now) patterns.now) }
+{
+    let mut copies = Vec::new(alloc);
+    for i in 0..patterns.len() {
+        copies.push(String::from_str(alloc, patterns[i])?)?;
+    }
+    Ok(copies)
+}
+
+// That the terminator is ASCII.
+fn check_terminator(terminator: Option<LineTerminator>) -> Result<(), Error>
+    ensures { OnOk result (AreAscii (excluded_bytes terminator)) }
+{
+    match terminator {
+        Some(LineTerminator::Byte(byte)) if byte >= 128 => Err(Error::InvalidLineTerminator(byte)),
+        _ => Ok(()),
     }
 }
 
-fn parsed(alloc: Global, options: &Options, source: &str, config: &Config) -> Result<Parsed, Error>
-    requires { config.now ≡ config_of options.now }
-    ensures { IfOk result (λ p. Reads (config_of options.now) (text_of options.now source.now)
-        p.hir (map (option_map string_bytes) p.names.items)) }
+// The bytes that no match holds.
+fn excluded_bytes(terminator: &Option<LineTerminator>) -> &[u8]
+    ensures { result.now ≡ excluded_bytes terminator.now }
 {
-    if options.fixed_strings {
-        let text = regex_syntax::escape(alloc, source)?;
-        return parse(alloc, text.as_str(), config);
+    match terminator {
+        Some(terminator) => terminator.as_bytes(),
+        None => &[],
     }
-    parse(alloc, source, config)
 }
 
-fn parse(alloc: Global, text: &str, config: &Config) -> Result<Parsed, Error>
-    ensures { IfOk result (λ p. Reads config.now text.now p.hir
-        (map (option_map string_bytes) p.names.items)) }
+// Whether the terminator is a line feed.
+fn is_line_feed(terminator: Option<LineTerminator>) -> bool
+    ensures { IsTrue result → terminator ≡ Some (Byte 10) }
 {
-    match regex_syntax::parse(alloc, text, config) {
-        Ok(parsed) => Ok(parsed),
-        Err(error) => Err(Error::Syntax(error)),
+    match terminator {
+        Some(LineTerminator::Byte(byte)) => byte == b'\n',
+        _ => false,
+    }
+}
+
+// Whether lines end at line feeds, and each assertion holds beside one where it holds at the edge of
+// a haystack.
+fn is_by_line(terminator: Option<LineTerminator>, hir: &Hir) -> bool
+    ensures terminator { IsTrue result → terminator ≡ Some (Byte 10) }
+    ensures local { IsTrue result → IsTrue (is_local (meaning hir.now)) }
+{
+    is_line_feed(terminator) && is_local(hir)
+}
+
+// The program of a pattern.
+fn compiled(alloc: Global, hir: Hir, groups: u32, size_limit: usize) -> Result<Program, Error>
+    ensures { IfOk result (λ program. program.hir ≡ hir) }
+{
+    match Program::new(alloc, hir, groups, size_limit) {
+        Ok(program) => Ok(program),
+        Err(error) => Err(Error::of_compiler(error)),
     }
 }

@@ -1,14 +1,21 @@
-use Rattle.std.proofs.Common.{map, option_map, string_bytes, ap, ◌∙◌}
+use Rattle.std.proofs.Common.{◌≡◌, true, subst, sym, map}
 use Rattle.regex_hir.specs.Meaning.{meaning}
+use Rattle.grep_regex.specs.Locality.{is_local}
+use Rattle.grep_regex.specs.Patterns.{FindsAs}
+use Rattle.grep_regex.specs.Stripped.{IsStripped}
+use Rattle.grep_regex.proofs.WrittenLemmas.{finds-as}
 use Rattle.grep_regex.proofs.regex.Regex.new.Goals as goal
 
 pub invariant_of-result : goal.invariant_of-result
 invariant_of-result c = record {
-  written = ∣ record {
-    hir = c.in_ok-hir.field-0.hir;
-    names = map (option_map string_bytes) c.in_ok-hir.field-0.names.items;
-    reads = rw c.in_ok-source.ensures.ok c.in_ok-hir.ensures;
-    is = ap meaning c.in-Ok-new.ensures.pattern ∙ c.in_ok-whole.ensures;
-  } ∣₁;
-  is_read = ∣ (λ yes. rw c.in-Ok-new.ensures.pattern (c.is_local-local.ensures yes)) ∣₁;
+  finds = ∣ subst (λ texts. FindsAs c.args.options texts (meaning c.in_ok-program.program.hir)) (sym c.in_ok-patterns.ensures)
+      (subst (λ h. FindsAs c.args.options (map (λ p. p.now) c.args.patterns.now) (meaning h)) (sym c.in_ok-program.ensures)
+      (finds-as c.args.options (map (λ p. p.now) c.args.patterns.now) (meaning c.in_ok-hir.field-0.hir) (meaning c.in_ok-whole.whole) (meaning c.in_ok-stripped.stripped)
+      c.in_ok-hir.ensures c.in_ok-whole.ensures
+      (subst (λ bytes. IsStripped bytes (meaning c.in_ok-whole.whole) (meaning c.in_ok-stripped.stripped)) c.excluded_bytes.ensures
+      c.in_ok-stripped.ensures))) ∣₁;
+  by_line = ∣ (λ yes. (
+    c.is_by_line-local.ensures.terminator yes,
+    subst (λ h. is_local (meaning h) ≡ true) (sym c.in_ok-program.ensures) (c.is_by_line-local.ensures.local yes),
+  )) ∣₁;
 }

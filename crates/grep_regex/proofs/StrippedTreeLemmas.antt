@@ -1,0 +1,117 @@
+-- `IsStripped` of trees, by their forms.
+use Rattle.std.proofs.Common.{◌≡◌, ℕ, ◌+◌, ◌<◌, ◌||◌, Bool, true, false, List, [], ◌∷◌, ◌++◌, length, map, take, get_or}
+use Rattle.std.proofs.Common.{◌==◌, Option, refl, sym, ap, ap₂, ◌∙◌, subst, Vec, Box, Global}
+use Rattle.std.proofs.lemmas.List.{take_more, map-append}
+use Rattle.std.proofs.lemmas.List.Folds.{list_any_more}
+use Rattle.std.proofs.Math.Seq.{take-length}
+use Rattle.std.specs.List.{list_any}
+use Rattle.regex_class.specs.declared.Class.{Class}
+use Rattle.regex_class.specs.Ranges.{in_ranges, HasExactly}
+use Rattle.regex_class.proofs.RangesLemmas.{in_ranges-append}
+use Rattle.regex_hir.specs.Meaning.{meaning}
+use Rattle.regex_hir.specs.declared.look.Look as look_type
+use Rattle.regex_hir.specs.declared.hir.Hir.{Hir}
+use Rattle.regex_hir.specs.declared.hir.Hir.TheVariants.{Empty, Literal, Bytes, Chars, Look, Repetition, Capture, Concat}
+use Rattle.regex_hir.specs.declared.hir.Hir.TheVariants.{Alternation}
+use Rattle.regex_hir.proofs.MeaningLemmas.{meaning-Empty, meaning-Literal, meaning-Bytes, meaning-Chars, meaning-Look}
+use Rattle.regex_hir.proofs.MeaningLemmas.{meaning-Repetition, meaning-Capture, meaning-Concat, meaning-Alternation}
+use Rattle.regex_syntax.proofs.SameLemmas.{in_ranges_single}
+use Rattle.grep_regex.specs.Clear.{is_among}
+use Rattle.grep_regex.specs.Stripped.{IsStripped, AreStripped, AreAscii, IsClassOf, IsThinned}
+use Rattle.grep_regex.proofs.StrippedLemmas.{stripped-empty, stripped-look, stripped-literal, stripped-byte_in}
+use Rattle.grep_regex.proofs.StrippedLemmas.{stripped-char_in, stripped-repeat, stripped-group, stripped-cat_all}
+use Rattle.grep_regex.proofs.StrippedLemmas.{stripped-alt_all, stripped-more}
+
+-- the trees stand for patterns of which one is the other without the bytes
+abbrev AreTrees : List ℕ → Hir → Hir → Type 0
+AreTrees bytes h g = IsStripped bytes (meaning h) (meaning g)
+
+pub tree-Empty : (bytes : List ℕ) (h : Hir) → h ≡ Empty → IsStripped bytes (meaning h) (meaning Empty)
+tree-Empty bytes h is = subst (λ x. AreTrees bytes x Empty) (sym is) (subst (λ x. IsStripped bytes x x) (sym meaning-Empty) (stripped-empty bytes))
+
+pub tree-Look : (bytes : List ℕ) (h : Hir) (l : look_type.Look) → h ≡ Look l → IsStripped bytes (meaning h) (meaning (Look l))
+tree-Look bytes h l is =
+    subst (λ x. AreTrees bytes x (Look l)) (sym is) (subst (λ x. IsStripped bytes x x) (sym (meaning-Look l)) (stripped-look bytes l))
+
+pub tree-Literal : (bytes : List ℕ) (h : Hir) (a b : Vec ℕ Global) → h ≡ Literal a → b.items ≡ a.items →
+    list_any (is_among bytes) a.items ≡ false → IsStripped bytes (meaning h) (meaning (Literal b))
+tree-Literal bytes h a b is same none =
+    rw (is, meaning-Literal a, meaning-Literal b, same) (stripped-literal bytes a.items none)
+
+pub tree-Bytes : (bytes : List ℕ) (h : Hir) (a b : Class) → h ≡ Bytes a → IsThinned bytes a.ranges.items b.ranges.items →
+    IsStripped bytes (meaning h) (meaning (Bytes b))
+tree-Bytes bytes h a b is thin = rw (is, meaning-Bytes a, meaning-Bytes b) (stripped-byte_in bytes a.ranges.items b.ranges.items thin)
+
+pub tree-Chars : (bytes : List ℕ) → AreAscii bytes → (h : Hir) (a b : Class) → h ≡ Chars a → IsThinned bytes a.ranges.items b.ranges.items →
+    IsStripped bytes (meaning h) (meaning (Chars b))
+tree-Chars bytes ascii h a b is thin =
+    rw (is, meaning-Chars a, meaning-Chars b) (stripped-char_in bytes ascii a.ranges.items b.ranges.items thin)
+
+pub tree-Repetition : (bytes : List ℕ) (h : Hir) (least : ℕ) (most : Option ℕ) (greedy : Bool) (a b : Box Hir Global) →
+    h ≡ Repetition least most greedy a → IsStripped bytes (meaning a.value) (meaning b.value) →
+    IsStripped bytes (meaning h) (meaning (Repetition least most greedy b))
+tree-Repetition bytes h least most greedy a b is p =
+    rw (is, meaning-Repetition least most greedy a, meaning-Repetition least most greedy b)
+    (stripped-repeat bytes least most greedy (meaning a.value) (meaning b.value) p)
+
+pub tree-Capture : (bytes : List ℕ) (h : Hir) (index : ℕ) (a b : Box Hir Global) → h ≡ Capture index a →
+    IsStripped bytes (meaning a.value) (meaning b.value) → IsStripped bytes (meaning h) (meaning (Capture index b))
+tree-Capture bytes h index a b is p = rw (is, meaning-Capture index a, meaning-Capture index b) (stripped-group bytes index p)
+
+pub tree-Concat : (bytes : List ℕ) (h : Hir) (a b : Vec Hir Global) → h ≡ Concat a →
+    AreStripped bytes (map meaning a.items) (map meaning b.items) → IsStripped bytes (meaning h) (meaning (Concat b))
+tree-Concat bytes h a b is p =
+    rw (is, meaning-Concat a, meaning-Concat b) (stripped-cat_all bytes (map meaning a.items) (map meaning b.items) p)
+
+pub tree-Alternation : (bytes : List ℕ) (h : Hir) (a b : Vec Hir Global) → h ≡ Alternation a →
+    AreStripped bytes (map meaning a.items) (map meaning b.items) → IsStripped bytes (meaning h) (meaning (Alternation b))
+tree-Alternation bytes h a b is p =
+    rw (is, meaning-Alternation a, meaning-Alternation b) (stripped-alt_all bytes (map meaning a.items) (map meaning b.items) p)
+
+-- the same of equal trees
+pub along : (bytes : List ℕ) (h h2 g g2 : Hir) → h ≡ h2 → g2 ≡ g → IsStripped bytes (meaning h) (meaning g) →
+    IsStripped bytes (meaning h2) (meaning g2)
+along bytes h h2 g g2 p q s = subst (λ x. AreTrees bytes x g2) p (subst (λ x. AreTrees bytes h x) (sym q) s)
+
+pub all-along : (bytes : List ℕ) (xs ys zs : List Hir) → xs ≡ ys → AreStripped bytes (map meaning xs) (map meaning zs) →
+    AreStripped bytes (map meaning ys) (map meaning zs)
+all-along bytes xs ys zs e p = subst (λ l. AreStripped bytes (map meaning l) (map meaning zs)) e p
+
+-- ---- steps of loops
+
+pub trees-more : (bytes : List ℕ) (subs all after : List Hir) (i : ℕ) (d g : Hir) → i < length subs →
+    AreStripped bytes (map meaning (take i subs)) (map meaning all) → IsStripped bytes (meaning (get_or subs i d)) (meaning g) →
+    after ≡ all ++ g ∷ [] → AreStripped bytes (map meaning (take (i + 1) subs)) (map meaning after)
+trees-more bytes subs all after i d g inside p q is =
+    subst (λ x. AreStripped bytes x (map meaning after))
+    (sym (ap (map meaning) (take_more subs i d inside) ∙ map-append meaning (take i subs) (get_or subs i d ∷ [])))
+    (subst (λ x. AreStripped bytes (map meaning (take i subs) ++ meaning (get_or subs i d) ∷ []) x)
+    (sym (ap (map meaning) is ∙ map-append meaning all (g ∷ [])))
+    (stripped-more bytes (map meaning (take i subs)) (map meaning all) (meaning (get_or subs i d)) (meaning g) p q))
+
+or-false : (b : Bool) → (b || false) ≡ b
+or-false true = refl
+or-false false = refl
+
+-- a class that has the first bytes gets one more
+pub class-more : (bytes : List ℕ) (ranges after : List (ℕ × ℕ)) (i : ℕ) → i < length bytes →
+    ((x : ℕ) → in_ranges ranges x ≡ is_among (take i bytes) x) → after ≡ ranges ++ (get_or bytes i 0, get_or bytes i 0) ∷ [] →
+    (x : ℕ) → in_ranges after x ≡ is_among (take (i + 1) bytes) x
+class-more bytes ranges after i inside p is x =
+    ap (λ r. in_ranges r x) is ∙ (in_ranges-append ranges ((get_or bytes i 0, get_or bytes i 0) ∷ []) x
+    ∙ (ap₂ (λ a b. a || b) (p x) (in_ranges_single (get_or bytes i 0) x)
+    ∙ sym (list_any_more (λ b. x == b) bytes i 0 inside)))
+
+-- and the class that has all of them is the class of the bytes
+pub class-full : (bytes : List ℕ) (ranges after : List (ℕ × ℕ)) (i : ℕ) → i ≡ length bytes →
+    ((x : ℕ) → in_ranges ranges x ≡ is_among (take i bytes) x) → HasExactly after (in_ranges ranges) → IsClassOf bytes after
+class-full bytes ranges after i whole p same x small =
+    same x small ∙ (p x ∙ ap (λ l. is_among l x) (ap (λ n. take n bytes) whole ∙ take-length bytes))
+
+-- the first texts of two lists are equal, and so are the next
+pub texts-more : {A B : Type 0} (f : A → List ℕ) (g : B → List ℕ) (xs : List A) (ys : List B) (i : ℕ) (d : A) (e : B) → i < length xs → i < length ys →
+    map f (take i xs) ≡ map g (take i ys) → f (get_or xs i d) ≡ g (get_or ys i e) → map f (take (i + 1) xs) ≡ map g (take (i + 1) ys)
+texts-more f g xs ys i d e low high p q =
+    ap (map f) (take_more xs i d low) ∙ (map-append f (take i xs) (get_or xs i d ∷ [])
+    ∙ (ap₂ (λ l t. l ++ t ∷ []) p q
+    ∙ sym (ap (map g) (take_more ys i e high) ∙ map-append g (take i ys) (get_or ys i e ∷ []))))

@@ -1,0 +1,120 @@
+//! Reading patterns.
+ghost use Rattle.std.specs.Prelude.{◌≡◌, IfOk, map, option_map, string_bytes};
+ghost use Rattle.regex_hir.specs.Meaning.{meaning, alt_all};
+ghost use Rattle.regex_syntax.specs.Captures.{SameCaptures};
+ghost use Rattle.regex_syntax.specs.Verdict.{Reads};
+ghost use Rattle.grep_regex.specs.Patterns.{config_of, text_of, read_re};
+ghost use Rattle.grep_regex.specs.Alike.{AreAlike};
+
+use crate::error::Error;
+use crate::options::Options;
+use regex_hir::Hir;
+use regex_syntax::{Config, Flags, Parsed};
+use std::alloc::Global;
+
+// How deep a pattern may nest.
+const NEST_LIMIT: u32 = 250;
+
+// The first of some patterns that works.
+#[derive(Drop)]
+pub(crate) struct Choice {
+    pub(crate) hir: Hir,
+    // How many groups there are at most, group 0 included.
+    pub(crate) groups: u32,
+}
+
+// The pattern that the texts are read as.
+pub(crate) fn read_choice(
+    alloc: Global,
+    options: &Options,
+    patterns: &[&str],
+) -> Result<Choice, Error>
+    ensures { IfOk result (λ choice. SameCaptures (meaning choice.hir)
+        (alt_all (map (read_re options.now) (map (λ p. p.now) patterns.now)))) }
+{
+    let Branches { hirs, groups } = read_all(alloc, options, patterns)?;
+    let Ok(groups) = u32::try_from(groups) else {
+        return Err(Error::TooBig);
+    };
+    Ok(Choice {
+        hir: choice_of(hirs),
+        groups,
+    })
+}
+
+// Some patterns, and how many groups there are at most, group 0 included.
+#[derive(Drop)]
+struct Branches {
+    hirs: Vec<Hir>,
+    groups: usize,
+}
+
+// What each of the texts is read as.
+fn read_all(alloc: Global, options: &Options, patterns: &[&str]) -> Result<Branches, Error>
+    ensures { IfOk result (λ branches. AreAlike (map meaning branches.hirs.items)
+        (map (read_re options.now) (map (λ p. p.now) patterns.now))) }
+{
+    let mut hirs = Vec::new(alloc);
+    let mut groups: usize = 1;
+    for i in 0..patterns.len() {
+        let Parsed { hir, names } = read(alloc, options, i, patterns[i])?;
+        groups = groups.max(names.len());
+        hirs.push(hir)?;
+    }
+    Ok(Branches { hirs, groups })
+}
+
+// The first of the patterns that works; of one, that pattern.
+fn choice_of(mut hirs: Vec<Hir>) -> Hir
+    ensures { SameCaptures (meaning result) (alt_all (map meaning hirs.items)) }
+{
+    if hirs.len() != 1 {
+        return Hir::Alternation(hirs);
+    }
+    match hirs.pop() {
+        Some(hir) => hir,
+        None => Hir::Alternation(hirs),
+    }
+}
+
+// What a text is read as, which is the pattern with this index.
+fn read(alloc: Global, options: &Options, index: usize, pattern: &str) -> Result<Parsed, Error>
+    ensures { IfOk result (λ p. Reads (config_of options.now) (text_of options.now pattern.now)
+        p.hir (map (option_map string_bytes) p.names.items)) }
+{
+    let config = config_of(options);
+    if options.fixed_strings {
+        let text = regex_syntax::escape(alloc, pattern)?;
+        return parse(alloc, &config, index, text.as_str());
+    }
+    parse(alloc, &config, index, pattern)
+}
+
+fn parse(alloc: Global, config: &Config, index: usize, text: &str) -> Result<Parsed, Error>
+    ensures { IfOk result (λ p. Reads config.now text.now p.hir
+        (map (option_map string_bytes) p.names.items)) }
+{
+    match regex_syntax::parse(alloc, text, config) {
+        Ok(parsed) => Ok(parsed),
+        Err(error) => Err(Error::of_parser(index, error)),
+    }
+}
+
+fn config_of(options: &Options) -> Config
+    ensures { result ≡ config_of options.now }
+{
+    Config {
+        flags: Flags {
+            case_insensitive: options.case_insensitive,
+            multi_line: options.multi_line,
+            dot_matches_new_line: options.dot_matches_new_line,
+            swap_greed: false,
+            unicode: options.unicode,
+            crlf: false,
+            ignore_whitespace: false,
+        },
+        octal: false,
+        utf8: false,
+        nest_limit: NEST_LIMIT,
+    }
+}

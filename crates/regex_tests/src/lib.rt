@@ -1,0 +1,15 @@
+//! Tests of the matcher of regular expressions, with values worked by hand.
+//!
+//! Each call of `grep_regex` that needs memory succeeds here at least once, which no contract can promise.
+#![tactic(auto)]
+
+#[cfg(test)]
+mod candidates;
+#[cfg(test)]
+mod errors;
+#[cfg(test)]
+mod hostile;
+#[cfg(test)]
+mod matches;
+#[cfg(test)]
+mod options;
