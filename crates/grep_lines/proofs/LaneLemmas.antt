@@ -1,9 +1,10 @@
 -- What is equal in a vector of 64 bytes, counted lane by lane.
-use Rattle.std.proofs.Common.{zero, suc, take, drop, ◌≡◌, ◌≤◌, ◌+◌, ◌==◌, ◌^◌, ◌-◌, ℕ, Bool, true, false, eqb, length, count_by, List, [], ◌∷◌, map, refl, sym, ◌∙◌, ap, subst, arith, w8}
-use lib.Lanes.{Each1, Each2, sel_l, sum_l, top, zip2}
+use Rattle.std.proofs.Common.{zero, suc, take, drop, ◌≡◌, ◌≤◌, ◌+◌, ◌==◌, ◌^◌, ◌-◌, ◌/◌, ◌*◌, shr-shr, ℕ, Bool, true, false, eqb, length, count_by, List, [], ◌∷◌, map, refl, sym, ◌∙◌, ap, subst, arith, w8}
+use lib.Lanes.{Each1, Each2, mask_l, sel_l, sum_l, top, zip2}
 use mathlib.Core.Bool.{cond}
 use mir.Val.{Fits, bits, hbits}
 use Rattle.std.specs.Prelude.{replicate}
+use Rattle.std.proofs.Math.Nat.{zero-div}
 use Rattle.std.proofs.lemmas.List.Recursion.{is_count_by}
 use Rattle.std.proofs.lemmas.Simd.{Each1-zip2, Each2-of, sum-zip2, sum_bound, tops_compared, zip2_splat}
 
@@ -66,3 +67,17 @@ module _ (lanes xs : List ℕ) (p : ℕ → Bool) where
   few-added most few = Each1-zip2 (λ a b. a + b) (λ n. n ≤ most + 1) lanes (ones p xs)
       (Each2-of (λ n. n ≤ most) (λ n. n ≤ 1) (λ a b. a + b ≤ most + 1) (λ a b low one. omega (arith, low, one)) lanes (ones p xs)
       few (few-ones p xs))
+
+-- a mask without its first bits
+pub mask-shifted : (p : ℕ → Bool) (n : ℕ) (xs : List ℕ) → mask_l (map p xs) / 2 ^ n ≡ mask_l (map p (drop n xs))
+mask-shifted p zero xs = omega arith
+mask-shifted p (suc n) [] = zero-div (2 ^ suc n)
+mask-shifted p (suc n) (x ∷ xs) =
+    let sum : suc n ≡ 1 + n = omega arith in
+    ap (λ k. mask_l (map p (x ∷ xs)) / 2 ^ k) sum
+    ∙ (sym (shr-shr (mask_l (map p (x ∷ xs))) 1 n)
+    ∙ (ap (λ m. m / 2 ^ n) (half (p x) (mask_l (map p xs))) ∙ mask-shifted p n xs))
+  where
+    half : (b : Bool) (m : ℕ) → (cond b 1 0 + 2 * m) / 2 ^ 1 ≡ m
+    half true m = omega arith
+    half false m = omega arith

@@ -1,5 +1,5 @@
 //! How often a byte occurs in some bytes, and how many lines they have.
-ghost use Rattle.std.specs.Prelude.{◌≡◌, ◌≤◌, ◌+◌, ◌==◌, ℕ, length, count_by};
+ghost use Rattle.std.specs.Prelude.{◌≡◌, ◌≤◌, ◌<◌, ◌+◌, ◌==◌, ℕ, length, drop, count_by};
 ghost use lib.Lanes.{Each1, sum_l};
 ghost use Rattle.grep_matcher.specs.Lines.{lines};
 
@@ -70,7 +70,7 @@ fn count_block(block: &[u8], terminator: u8) -> u64
         lanes = add_equal(lanes, u8x64::from_slice(part), terminator);
         rest = others;
     }
-    sum_lanes(lanes) + count_rest(rest, terminator)
+    sum_lanes(lanes) + count_short(rest, terminator)
 }
 
 // The lanes, each with one more where the vector has the terminator.
@@ -97,72 +97,97 @@ fn sum_lanes(lanes: u8x64) -> u64
 fn count_short(bytes: &[u8], terminator: u8) -> u64
     ensures { result ≡ count_by (λ b. b == terminator) bytes.now }
 {
+    if bytes.len() < NARROW {
+        return count_few(bytes, terminator);
+    }
+    if bytes.len() < WIDE {
+        return count_narrow_parts(bytes, terminator);
+    }
+    count_wide_parts(bytes, terminator)
+}
+
+// How many of the bytes are `terminator`, part by part. What is left of them at last is the end of a
+// part that begins earlier.
+#[inline(always)]
+fn count_wide_parts(bytes: &[u8], terminator: u8) -> u64
+    requires { WIDE ≤ length bytes.now }
+    ensures { result ≡ count_by (λ b. b == terminator) bytes.now }
+{
     let mut total = 0;
     let mut rest = bytes;
     while rest.len() >= WIDE {
         let (part, others) = rest.split_at(WIDE);
-        total += count_wide(part, terminator);
+        total += count_wide(part, terminator, 0);
         rest = others;
     }
-    total + count_rest(rest, terminator)
+    if rest.is_empty() {
+        return total;
+    }
+    let (_, last) = bytes.split_at(bytes.len() - WIDE);
+    total + count_wide(last, terminator, WIDE - rest.len())
 }
 
-// How many of the bytes are `terminator`, for fewer bytes than a wide part.
+// How many of the bytes of a wide part are `terminator`, but for the first ones, so many of them.
 #[inline(always)]
-fn count_rest(bytes: &[u8], terminator: u8) -> u64
+fn count_wide(part: &[u8], terminator: u8, skipped: usize) -> u64
+    requires whole { length part.now ≡ WIDE }
+    requires some { skipped < WIDE }
+    ensures { result ≡ count_by (λ b. b == terminator) (drop skipped part.now) }
+{
+    count_wide_vector(u8x64::from_slice(part), terminator, skipped)
+}
+
+// How many of a wide vector's bytes are `terminator`, but for the first ones.
+#[inline(always)]
+fn count_wide_vector(bytes: u8x64, terminator: u8, skipped: usize) -> u64
+    requires { skipped < WIDE }
+    ensures { result ≡ count_by (λ b. b == terminator) (drop skipped bytes) }
+{
+    let equal = bytes.simd_eq(u8x64::splat(terminator)).to_bitmask();
+    (equal >> skipped).count_ones() as u64
+}
+
+// How many of the bytes are `terminator`, narrow part by narrow part.
+#[inline(always)]
+fn count_narrow_parts(bytes: &[u8], terminator: u8) -> u64
+    requires { NARROW ≤ length bytes.now }
     ensures { result ≡ count_by (λ b. b == terminator) bytes.now }
 {
     let mut total = 0;
     let mut rest = bytes;
     while rest.len() >= NARROW {
         let (part, others) = rest.split_at(NARROW);
-        total += count_narrow(part, terminator);
+        total += count_narrow(part, terminator, 0);
         rest = others;
     }
-    total + count_few(rest, terminator)
+    if rest.is_empty() {
+        return total;
+    }
+    let (_, last) = bytes.split_at(bytes.len() - NARROW);
+    total + count_narrow(last, terminator, NARROW - rest.len())
 }
 
-// The same for a wide part.
+// How many of the bytes of a narrow part are `terminator`, but for the first ones, so many of them.
 #[inline(always)]
-fn count_wide(part: &[u8], terminator: u8) -> u64
-    requires { length part.now ≡ WIDE }
-    ensures { result ≡ count_by (λ b. b == terminator) part.now }
+fn count_narrow(part: &[u8], terminator: u8, skipped: usize) -> u64
+    requires whole { length part.now ≡ NARROW }
+    requires some { skipped < NARROW }
+    ensures { result ≡ count_by (λ b. b == terminator) (drop skipped part.now) }
 {
-    count_wide_vector(u8x64::from_slice(part), terminator)
+    count_narrow_vector(u8x16::from_slice(part), terminator, skipped)
 }
 
-// The same for a wide vector.
+// How many of a narrow vector's bytes are `terminator`, but for the first ones.
 #[inline(always)]
-fn count_wide_vector(bytes: u8x64, terminator: u8) -> u64
-    ensures { result ≡ count_by (λ b. b == terminator) bytes }
+fn count_narrow_vector(bytes: u8x16, terminator: u8, skipped: usize) -> u64
+    requires { skipped < NARROW }
+    ensures { result ≡ count_by (λ b. b == terminator) (drop skipped bytes) }
 {
-    bytes
-        .simd_eq(u8x64::splat(terminator))
-        .to_bitmask()
-        .count_ones() as u64
+    let equal = bytes.simd_eq(u8x16::splat(terminator)).to_bitmask();
+    (equal >> skipped).count_ones() as u64
 }
 
-// The same for a narrow part.
-#[inline(always)]
-fn count_narrow(part: &[u8], terminator: u8) -> u64
-    requires { length part.now ≡ NARROW }
-    ensures { result ≡ count_by (λ b. b == terminator) part.now }
-{
-    count_narrow_vector(u8x16::from_slice(part), terminator)
-}
-
-// The same for a narrow vector.
-#[inline(always)]
-fn count_narrow_vector(bytes: u8x16, terminator: u8) -> u64
-    ensures { result ≡ count_by (λ b. b == terminator) bytes }
-{
-    bytes
-        .simd_eq(u8x16::splat(terminator))
-        .to_bitmask()
-        .count_ones() as u64
-}
-
-// The same, a byte at a time.
+// How many of the bytes are `terminator`, a byte at a time.
 #[inline(always)]
 fn count_few(bytes: &[u8], terminator: u8) -> u64
     ensures { result ≡ count_by (λ b. b == terminator) bytes.now }
