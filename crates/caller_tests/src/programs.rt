@@ -309,13 +309,10 @@ fn is_fault(ended: Result<bool, SearchError>, kind: io::ErrorKind) -> bool {
 
 #[test]
 fn returns_the_error_of_the_writer(rt: HostRuntime) {
-    // Two writes a line, one for the break, and one for the line feed at the end.
+    // One write, since the text is short.
     for (left, kind) in [
         (0, io::ErrorKind::BrokenPipe),
-        (1, io::ErrorKind::BrokenPipe),
-        (4, io::ErrorKind::BrokenPipe),
-        (7, io::ErrorKind::BrokenPipe),
-        (8, io::ErrorKind::StorageFull),
+        (1, io::ErrorKind::StorageFull),
     ] {
         let mut writer = Writing::new(Broken { left });
         let mut input = b"a\nx\nx\na".as_slice();
@@ -325,6 +322,75 @@ fn returns_the_error_of_the_writer(rt: HostRuntime) {
             "at {left}"
         );
     }
+}
+
+// Many short lines, and between them one that is longer than the text that is kept, each with its
+// number and a colon if `is_numbered`.
+fn many_lines(alloc: Global, is_numbered: bool) -> Result<Vec<u8>, AllocError> {
+    let mut bytes = Vec::new(alloc);
+    for number in 1..=20_000u32 {
+        if is_numbered {
+            bytes.extend_from_slice(format!(in alloc; "{number}:")?.as_bytes())?;
+        }
+        let length = if number == 15_000 { 100_000 } else { 1 };
+        for _ in 0..length {
+            bytes.push(b'a').map_err(AllocError::from)?;
+        }
+        bytes.push(b'\n').map_err(AllocError::from)?;
+    }
+    Ok(bytes)
+}
+
+// Takes some writes whole, and then fails at each call.
+#[derive(Drop)]
+struct Full {
+    left: usize,
+    taken: Vec<u8>,
+}
+
+impl Write for Full {
+    fn write(&mut self, buffer: &[u8]) -> io::Result<usize> {
+        if self.left == 0 {
+            return Err(io::Error::new(io::ErrorKind::BrokenPipe, "no reader"));
+        }
+        self.left -= 1;
+        self.taken.extend_from_slice(buffer)?;
+        Ok(buffer.len())
+    }
+
+    fn flush(&mut self) -> io::Result<()> {
+        Ok(())
+    }
+}
+
+#[test]
+fn writes_whenever_no_more_is_kept(rt: HostRuntime) -> Result<(), Fail> {
+    let input = many_lines(rt.alloc(), false)?;
+    let text = many_lines(rt.alloc(), true)?;
+    // How many bytes are taken if so many writes are: the text that is kept twice, the number of the
+    // long line, the line, and the text after it.
+    for (left, length) in [
+        (0, 0),
+        (1, 65_519),
+        (2, 108_886),
+        (3, 108_892),
+        (4, 208_893),
+    ] {
+        let taken = Vec::new(rt.alloc());
+        let mut writer = Writing::new(Full { left, taken });
+        let mut reader = input.as_slice();
+        let ended = search(rt.alloc(), "a", &mut reader, &mut writer);
+        let Full { taken, .. } = writer.into_inner();
+        assert!(rt; is_fault(ended, io::ErrorKind::BrokenPipe), "at {left}");
+        assert!(rt;
+            taken.len() == length && text.starts_with(&taken),
+            "at {left}"
+        );
+    }
+    let mut writer = Writing::new(Vec::new(rt.alloc()));
+    assert!(rt; search(rt.alloc(), "a", &mut input.as_slice(), &mut writer)?);
+    assert!(rt; writer.into_inner().as_slice() == text.as_slice());
+    Ok(())
 }
 
 // Fails at its first call, and counts its calls.

@@ -62,6 +62,12 @@ const MANNERS: &[Manner] = &[
         kinds: KINDS,
     },
     Manner {
+        name: "one of four bytes fails",
+        most: 4,
+        is_interrupted: false,
+        kinds: KINDS,
+    },
+    Manner {
         name: "one of single bytes fails",
         most: 1,
         is_interrupted: false,

@@ -1,8 +1,10 @@
 pub mod CommandLemmas
-pub mod CountLemmas
 pub mod CommandRows
-pub mod PrintLemmas
+pub mod CountLemmas
 pub mod NumeralLemmas
-pub mod PrinterLemmas
-pub mod SearchLemmas
 pub mod OutputLemmas
+pub mod PendingLemmas
+pub mod PrintLemmas
+pub mod PrinterLemmas
+pub mod PutLemmas
+pub mod SearchLemmas

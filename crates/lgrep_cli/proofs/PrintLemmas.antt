@@ -1,48 +1,52 @@
--- The text of the lines of a match, written line by line.
+-- The text of the lines of a match, put line by line, and lines that are written at once.
 use Rattle.std.proofs.Common.{◌≡◌, ℕ, List, [], ◌∷◌, ◌++◌, refl, sym, ◌∙◌, append_assoc, subst}
 use Rattle.std.specs.Prelude.{true, false, ◌-◌, ◌==◌, if◌then◌else◌, length, slice_index, decimal, Option, Some, Result, Ok, Err}
 use Rattle.std.specs.declared.io.Error.{Error}
 use Rattle.std.proofs.lemmas.List.{append-nil}
 use Rattle.lgrep_cli.specs.Texts.{ended, numbered, next_number, match_text}
 use Rattle.lgrep_cli.specs.Outputs.{OutputCall, Writes}
-use Rattle.lgrep_cli.proofs.OutputLemmas.{Writes-none, Writes-more, Writes-cut}
+use Rattle.lgrep_cli.specs.PendingTexts.{PutsAll, Puts}
+use Rattle.lgrep_cli.proofs.OutputLemmas.{Writes-more, Writes-cut}
+use Rattle.lgrep_cli.proofs.PendingLemmas.{Puts-none, Puts-more, Puts-cut}
 
 module _ {W : Type 0} (write_step : W → OutputCall → W → Type 0) where
-  -- what is written so far, and the lines to come, make the text of all lines
-  pub record IsPrinting (old now : W) (first : Option ℕ) (all : List (List ℕ)) (number : Option ℕ)
+  -- what was put so far, and the lines to come, make the text of all lines
+  pub record IsPrinting (old now : W) (pending kept : List ℕ) (first : Option ℕ) (all : List (List ℕ)) (number : Option ℕ)
       (later : List (List ℕ)) : Type 0 where
     pub text : List ℕ
-    pub written : Writes write_step old text (Ok tt) now
+    pub put : PutsAll write_step old pending text now kept
     pub whole : match_text first all ≡ text ++ match_text number later
 
-  pub printing-none : (writer : W) (number : Option ℕ) (all : List (List ℕ)) → IsPrinting writer writer number all number all
-  printing-none writer number all = record { text = []; written = Writes-none write_step writer; whole = refl }
+  pub printing-none : (writer : W) (pending : List ℕ) (number : Option ℕ) (all : List (List ℕ))
+      → IsPrinting writer writer pending pending number all number all
+  printing-none writer pending number all = record { text = []; put = Puts-none write_step writer pending; whole = refl }
 
   -- one more line
-  pub printing-more : (old now new : W) (first number : Option ℕ) (all later : List (List ℕ)) (line : List ℕ)
-      → IsPrinting old now first all number (line ∷ later) → Writes write_step now (numbered number 58 line) (Ok tt) new
-      → IsPrinting old new first all (next_number number) later
-  printing-more old now new first number all later line printing wrote = record {
+  pub printing-more : (old now new : W) (pending kept last : List ℕ) (first number : Option ℕ) (all later : List (List ℕ)) (line : List ℕ)
+      → IsPrinting old now pending kept first all number (line ∷ later) → PutsAll write_step now kept (numbered number 58 line) new last
+      → IsPrinting old new pending last first all (next_number number) later
+  printing-more old now new pending kept last first number all later line printing put = record {
     text = printing.text ++ numbered number 58 line;
-    written = Writes-more write_step old now new printing.text (numbered number 58 line) (Ok tt) printing.written wrote;
+    put = Puts-more write_step old now new pending printing.text kept (numbered number 58 line) last (Ok tt) printing.put put;
     whole = printing.whole ∙ sym (append_assoc printing.text (numbered number 58 line) (match_text (next_number number) later));
   }
 
-  -- a line that isn't written whole
-  pub printing-cut : (old now new : W) (first number : Option ℕ) (all later : List (List ℕ)) (line : List ℕ) (error : Error)
-      → IsPrinting old now first all number (line ∷ later) → Writes write_step now (numbered number 58 line) (Err error) new
-      → Writes write_step old (match_text first all) (Err error) new
-  printing-cut old now new first number all later line error printing wrote =
-      subst (λ text. Writes write_step old text (Err error) new) (sym printing.whole)
-      (Writes-more write_step old now new printing.text (numbered number 58 line ++ match_text (next_number number) later)
-      (Err error) printing.written
-      (Writes-cut write_step now new (numbered number 58 line) (match_text (next_number number) later) error wrote))
+  -- a line that isn't put whole
+  pub printing-cut : (old now new : W) (pending kept last : List ℕ) (first number : Option ℕ) (all later : List (List ℕ)) (line : List ℕ)
+      (error : Error) → IsPrinting old now pending kept first all number (line ∷ later)
+      → Puts write_step now kept (numbered number 58 line) (Err error) new last
+      → Puts write_step old pending (match_text first all) (Err error) new last
+  printing-cut old now new pending kept last first number all later line error printing put =
+      subst (λ text. Puts write_step old pending text (Err error) new last) (sym printing.whole)
+      (Puts-more write_step old now new pending printing.text kept (numbered number 58 line ++ match_text (next_number number) later) last
+      (Err error) printing.put
+      (Puts-cut write_step now new kept (numbered number 58 line) (match_text (next_number number) later) error put))
 
   -- no line is left
-  pub printing-whole : (old new : W) (first number : Option ℕ) (all : List (List ℕ)) → IsPrinting old new first all number []
-      → Writes write_step old (match_text first all) (Ok tt) new
-  printing-whole old new first number all printing =
-      subst (λ text. Writes write_step old text (Ok tt) new) (sym (printing.whole ∙ append-nil printing.text)) printing.written
+  pub printing-whole : (old new : W) (pending last : List ℕ) (first number : Option ℕ) (all : List (List ℕ))
+      → IsPrinting old new pending last first all number [] → PutsAll write_step old pending (match_text first all) new last
+  printing-whole old new pending last first number all printing =
+      subst (λ text. PutsAll write_step old pending text new last) (sym (printing.whole ∙ append-nil printing.text)) printing.put
 
   -- a line that isn't written up to its line feed
   pub ended-cut : (old new : W) (line : List ℕ) (error : Error) → Writes write_step old line (Err error) new

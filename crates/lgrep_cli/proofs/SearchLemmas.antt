@@ -1,4 +1,4 @@
--- What a search of a reader with a printer has written.
+-- What a search of a reader with a printer has put, and what is written in the end.
 use Rattle.std.proofs.Common.{◌≡◌, ℕ, List, [], ◌++◌, refl, sym, ap, ◌∙◌, subst}
 use Rattle.std.proofs.lemmas.List.{append-nil}
 use Rattle.std.specs.Prelude.{Bool, true, false, ◌||◌, if◌then◌else◌, Option, Some, None, Result, Ok, Err, IfErr, OnOk, string_bytes}
@@ -21,15 +21,17 @@ use Rattle.grep_searcher.specs.Searches.{ErrorMakers, MatcherFacts, HasReportedI
 use Rattle.grep_searcher.specs.SearchTurns.{search_calls}
 use Rattle.lgrep_cli.specs.OptionSettings.{numbered_unless, settings_of_options}
 use Rattle.lgrep_cli.specs.Printers.{Prints}
-use Rattle.lgrep_cli.specs.ProgramRuns.{searcher_of, meaning_of, calls_of, calls_over, whole_text, Input, IsPrinted}
+use Rattle.lgrep_cli.specs.ProgramRuns.{searcher_of, meaning_of, calls_of, calls_over, whole_text, partial_text, Input, IsPrinted}
 use Rattle.lgrep_cli.specs.ProgramRuns.{IsPrintedAndFlushed, IsPrintedWhole, IsProgramRun}
-use Rattle.lgrep_cli.specs.ProgramRuns.{IsFailure, of_memory, of_reader, of_write}
+use Rattle.lgrep_cli.specs.ProgramRuns.{IsFailure, of_memory, of_reader, of_reader_and_write, of_write}
 use Rattle.lgrep_cli.specs.Texts.{count_text, text, has_match}
 use Rattle.lgrep_cli.specs.Outputs.{OutputCall, flushes, taken_by, Writes}
+use Rattle.lgrep_cli.specs.PendingTexts.{PutsAll}
 use Rattle.lgrep_cli.specs.declared.options.Options.{Options}
 use Rattle.lgrep_cli.specs.declared.printer.Printer.{Printer}
 use Rattle.lgrep_cli.proofs.OutputLemmas.{Appends-more, written-appends}
-use Rattle.lgrep_cli.proofs.PrinterLemmas.{AreWritten, IsCut, written-none, reported-written, run-written, fault-written}
+use Rattle.lgrep_cli.proofs.PendingLemmas.{Puts-written}
+use Rattle.lgrep_cli.proofs.PrinterLemmas.{ArePut, IsCut, put-none, reported-put, run-put, fault-put}
 
 -- an input with nothing after the pieces that came
 abbrev bytes_of : Settings → List (List ℕ) → List ℕ
@@ -112,18 +114,41 @@ module _ {R W : Type 0} (remaining : R → Option (List ℕ)) (read_step : R →
     failed = tt;
   }
 
-module _ {R W : Type 0} (remaining : R → Option (List ℕ)) (read_step : R → ReadResult → R → Type 0) (write_step : W → OutputCall → W → Type 0) (options : Options) (uncounts : options.count ≡ false) (reader reader' : R) (old new : Printer W) where
+module _ {R W : Type 0} (remaining : R → Option (List ℕ)) (read_step : R → ReadResult → R → Type 0) (write_step : W → OutputCall → W → Type 0) (options : Options) (uncounts : options.count ≡ false) (reader reader' : R) (old new : Printer W) (empty : old.pending.now ≡ []) where
   -- a run ends in an error, with the writer in this state
   abbrev Fails : SearchError Global → W → Type 0
   Fails e writer = IsFailure remaining read_step write_step options reader old.writer.now e reader' writer
 
-  -- what a search leaves: on an error the writer failed, or a flush may follow
+  -- how a run ends whose search ended well, by what writing the pending text returned
+  abbrev EndsRun : Result (Unit {0}) Error → W → Type 0
+  EndsRun (Ok u) writer = IsPrinted remaining read_step write_step options reader old.writer.now new.found reader' writer
+  EndsRun (Err error) writer = Fails (Io error) writer
+
+  -- and one whose search ended in an error of reading: on `Ok` a flush follows
+  abbrev EndsUnread : SearchError Global → Result (Unit {0}) Error → W → Type 0
+  EndsUnread e (Ok u) writer = (flushed : Result (Unit {0}) Error) (last : W) → write_step writer (flushes flushed) last → Fails e last
+  EndsUnread e (Err error) writer = Fails (Io error) writer
+
+  -- what a search leaves: on an error the writer failed, or what is pending may still be written
   pub record IsSearched (result : Result (Unit {0}) (SearchError Global)) : Type 0 where
     pub same_writer : new.writer.ghost_name ≡ old.writer.ghost_name
-    pub printed : OnOk result (IsPrinted remaining read_step write_step options reader old.writer.now new.found reader' new.writer.now)
+    pub printed : OnOk result ((written : Result (Unit {0}) Error) (writer : W)
+        → Writes write_step new.writer.now new.pending.now written writer → EndsRun written writer)
     pub of_writer : IfErr result (λ e. new.has_failed ≡ true → Fails e new.writer.now)
-    pub of_reading : IfErr result (λ e. new.has_failed ≡ false → (writer : W) (flushed : Result (Unit {0}) Error)
-        → write_step new.writer.now (flushes flushed) writer → Fails e writer)
+    pub of_reading : IfErr result (λ e. new.has_failed ≡ false → (written : Result (Unit {0}) Error) (writer : W)
+        → Writes write_step new.writer.now new.pending.now written writer → EndsUnread e written writer)
+
+  -- at first nothing was pending
+  from_first : (xs : List ℕ) (error : Error) → Writes write_step old.writer.now (old.pending.now ++ xs) (Err error) new.writer.now
+      → Writes write_step old.writer.now xs (Err error) new.writer.now
+  from_first xs error written = subst (λ p. Writes write_step old.writer.now (p ++ xs) (Err error) new.writer.now) empty written
+
+  -- a text is written as far as what is pending is
+  then_written : (xs : List ℕ) → PutsAll write_step old.writer.now old.pending.now xs new.writer.now new.pending.now
+      → (result : Result (Unit {0}) Error) (writer : W) → Writes write_step new.writer.now new.pending.now result writer
+      → Writes write_step old.writer.now xs result writer
+  then_written xs put result writer rest = Puts-written write_step old.writer.now new.writer.now writer xs new.pending.now result
+      (subst (λ p. PutsAll write_step old.writer.now p xs new.writer.now new.pending.now) empty put) rest
 
   -- the writer failed, whatever follows what was taken
   cut : (e : SearchError Global) (taken : Taken remaining read_step reader reader')
@@ -140,24 +165,36 @@ module _ {R W : Type 0} (remaining : R → Option (List ℕ)) (read_step : R →
             uncounted write_step options (count_text (calls_of options bytes)) (text (calls_of options bytes)) old.writer.now
             (Err first.error) new.writer.now uncounts
             (subst (λ error. Writes write_step old.writer.now (text (calls_of options bytes)) (Err error) new.writer.now)
-            (same-error e (all bytes input).error first.error (all bytes input).is_io first.is_io) (all bytes input).written)));
+            (same-error e (all bytes input).error first.error (all bytes input).is_io first.is_io)
+            (from_first (text (calls_of options bytes)) (all bytes input).error (all bytes input).put))));
         of_reading = λ ok. absurd (not-both new.has_failed first.has_failed ok);
       }
 
   -- the calls were made over the lines that were seen, and the input wasn't read to its end
+  module _ (seen : Option (List ℕ)) (error : Error) (unread : IsUnread remaining read_step (numbering options false) (meaning_of options) reader seen error reader') (put : ArePut write_step (settings_of_options options) old (calls_over options seen) new) where
+    its_unread : IsUnread remaining read_step (searcher_of options) (meaning_of options) reader seen error reader'
+    its_unread = subst (λ b. IsUnread remaining read_step (numbering options b) (meaning_of options) reader seen error reader')
+        (sym uncounts) unread
+
+    its_text : (result : Result (Unit {0}) Error) (writer : W) → Writes write_step new.writer.now new.pending.now result writer
+        → Writes write_step old.writer.now (partial_text options (calls_over options seen)) result writer
+    its_text result writer rest = uncounted write_step options [] (text (calls_over options seen)) old.writer.now result writer uncounts
+        (then_written (text (calls_over options seen)) put.put result writer rest)
+
+    its_end : (e : SearchError Global) → e ≡ Io error → (result : Result (Unit {0}) Error) (writer : W)
+        → Writes write_step new.writer.now new.pending.now result writer → EndsUnread e result writer
+    its_end e io (Ok u) writer rest = λ flushed last flush. subst (λ x. Fails x last) (sym io)
+        (of_reader seen flushed its_unread (its_text (Ok u) writer rest) flush)
+    its_end e io (Err failed) writer rest = of_reader_and_write seen error its_unread (its_text (Err failed) writer rest)
+
   unread : (seen : Option (List ℕ)) (error : Error) (e : SearchError Global) → e ≡ Io error → old.has_failed ≡ false
       → IsUnread remaining read_step (numbering options false) (meaning_of options) reader seen error reader'
-      → AreWritten write_step (settings_of_options options) old (calls_over options seen) new → IsSearched (Err e)
-  unread seen error e io none fails written = record {
-    same_writer = written.same_writer;
+      → ArePut write_step (settings_of_options options) old (calls_over options seen) new → IsSearched (Err e)
+  unread seen error e io none fails put = record {
+    same_writer = put.same_writer;
     printed = tt;
-    of_writer = λ failed. absurd (not-both new.has_failed failed (written.has_failed ∙ none));
-    of_reading = λ ok writer flushed last. subst (λ x. Fails x writer) (sym io)
-        (of_reader seen flushed
-        (subst (λ b. IsUnread remaining read_step (numbering options b) (meaning_of options) reader seen error reader')
-        (sym uncounts) fails)
-        (uncounted write_step options [] (text (calls_over options seen)) old.writer.now (Ok tt) new.writer.now uncounts
-        written.written) last);
+    of_writer = λ failed. absurd (not-both new.has_failed failed (put.has_failed ∙ none));
+    of_reading = λ ok. its_end seen error fails put e io;
   }
 
   module _ {F : Type 0} (is_message : Option (List ℕ) → SearchError Global → Type 0)
@@ -178,29 +215,40 @@ module _ {R W : Type 0} (remaining : R → Option (List ℕ)) (read_step : R →
     -- the calls over the lines that were seen, or none
     reported : (seen : Option (List ℕ)) → HasReportedIn (Prints write_step) errors (facts (string_bytes options.literal))
         (search_calls (settings_of_options options) (meaning_of options)) (settings_of_options options) seen old new
-        → AreWritten write_step (settings_of_options options) old (calls_over options seen) new
-    reported None same = subst (AreWritten write_step (settings_of_options options) old []) (sym same)
-        (written-none write_step (settings_of_options options) old)
+        → ArePut write_step (settings_of_options options) old (calls_over options seen) new
+    reported None same = subst (ArePut write_step (settings_of_options options) old []) (sym same)
+        (put-none write_step (settings_of_options options) old)
     reported (Some seen) made =
-        reported-written write_step (settings_of_options options) (calls_of options seen) old _ new made
+        reported-put write_step (settings_of_options options) (calls_of options seen) old _ new made
 
     -- the calls of a whole search
     run : (taken : Taken remaining read_step reader reader')
         → ((bytes : List ℕ) → Input options taken bytes
-        → AreWritten write_step (settings_of_options options) old (calls_of options bytes) new)
+        → ArePut write_step (settings_of_options options) old (calls_of options bytes) new)
         → old.found ≡ false → IsSearched (Ok tt)
     run taken all none = record {
       same_writer = (all (bytes_of (settings_of_options options) taken.pieces)
           (nothing-more (settings_of_options options) taken.ended taken.pieces)).same_writer;
-      printed = record {
-        taken = taken;
-        written = λ bytes input. uncounted write_step options (count_text (calls_of options bytes)) (text (calls_of options bytes))
-            old.writer.now (Ok tt) new.writer.now uncounts (all bytes input).written;
-        is_found = λ bytes input. (all bytes input).is_found ∙ ap (λ b. b || has_match (calls_of options bytes)) none;
-      };
+      printed = end;
       of_writer = tt;
       of_reading = tt;
     }
+      where
+        its_text : (result : Result (Unit {0}) Error) (writer : W) → Writes write_step new.writer.now new.pending.now result writer
+            → (bytes : List ℕ) → Input options taken bytes
+            → Writes write_step old.writer.now (whole_text options (calls_of options bytes)) result writer
+        its_text result writer rest bytes input = uncounted write_step options (count_text (calls_of options bytes))
+            (text (calls_of options bytes)) old.writer.now result writer uncounts
+            (then_written (text (calls_of options bytes)) (all bytes input).put result writer rest)
+
+        end : (result : Result (Unit {0}) Error) (writer : W) → Writes write_step new.writer.now new.pending.now result writer
+            → EndsRun result writer
+        end (Ok u) writer rest = record {
+          taken = taken;
+          written = its_text (Ok u) writer rest;
+          is_found = λ bytes input. (all bytes input).is_found ∙ ap (λ b. b || has_match (calls_of options bytes)) none;
+        }
+        end (Err error) writer rest = of_write taken (its_text (Err error) writer rest)
 
     -- under the options' settings, with the matcher of their literal, no search is refused, and none looks for binary bytes
     searched : (result : Result (Unit {0}) (SearchError Global)) → old.found ≡ false → old.has_failed ≡ false
@@ -210,14 +258,14 @@ module _ {R W : Type 0} (remaining : R → Option (List ℕ)) (read_step : R →
     searched (Ok u) none ok (is_valid, search) =
         let whole : IsReaderRun remaining read_step (Prints write_step) errors (facts (string_bytes options.literal))
         (settings_of_options options) reader old reader' new = search (λ _. tt) in
-        run whole.taken (λ bytes input. run-written write_step (settings_of_options options) (calls_of options bytes) _ None old
+        run whole.taken (λ bytes input. run-put write_step (settings_of_options options) (calls_of options bytes) _ None old
         (Ok tt) new (whole.run bytes input)) none
     searched (Err e) none ok search = go (search (λ _. tt))
       where
         go : IsReaderFault remaining read_step (Prints write_step) errors (facts (string_bytes options.literal)) (numbering options false)
             reader old e reader' new → IsSearched (Err e)
         go (of_search taken seen ended fault all) =
-            cut e taken (λ bytes input. fault-written write_step (settings_of_options options) errors
+            cut e taken (λ bytes input. fault-put write_step (settings_of_options options) errors
             (facts (string_bytes options.literal)) bytes (λ _ _ h. h) old e new (all bytes input).1)
         go (of_reading seen error fails io made) = unread seen error e io ok fails (reported seen made)
 

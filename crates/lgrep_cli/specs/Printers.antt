@@ -9,7 +9,8 @@ use Rattle.grep_searcher.specs.SinkCalls.{Call, begins, matches, context, breaks
 use Rattle.grep_searcher.specs.SinkCalls.{finishes}
 use Rattle.grep_searcher.specs.SearchLaws.{is_match}
 use Rattle.lgrep_cli.specs.Texts.{call_text}
-use Rattle.lgrep_cli.specs.Outputs.{OutputCall, Writes}
+use Rattle.lgrep_cli.specs.Outputs.{OutputCall}
+use Rattle.lgrep_cli.specs.PendingTexts.{Puts}
 use Rattle.lgrep_cli.specs.declared.printer.Printer.{Printer}
 
 -- whether a call is written at all
@@ -22,16 +23,19 @@ is_written (binary_data offset) = false
 is_written (finishes count binary) = false
 
 module _ {W : Type 0} (write_step : W → OutputCall → W → Type 0) where
-  -- a call returns true: its text is written, and whether a match was reported is kept
+  -- a call returns true: its text comes after what is pending, and whether a match was reported is
+  -- kept
   pub record PrintsCall (old : Printer W) (call : Call) (goes_on : Bool) (new : Printer W)
       : Type 0 where
     pub same_writer : new.writer.ghost_name ≡ old.writer.ghost_name
     pub continues : goes_on ≡ true
-    pub written : Writes write_step old.writer.now (call_text call) (Ok tt) new.writer.now
+    pub put : Puts write_step old.writer.now old.pending.now (call_text call) (Ok tt)
+        new.writer.now new.pending.now
     pub found : new.found ≡ (old.found || is_match call)
     pub has_failed : new.has_failed ≡ old.has_failed
 
-  -- a call that has a text fails with the writer's error, after some first bytes of the text
+  -- a call that has a text fails with the writer's error, after some first bytes of what was pending
+  -- and of the text
   pub record FailsAtCall (old : Printer W) (call : Call) (e : SearchError Global) (new : Printer W)
       : Type 0 where
     pub same_writer : new.writer.ghost_name ≡ old.writer.ghost_name
@@ -39,7 +43,8 @@ module _ {W : Type 0} (write_step : W → OutputCall → W → Type 0) where
     pub has_failed : new.has_failed ≡ true
     pub error : Error
     pub is_io : e ≡ Io error
-    pub written : Writes write_step old.writer.now (call_text call) (Err error) new.writer.now
+    pub put : Puts write_step old.writer.now old.pending.now (call_text call) (Err error)
+        new.writer.now new.pending.now
 
   -- what a printer does at a call
   abbrev pub Prints : Printer W → Settings → Call → Result Bool (SearchError Global)

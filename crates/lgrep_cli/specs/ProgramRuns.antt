@@ -111,6 +111,16 @@ module _ {R W : Type 0} (remaining : R → Option (List ℕ)) (read_step : R →
         → Writes write_step writer (partial_text options (calls_over options seen)) (Ok tt) unflushed
         → write_step unflushed (flushes flushed) writer'
         → IsFailure options reader writer (Io error) reader' writer'
+    -- by an error of reading the input wasn't read to its end either, and then the writer failed with
+    -- this error: the text of the calls over the lines that were seen is written as far as some first
+    -- bytes
+    of_reader_and_write : {error : Error} {reader' : R} {writer' : W} (seen : Option (List ℕ))
+        (read_error : Error)
+        → IsUnread remaining read_step (searcher_of options) (meaning_of options)
+        reader seen read_error reader'
+        → Writes write_step writer (partial_text options (calls_over options seen)) (Err error)
+        writer'
+        → IsFailure options reader writer (Io error) reader' writer'
     -- the writer failed with this error. Whatever follows what was taken of the reader, the text of
     -- the calls is written as far as some first bytes
     of_write : {error : Error} {reader' : R} {writer' : W}

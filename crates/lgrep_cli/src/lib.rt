@@ -7,8 +7,11 @@
 #![tactic(auto)]
 
 mod exit;
+mod lines;
+mod numeral;
 mod options;
 mod output;
+mod pending;
 mod printer;
 mod program;
 mod search;

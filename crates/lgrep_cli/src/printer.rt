@@ -1,47 +1,62 @@
-//! The sink that writes what is reported.
-ghost use Rattle.std.specs.Prelude.{◌≡◌, ◌∷◌, ◌++◌, [], true, false, Ok, Err, MatchResult, decimal};
+//! The sink that puts together the text of what is reported.
+ghost use Rattle.std.specs.Prelude.{◌≡◌, [], true, false, Ok, Err, MatchResult};
 ghost use Rattle.grep_matcher.specs.Lines.{lines};
-ghost use Rattle.lgrep_cli.specs.Texts.{ended, numbered, next_number, match_text};
+ghost use Rattle.lgrep_cli.specs.Texts.{match_text, next_number};
 ghost use Rattle.lgrep_cli.specs.Outputs.{Writes};
+ghost use Rattle.lgrep_cli.specs.PendingTexts.{Puts};
 
-use crate::output::{Output, write_all};
+use crate::output::Output;
+use crate::pending::Pending;
 use grep_searcher::{LineIter, SearchError, Searcher, Sink, SinkContext, SinkFinish, SinkMatch};
-use itoa::write_digits;
 use std::alloc::Allocator;
 use std::io;
 
-// Writes the lines that are reported, and keeps whether one of them was a match, and whether the
-// writer failed.
+// Puts the text of the lines together that are reported, and writes it whenever no more is kept.
+// Keeps whether one of the lines was a match, and whether the writer failed.
 #[derive(Drop)]
 pub(crate) struct Printer<'w, W> {
     pub(crate) writer: &'w mut W,
+    pub(crate) pending: &'w mut Pending,
     pub(crate) found: bool,
     pub(crate) has_failed: bool,
 }
 
 impl<'w, W: Output> Printer<'w, W> {
     // Nothing is reported yet.
-    pub(crate) fn new(writer: &'w mut W) -> Printer<'w, W>
+    pub(crate) fn new(writer: &'w mut W, pending: &'w mut Pending) -> Printer<'w, W>
         ensures same_writer { result.writer.ghost_name ≡ writer.entry.ghost_name }
         ensures writer { result.writer.now ≡ writer.entry.now }
+        ensures pending { result.pending.now ≡ pending.entry.now }
         ensures found { result.found ≡ false }
         ensures has_failed { result.has_failed ≡ false }
     {
         Printer {
             writer,
+            pending,
             found: false,
             has_failed: false,
         }
     }
 
-    // What a call returns, by how its text was written.
-    fn returned(&mut self, written: io::Result<()>) -> Result<bool, SearchError>
-        ensures { MatchResult written
+    // Writes the text that isn't written yet.
+    pub(crate) fn write_pending(&mut self) -> io::Result<()>
+        ensures same_writer { self.new.writer.ghost_name ≡ self.old.writer.ghost_name }
+        ensures written { Writes W.step self.old.writer.now self.old.pending.now result
+            self.new.writer.now }
+        ensures found { self.new.found ≡ self.old.found }
+    {
+        self.pending.write_to(self.writer)
+    }
+
+    // What a call returns, by how its text was put together.
+    #[inline]
+    fn returned(&mut self, put: io::Result<()>) -> Result<bool, SearchError>
+        ensures { MatchResult put
             (λ _. (result ≡ Ok true) × (self.new ≡ self.old))
             (λ error. (result ≡ Err (SearchError.Io error))
             × (self.new ≡ record self.old { has_failed = true })) }
     {
-        match written {
+        match put {
             Ok(()) => Ok(true),
             Err(error) => {
                 self.has_failed = true;
@@ -70,8 +85,13 @@ impl<'w, W: Output> Sink for Printer<'w, W> {
         found: &SinkMatch<'_>,
     ) -> Result<bool, SearchError> {
         self.found = true;
-        let written = write_lines(self.writer, found.line_number(), found.bytes());
-        self.returned(written)
+        let put = push_lines(
+            self.pending,
+            self.writer,
+            found.line_number(),
+            found.bytes(),
+        );
+        self.returned(put)
     }
 
     fn context<A: Allocator + Copy>(
@@ -79,16 +99,18 @@ impl<'w, W: Output> Sink for Printer<'w, W> {
         _searcher: &Searcher<A>,
         line: &SinkContext<'_>,
     ) -> Result<bool, SearchError> {
-        let written = write_line(self.writer, line.line_number(), b'-', line.bytes());
-        self.returned(written)
+        let put = self
+            .pending
+            .push_line(self.writer, line.line_number(), b'-', line.bytes());
+        self.returned(put)
     }
 
     fn context_break<A: Allocator + Copy>(
         &mut self,
         _searcher: &Searcher<A>,
     ) -> Result<bool, SearchError> {
-        let written = write_all(self.writer, b"--\n");
-        self.returned(written)
+        let put = self.pending.push_break(self.writer);
+        self.returned(put)
     }
 
     fn binary_data<A: Allocator + Copy>(
@@ -108,14 +130,20 @@ impl<'w, W: Output> Sink for Printer<'w, W> {
     }
 }
 
-// Writes the lines of a match, each after its number.
-fn write_lines<W: Output>(writer: &mut W, number: Option<u64>, bytes: &[u8]) -> io::Result<()>
-    ensures { Writes W.step writer.old (match_text number (lines 10 bytes.now))
-        result writer.new }
+// Pushes the lines of a match, each after its number.
+#[inline]
+fn push_lines<W: Output>(
+    pending: &mut Pending,
+    writer: &mut W,
+    number: Option<u64>,
+    bytes: &[u8],
+) -> io::Result<()>
+    ensures { Puts W.step writer.old pending.old (match_text number (lines 10 bytes.now)) result
+        writer.new pending.new }
 {
     let mut number = number;
     for line in LineIter::new(b'\n', bytes) {
-        write_line(writer, number, b':', line)?;
+        pending.push_line(writer, number, b':', line)?;
         number = next_number(number);
     }
     Ok(())
@@ -126,40 +154,4 @@ fn next_number(number: Option<u64>) -> Option<u64>
     ensures { result ≡ next_number number }
 {
     number.map(|number| number.saturating_add(1))
-}
-
-// Writes a line after its number, if it has one, and a mark.
-fn write_line<W: Output>(
-    writer: &mut W,
-    number: Option<u64>,
-    mark: u8,
-    line: &[u8],
-) -> io::Result<()>
-    ensures { Writes W.step writer.old (numbered number mark line.now) result writer.new }
-{
-    if let Some(number) = number {
-        write_number(writer, number, mark)?;
-    }
-    write_ended(writer, line)
-}
-
-// Writes a number and a mark.
-pub(crate) fn write_number<W: Output>(writer: &mut W, number: u64, mark: u8) -> io::Result<()>
-    ensures { Writes W.step writer.old (decimal number ++ mark ∷ []) result writer.new }
-{
-    // A number of 64 bits has 20 digits at most.
-    let mut text = [mark; 21];
-    let start = write_digits(number, &mut text, 20);
-    write_all(writer, &text[start..])
-}
-
-// Writes a line, and a line feed if it has none.
-fn write_ended<W: Output>(writer: &mut W, line: &[u8]) -> io::Result<()>
-    ensures { Writes W.step writer.old (ended line.now) result writer.new }
-{
-    write_all(writer, line)?;
-    if line.last() == Some(&b'\n') {
-        return Ok(());
-    }
-    write_all(writer, b"\n")
 }

@@ -7,9 +7,11 @@ ghost use Rattle.grep_searcher.specs.SearchErrors.{IsOutOfMemory};
 ghost use Rattle.lgrep_cli.specs.Outputs.{Writes};
 ghost use Rattle.lgrep_cli.specs.ProgramRuns.{IsPrinted, IsFailure, IsProgramRun, IsPathRun, IsRunAt};
 
+use crate::lines::write_number;
 use crate::options::Options;
 use crate::output::Output;
-use crate::printer::{Printer, write_number};
+use crate::pending::Pending;
+use crate::printer::Printer;
 use grep_matcher::LiteralMatcher;
 use grep_searcher::laws::{numbers_change_no_count, reader_searches_run, runs_count_matches};
 use grep_searcher::sinks::Count;
@@ -25,18 +27,24 @@ use std::rt::Files;
 /// the search needs. With `multi_line` and a literal that contains a line feed the search is across
 /// lines: then the reader is read to its end first.
 ///
+/// The text is put together in 64 KiB of memory, and written whenever a line doesn't fit into what is
+/// left of them, and at the end; a line that never fits is written by itself. So the writer needs no
+/// buffer of its own.
+///
 /// With `count` nothing is written for what is found: once the search is done, the number of match
 /// reports and a line feed are.
 ///
 /// An error is a `SearchError::Io`:
-/// - of kind `OutOfMemory`, if there is no memory for the search: nothing is read or written;
+/// - of kind `OutOfMemory`, if there is no memory for the search or its text: nothing is read or
+///   written;
 /// - an error of reading: the reader's own, or of kind `OutOfMemory`, if there is no memory for a
 ///   line that is longer than the buffer, or across lines for the input, or of kind `InvalidData`,
 ///   if the decoded input is longer than 2^64 - 1 bytes. The text of the lines before it is
-///   written, which across lines and with `count` is nothing, and the writer is flushed; if that
-///   fails too, the error of reading is returned;
+///   written, which across lines and with `count` is nothing, and the writer is flushed; if the
+///   flush fails too, the error of reading is returned;
 /// - what the writer's last call returned, or of kind `WriteZero` if that call took nothing: at a
-///   write, after some first bytes of the text, or at the flush, after all of it.
+///   write, after some first bytes of the text, or at the flush, after all of it. At a write it is
+///   returned even if an error of reading came before.
 pub fn run<R: Source, W: Output>(
     alloc: Global,
     options: &Options,
@@ -110,7 +118,8 @@ fn write_text<R: Source, W: Output>(
     if options.count {
         return write_count(alloc, options, reader, writer);
     }
-    let mut printer = Printer::new(writer);
+    let mut pending = pending(alloc)?;
+    let mut printer = Printer::new(writer, &mut pending);
     print(alloc, options, reader, &mut printer)?;
     Ok(printer.found)
 }
@@ -159,8 +168,8 @@ fn write_matches<W: Output>(writer: &mut W, matches: u64) -> Result<bool, Search
     }
 }
 
-// Searches what a reader gives with a printer to which nothing is reported yet. After an error of
-// reading the writer is flushed.
+// Searches what a reader gives with a printer to which nothing is reported yet, and writes what is
+// pending then. After an error of reading the writer is flushed.
 fn print<R: Source, W: Output>(
     alloc: Global,
     options: &Options,
@@ -168,6 +177,7 @@ fn print<R: Source, W: Output>(
     printer: &mut Printer<'_, W>,
 ) -> Result<(), SearchError>
     requires count { options.now.count ≡ false }
+    requires pending { printer.old.pending.now ≡ [] }
     requires found { printer.old.found ≡ false }
     requires has_failed { printer.old.has_failed ≡ false }
     ensures same_writer { printer.new.writer.ghost_name ≡ printer.old.writer.ghost_name }
@@ -179,13 +189,19 @@ fn print<R: Source, W: Output>(
     let mut searcher = searcher(alloc, options)?;
     let matcher = matcher(alloc, options)?;
     match searcher.search_reader(matcher, reader, printer) {
-        Ok(()) => Ok(()),
+        Ok(()) => match printer.write_pending() {
+            Ok(()) => Ok(()),
+            Err(error) => Err(SearchError::Io(error)),
+        },
         Err(error) if printer.has_failed => Err(error),
-        Err(error) => {
-            // Whatever the flush returns, the error of reading came first.
-            let _ = printer.writer.flush();
-            Err(error)
-        }
+        Err(error) => match printer.write_pending() {
+            Ok(()) => {
+                // Whatever the flush returns, the error of reading came first.
+                let _ = printer.writer.flush();
+                Err(error)
+            }
+            Err(error) => Err(SearchError::Io(error)),
+        },
     }
 }
 
@@ -205,6 +221,14 @@ fn searcher(alloc: Global, options: &Options) -> Result<Searcher, SearchError>
         .max_matches(options.max)
         .build(alloc)
         .map_err(|_| out_of_memory())
+}
+
+// The text that isn't written yet, which is none.
+fn pending(alloc: Global) -> Result<Pending, SearchError>
+    ensures pending { IfOk result (λ pending. pending ≡ []) }
+    ensures memory { IfErr result IsOutOfMemory }
+{
+    Pending::new(alloc).map_err(|_| out_of_memory())
 }
 
 // A matcher of the literal.

@@ -2,7 +2,7 @@ use Rattle.std.proofs.Common.{rules, ◌≡◌, ◌∷◌, ◌++◌, []}
 use Rattle.std.proofs.lemmas.Result.{err_from_is_err_and}
 use Rattle.lgrep_cli.specs.Texts.{ended}
 use Rattle.lgrep_cli.proofs.PrintLemmas as print
-use Rattle.lgrep_cli.proofs.printer.write_ended.Goals as goal
+use Rattle.lgrep_cli.proofs.lines.write_ended.Goals as goal
 
 pub returns : goal.returns
 returns g c =

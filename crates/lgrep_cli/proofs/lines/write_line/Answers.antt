@@ -1,7 +1,7 @@
 use Rattle.std.proofs.lemmas.Result.{err_from_is_err_and}
 use Rattle.lgrep_cli.proofs.PrintLemmas as print
-use Rattle.lgrep_cli.proofs.printer.write_line.Goals as goal
-use Rattle.lgrep_cli.proofs.printer.write_line.Goals.{in-Some+in_ok-write_number, in_default}
+use Rattle.lgrep_cli.proofs.lines.write_line.Goals as goal
+use Rattle.lgrep_cli.proofs.lines.write_line.Goals.{in-Some+in_ok-write_number, in_default}
 
 pub returns-in_err-write_number : goal.returns-in_err-write_number
 returns-in_err-write_number g c =

@@ -1,0 +1,44 @@
+//! Lines and numbers, each written at once.
+ghost use Rattle.std.specs.Prelude.{◌≡◌, ◌∷◌, ◌++◌, [], decimal};
+ghost use Rattle.lgrep_cli.specs.Texts.{ended, numbered};
+ghost use Rattle.lgrep_cli.specs.Outputs.{Writes};
+
+use crate::output::{Output, write_all};
+use itoa::write_digits;
+use std::io;
+
+// Writes a line after its number, if it has one, and a mark.
+pub(crate) fn write_line<W: Output>(
+    writer: &mut W,
+    number: Option<u64>,
+    mark: u8,
+    line: &[u8],
+) -> io::Result<()>
+    ensures { Writes W.step writer.old (numbered number mark line.now) result writer.new }
+{
+    if let Some(number) = number {
+        write_number(writer, number, mark)?;
+    }
+    write_ended(writer, line)
+}
+
+// Writes a number and a mark.
+pub(crate) fn write_number<W: Output>(writer: &mut W, number: u64, mark: u8) -> io::Result<()>
+    ensures { Writes W.step writer.old (decimal number ++ mark ∷ []) result writer.new }
+{
+    // A number of 64 bits has 20 digits at most.
+    let mut text = [mark; 21];
+    let start = write_digits(number, &mut text, 20);
+    write_all(writer, &text[start..])
+}
+
+// Writes a line, and a line feed if it has none.
+fn write_ended<W: Output>(writer: &mut W, line: &[u8]) -> io::Result<()>
+    ensures { Writes W.step writer.old (ended line.now) result writer.new }
+{
+    write_all(writer, line)?;
+    if line.last() == Some(&b'\n') {
+        return Ok(());
+    }
+    write_all(writer, b"\n")
+}
