@@ -2,6 +2,7 @@ pub mod CommandLemmas
 pub mod CommandRows
 pub mod CountLemmas
 pub mod NumeralLemmas
+pub mod OneLineLemmas
 pub mod OutputLemmas
 pub mod PendingLemmas
 pub mod PrintLemmas

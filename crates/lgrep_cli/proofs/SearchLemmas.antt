@@ -1,7 +1,7 @@
 -- What a search of a reader with a printer has put, and what is written in the end.
 use Rattle.std.proofs.Common.{◌≡◌, ℕ, List, [], ◌++◌, refl, sym, ap, ◌∙◌, subst}
 use Rattle.std.proofs.lemmas.List.{append-nil}
-use Rattle.std.specs.Prelude.{Bool, true, false, ◌||◌, if◌then◌else◌, Option, Some, None, Result, Ok, Err, IfErr, OnOk, string_bytes}
+use Rattle.std.specs.Prelude.{Bool, true, false, ◌||◌, if◌then◌else◌, Option, Some, None, Result, Ok, Err, IfErr, OnOk, string_bytes, All}
 use Rattle.std.specs.Global.{Global}
 use Rattle.std.specs.Io.KnownBytes.{Appends, Consumes, IsAtEnd}
 use Rattle.std.specs.List.{concat}
@@ -18,9 +18,10 @@ use Rattle.grep_searcher.specs.DecodedInputs.{searched_bytes, IsInput}
 use Rattle.grep_searcher.specs.ReaderSearches.{Taken, IsReaderFault, IsReaderRun, IsReaderSearched, IsUnread}
 use Rattle.grep_searcher.specs.ReaderSearches.{of_search, of_reading}
 use Rattle.grep_searcher.specs.Searches.{ErrorMakers, MatcherFacts, HasReportedIn}
+use Rattle.grep_searcher.specs.SearchLaws.{MatchesAreMatchedLines}
 use Rattle.grep_searcher.specs.SearchTurns.{search_calls}
 use Rattle.lgrep_cli.specs.OptionSettings.{numbered_unless, settings_of_options}
-use Rattle.lgrep_cli.specs.Printers.{Prints}
+use Rattle.lgrep_cli.specs.Printers.{Prints, IsMade}
 use Rattle.lgrep_cli.specs.ProgramRuns.{searcher_of, meaning_of, calls_of, calls_over, whole_text, partial_text, Input, IsPrinted}
 use Rattle.lgrep_cli.specs.ProgramRuns.{IsPrintedAndFlushed, IsPrintedWhole, IsProgramRun}
 use Rattle.lgrep_cli.specs.ProgramRuns.{IsFailure, of_memory, of_reader, of_reader_and_write, of_write}
@@ -29,6 +30,7 @@ use Rattle.lgrep_cli.specs.Outputs.{OutputCall, flushes, taken_by, Writes}
 use Rattle.lgrep_cli.specs.PendingTexts.{PutsAll}
 use Rattle.lgrep_cli.specs.declared.options.Options.{Options}
 use Rattle.lgrep_cli.specs.declared.printer.Printer.{Printer}
+use Rattle.lgrep_cli.proofs.OneLineLemmas.{calls-made}
 use Rattle.lgrep_cli.proofs.OutputLemmas.{Appends-more, written-appends}
 use Rattle.lgrep_cli.proofs.PendingLemmas.{Puts-written}
 use Rattle.lgrep_cli.proofs.PrinterLemmas.{ArePut, IsCut, put-none, reported-put, run-put, fault-put}
@@ -114,7 +116,11 @@ module _ {R W : Type 0} (remaining : R → Option (List ℕ)) (read_step : R →
     failed = tt;
   }
 
-module _ {R W : Type 0} (remaining : R → Option (List ℕ)) (read_step : R → ReadResult → R → Type 0) (write_step : W → OutputCall → W → Type 0) (options : Options) (uncounts : options.count ≡ false) (reader reader' : R) (old new : Printer W) (empty : old.pending.now ≡ []) where
+module _ {R W : Type 0} (remaining : R → Option (List ℕ)) (read_step : R → ReadResult → R → Type 0) (write_step : W → OutputCall → W → Type 0) (law : MatchesAreMatchedLines) (options : Options) (uncounts : options.count ≡ false) (reader reader' : R) (old new : Printer W) (empty : old.pending.now ≡ []) where
+  -- the calls are as a search makes them
+  made : (bytes : List ℕ) → All (λ turn. IsMade (settings_of_options options) turn.call) (calls_of options bytes)
+  made bytes = calls-made law (settings_of_options options) (meaning_of options) bytes refl
+
   -- a run ends in an error, with the writer in this state
   abbrev Fails : SearchError Global → W → Type 0
   Fails e writer = IsFailure remaining read_step write_step options reader old.writer.now e reader' writer
@@ -218,8 +224,8 @@ module _ {R W : Type 0} (remaining : R → Option (List ℕ)) (read_step : R →
         → ArePut write_step (settings_of_options options) old (calls_over options seen) new
     reported None same = subst (ArePut write_step (settings_of_options options) old []) (sym same)
         (put-none write_step (settings_of_options options) old)
-    reported (Some seen) made =
-        reported-put write_step (settings_of_options options) (calls_of options seen) old _ new made
+    reported (Some seen) run =
+        reported-put write_step (settings_of_options options) (calls_of options seen) (made seen) old _ new run
 
     -- the calls of a whole search
     run : (taken : Taken remaining read_step reader reader')
@@ -258,7 +264,7 @@ module _ {R W : Type 0} (remaining : R → Option (List ℕ)) (read_step : R →
     searched (Ok u) none ok (is_valid, search) =
         let whole : IsReaderRun remaining read_step (Prints write_step) errors (facts (string_bytes options.literal))
         (settings_of_options options) reader old reader' new = search (λ _. tt) in
-        run whole.taken (λ bytes input. run-put write_step (settings_of_options options) (calls_of options bytes) _ None old
+        run whole.taken (λ bytes input. run-put write_step (settings_of_options options) (calls_of options bytes) (made bytes) _ None old
         (Ok tt) new (whole.run bytes input)) none
     searched (Err e) none ok search = go (search (λ _. tt))
       where
@@ -266,8 +272,8 @@ module _ {R W : Type 0} (remaining : R → Option (List ℕ)) (read_step : R →
             reader old e reader' new → IsSearched (Err e)
         go (of_search taken seen ended fault all) =
             cut e taken (λ bytes input. fault-put write_step (settings_of_options options) errors
-            (facts (string_bytes options.literal)) bytes (λ _ _ h. h) old e new (all bytes input).1)
-        go (of_reading seen error fails io made) = unread seen error e io ok fails (reported seen made)
+            (facts (string_bytes options.literal)) bytes (made bytes) (λ _ _ h. h) old e new (all bytes input).1)
+        go (of_reading seen error fails io run) = unread seen error e io ok fails (reported seen run)
 
     -- the same, if the searcher and the matcher are known to be these
     pub reader-searched : (state : SearcherState) (literal : List ℕ) (result : Result (Unit {0}) (SearchError Global))

@@ -1,7 +1,8 @@
 -- What a printer does at a call.
-use Rattle.std.specs.Prelude.{◌≡◌, Bool, true, false, ◌||◌, Result, Ok, Err}
+use Rattle.std.specs.Prelude.{◌≡◌, [], ◌∷◌, Bool, true, false, ◌||◌, Result, Ok, Err}
 use Rattle.std.specs.Global.{Global}
 use Rattle.std.specs.declared.io.Error.{Error}
+use Rattle.grep_matcher.specs.Lines.{lines}
 use Rattle.grep_searcher.specs.declared.SearchError.{SearchError}
 use Rattle.grep_searcher.specs.declared.SearchError.TheVariants.{Io}
 use Rattle.grep_searcher.specs.Settings.{Settings}
@@ -22,32 +23,46 @@ is_written breaks = true
 is_written (binary_data offset) = false
 is_written (finishes count binary) = false
 
+-- a match is one line
+abbrev pub IsOneLine : Call → Type 0
+IsOneLine begins = Unit {0}
+IsOneLine (matches number offset bytes) = lines 10 bytes ≡ bytes ∷ []
+IsOneLine (context kind number offset line) = Unit {0}
+IsOneLine breaks = Unit {0}
+IsOneLine (binary_data offset) = Unit {0}
+IsOneLine (finishes count binary) = Unit {0}
+
+-- a call as a search with these settings makes it: if no match may extend over several lines, each
+-- match is one line
+abbrev pub IsMade : Settings → Call → Type 0
+IsMade settings call = settings.multi_line ≡ false → IsOneLine call
+
 module _ {W : Type 0} (write_step : W → OutputCall → W → Type 0) where
   -- a call returns true: its text comes after what is pending, and whether a match was reported is
   -- kept
-  pub record PrintsCall (old : Printer W) (call : Call) (goes_on : Bool) (new : Printer W)
-      : Type 0 where
+  pub record PrintsCall (old : Printer W) (settings : Settings) (call : Call) (goes_on : Bool)
+      (new : Printer W) : Type 0 where
     pub same_writer : new.writer.ghost_name ≡ old.writer.ghost_name
     pub continues : goes_on ≡ true
-    pub put : Puts write_step old.writer.now old.pending.now (call_text call) (Ok tt)
-        new.writer.now new.pending.now
+    pub put : IsMade settings call → Puts write_step old.writer.now old.pending.now (call_text call)
+        (Ok tt) new.writer.now new.pending.now
     pub found : new.found ≡ (old.found || is_match call)
     pub has_failed : new.has_failed ≡ old.has_failed
 
   -- a call that has a text fails with the writer's error, after some first bytes of what was pending
   -- and of the text
-  pub record FailsAtCall (old : Printer W) (call : Call) (e : SearchError Global) (new : Printer W)
-      : Type 0 where
+  pub record FailsAtCall (old : Printer W) (settings : Settings) (call : Call)
+      (e : SearchError Global) (new : Printer W) : Type 0 where
     pub same_writer : new.writer.ghost_name ≡ old.writer.ghost_name
     pub has_text : is_written call ≡ true
     pub has_failed : new.has_failed ≡ true
     pub error : Error
     pub is_io : e ≡ Io error
-    pub put : Puts write_step old.writer.now old.pending.now (call_text call) (Err error)
-        new.writer.now new.pending.now
+    pub put : IsMade settings call → Puts write_step old.writer.now old.pending.now (call_text call)
+        (Err error) new.writer.now new.pending.now
 
   -- what a printer does at a call
   abbrev pub Prints : Printer W → Settings → Call → Result Bool (SearchError Global)
       → Printer W → Type 0
-  Prints old settings call (Ok goes_on) new = PrintsCall old call goes_on new
-  Prints old settings call (Err e) new = FailsAtCall old call e new
+  Prints old settings call (Ok goes_on) new = PrintsCall old settings call goes_on new
+  Prints old settings call (Err e) new = FailsAtCall old settings call e new

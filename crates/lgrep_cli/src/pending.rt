@@ -46,7 +46,6 @@ impl Pending {
     }
 
     // Pushes a line after its number, if it has one, and a mark.
-    #[inline]
     pub(crate) fn push_line<W: Output>(
         &mut self,
         writer: &mut W,
@@ -60,7 +59,11 @@ impl Pending {
         if self.takes_line(number, mark, line) {
             return Ok(());
         }
-        self.push_line_after_write(writer, number, mark, line)
+        self.write_to(writer)?;
+        if self.takes_line(number, mark, line) {
+            return Ok(());
+        }
+        write_line(writer, number, mark, line)
     }
 
     // Pushes the line between two groups of lines.
@@ -80,9 +83,9 @@ impl Pending {
         Ok(())
     }
 
-    // Pushes a line if there is room for it, and returns whether there was.
+    // Pushes a line as `push_line` does if there is room for it, and returns whether there was.
     #[inline]
-    fn takes_line(&mut self, number: Option<u64>, mark: u8, line: &[u8]) -> bool
+    pub(crate) fn takes_line(&mut self, number: Option<u64>, mark: u8, line: &[u8]) -> bool
         ensures { MatchBool result (self.new ≡ self.old ++ numbered number mark line.now)
             (self.new ≡ self.old) }
     {
@@ -98,25 +101,6 @@ impl Pending {
             self.len,
         );
         true
-    }
-
-    // Writes the text, and then pushes a line or, if there is no room for it, writes it.
-    #[inline(never)]
-    fn push_line_after_write<W: Output>(
-        &mut self,
-        writer: &mut W,
-        number: Option<u64>,
-        mark: u8,
-        line: &[u8],
-    ) -> io::Result<()>
-        ensures { Puts W.step writer.old self.old (numbered number mark line.now) result
-            writer.new self.new }
-    {
-        self.write_to(writer)?;
-        if self.takes_line(number, mark, line) {
-            return Ok(());
-        }
-        write_line(writer, number, mark, line)
     }
 }
 

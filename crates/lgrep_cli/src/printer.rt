@@ -49,7 +49,7 @@ impl<'w, W: Output> Printer<'w, W> {
     }
 
     // What a call returns, by how its text was put together.
-    #[inline]
+    #[inline(never)]
     fn returned(&mut self, put: io::Result<()>) -> Result<bool, SearchError>
         ensures { MatchResult put
             (λ _. (result ≡ Ok true) × (self.new ≡ self.old))
@@ -81,16 +81,16 @@ impl<'w, W: Output> Sink for Printer<'w, W> {
 
     fn matched<A: Allocator + Copy>(
         &mut self,
-        _searcher: &Searcher<A>,
+        searcher: &Searcher<A>,
         found: &SinkMatch<'_>,
     ) -> Result<bool, SearchError> {
         self.found = true;
-        let put = push_lines(
-            self.pending,
-            self.writer,
-            found.line_number(),
-            found.bytes(),
-        );
+        let (number, bytes) = (found.line_number(), found.bytes());
+        // By line a match is one line.
+        if !searcher.multi_line() && self.pending.takes_line(number, b':', bytes) {
+            return Ok(true);
+        }
+        let put = push_lines(self.pending, self.writer, number, bytes);
         self.returned(put)
     }
 
@@ -99,9 +99,11 @@ impl<'w, W: Output> Sink for Printer<'w, W> {
         _searcher: &Searcher<A>,
         line: &SinkContext<'_>,
     ) -> Result<bool, SearchError> {
-        let put = self
-            .pending
-            .push_line(self.writer, line.line_number(), b'-', line.bytes());
+        let (number, bytes) = (line.line_number(), line.bytes());
+        if self.pending.takes_line(number, b'-', bytes) {
+            return Ok(true);
+        }
+        let put = self.pending.push_line(self.writer, number, b'-', bytes);
         self.returned(put)
     }
 
@@ -131,7 +133,7 @@ impl<'w, W: Output> Sink for Printer<'w, W> {
 }
 
 // Pushes the lines of a match, each after its number.
-#[inline]
+#[inline(never)]
 fn push_lines<W: Output>(
     pending: &mut Pending,
     writer: &mut W,

@@ -13,7 +13,9 @@ use crate::output::Output;
 use crate::pending::Pending;
 use crate::printer::Printer;
 use grep_matcher::LiteralMatcher;
-use grep_searcher::laws::{numbers_change_no_count, reader_searches_run, runs_count_matches};
+use grep_searcher::laws::{
+    matches_are_matched_lines, numbers_change_no_count, reader_searches_run, runs_count_matches,
+};
 use grep_searcher::sinks::Count;
 use grep_searcher::{Reading, SearchError, Searcher, SearcherBuilder, Source};
 use std::alloc::Global;
@@ -188,6 +190,7 @@ fn print<R: Source, W: Output>(
 {
     let mut searcher = searcher(alloc, options)?;
     let matcher = matcher(alloc, options)?;
+    matches_are_matched_lines();
     match searcher.search_reader(matcher, reader, printer) {
         Ok(()) => match printer.write_pending() {
             Ok(()) => Ok(()),

@@ -7,41 +7,41 @@ use Rattle.lgrep_cli.proofs.search.print.Goals as goal
 use Rattle.lgrep_cli.proofs.search.print.Goals.{Joined-searcher-2, Joined-searcher-3, Joined-searcher-4, Joined-searcher-5, Joined-searcher-6}
 
 searched-whole : (g : Over) (c : Joined-searcher-2 g)
-    → IsSearched g.R.Source.remaining g.R.Source.step g.W.Output.step c.args.options.now c.requires.count c.args.reader.now
+    → IsSearched g.R.Source.remaining g.R.Source.step g.W.Output.step c.matches_are_matched_lines.ensures c.args.options.now c.requires.count c.args.reader.now
     c.search_reader.new.reader c.args.printer.now c.search_reader.new.sink c.requires.pending c.search_reader.result
-searched-whole g c = reader-searched g.R.Source.remaining g.R.Source.step g.W.Output.step c.args.options.now c.requires.count c.args.reader.now
+searched-whole g c = reader-searched g.R.Source.remaining g.R.Source.step g.W.Output.step c.matches_are_matched_lines.ensures c.args.options.now c.requires.count c.args.reader.now
     c.search_reader.new.reader c.args.printer.now c.search_reader.new.sink c.requires.pending _ _ _ c.in_ok-searcher.searcher
     c.in_ok-matcher.matcher c.search_reader.result c.in_ok-searcher.ensures.settings c.in_ok-matcher.ensures.literal c.requires.found
     c.requires.has_failed c.search_reader.ensures.searched
 
 searched-unwritten : (g : Over) (c : Joined-searcher-3 g)
-    → IsSearched g.R.Source.remaining g.R.Source.step g.W.Output.step c.args.options.now c.requires.count c.args.reader.now
+    → IsSearched g.R.Source.remaining g.R.Source.step g.W.Output.step c.matches_are_matched_lines.ensures c.args.options.now c.requires.count c.args.reader.now
     c.search_reader.new.reader c.args.printer.now c.search_reader.new.sink c.requires.pending c.search_reader.result
-searched-unwritten g c = reader-searched g.R.Source.remaining g.R.Source.step g.W.Output.step c.args.options.now c.requires.count c.args.reader.now
+searched-unwritten g c = reader-searched g.R.Source.remaining g.R.Source.step g.W.Output.step c.matches_are_matched_lines.ensures c.args.options.now c.requires.count c.args.reader.now
     c.search_reader.new.reader c.args.printer.now c.search_reader.new.sink c.requires.pending _ _ _ c.in_ok-searcher.searcher
     c.in_ok-matcher.matcher c.search_reader.result c.in_ok-searcher.ensures.settings c.in_ok-matcher.ensures.literal c.requires.found
     c.requires.has_failed c.search_reader.ensures.searched
 
 searched-cut : (g : Over) (c : Joined-searcher-4 g)
-    → IsSearched g.R.Source.remaining g.R.Source.step g.W.Output.step c.args.options.now c.requires.count c.args.reader.now
+    → IsSearched g.R.Source.remaining g.R.Source.step g.W.Output.step c.matches_are_matched_lines.ensures c.args.options.now c.requires.count c.args.reader.now
     c.search_reader.new.reader c.args.printer.now c.search_reader.new.sink c.requires.pending c.search_reader.result
-searched-cut g c = reader-searched g.R.Source.remaining g.R.Source.step g.W.Output.step c.args.options.now c.requires.count c.args.reader.now
+searched-cut g c = reader-searched g.R.Source.remaining g.R.Source.step g.W.Output.step c.matches_are_matched_lines.ensures c.args.options.now c.requires.count c.args.reader.now
     c.search_reader.new.reader c.args.printer.now c.search_reader.new.sink c.requires.pending _ _ _ c.in_ok-searcher.searcher
     c.in_ok-matcher.matcher c.search_reader.result c.in_ok-searcher.ensures.settings c.in_ok-matcher.ensures.literal c.requires.found
     c.requires.has_failed c.search_reader.ensures.searched
 
 searched-read : (g : Over) (c : Joined-searcher-5 g)
-    → IsSearched g.R.Source.remaining g.R.Source.step g.W.Output.step c.args.options.now c.requires.count c.args.reader.now
+    → IsSearched g.R.Source.remaining g.R.Source.step g.W.Output.step c.matches_are_matched_lines.ensures c.args.options.now c.requires.count c.args.reader.now
     c.search_reader.new.reader c.args.printer.now c.search_reader.new.sink c.requires.pending c.search_reader.result
-searched-read g c = reader-searched g.R.Source.remaining g.R.Source.step g.W.Output.step c.args.options.now c.requires.count c.args.reader.now
+searched-read g c = reader-searched g.R.Source.remaining g.R.Source.step g.W.Output.step c.matches_are_matched_lines.ensures c.args.options.now c.requires.count c.args.reader.now
     c.search_reader.new.reader c.args.printer.now c.search_reader.new.sink c.requires.pending _ _ _ c.in_ok-searcher.searcher
     c.in_ok-matcher.matcher c.search_reader.result c.in_ok-searcher.ensures.settings c.in_ok-matcher.ensures.literal c.requires.found
     c.requires.has_failed c.search_reader.ensures.searched
 
 searched-unread : (g : Over) (c : Joined-searcher-6 g)
-    → IsSearched g.R.Source.remaining g.R.Source.step g.W.Output.step c.args.options.now c.requires.count c.args.reader.now
+    → IsSearched g.R.Source.remaining g.R.Source.step g.W.Output.step c.matches_are_matched_lines.ensures c.args.options.now c.requires.count c.args.reader.now
     c.search_reader.new.reader c.args.printer.now c.search_reader.new.sink c.requires.pending c.search_reader.result
-searched-unread g c = reader-searched g.R.Source.remaining g.R.Source.step g.W.Output.step c.args.options.now c.requires.count c.args.reader.now
+searched-unread g c = reader-searched g.R.Source.remaining g.R.Source.step g.W.Output.step c.matches_are_matched_lines.ensures c.args.options.now c.requires.count c.args.reader.now
     c.search_reader.new.reader c.args.printer.now c.search_reader.new.sink c.requires.pending _ _ _ c.in_ok-searcher.searcher
     c.in_ok-matcher.matcher c.search_reader.result c.in_ok-searcher.ensures.settings c.in_ok-matcher.ensures.literal c.requires.found
     c.requires.has_failed c.search_reader.ensures.searched
