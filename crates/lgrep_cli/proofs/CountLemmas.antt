@@ -1,5 +1,5 @@
 -- What a search of a reader whose matches are counted has written.
-use Rattle.std.proofs.Common.{◌≡◌, ℕ, ◌+◌, ◌-◌, ◌^◌, min, List, [], ◌∷◌, ◌++◌, length, refl, sym, ap, ◌∙◌, subst, arith}
+use Rattle.std.proofs.Common.{◌≡◌, ℕ, ◌-◌, ◌^◌, min, List, [], ◌∷◌, ◌++◌, length, refl, sym, ap, ◌∙◌, subst, arith}
 use Rattle.std.proofs.lemmas.Bool.{lt-ltb}
 use Rattle.std.specs.Prelude.{Bool, true, false, not, ◌||◌, decimal, if◌then◌else◌, nat_lt, Option, None, Result, Ok, Err, IfOk, IfErr, MatchResult}
 use Rattle.std.specs.Global.{Global}

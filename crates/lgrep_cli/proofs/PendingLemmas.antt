@@ -1,9 +1,9 @@
 -- Texts that are put together one after another, and written.
-use Rattle.std.proofs.Common.{◌≡◌, ℕ, List, [], ◌∷◌, ◌++◌, refl, sym, ap, ◌∙◌, append_assoc, subst}
+use Rattle.std.proofs.Common.{◌≡◌, ℕ, List, [], ◌++◌, refl, sym, ap, ◌∙◌, append_assoc, subst}
 use Rattle.std.specs.Prelude.{Result, Ok, Err}
 use Rattle.std.specs.declared.io.Error.{Error}
 use Rattle.std.proofs.lemmas.List.{append-nil}
-use Rattle.lgrep_cli.specs.Outputs.{OutputCall, WritesAll, Writes}
+use Rattle.lgrep_cli.specs.Outputs.{OutputCall, Writes}
 use Rattle.lgrep_cli.specs.PendingTexts.{PutsAll, Puts}
 use Rattle.lgrep_cli.proofs.OutputLemmas.{Writes-none, Writes-more, Writes-cut}
 

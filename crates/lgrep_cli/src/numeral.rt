@@ -1,6 +1,6 @@
 //! Numbers in decimal, put into a text one after another.
-ghost use Rattle.std.specs.Prelude.{◌≡◌, ◌+◌, ◌<◌, ◌≤◌, ◌^◌, [], ◌∷◌, ◌++◌, length, take, decimal};
-ghost use Rattle.itoa.proofs.Decimal.{pair};
+ghost use Rattle.std.specs.Prelude.{◌≡◌, ◌+◌, ◌/◌, ◌%◌, ◌<◌, ◌≤◌, ◌^◌, [], ◌∷◌, ◌++◌, length, take};
+ghost use Rattle.std.specs.Prelude.{decimal};
 
 use itoa::write_digits;
 use std::marker::Model;
@@ -106,7 +106,8 @@ fn put_few(number: u64, mark: u8, text: &mut [u8], at: usize) -> usize
 fn put_pair(number: u64, mark: u8, text: &mut [u8], at: usize)
     requires few { number < 100 }
     requires room { at + 3 ≤ length text.old }
-    ensures { take (at + 3) text.new ≡ take at text.old ++ (pair number ++ mark ∷ []) }
+    ensures { take (at + 3) text.new
+        ≡ take at text.old ++ (48 + number / 10) ∷ (48 + number % 10) ∷ mark ∷ [] }
 {
     text[at] = b'0' + (number / 10) as u8;
     text[at + 1] = b'0' + (number % 10) as u8;

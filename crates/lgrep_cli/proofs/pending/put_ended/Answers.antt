@@ -1,4 +1,4 @@
-use Rattle.std.proofs.Common.{◌≡◌, ◌+◌, ◌-◌, List, [], ◌∷◌, ◌++◌, length, take, arith, rules, sym, ap, ◌∙◌}
+use Rattle.std.proofs.Common.{◌≡◌, ◌+◌, ◌-◌, [], ◌∷◌, ◌++◌, length, take, arith, rules, sym, ap, ◌∙◌}
 use Rattle.lgrep_cli.specs.Texts.{ended}
 use Rattle.lgrep_cli.proofs.PutLemmas.{ended-put}
 use Rattle.lgrep_cli.proofs.pending.put_ended.Goals as goal

@@ -1,4 +1,4 @@
-use Rattle.std.proofs.Common.{◌≡◌, ℕ, ◌+◌, ◌-◌, ◌/◌, ◌%◌, ◌≤◌, ◌<◌, ◌^◌, arith, sym, ap, ◌∙◌, length, List, ◌∷◌, [], ◌++◌, take, decimal}
+use Rattle.std.proofs.Common.{◌≡◌, ◌+◌, ◌-◌, ◌/◌, ◌%◌, ◌≤◌, arith, ap, ◌∙◌, length, ◌∷◌, [], ◌++◌, take, decimal}
 use Rattle.std.proofs.lemmas.List.{length-take-le}
 use Rattle.itoa.proofs.Decimal.{pair, length_pair}
 use Rattle.lgrep_cli.proofs.PutLemmas.{take-copied, marked}
