@@ -26,7 +26,7 @@ const ROWS: &[Row] = &[
         "",
         &[r"a|*"],
         0,
-        (2, 3),
+        (2, 2),
         "repetition operator missing expression",
     ),
     (
@@ -93,7 +93,7 @@ fn is_not_allowed(alloc: Global, letters: &str, pattern: &str, byte: u8) -> bool
 fn bytes_of_the_terminator(rt: HostRuntime) {
     let alloc = rt.alloc();
     assert!(rt; is_not_allowed(alloc, "n", r"a\nb", b'\n'));
-    assert!(rt; is_not_allowed(alloc, "n", r"(?:a|[\n])+", b'\n'));
+    assert!(rt; is_not_allowed(alloc, "n", r"(?:ab|[\n])+", b'\n'));
     assert!(rt; is_not_allowed(alloc, "nF", "a\nb", b'\n'));
 }
 
