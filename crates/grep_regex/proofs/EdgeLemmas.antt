@@ -1,31 +1,44 @@
 -- A part of a haystack between line feeds, and the part alone: a local pattern matches in both alike.
-use Rattle.std.proofs.Common.{◌≡◌, ℕ, zero, suc, ◌+◌, ◌-◌, ◌<◌, ◌≤◌, ◌⊎◌, ◌||◌, ◌&&◌, Bool, true, false, cond, List}
-use Rattle.std.proofs.Common.{◌++◌, length, take, drop, get_or, slice_get, slice_index, Option, Some, None, nat_le}
-use Rattle.std.proofs.Common.{◌==◌, refl, sym, ap, ◌∙◌, subst, inl, inr, ⊎_elim, arith, length-append, length-drop}
+use Rattle.std.proofs.Common.{◌≡◌, ℕ, zero, suc, ◌+◌, ◌-◌, ◌<◌, ◌≤◌, ◌⊎◌, ◌||◌, ◌&&◌, Bool, true}
+use Rattle.std.proofs.Common.{false, cond, List}
+use Rattle.std.proofs.Common.{◌++◌, length, take, drop, get_or, slice_get, slice_index, Option}
+use Rattle.std.proofs.Common.{Some, None, nat_le}
+use Rattle.std.proofs.Common.{◌==◌, refl, sym, ap, ◌∙◌, subst, inl, inr, ⊎_elim, arith}
+use Rattle.std.proofs.Common.{length-append, length-drop}
 use Rattle.std.proofs.Common.{drop-drop, append_assoc, get_or-drop, le-leb, eq-eqb, encode_utf8}
 use Rattle.std.proofs.lemmas.Bool.{cases_lt, cases_eq, and_parts, and_from, cond-true}
 use Rattle.std.proofs.lemmas.Bool.Decides.{nat_tests}
-use Rattle.std.proofs.lemmas.List.{take-append-drop, take-append-le, drop-append-le, get_or_append_left}
+use Rattle.std.proofs.lemmas.List.{take-append-drop, take-append-le, drop-append-le}
+use Rattle.std.proofs.lemmas.List.{get_or_append_left}
 use Rattle.std.proofs.Math.Seq.{take-append_seam}
-use Rattle.std.proofs.lemmas.Option.{none-some, same_Some, slice_get_within, slice_get_past, slice_get-get_or}
+use Rattle.std.proofs.lemmas.Option.{none-some, same_Some, slice_get_within, slice_get_past}
+use Rattle.std.proofs.lemmas.Option.{slice_get-get_or}
 use Rattle.std.proofs.lemmas.Option.{get_or_from_slice_get}
 use Rattle.std.proofs.lemmas.Str.{length-encode, len_utf8_ascii, encode_ascii}
 use Rattle.std.specs.Char.{len_utf8}
-use Rattle.regex_hir.specs.Text.{is_some_and, byte_before, has_bytes_at, char_at, char_of_len_before, char_before}
-use Rattle.regex_hir.specs.Looks.{Side, side_before, side_after, holds_between, holds, is_word, is_ascii_word, is_whole}
+use Rattle.regex_hir.specs.Text.{is_some_and, byte_before, has_bytes_at, char_at}
+use Rattle.regex_hir.specs.Text.{char_of_len_before, char_before}
+use Rattle.regex_hir.specs.Looks.{Side, side_before, side_after, holds_between, holds, is_word}
+use Rattle.regex_hir.specs.Looks.{is_ascii_word, is_whole}
 use Rattle.regex_hir.specs.Looks.{is_edge, is_lf}
 use Rattle.regex_hir.specs.declared.look.Look.{Look}
-use Rattle.regex_hir.specs.declared.look.Look.TheVariants.{Start, End, StartLf, EndLf, StartCrlf, EndCrlf, WordAscii}
-use Rattle.regex_hir.specs.declared.look.Look.TheVariants.{WordAsciiNegate, WordUnicode, WordUnicodeNegate}
-use Rattle.regex_hir.specs.declared.look.Look.TheVariants.{WordStartAscii, WordEndAscii, WordStartUnicode}
-use Rattle.regex_hir.specs.declared.look.Look.TheVariants.{WordEndUnicode, WordStartHalfAscii, WordEndHalfAscii}
+use Rattle.regex_hir.specs.declared.look.Look.TheVariants.{Start, End, StartLf, EndLf, StartCrlf}
+use Rattle.regex_hir.specs.declared.look.Look.TheVariants.{EndCrlf, WordAscii}
+use Rattle.regex_hir.specs.declared.look.Look.TheVariants.{WordAsciiNegate, WordUnicode}
+use Rattle.regex_hir.specs.declared.look.Look.TheVariants.{WordUnicodeNegate}
+use Rattle.regex_hir.specs.declared.look.Look.TheVariants.{WordStartAscii, WordEndAscii}
+use Rattle.regex_hir.specs.declared.look.Look.TheVariants.{WordStartUnicode}
+use Rattle.regex_hir.specs.declared.look.Look.TheVariants.{WordEndUnicode, WordStartHalfAscii}
+use Rattle.regex_hir.specs.declared.look.Look.TheVariants.{WordEndHalfAscii}
 use Rattle.regex_hir.specs.declared.look.Look.TheVariants.{WordStartHalfUnicode, WordEndHalfUnicode}
 use Rattle.regex_hir.specs.Re.{Re, empty, literal, byte_in, char_in, look, cat, alt, group, plus}
 use Rattle.regex_hir.specs.Matches.{Matches, Rounds, one_round, next_round}
 use Rattle.regex_hir.proofs.MatchesLemmas.{Matches-IsSpan}
 use Rattle.regex_hir.proofs.OptionLemmas.{none_of_no_value, option_cases}
-use Rattle.regex_hir.proofs.TextLemmas.{byte_before-zero, byte_before-add-one, byte_before_some, has_bytes_at_parts}
-use Rattle.regex_hir.proofs.TextLemmas.{has_bytes_at_from, char_at_parts, char_at_from, char_at_fits, char_at_ascii}
+use Rattle.regex_hir.proofs.TextLemmas.{byte_before-zero, byte_before-add-one, byte_before_some}
+use Rattle.regex_hir.proofs.TextLemmas.{has_bytes_at_parts}
+use Rattle.regex_hir.proofs.TextLemmas.{has_bytes_at_from, char_at_parts, char_at_from}
+use Rattle.regex_hir.proofs.TextLemmas.{char_at_fits, char_at_ascii}
 use Rattle.regex_hir.proofs.TextLemmas.{char_before_ascii, char_at_past, char_before-zero}
 use Rattle.regex_hir.proofs.Utf8Lemmas.{char_at_cases, encode_two, encode_three, encode_four}
 use Rattle.ucd_perl.proofs.PerlLemmas.{is_word_char-ascii}

@@ -1,19 +1,20 @@
 -- What the compiled pattern finds, and the first match that holds none of the bytes.
-use Rattle.std.proofs.Common.{◌≡◌, ℕ, zero, suc, ◌+◌, ◌-◌, ◌<◌, ◌≤◌, true, List, length, All, Option, Some, None}
+use Rattle.std.proofs.Common.{◌≡◌, ℕ, zero, suc, ◌+◌, ◌-◌, ◌<◌, ◌≤◌, true, List, length, All}
+use Rattle.std.proofs.Common.{Option, Some, None}
 use Rattle.std.proofs.Common.{option_map, refl, sym, ap, ap₂, ◌∙◌, ⊎_elim, arith}
 use Rattle.std.proofs.lemmas.Bool.{cases_Bool, cond-true, cond-false}
 use Rattle.std.proofs.lemmas.Option.{none-some, same_Some}
 use Rattle.std.specs.Option.{option_or}
 use Rattle.regex_hir.specs.Find.{Match, first_from, find}
 use Rattle.regex_hir.specs.Re.{Re, Trace, Rest, accept, attempt}
-use Rattle.regex_hir.proofs.AttemptLemmas.{attempt_sound}
-use Rattle.regex_hir.proofs.FindLemmas.{IsFirst-of_first_between}
+use Rattle.regex_hir.proofs.AttemptLemmas.{attempt_sound, attempt_cong}
+use Rattle.regex_hir.proofs.FindLemmas.{IsFirst-of_first_between, first_between_cong}
 use Rattle.regex_hir.proofs.OptionLemmas.{option_cases}
 use Rattle.regex_syntax.specs.Captures.{outcome, SameCaptures}
 use Rattle.regex_vm.specs.Found.{span}
 use Rattle.grep_regex.specs.Clear.{is_clear, if_clear, find_clear}
 use Rattle.grep_regex.specs.Stripped.{IsStripped}
-use Rattle.grep_regex.proofs.ClearLemmas.{clear-empty}
+use Rattle.grep_regex.proofs.ClearLemmas.{clear-empty, clear-at, clear-from}
 
 span-at : (i : ℕ) (o : Option Trace) (later : Option Match) →
     option_map span (option_or (option_map (λ t. record { start = i; trace = t }) o) later)
@@ -60,3 +61,11 @@ clear-match bytes re hay a b e = ⊎_elim
         (λ clear. (clear, ap (λ (t : Trace). t.end) (sym (same_Some _ _ (sym (cond-true _ (accept l) None clear) ∙ gave)))))
         (λ unclear. absurd (none-some t (sym (cond-false _ (accept l) None unclear) ∙ gave)))
         (cases_Bool (is_clear bytes hay s l))
+
+-- where the haystack has none of the bytes, it is the first match of all
+pub find-unterminated : (bytes : List ℕ) (re : Re) (hay : List ℕ) → is_clear bytes hay 0 (length hay) ≡ true →
+    find_clear bytes re hay ≡ find re hay 0
+unfolding find find_clear
+find-unterminated bytes re hay clear =
+    first_between_cong _ _ 0 (length hay) (λ i from to. attempt_cong hay re (if_clear bytes hay i accept) accept i (λ j m.
+    cond-true _ (accept j) None (clear-from bytes hay i j (λ k low high inside. clear-at bytes hay 0 (length hay) clear k (omega arith) inside inside))))

@@ -2,6 +2,7 @@ pub mod LocalityLemmas
 pub mod EngineLemmas
 pub mod OptionsLemmas
 pub mod WrittenLemmas
+pub mod RefusalLemmas
 pub mod ClearLemmas
 pub mod StrippedLemmas
 pub mod StrippedTreeLemmas

@@ -1,7 +1,10 @@
 -- What a local pattern's first match in many lines says of each of them.
-use Rattle.std.proofs.Common.{◌≡◌, ◌≢◌, ℕ, zero, suc, ◌+◌, ◌-◌, ◌<◌, ◌≤◌, ◌⊎◌, true, false, List, []}
-use Rattle.std.proofs.Common.{◌∷◌, ◌++◌, length, take, drop, slice_get, slice_index, slice_index_or, Some, None}
-use Rattle.std.proofs.Common.{is_some, option_map, refl, sym, ap, ◌∙◌, subst, inl, inr, ⊎_elim, arith, length-append}
+use Rattle.std.proofs.Common.{◌≡◌, ◌≢◌, ℕ, zero, suc, ◌+◌, ◌-◌, ◌<◌, ◌≤◌, ◌⊎◌, true, false, List}
+use Rattle.std.proofs.Common.{[]}
+use Rattle.std.proofs.Common.{◌∷◌, ◌++◌, length, take, drop, slice_get, slice_index, slice_index_or}
+use Rattle.std.proofs.Common.{Some, None}
+use Rattle.std.proofs.Common.{is_some, option_map, refl, sym, ap, ◌∙◌, subst, inl, inr, ⊎_elim}
+use Rattle.std.proofs.Common.{arith, length-append}
 use Rattle.std.proofs.Common.{length-drop, add-one, append_assoc, ◌==◌, get_or-drop}
 use Rattle.std.proofs.Common.{true≢false, get_or}
 use Rattle.std.proofs.lemmas.Bool.{cases_lt, cases_Bool}

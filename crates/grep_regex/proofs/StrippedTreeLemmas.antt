@@ -1,5 +1,6 @@
 -- `IsStripped` of trees, by their forms.
-use Rattle.std.proofs.Common.{◌≡◌, ℕ, ◌+◌, ◌<◌, ◌||◌, Bool, true, false, List, [], ◌∷◌, ◌++◌, length, map, take, get_or}
+use Rattle.std.proofs.Common.{◌≡◌, ℕ, ◌+◌, ◌<◌, ◌||◌, Bool, true, false, List, [], ◌∷◌, ◌++◌}
+use Rattle.std.proofs.Common.{length, map, take, get_or}
 use Rattle.std.proofs.Common.{◌==◌, Option, refl, sym, ap, ap₂, ◌∙◌, subst, Vec, Box, Global}
 use Rattle.std.proofs.lemmas.List.{take_more, map-append}
 use Rattle.std.proofs.lemmas.List.Folds.{list_any_more}
@@ -11,15 +12,20 @@ use Rattle.regex_class.proofs.RangesLemmas.{in_ranges-append}
 use Rattle.regex_hir.specs.Meaning.{meaning}
 use Rattle.regex_hir.specs.declared.look.Look as look_type
 use Rattle.regex_hir.specs.declared.hir.Hir.{Hir}
-use Rattle.regex_hir.specs.declared.hir.Hir.TheVariants.{Empty, Literal, Bytes, Chars, Look, Repetition, Capture, Concat}
+use Rattle.regex_hir.specs.declared.hir.Hir.TheVariants.{Empty, Literal, Bytes, Chars, Look}
+use Rattle.regex_hir.specs.declared.hir.Hir.TheVariants.{Repetition, Capture, Concat}
 use Rattle.regex_hir.specs.declared.hir.Hir.TheVariants.{Alternation}
-use Rattle.regex_hir.proofs.MeaningLemmas.{meaning-Empty, meaning-Literal, meaning-Bytes, meaning-Chars, meaning-Look}
-use Rattle.regex_hir.proofs.MeaningLemmas.{meaning-Repetition, meaning-Capture, meaning-Concat, meaning-Alternation}
+use Rattle.regex_hir.proofs.MeaningLemmas.{meaning-Empty, meaning-Literal, meaning-Bytes}
+use Rattle.regex_hir.proofs.MeaningLemmas.{meaning-Chars, meaning-Look}
+use Rattle.regex_hir.proofs.MeaningLemmas.{meaning-Repetition, meaning-Capture, meaning-Concat}
+use Rattle.regex_hir.proofs.MeaningLemmas.{meaning-Alternation}
 use Rattle.regex_syntax.proofs.SameLemmas.{in_ranges_single}
 use Rattle.grep_regex.specs.Clear.{is_among}
 use Rattle.grep_regex.specs.Stripped.{IsStripped, AreStripped, AreAscii, IsClassOf, IsThinned}
-use Rattle.grep_regex.proofs.StrippedLemmas.{stripped-empty, stripped-look, stripped-literal, stripped-byte_in}
-use Rattle.grep_regex.proofs.StrippedLemmas.{stripped-char_in, stripped-repeat, stripped-group, stripped-cat_all}
+use Rattle.grep_regex.proofs.StrippedLemmas.{stripped-empty, stripped-look, stripped-literal}
+use Rattle.grep_regex.proofs.StrippedLemmas.{stripped-byte_in}
+use Rattle.grep_regex.proofs.StrippedLemmas.{stripped-char_in, stripped-repeat, stripped-group}
+use Rattle.grep_regex.proofs.StrippedLemmas.{stripped-cat_all}
 use Rattle.grep_regex.proofs.StrippedLemmas.{stripped-alt_all, stripped-more}
 
 -- the trees stand for patterns of which one is the other without the bytes

@@ -1,6 +1,7 @@
 -- What a matcher finds in many lines can be trusted.
 use Rattle.std.proofs.Common.{◌≡◌, ◌≢◌, ℕ, ◌<◌, ◌≤◌, true, List, length, slice_index}
-use Rattle.std.proofs.Common.{Some, None, is_some, option_map, sym, ap, ap₂, ◌∙◌, subst, inl, inr, ⊎_elim}
+use Rattle.std.proofs.Common.{Some, None, is_some, option_map, sym, ap, ap₂, ◌∙◌, subst, inl, inr}
+use Rattle.std.proofs.Common.{⊎_elim}
 use Rattle.std.proofs.Common.{arith, get_or, true≢false, map, string_bytes}
 use Rattle.std.proofs.lemmas.Option.{none-some, same_Some}
 use Rattle.regex_hir.specs.Find.{Match, find}
@@ -10,19 +11,22 @@ use Rattle.regex_vm.specs.Found.{span}
 use Rattle.grep_matcher.specs.Lawful.{IsLawfulResult, ExcludesTerminator, IsTrusted}
 use Rattle.grep_matcher.specs.Matching.{Meaning, IsWithin}
 use Rattle.grep_matcher.specs.Terminators.{byte_of}
-use Rattle.grep_matcher.specs.declared.line_match_kind.LineMatchKind.TheVariants.{Confirmed, Candidate}
+use Rattle.grep_matcher.specs.declared.line_match_kind.LineMatchKind.TheVariants.{Confirmed}
+use Rattle.grep_matcher.specs.declared.line_match_kind.LineMatchKind.TheVariants.{Candidate}
 use Rattle.grep_matcher.specs.declared.line_terminator.LineTerminator.{LineTerminator}
 use Rattle.grep_matcher.specs.declared.line_terminator.LineTerminator.TheVariants.{Byte}
 use Rattle.grep_matcher.proofs.LineLemmas.{line-is}
 use Rattle.grep_regex.specs.Clear.{is_among}
 use Rattle.grep_regex.specs.Locality.{is_local}
 use Rattle.grep_regex.specs.Patterns.{first_match, leftmost_match, excluded_bytes, written_re}
-use Rattle.grep_regex.specs.Views.{regex_first, regex_meaning, regex_options, regex_patterns, program_re}
+use Rattle.grep_regex.specs.Views.{regex_first, regex_meaning, regex_options, regex_patterns}
+use Rattle.grep_regex.specs.Views.{program_re}
 use Rattle.grep_regex.specs.declared.regex.Regex.{Regex}
 use Rattle.grep_regex.proofs.ClearLemmas.{clear-at}
 use Rattle.grep_regex.proofs.EngineLemmas.{finds-of}
 use Rattle.grep_regex.proofs.FindLemmas.{clear-match}
-use Rattle.grep_regex.proofs.LineLemmas.{match-within, kept, IsListed, kept-small, missed-all, missed, matched}
+use Rattle.grep_regex.proofs.LineLemmas.{match-within, kept, IsListed, kept-small, missed-all}
+use Rattle.grep_regex.proofs.LineLemmas.{missed, matched}
 
 -- expressions with the same options and texts find the same
 pub first-same : (p q : Regex) → regex_options p ≡ regex_options q → regex_patterns p ≡ regex_patterns q → (hay : List ℕ) →

@@ -1,6 +1,8 @@
 -- What is compiled matches as the texts of the patterns say.
-use Rattle.std.proofs.Common.{◌≡◌, ℕ, ◌+◌, ◌<◌, ◌≤◌, Bool, true, false, cond, List, [], ◌∷◌, ◌++◌, length, map, get_or}
-use Rattle.std.proofs.Common.{Option, Some, None, IsSomeAnd, refl, sym, ap, ◌∙◌, subst, arith, chars}
+use Rattle.std.proofs.Common.{◌≡◌, ℕ, ◌+◌, ◌<◌, ◌≤◌, Bool, true, false, cond, List, [], ◌∷◌, ◌++◌}
+use Rattle.std.proofs.Common.{length, map, get_or}
+use Rattle.std.proofs.Common.{Option, Some, None, IsSomeAnd, refl, sym, ap, ◌∙◌, subst, arith}
+use Rattle.std.proofs.Common.{chars}
 use Rattle.std.proofs.Common.{length-append, slice_get, take, Bor}
 use Rattle.std.proofs.lemmas.List.{take_more, map-append}
 use Rattle.std.specs.Option.{option_or}
@@ -10,7 +12,8 @@ use Rattle.regex_hir.specs.Re.{Re, Trace, byte_in, alt, attempt}
 use Rattle.regex_hir.specs.Text.{is_some_and}
 use Rattle.regex_hir.specs.declared.hir.Hir.{Hir}
 use Rattle.regex_hir.specs.declared.look.Look.{Look}
-use Rattle.regex_hir.specs.declared.look.Look.TheVariants.{StartLf, EndLf, WordStartHalfAscii, WordEndHalfAscii}
+use Rattle.regex_hir.specs.declared.look.Look.TheVariants.{StartLf, EndLf, StartCrlf, EndCrlf}
+use Rattle.regex_hir.specs.declared.look.Look.TheVariants.{WordStartHalfAscii, WordEndHalfAscii}
 use Rattle.regex_hir.specs.declared.look.Look.TheVariants.{WordStartHalfUnicode, WordEndHalfUnicode}
 use Rattle.regex_hir.proofs.OptionLemmas.{option_or-None}
 use Rattle.regex_syntax.specs.Brackets.{Nested}
@@ -18,9 +21,11 @@ use Rattle.regex_syntax.specs.Captures.{outcome, SameCaptures}
 use Rattle.regex_syntax.specs.Grammar.{Names, group_count, read}
 use Rattle.regex_syntax.specs.Verdict.{Reads}
 use Rattle.regex_syntax.specs.declared.Config.{Config}
-use Rattle.regex_syntax.proofs.CapturesLemmas.{alike_refl, alike_of_eq, alike_cat, alike_alt, ◌also◌}
+use Rattle.regex_syntax.proofs.CapturesLemmas.{alike_refl, alike_of_eq, alike_cat, alike_alt}
+use Rattle.regex_syntax.proofs.CapturesLemmas.{◌also◌}
 use Rattle.grep_regex.specs.Alike.{AreAlike}
-use Rattle.grep_regex.specs.Patterns.{config_of, text_of, framed, between, re_of, read_re, written_re, excluded_bytes, FindsAs}
+use Rattle.grep_regex.specs.Patterns.{config_of, text_of, is_crlf, framed, between, re_of, read_re}
+use Rattle.grep_regex.specs.Patterns.{written_re, excluded_bytes, FindsAs}
 use Rattle.grep_regex.specs.Stripped.{IsStripped}
 use Rattle.grep_regex.specs.declared.options.Options.{Options}
 use Rattle.grep_regex.proofs.FindLemmas.{find-stripped}
@@ -41,17 +46,18 @@ between-alike : (before after : Look) {a b : Re} → SameCaptures a b → SameCa
 between-alike before after p = alike_cat (alike_refl _) (alike_cat p (alike_refl _))
 
 framed-alike : (o : Options) {a b : Re} → SameCaptures a b → SameCaptures (framed o a) (framed o b)
-framed-alike o {a} {b} p = by-cases o.whole_line o.word o.unicode
+framed-alike o {a} {b} p = by-cases o.whole_line (is_crlf o.line_terminator) o.word o.unicode
   where
-    by-cases : (w x u : Bool) → SameCaptures
-        (cond w (between StartLf EndLf a) (cond x (cond u (between WordStartHalfUnicode WordEndHalfUnicode a)
-        (between WordStartHalfAscii WordEndHalfAscii a)) a))
-        (cond w (between StartLf EndLf b) (cond x (cond u (between WordStartHalfUnicode WordEndHalfUnicode b)
-        (between WordStartHalfAscii WordEndHalfAscii b)) b))
-    by-cases true x u = between-alike _ _ p
-    by-cases false true true = between-alike _ _ p
-    by-cases false true false = between-alike _ _ p
-    by-cases false false u = p
+    by-cases : (w r x u : Bool) → SameCaptures
+        (cond w (cond r (between StartCrlf EndCrlf a) (between StartLf EndLf a))
+        (cond x (cond u (between WordStartHalfUnicode WordEndHalfUnicode a) (between WordStartHalfAscii WordEndHalfAscii a)) a))
+        (cond w (cond r (between StartCrlf EndCrlf b) (between StartLf EndLf b))
+        (cond x (cond u (between WordStartHalfUnicode WordEndHalfUnicode b) (between WordStartHalfAscii WordEndHalfAscii b)) b))
+    by-cases true true x u = between-alike _ _ p
+    by-cases true false x u = between-alike _ _ p
+    by-cases false r true true = between-alike _ _ p
+    by-cases false r true false = between-alike _ _ p
+    by-cases false r false u = p
 
 -- ---- choices
 

@@ -1,5 +1,6 @@
 -- The first match that holds none of some bytes.
-use Rattle.std.specs.Prelude.{ℕ, Bool, not, ◌==◌, if◌then◌else◌, List, length, slice_range, Option, None}
+use Rattle.std.specs.Prelude.{ℕ, Bool, not, ◌==◌, if◌then◌else◌, List, length, slice_range, Option}
+use Rattle.std.specs.Prelude.{None}
 use Rattle.std.specs.List.{list_any}
 use Rattle.regex_hir.specs.Re.{Re, Rest, accept, attempt}
 use Rattle.regex_hir.specs.Find.{Match, first_between}

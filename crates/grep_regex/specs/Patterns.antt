@@ -1,11 +1,12 @@
 -- What patterns mean under their options.
-use Rattle.std.specs.Prelude.{◌≡◌, ◌<◌, ℕ, true, false, if◌then◌else◌, List, [], map, Option, None, Some}
+use Rattle.std.specs.Prelude.{◌≡◌, ◌<◌, ℕ, Bool, true, false, if◌then◌else◌, List, [], map, Option}
+use Rattle.std.specs.Prelude.{None, Some}
 use Rattle.std.specs.Prelude.{All, option_map, chars, encode_utf8_all}
 use Rattle.regex_hir.specs.Find.{find}
 use Rattle.regex_hir.specs.Meaning.{alt_all}
 use Rattle.regex_hir.specs.Re.{Re, empty, byte_in, look, cat}
 use Rattle.regex_hir.specs.declared.look.Look.{Look}
-use Rattle.regex_hir.specs.declared.look.Look.TheVariants.{StartLf, EndLf}
+use Rattle.regex_hir.specs.declared.look.Look.TheVariants.{StartLf, EndLf, StartCrlf, EndCrlf}
 use Rattle.regex_hir.specs.declared.look.Look.TheVariants.{WordStartHalfAscii, WordEndHalfAscii}
 use Rattle.regex_hir.specs.declared.look.Look.TheVariants.{WordStartHalfUnicode}
 use Rattle.regex_hir.specs.declared.look.Look.TheVariants.{WordEndHalfUnicode}
@@ -16,6 +17,7 @@ use Rattle.regex_syntax.specs.declared.Config.{Config}
 use Rattle.regex_vm.specs.Found.{span}
 use Rattle.grep_matcher.specs.Terminators.{bytes_of}
 use Rattle.grep_matcher.specs.declared.line_terminator.LineTerminator.{LineTerminator}
+use Rattle.grep_matcher.specs.declared.line_terminator.LineTerminator.TheVariants.{Byte, Crlf}
 use Rattle.grep_regex.specs.Clear.{find_clear}
 use Rattle.grep_regex.specs.declared.options.Options.{Options}
 
@@ -33,6 +35,12 @@ default_options = record {
   size_limit = 10485760;
 }
 
+-- whether lines end in a carriage return and a line feed
+abbrev pub is_crlf : Option LineTerminator → Bool
+is_crlf None = false
+is_crlf (Some (Byte b)) = false
+is_crlf (Some Crlf) = true
+
 -- the flags with which a text is read
 abbrev pub config_of : Options → Config
 config_of o = record default_config {
@@ -41,6 +49,7 @@ config_of o = record default_config {
     multi_line = o.multi_line;
     dot_matches_new_line = o.dot_matches_new_line;
     unicode = o.unicode;
+    crlf = is_crlf o.line_terminator;
   };
   utf8 = false;
 }
@@ -65,7 +74,8 @@ between before after re = cat (look before) (cat re (cat (look after) empty))
 -- a pattern within what the options put around it
 abbrev pub framed : Options → Re → Re
 framed o re =
-    if o.whole_line then between StartLf EndLf re
+    if o.whole_line then
+    (if is_crlf o.line_terminator then between StartCrlf EndCrlf re else between StartLf EndLf re)
     else if o.word then
     (if o.unicode then between WordStartHalfUnicode WordEndHalfUnicode re
     else between WordStartHalfAscii WordEndHalfAscii re)

@@ -1,6 +1,8 @@
 //! The builder of regular expressions.
-ghost use Rattle.std.specs.Prelude.{◌≡◌, true, [], ◌∷◌, map, option_map, IfOk};
+ghost use Rattle.std.specs.Prelude.{◌≡◌, if◌then◌else◌, true, [], ◌∷◌, map, option_map, IfOk};
+ghost use Rattle.std.specs.Prelude.{IfErr};
 ghost use Rattle.grep_regex.specs.Patterns.{default_options};
+ghost use Rattle.grep_regex.specs.Refusals.{IsRefusal};
 ghost use Rattle.grep_regex.specs.Views.{regex_options, regex_patterns};
 
 use crate::error::Error;
@@ -76,6 +78,7 @@ impl RegexMatcherBuilder {
     pub fn build(&self, alloc: Global, pattern: &str) -> Result<Regex, Error>
         ensures options { IfOk result (λ regex. regex_options regex ≡ self.now) }
         ensures patterns { IfOk result (λ regex. regex_patterns regex ≡ pattern.now ∷ []) }
+        ensures error { IfErr result (IsRefusal self.now (pattern.now ∷ [])) }
     {
         Regex::new(alloc, self.options, &[pattern])
     }
@@ -89,6 +92,7 @@ impl RegexMatcherBuilder {
         ensures options { IfOk result (λ regex. regex_options regex ≡ self.now) }
         ensures patterns { IfOk result
             (λ regex. regex_patterns regex ≡ map (λ p. p.now) patterns.now) }
+        ensures error { IfErr result (IsRefusal self.now (map (λ p. p.now) patterns.now)) }
     {
         Regex::new(alloc, self.options, patterns)
     }
@@ -99,6 +103,8 @@ impl RegexMatcherBuilder {
             (λ regex. regex_options regex ≡ record self.now { fixed_strings = true }) }
         ensures patterns { IfOk result
             (λ regex. regex_patterns regex ≡ map (λ p. p.now) literals.now) }
+        ensures error { IfErr result
+            (IsRefusal (record self.now { fixed_strings = true }) (map (λ p. p.now) literals.now)) }
     {
         let mut options = self.options;
         options.fixed_strings = true;
@@ -180,6 +186,23 @@ impl RegexMatcherBuilder {
         self.options.line_terminator = match terminator {
             Some(byte) => Some(LineTerminator::Byte(byte)),
             None => None,
+        };
+        self
+    }
+
+    /// Whether lines end in a carriage return and a line feed, which is then the line terminator, and
+    /// otherwise none is; not by default. Neither byte is in a match, and under `multi_line` `^` and
+    /// `$` match around both.
+    pub fn crlf(&mut self, yes: bool) -> &mut RegexMatcherBuilder
+        ensures reference { result.ghost_name ≡ self.entry.ghost_name }
+        ensures set { result.now ≡ record self.old {
+          line_terminator = if yes then Some LineTerminator.Crlf else None;
+        } }
+    {
+        self.options.line_terminator = if yes {
+            Some(LineTerminator::Crlf)
+        } else {
+            None
         };
         self
     }

@@ -1,4 +1,7 @@
 //! Why patterns can't be compiled.
+ghost use Rattle.std.specs.Prelude.{◌≡◌};
+ghost use Rattle.grep_regex.specs.Refusals.{IsOfParser, IsOfCompiler};
+
 use regex_compile::Error as CompileError;
 use regex_syntax::{Error as SyntaxError, ErrorKind};
 use std::alloc::{AllocError, AllocFailed};
@@ -32,8 +35,10 @@ pub enum Error {
 
 impl Error {
     // The error for one of the parser, at one of the patterns.
-    pub(crate) fn of_parser(pattern: usize, error: SyntaxError) -> Error {
-        if error.kind == ErrorKind::OutOfMemory {
+    pub(crate) fn of_parser(pattern: usize, error: SyntaxError) -> Error
+        ensures { IsOfParser pattern error result }
+    {
+        if matches!(error.kind, ErrorKind::OutOfMemory) {
             Error::Memory
         } else {
             Error::Syntax { pattern, error }
@@ -41,7 +46,9 @@ impl Error {
     }
 
     // The error for one of the compiler.
-    pub(crate) fn of_compiler(error: CompileError) -> Error {
+    pub(crate) fn of_compiler(error: CompileError) -> Error
+        ensures { IsOfCompiler result }
+    {
         match error {
             CompileError::TooBig | CompileError::Malformed => Error::TooBig,
             CompileError::OutOfMemory => Error::Memory,
@@ -50,12 +57,22 @@ impl Error {
 }
 
 impl From<AllocError> for Error {
+    ghost use Rattle.std.specs.Prelude.{◌≡◌};
+    ghost use Rattle.grep_regex.specs.declared.error.Error.TheVariants.{Memory};
+
+    ghost from_gives = { λ _ error. error ≡ Memory };
+
     fn from(_: AllocError) -> Error {
         Error::Memory
     }
 }
 
 impl<T: Drop> From<AllocFailed<T>> for Error {
+    ghost use Rattle.std.specs.Prelude.{◌≡◌};
+    ghost use Rattle.grep_regex.specs.declared.error.Error.TheVariants.{Memory};
+
+    ghost from_gives = { λ _ error. error ≡ Memory };
+
     fn from(_: AllocFailed<T>) -> Error {
         Error::Memory
     }

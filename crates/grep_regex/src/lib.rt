@@ -5,6 +5,7 @@ mod builder;
 mod engine;
 mod error;
 mod frame;
+pub mod laws;
 mod locality;
 mod matcher;
 mod options;

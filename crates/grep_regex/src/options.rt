@@ -1,5 +1,6 @@
 //! How patterns are read, and what their matchers declare.
 ghost use Rattle.std.specs.Prelude.{◌≡◌, IsTrue};
+ghost use Rattle.grep_regex.specs.Patterns.{is_crlf};
 
 use grep_matcher::LineTerminator;
 
@@ -24,6 +25,13 @@ pub struct Options {
     pub line_terminator: Option<LineTerminator>,
     /// About how large the compiled patterns may be, in bytes.
     pub size_limit: usize,
+}
+
+// Whether lines end in a carriage return and a line feed.
+pub(crate) fn is_crlf(terminator: Option<LineTerminator>) -> bool
+    ensures { result ≡ is_crlf terminator }
+{
+    matches!(terminator, Some(LineTerminator::Crlf))
 }
 
 // Whether both are the same line terminator, or none.

@@ -1,13 +1,14 @@
 //! Reading patterns.
-ghost use Rattle.std.specs.Prelude.{◌≡◌, IfOk, map, option_map, string_bytes};
+ghost use Rattle.std.specs.Prelude.{◌≡◌, IfOk, IfErr, map, option_map, string_bytes};
 ghost use Rattle.regex_hir.specs.Meaning.{meaning, alt_all};
 ghost use Rattle.regex_syntax.specs.Captures.{SameCaptures};
 ghost use Rattle.regex_syntax.specs.Verdict.{Reads};
 ghost use Rattle.grep_regex.specs.Patterns.{config_of, text_of, read_re};
 ghost use Rattle.grep_regex.specs.Alike.{AreAlike};
+ghost use Rattle.grep_regex.specs.Refusals.{IsTextError, IsTextsError};
 
 use crate::error::Error;
-use crate::options::Options;
+use crate::options::{Options, is_crlf};
 use regex_hir::Hir;
 use regex_syntax::{Config, Flags, Parsed};
 use std::alloc::Global;
@@ -29,8 +30,9 @@ pub(crate) fn read_choice(
     options: &Options,
     patterns: &[&str],
 ) -> Result<Choice, Error>
-    ensures { IfOk result (λ choice. SameCaptures (meaning choice.hir)
+    ensures ok { IfOk result (λ choice. SameCaptures (meaning choice.hir)
         (alt_all (map (read_re options.now) (map (λ p. p.now) patterns.now)))) }
+    ensures error { IfErr result (IsTextsError options.now (map (λ p. p.now) patterns.now)) }
 {
     let Branches { hirs, groups } = read_all(alloc, options, patterns)?;
     let Ok(groups) = u32::try_from(groups) else {
@@ -51,13 +53,17 @@ struct Branches {
 
 // What each of the texts is read as.
 fn read_all(alloc: Global, options: &Options, patterns: &[&str]) -> Result<Branches, Error>
-    ensures { IfOk result (λ branches. AreAlike (map meaning branches.hirs.items)
+    ensures ok { IfOk result (λ branches. AreAlike (map meaning branches.hirs.items)
         (map (read_re options.now) (map (λ p. p.now) patterns.now))) }
+    ensures error { IfErr result (IsTextsError options.now (map (λ p. p.now) patterns.now)) }
 {
     let mut hirs = Vec::new(alloc);
     let mut groups: usize = 1;
     for i in 0..patterns.len() {
-        let Parsed { hir, names } = read(alloc, options, i, patterns[i])?;
+        let Parsed { hir, names } = match read(alloc, options, i, patterns[i]) {
+            Ok(parsed) => parsed,
+            Err(error) => return Err(error),
+        };
         groups = groups.max(names.len());
         hirs.push(hir)?;
     }
@@ -79,8 +85,10 @@ fn choice_of(mut hirs: Vec<Hir>) -> Hir
 
 // What a text is read as, which is the pattern with this index.
 fn read(alloc: Global, options: &Options, index: usize, pattern: &str) -> Result<Parsed, Error>
-    ensures { IfOk result (λ p. Reads (config_of options.now) (text_of options.now pattern.now)
+    ensures ok { IfOk result (λ p. Reads (config_of options.now) (text_of options.now pattern.now)
         p.hir (map (option_map string_bytes) p.names.items)) }
+    ensures error { IfErr result
+        (IsTextError (config_of options.now) index (text_of options.now pattern.now)) }
 {
     let config = config_of(options);
     if options.fixed_strings {
@@ -91,8 +99,9 @@ fn read(alloc: Global, options: &Options, index: usize, pattern: &str) -> Result
 }
 
 fn parse(alloc: Global, config: &Config, index: usize, text: &str) -> Result<Parsed, Error>
-    ensures { IfOk result (λ p. Reads config.now text.now p.hir
+    ensures ok { IfOk result (λ p. Reads config.now text.now p.hir
         (map (option_map string_bytes) p.names.items)) }
+    ensures error { IfErr result (IsTextError config.now index text.now) }
 {
     match regex_syntax::parse(alloc, text, config) {
         Ok(parsed) => Ok(parsed),
@@ -110,7 +119,7 @@ fn config_of(options: &Options) -> Config
             dot_matches_new_line: options.dot_matches_new_line,
             swap_greed: false,
             unicode: options.unicode,
-            crlf: false,
+            crlf: is_crlf(options.line_terminator),
             ignore_whitespace: false,
         },
         octal: false,

@@ -1,9 +1,11 @@
 //! A compiled regular expression.
-ghost use Rattle.std.specs.Prelude.{◌≡◌, IfOk, OnOk, IsTrue, true, None, Some, string_bytes, map};
+ghost use Rattle.std.specs.Prelude.{◌≡◌, IfOk, IfErr, OnOk, IsTrue, true, None, Some, string_bytes};
+ghost use Rattle.std.specs.Prelude.{map};
 ghost use Rattle.regex_hir.specs.Meaning.{meaning};
 ghost use Rattle.grep_matcher.specs.declared.line_terminator.LineTerminator.TheVariants.{Byte};
 ghost use Rattle.grep_regex.specs.Locality.{is_local};
 ghost use Rattle.grep_regex.specs.Patterns.{excluded_bytes, FindsAs};
+ghost use Rattle.grep_regex.specs.Refusals.{IsOfCompiler, IsTerminatorError};
 ghost use Rattle.grep_regex.specs.Stripped.{AreAscii};
 
 use crate::error::Error;
@@ -43,6 +45,7 @@ impl Drop for Regex {
 }
 
 impl Regex {
+    ghost use Rattle.grep_regex.specs.Refusals.{IsRefusal};
     ghost use Rattle.grep_regex.specs.Views.{regex_options, regex_patterns, program_re};
     ghost use Rattle.grep_regex.specs.Views.{regex_program, searcher_program, matcher_regex};
 
@@ -50,6 +53,7 @@ impl Regex {
     pub(crate) fn new(alloc: Global, options: Options, patterns: &[&str]) -> Result<Regex, Error>
         ensures options { IfOk result (λ r. regex_options r ≡ options) }
         ensures patterns { IfOk result (λ r. regex_patterns r ≡ map (λ p. p.now) patterns.now) }
+        ensures error { IfErr result (IsRefusal options (map (λ p. p.now) patterns.now)) }
     {
         check_terminator(options.line_terminator)?;
         let Choice { hir, groups } = read_choice(alloc, &options, patterns)?;
@@ -144,7 +148,8 @@ fn copies(alloc: Global, patterns: &[&str]) -> Result<Vec<String>, AllocError>
 
 // That the terminator is ASCII.
 fn check_terminator(terminator: Option<LineTerminator>) -> Result<(), Error>
-    ensures { OnOk result (AreAscii (excluded_bytes terminator)) }
+    ensures ascii { OnOk result (AreAscii (excluded_bytes terminator)) }
+    ensures error { IfErr result (IsTerminatorError terminator) }
 {
     match terminator {
         Some(LineTerminator::Byte(byte)) if byte >= 128 => Err(Error::InvalidLineTerminator(byte)),
@@ -183,7 +188,8 @@ fn is_by_line(terminator: Option<LineTerminator>, hir: &Hir) -> bool
 
 // The program of a pattern.
 fn compiled(alloc: Global, hir: Hir, groups: u32, size_limit: usize) -> Result<Program, Error>
-    ensures { IfOk result (λ program. program.hir ≡ hir) }
+    ensures ok { IfOk result (λ program. program.hir ≡ hir) }
+    ensures error { IfErr result IsOfCompiler }
 {
     match Program::new(alloc, hir, groups, size_limit) {
         Ok(program) => Ok(program),

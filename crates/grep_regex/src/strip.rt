@@ -1,8 +1,9 @@
 //! Taking bytes out of a pattern.
-ghost use Rattle.std.specs.Prelude.{◌≡◌, IfOk, IfNone, false, map};
+ghost use Rattle.std.specs.Prelude.{◌≡◌, IfOk, IfErr, false, map};
 ghost use Rattle.std.specs.List.{list_any};
 ghost use Rattle.regex_hir.specs.Meaning.{meaning};
 ghost use Rattle.grep_regex.specs.Clear.{is_among};
+ghost use Rattle.grep_regex.specs.Refusals.{IsStripError};
 ghost use Rattle.grep_regex.specs.Stripped.{IsStripped, AreStripped, AreAscii};
 ghost use Rattle.grep_regex.specs.Stripped.{IsClassOf, IsThinned};
 
@@ -16,7 +17,8 @@ use std::alloc::{AllocError, Global};
 // refused.
 pub(crate) fn without_bytes(alloc: Global, hir: &Hir, bytes: &[u8]) -> Result<Hir, Error>
     requires { AreAscii bytes.now }
-    ensures { IfOk result (λ new. IsStripped bytes.now (meaning hir.now) (meaning new)) }
+    ensures ok { IfOk result (λ new. IsStripped bytes.now (meaning hir.now) (meaning new)) }
+    ensures error { IfErr result (IsStripError bytes.now) }
 {
     let class = class_of(alloc, bytes)?;
     strip(alloc, hir, bytes, &class)
@@ -39,7 +41,8 @@ fn class_of(alloc: Global, bytes: &[u8]) -> Result<Class, AllocError>
 fn strip(alloc: Global, hir: &Hir, bytes: &[u8], class: &Class) -> Result<Hir, Error>
     requires ascii { AreAscii bytes.now }
     requires members { IsClassOf bytes.now class.now.ranges.items }
-    ensures { IfOk result (λ new. IsStripped bytes.now (meaning hir.now) (meaning new)) }
+    ensures ok { IfOk result (λ new. IsStripped bytes.now (meaning hir.now) (meaning new)) }
+    ensures error { IfErr result (IsStripError bytes.now) }
 {
     match hir {
         Hir::Empty => Ok(Hir::Empty),
@@ -71,7 +74,9 @@ fn strip(alloc: Global, hir: &Hir, bytes: &[u8], class: &Class) -> Result<Hir, E
 fn strip_all(alloc: Global, subs: &[Hir], bytes: &[u8], class: &Class) -> Result<Vec<Hir>, Error>
     requires ascii { AreAscii bytes.now }
     requires members { IsClassOf bytes.now class.now.ranges.items }
-    ensures { IfOk result (λ new. AreStripped bytes.now (map meaning subs.now) (map meaning new.items)) }
+    ensures ok { IfOk result (λ new.
+        AreStripped bytes.now (map meaning subs.now) (map meaning new.items)) }
+    ensures error { IfErr result (IsStripError bytes.now) }
 {
     let mut all = Vec::new(alloc);
     for i in 0..subs.len() {
@@ -84,6 +89,7 @@ fn strip_all(alloc: Global, subs: &[Hir], bytes: &[u8], class: &Class) -> Result
 fn strip_literal(alloc: Global, literal: &[u8], bytes: &[u8]) -> Result<Vec<u8>, Error>
     ensures same { IfOk result (λ copy. copy.items ≡ literal.now) }
     ensures none { IfOk result (λ copy. list_any (is_among bytes.now) literal.now ≡ false) }
+    ensures error { IfErr result (IsStripError bytes.now) }
 {
     for byte in literal {
         if is_one_of(*byte, bytes) {
@@ -103,8 +109,9 @@ fn is_one_of(byte: u8, bytes: &[u8]) -> bool
 // The class without the bytes.
 fn strip_class(members: &Class, bytes: &[u8], class: &Class) -> Result<Class, Error>
     requires { IsClassOf bytes.now class.now.ranges.items }
-    ensures { IfOk result (λ new.
+    ensures ok { IfOk result (λ new.
         IsThinned bytes.now members.now.ranges.items new.ranges.items) }
+    ensures error { IfErr result (IsStripError bytes.now) }
 {
     let left = members.difference(class)?;
     if left.bounds().is_none() {

@@ -1,6 +1,6 @@
 //! Patterns that can't be compiled.
-use crate::options::builder_of;
-use grep_regex::{Error, RegexMatcherBuilder};
+use crate::engine::error_of;
+use grep_regex::Error;
 use std::alloc::Global;
 
 // Options by their letters, patterns, and which of them is refused, where it is, and why.
@@ -53,16 +53,9 @@ const ROWS: &[Row] = &[
 ];
 
 // Whether the parser refuses the patterns in this way.
-fn is_refused(
-    alloc: Global,
-    letters: &str,
-    patterns: &[&str],
-    index: usize,
-    span: (usize, usize),
-    message: &str,
-) -> bool {
-    match builder_of(letters).build_many(alloc, patterns) {
-        Err(Error::Syntax { pattern, error }) => {
+fn is_refused(error: Option<Error>, index: usize, span: (usize, usize), message: &str) -> bool {
+    match error {
+        Some(Error::Syntax { pattern, error }) => {
             pattern == index
                 && (error.span.start, error.span.end) == span
                 && error.kind.message() == message
@@ -74,70 +67,54 @@ fn is_refused(
 #[test]
 fn syntax(rt: HostRuntime) {
     for row in ROWS {
-        assert!(rt;
-            is_refused(rt.alloc(), row.0, row.1, row.2, row.3, row.4),
-            "{row:?}"
-        );
+        let error = error_of(rt.alloc(), row.0, row.1);
+        assert!(rt; is_refused(error, row.2, row.3, row.4), "{row:?}");
     }
 }
 
-// Whether a pattern is refused since it needs this byte of the line terminator.
-fn is_not_allowed(alloc: Global, letters: &str, pattern: &str, byte: u8) -> bool {
-    match builder_of(letters).build(alloc, pattern) {
-        Err(Error::NotAllowed(refused)) => refused == byte,
-        _ => false,
+// Options by their letters, a pattern, and the text of its error.
+const TEXT_ROWS: &[(&str, &str, &str)] = &[
+    (
+        "",
+        r"(ab",
+        "pattern 0: regex parse error at 0..1: unclosed group",
+    ),
+    ("L", r"\w{50}", "the compiled pattern is too big"),
+    (
+        "n",
+        r"a\nb",
+        "a pattern matches the byte 10 of the line terminator",
+    ),
+    (
+        "n",
+        r"(?:ab|[\n])+",
+        "a pattern matches the byte 10 of the line terminator",
+    ),
+    (
+        "nF",
+        "a\nb",
+        "a pattern matches the byte 10 of the line terminator",
+    ),
+    (
+        "r",
+        r"a\r",
+        "a pattern matches the byte 13 of the line terminator",
+    ),
+    ("T", r"a", "the line terminator 200 isn't ASCII"),
+];
+
+// The text of an error.
+fn text_of(alloc: Global, error: Option<Error>) -> Option<String> {
+    match error {
+        Some(error) => format!(in alloc; "{error}").ok(),
+        None => None,
     }
 }
 
 #[test]
-fn bytes_of_the_terminator(rt: HostRuntime) {
-    let alloc = rt.alloc();
-    assert!(rt; is_not_allowed(alloc, "n", r"a\nb", b'\n'));
-    assert!(rt; is_not_allowed(alloc, "n", r"(?:ab|[\n])+", b'\n'));
-    assert!(rt; is_not_allowed(alloc, "nF", "a\nb", b'\n'));
-}
-
-// Whether a builder refuses a pattern with an error of this text.
-fn tells(alloc: Global, builder: &RegexMatcherBuilder, pattern: &str, message: &str) -> bool {
-    let Err(error) = builder.build(alloc, pattern) else {
-        return false;
-    };
-    match format!(in alloc; "{error}") {
-        Ok(text) => text.as_str() == message,
-        Err(_) => false,
+fn texts(rt: HostRuntime) {
+    for row in TEXT_ROWS {
+        let text = text_of(rt.alloc(), error_of(rt.alloc(), row.0, &[row.1]));
+        assert!(rt; text.as_deref() == Some(row.2), "{row:?}");
     }
-}
-
-#[test]
-fn messages(rt: HostRuntime) {
-    let alloc = rt.alloc();
-    let mut builder = RegexMatcherBuilder::new();
-    assert!(rt;
-        tells(
-            alloc,
-            &builder,
-            "(ab",
-            "pattern 0: regex parse error at 0..1: unclosed group"
-        )
-    );
-    builder.size_limit(1000);
-    assert!(rt;
-        tells(
-            alloc,
-            &builder,
-            r"\w{50}",
-            "the compiled pattern is too big"
-        )
-    );
-    builder.line_terminator(Some(10));
-    assert!(rt;
-        tells(
-            alloc,
-            &builder,
-            r"\n",
-            "a pattern matches the byte 10 of the line terminator"
-        )
-    );
-    builder.line_terminator(Some(200));
-    assert!(rt; tells(alloc, &builder, "a", "the line terminator 200 isn't ASCII"));
 }

@@ -1,5 +1,5 @@
 //! Patterns that are large or deep.
-use crate::options::{builder_of, finds};
+use crate::engine::answer_of;
 use std::alloc::{AllocError, Global};
 
 // A text, repeated.
@@ -23,9 +23,9 @@ fn nests(
     let mut text = repeated(alloc, opening, count)?;
     text.push_str(pattern)?;
     text.push_str(repeated(alloc, closing, count)?.as_str())?;
-    match builder_of("").build(alloc, text.as_str()) {
-        Ok(regex) => Ok(Some(finds(alloc, &regex, b"aaaa", Some((0, 4))))),
-        Err(_) => Ok(None),
+    match answer_of(alloc, "", &[text.as_str()], b"aaaa") {
+        Some(answer) => Ok(Some(answer.range == Some((0, 4)))),
+        None => Ok(None),
     }
 }
 

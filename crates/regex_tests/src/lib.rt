@@ -6,10 +6,10 @@
 #[cfg(test)]
 mod candidates;
 #[cfg(test)]
+mod engine;
+#[cfg(test)]
 mod errors;
 #[cfg(test)]
 mod hostile;
 #[cfg(test)]
 mod matches;
-#[cfg(test)]
-mod options;

@@ -1,5 +1,5 @@
 //! First matches.
-use crate::options::{builder_of, finds, finds_by};
+use crate::engine::answer_of;
 use std::alloc::Global;
 
 // Options by their letters, a pattern, a haystack, and where the first match starts and ends.
@@ -77,43 +77,47 @@ const ROWS: &[Row] = &[
     ("n", r"a[^b]*", b"ac\ncb", Some((0, 2))),
     ("n", r"\s+b", b"a\n b", Some((2, 4))),
     ("nm", r"a$", b"a\r\na\n", Some((3, 4))),
+    ("rm", r"a$", b"a\r\na\n", Some((0, 1))),
+    ("rm", r"a[^b]*", b"a\r\na\n", Some((0, 1))),
+    ("rx", r"a+", b"b\r\naa\r\n", Some((3, 5))),
 ];
 
-#[test]
-fn patterns(rt: HostRuntime) {
-    for row in ROWS {
-        assert!(rt; finds_by(rt.alloc(), row.0, row.1, row.2, row.3), "{row:?}");
-    }
-}
-
-// Whether the first of some patterns that works, or under `literals` of some literals, finds this range, or nothing.
-fn finds_many(
+// Whether a matcher finds this range, or nothing.
+fn finds(
     alloc: Global,
-    literals: bool,
+    letters: &str,
     patterns: &[&str],
     haystack: &[u8],
     range: Option<(usize, usize)>,
 ) -> bool {
-    let builder = builder_of("");
-    let built = if literals {
-        builder.build_literals(alloc, patterns)
-    } else {
-        builder.build_many(alloc, patterns)
-    };
-    match built {
-        Ok(regex) => finds(alloc, &regex, haystack, range),
-        Err(_) => false,
+    match answer_of(alloc, letters, patterns, haystack) {
+        Some(answer) => answer.range == range && answer.is_match == range.is_some(),
+        None => false,
     }
 }
 
 #[test]
+fn patterns(rt: HostRuntime) {
+    for row in ROWS {
+        assert!(rt; finds(rt.alloc(), row.0, &[row.1], row.2, row.3), "{row:?}");
+    }
+}
+
+// Options by their letters, patterns, a haystack, and where the first match starts and ends.
+const MANY_ROWS: &[(&str, &[&str], &[u8], Option<(usize, usize)>)] = &[
+    ("", &[r"b+", r"a+b"], b"xaabb", Some((1, 4))),
+    ("", &[r"a", r"ab"], b"ab", Some((0, 1))),
+    ("", &[r"(a)", r"(b)"], b"b", Some((0, 1))),
+    ("", &[], b"a", None),
+    ("l", &["a+", "b"], b"aab", Some((2, 3))),
+    ("l", &["a+", "b"], b"ba+", Some((0, 1))),
+    ("l", &["(", "["], b"a[(", Some((1, 2))),
+    ("w", &[r"a", r"bc"], b"ab bc", Some((3, 5))),
+];
+
+#[test]
 fn many_patterns(rt: HostRuntime) {
-    let alloc = rt.alloc();
-    assert!(rt; finds_many(alloc, false, &[r"b+", r"a+b"], b"xaabb", Some((1, 4))));
-    assert!(rt; finds_many(alloc, false, &[r"a", r"ab"], b"ab", Some((0, 1))));
-    assert!(rt; finds_many(alloc, false, &[r"(a)", r"(b)"], b"b", Some((0, 1))));
-    assert!(rt; finds_many(alloc, false, &[], b"a", None));
-    assert!(rt; finds_many(alloc, true, &["a+", "b"], b"aab", Some((2, 3))));
-    assert!(rt; finds_many(alloc, true, &["a+", "b"], b"ba+", Some((0, 1))));
-    assert!(rt; finds_many(alloc, true, &["(", "["], b"a[(", Some((1, 2))));
+    for row in MANY_ROWS {
+        assert!(rt; finds(rt.alloc(), row.0, row.1, row.2, row.3), "{row:?}");
+    }
 }

@@ -1,0 +1,93 @@
+//! What is built and asked, as plain values. An expression is dropped in this file alone, since that costs much to prove.
+use grep_matcher::{LineTerminator, Matcher};
+use grep_regex::{Error, Regex, RegexMatcherBuilder};
+use std::alloc::Global;
+
+// What the matcher of an expression returns for a haystack.
+#[derive(Clone, Copy)]
+pub struct Answer {
+    // Where the first match starts and ends.
+    pub range: Option<(usize, usize)>,
+    pub is_match: bool,
+    // The position that is found in lines, with whether it is confirmed.
+    pub position: Option<(usize, bool)>,
+    pub terminator: Option<LineTerminator>,
+}
+
+// The builder with the options that the letters name: case-insensitive, fixed strings, word, whole lines (`x`), multi-line,
+// `.` for line feeds (`s`), ASCII (`a`), a line feed as the terminator (`n`) or CRLF (`r`), the byte 200 as the terminator
+// (`T`), and a limit of 1,000 bytes (`L`).
+fn builder_of(letters: &str) -> RegexMatcherBuilder {
+    let mut builder = RegexMatcherBuilder::default();
+    builder.case_insensitive(letters.contains('i'));
+    builder.fixed_strings(letters.contains('F'));
+    builder.word(letters.contains('w'));
+    builder.whole_line(letters.contains('x'));
+    builder.multi_line(letters.contains('m'));
+    builder.dot_matches_new_line(letters.contains('s'));
+    builder.unicode(!letters.contains('a'));
+    builder.crlf(letters.contains('r'));
+    if letters.contains('n') {
+        builder.line_terminator(Some(b'\n'));
+    }
+    if letters.contains('T') {
+        builder.line_terminator(Some(200));
+    }
+    if letters.contains('L') {
+        builder.size_limit(1000);
+    }
+    builder
+}
+
+// The expression of one pattern, of several, or under `l` of literals.
+fn build(alloc: Global, letters: &str, patterns: &[&str]) -> Result<Regex, Error> {
+    let builder = builder_of(letters);
+    if letters.contains('l') {
+        return builder.build_literals(alloc, patterns);
+    }
+    match patterns {
+        [pattern] => builder.build(alloc, pattern),
+        _ => builder.build_many(alloc, patterns),
+    }
+}
+
+// What the matcher of an expression returns for a haystack.
+fn ask<M: Matcher>(matcher: &M, haystack: &[u8]) -> Result<Answer, M::Error> {
+    Ok(Answer {
+        range: matcher
+            .find(haystack)?
+            .map(|found| (found.start(), found.end())),
+        is_match: matcher.is_match(haystack)?,
+        position: matcher
+            .find_candidate_line(haystack)?
+            .map(|found| (found.position(), found.is_confirmed())),
+        terminator: matcher.line_terminator(),
+    })
+}
+
+// What the matcher of patterns returns for a haystack, or `None` if one can't be made.
+pub fn answer_of(
+    alloc: Global,
+    letters: &str,
+    patterns: &[&str],
+    haystack: &[u8],
+) -> Option<Answer> {
+    let Ok(regex) = build(alloc, letters, patterns) else {
+        return None;
+    };
+    let Ok(matcher) = regex.matcher(alloc) else {
+        return None;
+    };
+    match ask(&matcher, haystack) {
+        Ok(answer) => Some(answer),
+        Err(_) => None,
+    }
+}
+
+// Why patterns can't be compiled, or `None` if they can.
+pub fn error_of(alloc: Global, letters: &str, patterns: &[&str]) -> Option<Error> {
+    match build(alloc, letters, patterns) {
+        Ok(_) => None,
+        Err(error) => Some(error),
+    }
+}
