@@ -5,5 +5,6 @@ pub mod Labels
 pub mod Marks
 pub mod Reading
 pub mod Source
+pub mod Spellings
 pub mod UndecodedBytes
 pub mod Utf8

@@ -2,7 +2,8 @@
 ghost use Rattle.std.specs.Prelude.{◌≡◌, ◌++◌, ℕ, Bool, true, List, [], Option};
 ghost use Rattle.std.specs.declared.io.Error.{Error};
 ghost use Rattle.grep_decode.specs.declared.label.Label.{Label};
-ghost use Rattle.grep_decode.specs.Decoded.{Spells, scalars_of, decoded, is_unchanged};
+ghost use Rattle.grep_decode.specs.Decoded.{scalars_of, decoded, is_unchanged};
+ghost use Rattle.grep_decode.specs.Spellings.{Spells};
 ghost use Rattle.grep_decode.specs.DecoderStates.{DecoderState, Decodes, FailsToDecode, IsDecoded};
 ghost use Rattle.grep_decode.specs.DecoderStates.{IsDone, started};
 ghost use Rattle.grep_decode.specs.DecoderStates.{still_to_give};

@@ -11,7 +11,8 @@ use Rattle.grep_matcher.specs.Matching.{Meaning, plain}
 use Rattle.grep_report.specs.declared.sink_context.SinkContextKind.TheVariants.{Before, After, Other}
 use Rattle.grep_definitions.specs.AcrossLines.{is_touched, touches}
 use Rattle.grep_definitions.specs.AcrossQuestions.{IsAskedAcross}
-use Rattle.grep_definitions.specs.Settings.{Settings, default_settings}
+use Rattle.grep_definitions.specs.Settings.{Settings}
+use Rattle.grep_definitions.specs.BuiltSettings.{default_settings}
 use Rattle.grep_definitions.specs.SuccessiveMatches.{all_matches}
 use Rattle.grep_definitions.specs.Modes.{is_across}
 use Rattle.grep_definitions.specs.SearchTurns.{search_turns, search_byte_count}

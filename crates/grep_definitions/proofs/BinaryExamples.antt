@@ -8,7 +8,7 @@ use Rattle.grep_definitions.specs.BinaryBytes.{before_quit, binary_position, str
 use Rattle.grep_definitions.specs.InputFronts.{IsTooLong}
 use Rattle.grep_definitions.specs.LineSearch.{turns}
 use Rattle.grep_definitions.specs.QuitPoints.{quit_in_reports, quit_point}
-use Rattle.grep_definitions.specs.Settings.{default_settings}
+use Rattle.grep_definitions.specs.BuiltSettings.{default_settings}
 use Rattle.grep_definitions.proofs.WorkedExamples.{has_a, begun, match_turn, context_turn, break_turn}
 
 -- a text whose last byte is the byte 0

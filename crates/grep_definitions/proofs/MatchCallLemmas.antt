@@ -11,7 +11,6 @@ use Rattle.std.specs.Option.{option_map}
 use Rattle.grep_matcher.specs.Terminators.{byte_of}
 use Rattle.grep_matcher.specs.Matching.{Meaning}
 use Rattle.grep_lines.specs.LineLaws.{LinesAreNumbered}
-use Rattle.grep_definitions.specs.LineTurns.{number_of}
 use Rattle.grep_report.specs.declared.sink_context.SinkContextKind.TheVariants.{Before, After, Other}
 use Rattle.grep_definitions.specs.Settings.{Settings}
 use Rattle.grep_definitions.specs.SinkCalls.{Call, Turn, breaks, matches}

@@ -2,11 +2,11 @@
 use Rattle.std.specs.Prelude.{ℕ, Bool, true, false, not, ◌&&◌, ◌==◌, if◌then◌else◌}
 use Rattle.std.specs.Prelude.{List, map, take, Option, None}
 use Rattle.std.specs.List.{position, position_or_len}
-use Rattle.grep_matcher.specs.Matching.{Meaning}
+use Rattle.grep_matcher.specs.Meanings.{Meaning}
 use Rattle.grep_matcher.specs.Terminators.{byte_of}
 use Rattle.grep_report.specs.declared.binary_detection.BinaryDetection.{BinaryDetection}
 use Rattle.grep_report.specs.declared.binary_detection.BinaryDetection.TheVariants.{None as no_detection, Quit, Convert}
-use Rattle.grep_definitions.specs.Modes.{is_across}
+use Rattle.grep_definitions.specs.Asking.{is_across}
 use Rattle.grep_definitions.specs.Settings.{Settings}
 
 -- where a byte first occurs

@@ -1,23 +1,13 @@
 -- The bytes that are searched.
-use Rattle.std.specs.Prelude.{ℕ, ◌<◌, ◌≤◌, Bool, true, false, not, ◌||◌, List, [], ◌≡◌, ◌++◌, length}
+use Rattle.std.specs.Prelude.{ℕ, ◌<◌, ◌≤◌, Bool, true, false, not, List, [], ◌≡◌, ◌++◌, length}
 use Rattle.std.specs.Prelude.{Option, Some, None, is_some}
 use Rattle.std.specs.List.{concat}
 use Rattle.grep_decode.specs.declared.label.Label.{Label}
 use Rattle.grep_decode.specs.declared.label.Label.TheVariants.{Utf8, Utf16Le, Utf16Be}
-use Rattle.grep_decode.specs.Decoded.{IsUnfinished, by_label, decoded, found_mark, is_unchanged}
+use Rattle.grep_decode.specs.Decoded.{by_label, found_mark}
 use Rattle.grep_definitions.specs.Settings.{Settings}
-
--- the bytes that are searched: the input, decoded as the settings say
-unfoldable pub searched_bytes : Settings → List ℕ → List ℕ
-searched_bytes settings input = decoded settings.encoding settings.bom_sniffing input
-
--- no label is set and no mark is found, so that the input is searched as it is
-unfoldable pub is_searched_unchanged : Settings → List ℕ → Bool
-is_searched_unchanged settings input = is_unchanged settings.encoding settings.bom_sniffing input
-
--- whether a mark is looked for
-abbrev pub looks_for_mark : Settings → Bool
-looks_for_mark settings = settings.bom_sniffing || is_some settings.encoding
+unfoldable pub use Rattle.grep_definitions.specs.Readings.{searched_bytes, is_searched_unchanged, encoding_of}
+pub use Rattle.grep_definitions.specs.Readings.{looks_for_mark, encoding_after, AreWaiting, IsInput}
 
 -- whether the bytes after this mark, or without one, pass unchanged: after that of UTF-8, or without a label too
 abbrev pub passes_after : Option Label → Option Label → Bool
@@ -30,30 +20,6 @@ passes_after (Some Utf16Be) label = false
 unfoldable pub passes_unchanged : Settings → List ℕ → Bool
 passes_unchanged settings input =
     passes_after (found_mark settings.encoding settings.bom_sniffing input) settings.encoding
-
--- the encoding of the bytes after this mark, or without one, and none if they pass unchanged
-abbrev pub encoding_after : Option Label → Option Label → Option Label
-encoding_after None label = label
-encoding_after (Some Utf8) label = None
-encoding_after (Some Utf16Le) label = Some Utf16Le
-encoding_after (Some Utf16Be) label = Some Utf16Be
-
--- the encoding from which the input is decoded after its mark, if it has one
-unfoldable pub encoding_of : Settings → List ℕ → Option Label
-encoding_of settings input =
-    encoding_after (found_mark settings.encoding settings.bom_sniffing input) settings.encoding
-
--- bytes that wait for more: the beginning of a character that more could complete, or none, and none if they pass
--- unchanged
-abbrev pub AreWaiting : Option Label → List ℕ → Type 0
-AreWaiting None bytes = bytes ≡ []
-AreWaiting (Some label) bytes = IsUnfinished label bytes
-
--- the bytes that are searched if these pieces of an input came, and no more if it ended with them
-abbrev pub IsInput : Settings → Bool → List (List ℕ) → List ℕ → Type 0
-IsInput settings ended pieces bytes =
-    (more : List ℕ) × (ended ≡ true → more ≡ [])
-    × (bytes ≡ searched_bytes settings (concat pieces ++ more))
 
 -- what is decoded of an input of which these pieces came, whatever else would come
 pub record IsDecodedSoFar (settings : Settings) (pieces : List (List ℕ)) (came : List ℕ)

@@ -5,21 +5,16 @@ use Rattle.std.specs.Option.{option_map}
 use Rattle.grep_matcher.specs.Terminators.{byte_of}
 use Rattle.grep_matcher.specs.Lines.{lines, line_start, strip}
 use Rattle.grep_matcher.specs.Matching.{Meaning}
-use Rattle.grep_report.specs.declared.sink_context.SinkContextKind.{SinkContextKind}
 use Rattle.grep_report.specs.declared.sink_context.SinkContextKind.TheVariants.{Before, After, Other}
 use Rattle.grep_definitions.specs.Settings.{Settings}
 use Rattle.grep_definitions.specs.SinkCalls.{Turn, begins, matches, context, breaks}
 use Rattle.grep_definitions.specs.Below.{some_below, count_below, first_below, at_most, is_below, is_at, joined_from}
+pub use Rattle.grep_definitions.specs.Reports.{Kind, matched, in_context}
 
 -- whether the two differ
 abbrev pub differ : Bool → Bool → Bool
 differ true b = not b
 differ false b = b
-
--- how a line is reported: as a match, or as a context line
-pub data Kind : Type 0 where
-  matched : Kind
-  in_context : SinkContextKind → Kind
 
 module _ (settings : Settings) (meaning : Meaning) (bytes : List ℕ) where
   -- the lines, their bytes and offsets

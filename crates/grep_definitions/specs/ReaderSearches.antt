@@ -1,21 +1,18 @@
 -- What a search of a reader does: it makes the calls for the decoded bytes of what the reader gives. By line it reads
 -- no more than it needs, and across lines all. What it promises holds whatever would follow what it read.
-use Rattle.std.specs.Prelude.{◌≡◌, ◌⊎◌, ◌≤◌, ◌+◌, ◌&&◌, ◌||◌, ℕ, Bool, true, false, not, List, length}
+use Rattle.std.specs.Prelude.{◌≡◌, ◌⊎◌, ◌≤◌, ◌+◌, ◌&&◌, ℕ, Bool, true, false, List, length}
 use Rattle.std.specs.Prelude.{Option, Some, None, Result, Ok, Err}
 use Rattle.std.specs.List.{concat}
-use Rattle.std.specs.Io.KnownBytes.{Consumes}
 use Rattle.std.specs.IoError.{error_kind}
 use Rattle.std.specs.declared.io.Error.{Error}
 use Rattle.std.specs.declared.io.ErrorKind.TheVariants.{OutOfMemory}
-use Rattle.grep_decode.specs.DecoderStates.{Calls}
 use Rattle.grep_decode.specs.Source.{ReadResult}
 use Rattle.grep_matcher.specs.Lines.{lines}
 use Rattle.grep_matcher.specs.Matching.{Meaning}
 use Rattle.grep_matcher.specs.Terminators.{byte_of}
 use Rattle.grep_report.specs.declared.config_error.ConfigError.{ConfigError}
-use Rattle.grep_definitions.specs.Below.{is_at}
 use Rattle.grep_definitions.specs.BinaryBytes.{Look, nowhere, in_contents, on_stream, look_of}
-use Rattle.grep_definitions.specs.BinaryBytes.{before_quit, is_detecting, view_of}
+use Rattle.grep_definitions.specs.BinaryBytes.{before_quit, view_of}
 use Rattle.grep_definitions.specs.DecodedInputs.{IsDecodedSoFar, IsInput, passes_unchanged}
 use Rattle.grep_definitions.specs.InputFronts.{GoesOnAfter, HasOpenLine, IsFront}
 use Rattle.grep_definitions.specs.NotedSinks.{noted}
@@ -28,29 +25,14 @@ use Rattle.grep_definitions.specs.Settings.{Settings, SearcherState}
 use Rattle.grep_definitions.specs.SinkCalls.{begins}
 use Rattle.grep_definitions.specs.StreamSearches.{IsClear, IsCutRun, IsNotedFor, IsNotedRun, stream_calls}
 use Rattle.grep_definitions.specs.SinkRuns.{Steps, Outcome, all_true, AreReported, IsFinished, IsRun, count_of}
-
--- whether no line may have a turn
-abbrev pub reports_nothing : Settings → Bool
-reports_nothing settings = not settings.passthru && is_at 0 settings.max_matches
-
--- whether a search by line may read after `begin`: a line may have a turn, or it looks for a binary byte
-abbrev pub reads_lines : Settings → Bool
-reads_lines settings = not (reports_nothing settings) || is_detecting settings.binary_detection
+pub use Rattle.grep_definitions.specs.Readings.{reads_lines, reports_nothing, Taken}
 
 module _ {R : Type 0} (remaining : R → Option (List ℕ))
     (read_step : R → ReadResult → R → Type 0) where
-  -- What was taken of a reader: its calls returned some pieces, and `ended` says whether one more returned none. If
-  -- the reader says which bytes remain, the pieces are the front of them.
-  pub record Taken (old new : R) : Type 0 where
-    pub ended : Bool
-    pub pieces : List (List ℕ)
-    pub calls : Calls remaining read_step false ended old pieces new
-    pub takes : Consumes (remaining old) (remaining new) (concat pieces)
-
   -- What came of a reader: what was taken of it, and no call followed but one that failed.
   pub record Came (old new : R) : Type 0 where
     pub mid : R
-    pub taken : Taken old mid
+    pub taken : Taken remaining read_step old mid
     pub then_failed : (mid ≡ new)
         ⊎ ((error : Error) × (taken.ended ≡ false) × read_step mid (Err error) new)
 
@@ -62,7 +44,7 @@ module _ {R : Type 0} (remaining : R → Option (List ℕ))
       : Option (List ℕ) → Error → R → Type 0 where
     -- what cuts it short does so before a byte that ends the search
     of_cut : {seen : List ℕ} {error : Error} {reader' : R} → across ≡ false
-        → before_quit state.settings.binary_detection seen ≡ seen → (taken : Taken reader reader')
+        → before_quit state.settings.binary_detection seen ≡ seen → (taken : Taken remaining read_step reader reader')
         → ((bytes : List ℕ) → IsInput state.settings taken.ended taken.pieces bytes
         → GoesOnAfter state.settings meaning (view bytes) seen
         × CutsShort state.settings meaning
@@ -72,7 +54,7 @@ module _ {R : Type 0} (remaining : R → Option (List ℕ))
     -- the heap limit came after them, and none ends the search
     of_reader : {seen : List ℕ} {error : Error} {reader' : R} → across ≡ false
         → before_quit state.settings.binary_detection seen ≡ seen
-        → (mid : R) (taken : Taken reader mid)
+        → (mid : R) (taken : Taken remaining read_step reader mid)
         → taken.ended ≡ false → read_step mid (Err error) reader'
         → ((bytes : List ℕ) → IsInput state.settings taken.ended taken.pieces bytes
         → GoesOnAfter state.settings meaning (view bytes) seen)
@@ -81,12 +63,12 @@ module _ {R : Type 0} (remaining : R → Option (List ℕ))
         → IsUnreadIn across view state meaning reader (Some seen) error reader'
     -- across lines all is read before `begin`: there was no room for it, or the reader's last call failed, and fewer
     -- bytes were decoded before than the heap limit
-    of_contents : {error : Error} {reader' : R} → across ≡ true → (taken : Taken reader reader')
+    of_contents : {error : Error} {reader' : R} → across ≡ true → (taken : Taken remaining read_step reader reader')
         → ((bytes : List ℕ) → IsInput state.settings taken.ended taken.pieces bytes
         → CutsContents state.settings bytes error)
         → IsUnreadIn across view state meaning reader None error reader'
     of_failed_read : {error : Error} {reader' : R} → across ≡ true
-        → (mid : R) (taken : Taken reader mid)
+        → (mid : R) (taken : Taken remaining read_step reader mid)
         → taken.ended ≡ false → read_step mid (Err error) reader'
         → (came : List ℕ) → IsDecodedSoFar state.settings taken.pieces came
         → IsBelowLimit state.settings came
@@ -111,7 +93,7 @@ module _ {R : Type 0} (remaining : R → Option (List ℕ))
     pub record IsReaderRunIn (calls : SearchCalls) (settings : Settings) (reader : R) (old : S)
         (reader' : R) (new : S)
         : Type 0 where
-      pub taken : Taken reader reader'
+      pub taken : Taken remaining read_step reader reader'
       pub seen : List ℕ
       pub outcome : Outcome E
       pub mid : S
@@ -148,7 +130,7 @@ module _ {R : Type 0} (remaining : R → Option (List ℕ))
         : E → R → S → Type 0 where
       -- the sink's own error or the matcher's, over the lines that were seen, and whatever follows what was taken.
       -- Across lines all was read, and it is shorter than the heap limit
-      of_search : {e : E} {reader' : R} {new : S} (taken : Taken reader reader') (seen : List ℕ)
+      of_search : {e : E} {reader' : R} {new : S} (taken : Taken remaining read_step reader reader') (seen : List ℕ)
           → (calls.across ≡ true → taken.ended ≡ true)
           → IsFaultIn step errors matcher calls state.settings seen old e new
           → ((bytes : List ℕ) → IsInput state.settings taken.ended taken.pieces bytes

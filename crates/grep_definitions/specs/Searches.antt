@@ -1,8 +1,6 @@
 -- What a search does to its sink, and what it returns.
 use Rattle.std.specs.Prelude.{◌≡◌, ◌⊎◌, ℕ, List, length, take, Option, Some, None, Result, Ok, Err}
 use Rattle.std.specs.declared.io.Error.{Error}
-use Rattle.grep_matcher.specs.declared.line_terminator.LineTerminator.{LineTerminator}
-use Rattle.grep_matcher.specs.Matching.{Meaning}
 use Rattle.grep_report.specs.declared.config_error.ConfigError.{ConfigError}
 use Rattle.grep_definitions.specs.Settings.{Settings, SearcherState}
 use Rattle.grep_definitions.specs.BinaryBytes.{Look, nowhere, in_contents, on_stream, look_of}
@@ -11,7 +9,6 @@ use Rattle.grep_definitions.specs.DecodedInputs.{searched_bytes, is_searched_unc
 use Rattle.grep_definitions.specs.InputFronts.{IsFront}
 use Rattle.grep_definitions.specs.NotedSinks.{noted}
 use Rattle.grep_definitions.specs.QuitPoints.{quit_point, IsRunTo}
-use Rattle.grep_definitions.specs.Questions.{IsLawfulFor}
 use Rattle.grep_definitions.specs.ReadingFaults.{IsUndecoded}
 use Rattle.grep_definitions.specs.Refusals.{refusal_of}
 use Rattle.grep_definitions.specs.SearchTurns.{SearchCalls, calls_by_line, search_calls}
@@ -19,25 +16,8 @@ use Rattle.grep_definitions.specs.SearchTurns.{search_turns, search_byte_count}
 use Rattle.grep_definitions.specs.SinkCalls.{Turn}
 use Rattle.grep_definitions.specs.StreamSearches.{IsCutRun, IsNotedFor, IsNotedRun, stream_calls}
 use Rattle.grep_definitions.specs.SinkRuns.{Steps, all_true, AreReported, IsRun}
+pub use Rattle.grep_definitions.specs.Parties.{ErrorMakers, MatcherFacts, IsLawful, errors_by, facts_by}
 
--- how a sink's errors are made: of a message, by its text if that is known, of an io error, of a fault of the
--- configuration
-pub record ErrorMakers (E : Type 0) : Type 1 where
-  pub is_message : Option (List ℕ) → E → Type 0
-  pub is_io : Error → E → Type 0
-  pub is_config : ConfigError → E → Type 0
-
--- what is known of a matcher: what it means, which errors a haystack may get, for which terminators what it finds in
--- many lines can be trusted, and the text of an error if that is known
-pub record MatcherFacts (F : Type 0) : Type 1 where
-  pub meaning : Meaning
-  pub fails : List ℕ → F → Type 0
-  pub is_lawful : LineTerminator → Type 0
-  pub text_of : F → Option (List ℕ)
-
--- a matcher is lawful for the search's terminator, if the search may ask it about many lines at once
-abbrev pub IsLawful : {F : Type 0} → MatcherFacts F → Settings → Type 0
-IsLawful matcher settings = IsLawfulFor settings matcher.meaning matcher.is_lawful
 
 module _ {S E F : Type 0} (step : Steps S E) (errors : ErrorMakers E)
     (matcher : MatcherFacts F) where
@@ -122,23 +102,6 @@ module _ {S E F : Type 0} (step : Steps S E) (errors : ErrorMakers E)
       IsQuitFault (search_calls state.settings matcher.meaning) b state.settings
       (searched_bytes state.settings input) old e new
       ⊎ IsUnsearched state input old e new
-
--- the makers of an error type's errors, by these three
-abbrev pub errors_by : {E : Type 0} → (Option (List ℕ) → E → Type 0) → (Error → E → Type 0)
-    → (ConfigError → E → Type 0) → ErrorMakers E
-errors_by is_message is_io is_config =
-    record { is_message = is_message; is_io = is_io; is_config = is_config }
-
--- what is known of a matcher, by these four, of which the first three are said of its state
-abbrev pub facts_by : {M F : Type 0} → (M → Meaning) → (M → List ℕ → F → Type 0)
-    → (M → LineTerminator → Type 0) → (F → Option (List ℕ)) → M → MatcherFacts F
-facts_by meaning fails is_lawful text_of matcher =
-    record {
-      meaning = meaning matcher;
-      fails = fails matcher;
-      is_lawful = is_lawful matcher;
-      text_of = text_of;
-    }
 
 -- how a search of an input ends, also under binary detection
 module _ {S E F : Type 0} (step : Steps S E) (errors : ErrorMakers E)

@@ -1,10 +1,10 @@
 -- A search of an input that is read line by line under binary detection. The decoded bytes are the input, and its view
 -- is what is searched of them.
-use Rattle.std.specs.Prelude.{◌≡◌, ℕ, ◌+◌, ◌<◌, ◌≤◌, List, length, take, Option, Some, None, Result, Ok}
+use Rattle.std.specs.Prelude.{◌≡◌, ℕ, List, length, take, Option, Some, None, Result, Ok}
+pub use Rattle.grep_definitions.specs.BinaryPlans.{IsCutAt}
 use Rattle.grep_matcher.specs.Matching.{Meaning}
 use Rattle.grep_report.specs.declared.binary_detection.BinaryDetection.TheVariants.{Quit}
 use Rattle.grep_definitions.specs.BinaryBytes.{binary_of, view_of}
-use Rattle.grep_definitions.specs.InputFronts.{GoesOnAfter}
 use Rattle.grep_definitions.specs.LineTurns.{one_turn}
 use Rattle.grep_definitions.specs.NotedSinks.{noted}
 use Rattle.grep_definitions.specs.SearchTurns.{SearchCalls, calls_by_line}
@@ -25,15 +25,6 @@ pub record IsNotedFor (settings : Settings) (bytes : List ℕ) (found : Option �
 -- without a call of `binary_data` no binary byte is among the bytes that are counted
 abbrev pub IsClear : Settings → List ℕ → Option ℕ → ℕ → Type 0
 IsClear settings bytes found count = found ≡ None → binary_of settings (take count bytes) ≡ None
-
--- the lines that were seen are whole lines before the first binary byte. There are fewer bytes between than the heap
--- limit has
-pub record IsCutAt (settings : Settings) (meaning : Meaning) (bytes seen : List ℕ)
-    (offset : ℕ) : Type 0 where
-  pub front : GoesOnAfter settings meaning (view_of settings bytes) seen
-  pub first : binary_of settings bytes ≡ Some offset
-  pub after : length seen ≤ offset
-  pub near : (limit : ℕ) → settings.heap_limit ≡ Some limit → offset < length seen + limit
 
 module _ {S E : Type 0} (step : Steps S E) (settings : Settings) (meaning : Meaning) where
   -- the search ended at the first binary byte of its input, whichever of these that is: after the calls for the lines

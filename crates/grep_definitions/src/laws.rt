@@ -13,6 +13,7 @@ ghost use Rattle.grep_definitions.specs.AcrossLaws.{MatchesAreAll, SelectedAreRe
 ghost use Rattle.grep_definitions.specs.AcrossLaws.{ReportsAreApart, ReportsAreAsByLine};
 ghost use Rattle.grep_definitions.specs.BinaryLaws.{QuitReportsAreClear, CountedReportsAreClear};
 ghost use Rattle.grep_definitions.specs.BinaryLaws.{SeenLinesAreClear, SeenLinesBegin};
+ghost use Rattle.grep_definitions.specs.PlanLaws.{PlansAreTurns};
 ghost use Rattle.grep_definitions.specs.CountLaws.{NumbersChangeNoCount, NumbersChangeNoBytes};
 
 use grep_decode::laws::unchanged_is_decoded;
@@ -215,4 +216,11 @@ pub fn seen_lines_begin()
 {
     lines_join();
     lines_append();
+}
+
+/// A plan has the calls of the turns.
+pub fn plans_are_turns()
+    ensures { PlansAreTurns }
+{
+    lines_join();
 }

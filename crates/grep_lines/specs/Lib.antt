@@ -2,4 +2,5 @@ pub mod Blocks
 pub mod FirstLine
 pub mod LineLaws
 pub mod Positions
+pub mod Slices
 pub mod Steps

@@ -2,10 +2,7 @@
 use Rattle.std.specs.Prelude.{◌≡◌, ℕ, ◌+◌, ◌-◌, ◌<◌, ◌≤◌, ◌==◌, List, [], length, take, drop}
 use Rattle.std.specs.Prelude.{slice_index_or, count_by}
 use Rattle.grep_matcher.specs.Lines.{lines, line_start}
-
--- the bytes from a position up to another
-abbrev pub slice : List ℕ → ℕ → ℕ → List ℕ
-slice bytes start end = take (end - start) (drop start bytes)
+pub use Rattle.grep_lines.specs.Slices.{slice}
 
 -- line i starts at a position; after the last line that is the end of the bytes
 pub record IsLineStart (t : ℕ) (bytes : List ℕ) (position i : ℕ) : Type 0 where

@@ -11,6 +11,7 @@ use Rattle.grep_matcher.specs.declared.line_terminator.LineTerminator.{LineTermi
 use Rattle.grep_matcher.specs.Terminators.{byte_of}
 use Rattle.grep_matcher.specs.Lines.{lines, line_start, strip}
 use Rattle.grep_matcher.specs.Matching.{Meaning}
+pub use Rattle.grep_matcher.specs.Meanings.{ExcludesTerminator}
 
 -- the position of what was found, and whether its line surely matches
 abbrev pub position_of : LineMatchKind → ℕ
@@ -53,12 +54,6 @@ module _ (terminator : LineTerminator) (meaning : Meaning) (bytes : List ℕ) wh
       EachLine (λ i. EndsBefore i (position_of found) → matches_at i ≡ false)
       × EachLine (λ i.
       HoldsPosition i (position_of found) → is_confirmed found ≡ true → matches_at i ≡ true)
-
--- the matcher says that no match contains the terminator: it declares it, or its byte is one that
--- no match contains
-abbrev pub ExcludesTerminator : LineTerminator → Meaning → Type 0
-ExcludesTerminator terminator meaning = (meaning.terminator ≡ Some terminator)
-    ⊎ (meaning.absent (byte_of terminator) ≡ true)
 
 -- what was found in some bytes can be trusted for each terminator that the matcher excludes and is
 -- lawful for

@@ -4,21 +4,7 @@ use Rattle.std.specs.Prelude.{◌∷◌, length, take, slice_index, All}
 use Rattle.std.specs.List.{concat, ends_with}
 use Rattle.grep_matcher.specs.declared.line_terminator.LineTerminator.{LineTerminator}
 use Rattle.grep_matcher.specs.Terminators.{bytes_of}
-
--- a byte added at the front of the first line
-abbrev pub onto_first : ℕ → List (List ℕ) → List (List ℕ)
-onto_first b [] = (b ∷ []) ∷ []
-onto_first b (line ∷ later) = (b ∷ line) ∷ later
-
--- the lines of some bytes: a byte t ends a line and belongs to it; any other byte belongs to the
--- same line as the byte after it
-abbrev pub lines : ℕ → List ℕ → List (List ℕ)
-lines t [] = []
-lines t (b ∷ bytes) = if b == t then (b ∷ []) ∷ lines t bytes else onto_first b (lines t bytes)
-
--- the position at which line i starts: the number of bytes in the lines before it
-abbrev pub line_start : ℕ → List ℕ → ℕ → ℕ
-line_start t bytes i = length (concat (take i (lines t bytes)))
+pub use Rattle.grep_matcher.specs.LineLists.{onto_first, lines, line_start, strip}
 
 -- t occurs nowhere but at the end of the piece
 abbrev pub IsUnbroken : ℕ → List ℕ → Type 0
@@ -37,11 +23,3 @@ pub record AreLines (t : ℕ) (bytes : List ℕ) (pieces : List (List ℕ)) : Ty
   pub filled : All (λ piece. 0 < length piece) pieces
   pub unbroken : All (IsUnbroken t) pieces
   pub ended : AreEnded t pieces
-
--- a line without its terminator, if it ends with all of it; under CRLF a line that ends in a line
--- feed alone keeps it
-abbrev pub strip : LineTerminator → List ℕ → List ℕ
-strip terminator line =
-    if ends_with nat_eq line (bytes_of terminator)
-    then take (length line - length (bytes_of terminator)) line
-    else line

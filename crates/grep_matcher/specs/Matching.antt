@@ -3,13 +3,7 @@ use Rattle.std.specs.Prelude.{◌≡◌, ℕ, ◌<◌, ◌≤◌, Bool, false, L
 use Rattle.std.specs.Prelude.{IfSome, is_some, slice_index}
 use Rattle.grep_matcher.specs.declared.line_terminator.LineTerminator.{LineTerminator}
 use Rattle.grep_matcher.specs.ByteSets.{holds}
-
--- for each haystack its first match, by its start and its end, if it has one; the line terminator
--- that the matcher declares, if any; and bytes that no match contains
-pub record Meaning : Type 0 where
-  pub first : List ℕ → Option (ℕ × ℕ)
-  pub terminator : Option LineTerminator
-  pub absent : ℕ → Bool
+pub use Rattle.grep_matcher.specs.Meanings.{Meaning, IsInfallible}
 
 -- a match lies within its haystack
 abbrev pub IsWithin : List ℕ → Option (ℕ × ℕ) → Type 0
@@ -29,10 +23,6 @@ IsPosition haystack found position = (is_some position ≡ is_some found)
 abbrev pub holds_if_some : Option (List Bool) → ℕ → Bool
 holds_if_some None byte = false
 holds_if_some (Some set) byte = holds set byte
-
--- no haystack gets an error
-abbrev pub IsInfallible : {F : Type 0} → (List ℕ → F → Type 0) → Type 0
-IsInfallible {F} fails = (haystack : List ℕ) (error : F) → fails haystack error → ⊥
 
 -- these matches, with no line terminator and no bytes that no match contains
 abbrev pub plain : (List ℕ → Option (ℕ × ℕ)) → Meaning

@@ -1,6 +1,15 @@
 pub mod ClosureSinks
 pub mod CountSinks
 pub use Rattle.grep_definitions.specs.Settings
+pub use Rattle.grep_definitions.specs.BuiltSettings
+pub use Rattle.grep_definitions.specs.Plans
+pub use Rattle.grep_definitions.specs.Reports
+pub use Rattle.grep_definitions.specs.SelectedLines
+pub use Rattle.grep_definitions.specs.Asking
+pub use Rattle.grep_definitions.specs.Parties
+pub use Rattle.grep_definitions.specs.BinaryPlans
+pub use Rattle.grep_definitions.specs.Readings
+pub use Rattle.grep_definitions.specs.PlannedSearches
 pub use Rattle.grep_definitions.specs.SinkCalls
 pub use Rattle.grep_definitions.specs.Below
 pub use Rattle.grep_definitions.specs.LineSearch
@@ -30,6 +39,8 @@ pub use Rattle.grep_definitions.specs.SinkFolds
 pub use Rattle.grep_decode.specs.Labels
 pub use Rattle.grep_decode.specs.Source
 pub use Rattle.grep_matcher.specs.Lawful
+pub use Rattle.grep_matcher.specs.LineLists
+pub use Rattle.grep_matcher.specs.Meanings
 pub use Rattle.grep_matcher.specs.Literals
 pub use Rattle.grep_matcher.specs.Matching
 pub use Rattle.grep_report.specs.BinaryDetections

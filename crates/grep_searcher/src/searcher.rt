@@ -8,13 +8,14 @@ ghost use Rattle.grep_matcher.specs.Matching.{IsInfallible};
 ghost use Rattle.grep_definitions.specs.Below.{is_at};
 ghost use Rattle.grep_definitions.specs.CallOrder.{IsOwnError, IsReadingError, RunsInOrder};
 ghost use Rattle.grep_definitions.specs.DecodedInputs.{is_searched_unchanged};
+ghost use Rattle.grep_definitions.specs.PlannedSearches.{IsSliceSearch, IsUnlessRefused};
 ghost use Rattle.grep_definitions.specs.Questions.{IsLawfulFor};
 ghost use Rattle.grep_definitions.specs.ReaderSearches.{IsReaderSearched, IsSourceSearched, IsUnread};
 ghost use Rattle.grep_definitions.specs.ReadingFaults.{IsUndecoded};
 ghost use Rattle.grep_definitions.specs.Refusals.{refusal_of};
 ghost use Rattle.grep_definitions.specs.Searches.{IsInputSearched, IsSearched};
 ghost use Rattle.grep_definitions.specs.Searches.{errors_by, facts_by};
-ghost use Rattle.grep_definitions.specs.Settings.{default_settings};
+ghost use Rattle.grep_definitions.specs.BuiltSettings.{default_settings};
 ghost use Rattle.grep_definitions.specs.SinkRuns.{NeverFails};
 ghost use Rattle.grep_definitions.specs.SliceReads.{IsSliceRead};
 ghost use Rattle.grep_core.specs.SearchBuffers.{AreFitting};
@@ -143,6 +144,14 @@ impl<A: Allocator + Copy> Searcher<A> {
         ensures buffers { self.old.has_buffers ≡ true → self.new.has_buffers ≡ true }
         ensures same { is_searched_unchanged self.old.settings bytes.now ≡ true
             → self.new ≡ self.old }
+        ensures planned { is_searched_unchanged self.old.settings bytes.now ≡ true
+            → IsUnlessRefused (errors_by S.Error.is_message S.Error.is_io S.Error.is_config)
+            (facts_by M.meaning M.fails M.is_lawful M.Error.output matcher)
+            self.old.settings sink.old result sink.new (Unit {0})
+            (IsSliceSearch S.step
+            (errors_by S.Error.is_message S.Error.is_io S.Error.is_config)
+            (facts_by M.meaning M.fails M.is_lawful M.Error.output matcher)
+            self.old.settings bytes.now sink.old result sink.new) }
         ensures searched { IsSearched S.step
             (errors_by S.Error.is_message S.Error.is_io S.Error.is_config)
             (facts_by M.meaning M.fails M.is_lawful M.Error.output matcher)
@@ -170,6 +179,7 @@ impl<A: Allocator + Copy> Searcher<A> {
             × S.Error.is_io error e) }
         ensures may_call { S.may_call sink.new }
     {
+        unchanged_is_searched();
         match self.config.refusal(&matcher) {
             Some(refusal) => Err(S::Error::error_config(self.alloc, refusal)),
             None => self.search_input(&matcher, bytes, sink),

@@ -1,6 +1,6 @@
 -- The settings that options ask for.
 use Rattle.std.specs.Prelude.{Bool, not}
-use Rattle.grep_searcher.specs.Settings.{built, default_settings}
+use Rattle.grep_searcher.specs.BuiltSettings.{built, default_settings}
 use Rattle.grep_searcher.specs.Settings.{Settings}
 use Rattle.lgrep_cli.specs.declared.options.Options.{Options}
 

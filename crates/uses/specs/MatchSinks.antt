@@ -2,7 +2,8 @@
 use Rattle.std.specs.Prelude.{ℕ, ◌+◌, ◌-◌, ◌^◌, true, min, List, [], ◌∷◌, ◌++◌, codes, map, Option}
 use Rattle.std.specs.Prelude.{Some, None}
 use Rattle.std.specs.List.{concat}
-use Rattle.grep_searcher.specs.Settings.{Settings, SearcherState, default_settings}
+use Rattle.grep_searcher.specs.Settings.{Settings, SearcherState}
+use Rattle.grep_searcher.specs.BuiltSettings.{default_settings}
 use Rattle.grep_searcher.specs.SinkCalls.{Call, Turn, begins, matches, context, breaks, binary_data}
 use Rattle.grep_searcher.specs.SinkCalls.{finishes}
 use Rattle.uses.specs.declared.count.MatchCount.{MatchCount}

@@ -1,6 +1,6 @@
 //! The builder of a searcher.
 ghost use Rattle.std.specs.Prelude.{◌≡◌, true, IfOk, IfErr};
-ghost use Rattle.grep_definitions.specs.Settings.{default_settings, built};
+ghost use Rattle.grep_definitions.specs.BuiltSettings.{default_settings, built};
 
 use crate::searcher::Searcher;
 use grep_matcher::LineTerminator;
@@ -25,7 +25,7 @@ impl Model for SearcherBuilder {
 
 impl Default for SearcherBuilder {
     ghost use Rattle.std.specs.Prelude.{◌≡◌};
-    ghost use Rattle.grep_definitions.specs.Settings.{default_settings};
+    ghost use Rattle.grep_definitions.specs.BuiltSettings.{default_settings};
 
     ghost is_default = { λ b. b ≡ default_settings };
 

@@ -4,7 +4,8 @@ use Rattle.grep_searcher.specs.ReadingFaults.{IsUndecoded}
 use Rattle.grep_searcher.specs.Refusals.{refusal_of}
 use Rattle.grep_searcher.specs.SearchTurns.{search_turns}
 use Rattle.grep_searcher.specs.Literals.{literal_meaning}
-use Rattle.grep_searcher.specs.Settings.{Settings, SearcherState, built}
+use Rattle.grep_searcher.specs.Settings.{Settings, SearcherState}
+use Rattle.grep_searcher.specs.BuiltSettings.{built}
 use Rattle.grep_searcher.specs.DecodedInputs.{searched_bytes}
 use Rattle.uses.specs.MatchSinks.{one_before, reporter, reported, report_of}
 use Rattle.uses.proofs.FoldLemmas.{reported-run}

@@ -1,0 +1,102 @@
+-- A plan: the calls that a search makes of its sink. And what a sink makes of a plan.
+use Rattle.std.specs.Prelude.{◌≡◌, ◌⊎◌, ℕ, Bool, true, false, List, [], ◌∷◌, Option, Result, Ok, Err}
+use Rattle.grep_report.specs.declared.sink_context.SinkContextKind.{SinkContextKind}
+use Rattle.grep_definitions.specs.Settings.{Settings}
+
+-- one call of a sink, with its data but the buffer around a match
+pub data Call : Type 0 where
+  begins : Call
+  -- line number, offset, bytes
+  matches : Option ℕ → ℕ → List ℕ → Call
+  -- kind, line number, offset, bytes
+  context : SinkContextKind → Option ℕ → ℕ → List ℕ → Call
+  breaks : Call
+  -- the offset of the first binary byte
+  binary_data : ℕ → Call
+  -- byte count, and that offset if there was the call before
+  finishes : ℕ → Option ℕ → Call
+
+-- the bytes of the line or the lines that a call reports, and the offset of the first; other calls have none
+abbrev pub reported_bytes : Call → List ℕ
+reported_bytes begins = []
+reported_bytes (matches number offset bytes) = bytes
+reported_bytes (context kind number offset bytes) = bytes
+reported_bytes breaks = []
+reported_bytes (binary_data offset) = []
+reported_bytes (finishes count binary) = []
+
+abbrev pub reported_from : Call → ℕ
+reported_from begins = 0
+reported_from (matches number offset bytes) = offset
+reported_from (context kind number offset bytes) = offset
+reported_from breaks = 0
+reported_from (binary_data offset) = 0
+reported_from (finishes count binary) = 0
+
+abbrev pub is_break : Call → Bool
+is_break begins = false
+is_break (matches number offset bytes) = false
+is_break (context kind number offset bytes) = false
+is_break breaks = true
+is_break (binary_data offset) = false
+is_break (finishes count binary) = false
+
+-- what `finish` has: the byte count, and the offset of the first binary byte if the sink was told of it
+pub record Finish : Type 0 where
+  pub count : ℕ
+  pub binary : Option ℕ
+
+-- a call, and what `finish` has if the call returns false
+pub record Planned : Type 0 where
+  pub call : Call
+  pub if_false : Finish
+
+-- the calls before the last, and what `finish` has if each of them returns true
+pub record Plan : Type 0 where
+  pub calls : List Planned
+  pub finish : Finish
+
+-- a sink's meaning: the state before a call, the settings, the call, what it returned, the state after
+abbrev pub Steps : Type 0 → Type 0 → Type 1
+Steps S E = S → Settings → Call → Result Bool E → S → Type 0
+
+-- what `finish` returned, as the result of any other call
+abbrev pub finish_result : {E : Type 0} → Result (Unit {0}) E → Result Bool E
+finish_result (Ok u) = Ok true
+finish_result (Err e) = Err e
+
+-- what came of some calls: each returned true, or one returned false, or one failed
+pub data Outcome (E : Type 0) : Type 0 where
+  all_true : Outcome E
+  stopped : Finish → Outcome E
+  failed : E → Outcome E
+
+-- what `finish` has after them
+abbrev pub finish_after : {E : Type 0} → Outcome E → Finish → Finish
+finish_after all_true finish = finish
+finish_after (stopped if_false) finish = if_false
+finish_after (failed e) finish = finish
+
+module _ {S E : Type 0} (step : Steps S E) (settings : Settings) where
+  -- the calls are made in order, up to the first that doesn't return true
+  abbrev pub AreMade : S → List Planned → Outcome E → S → Type 0
+  AreMade old [] outcome new = (outcome ≡ all_true) × (new ≡ old)
+  AreMade old (planned ∷ later) outcome new =
+      ((mid : S) × step old settings planned.call (Ok true) mid × AreMade mid later outcome new)
+      ⊎ (((outcome ≡ stopped planned.if_false) × step old settings planned.call (Ok false) new)
+      ⊎ ((e : E) × (outcome ≡ failed e) × step old settings planned.call (Err e) new))
+
+  -- `finish` follows, but for an error, which nothing follows
+  abbrev pub IsFinished : Outcome E → S → Finish → Result (Unit {0}) E → S → Type 0
+  IsFinished all_true old finish result new =
+      step old settings (finishes finish.count finish.binary) (finish_result result) new
+  IsFinished (stopped if_false) old finish result new =
+      step old settings (finishes if_false.count if_false.binary) (finish_result result) new
+  IsFinished (failed e) old finish result new = (result ≡ Err e) × (new ≡ old)
+
+  -- a run along a plan
+  pub record IsRun (old : S) (plan : Plan) (result : Result (Unit {0}) E) (new : S) : Type 0 where
+    pub outcome : Outcome E
+    pub mid : S
+    pub made : AreMade old plan.calls outcome mid
+    pub finished : IsFinished outcome mid plan.finish result new

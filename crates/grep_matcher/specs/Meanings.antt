@@ -1,0 +1,21 @@
+-- What a matcher means.
+use Rattle.std.specs.Prelude.{◌≡◌, ◌⊎◌, ℕ, Bool, true, List, Option, Some}
+use Rattle.grep_matcher.specs.declared.line_terminator.LineTerminator.{LineTerminator}
+use Rattle.grep_matcher.specs.Terminators.{byte_of}
+
+-- for each haystack its first match, by its start and its end, if it has one; the line terminator
+-- that the matcher declares, if any; and bytes that no match contains
+pub record Meaning : Type 0 where
+  pub first : List ℕ → Option (ℕ × ℕ)
+  pub terminator : Option LineTerminator
+  pub absent : ℕ → Bool
+
+-- the matcher says that no match contains the terminator: it declares it, or its byte is one that
+-- no match contains
+abbrev pub ExcludesTerminator : LineTerminator → Meaning → Type 0
+ExcludesTerminator terminator meaning = (meaning.terminator ≡ Some terminator)
+    ⊎ (meaning.absent (byte_of terminator) ≡ true)
+
+-- no haystack gets an error
+abbrev pub IsInfallible : {F : Type 0} → (List ℕ → F → Type 0) → Type 0
+IsInfallible {F} fails = (haystack : List ℕ) (error : F) → fails haystack error → ⊥
