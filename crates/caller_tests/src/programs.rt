@@ -367,8 +367,8 @@ impl Write for Full {
 fn writes_whenever_no_more_is_kept(rt: HostRuntime) -> Result<(), Fail> {
     let input = many_lines(rt.alloc(), false)?;
     let text = many_lines(rt.alloc(), true)?;
-    // How many bytes are taken if so many writes are: the text that is kept twice, the number of the
-    // long line, the line, and the text after it.
+    // How many bytes are taken if so many writes are: the text that is kept twice, the number of
+    // the long line, the line, and the text after it.
     for (left, length) in [
         (0, 0),
         (1, 65_519),
@@ -572,7 +572,8 @@ fn returns_the_error_of_opening(rt: HostRuntime) -> Result<(), Fail> {
     Ok(())
 }
 
-// The arguments of the program, what it writes of `a` without a line feed, and its exit status. There is no file `-`.
+// The arguments of the program, what it writes of `a` without a line feed, and its exit status.
+// There is no file `-`.
 const PROGRAM_ROWS: &[(&str, &str, u8)] = &[
     ("a", "1:a\n", 0),
     ("--passthru z", "1-a\n", 1),

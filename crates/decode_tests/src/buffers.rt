@@ -11,7 +11,8 @@ const LF: u8 = b'\n';
 
 const NAMES: &[u8] = b"homer\nlisa\nmaggie";
 
-// What a fill returns, or `None` for a heap limit that was reached, and what is shown then, all of which is consumed.
+// What a fill returns, or `None` for a heap limit that was reached, and what is shown then, all of
+// which is consumed.
 type Fill<'a> = (Option<bool>, &'a [u8]);
 
 // Asserts what fills of a buffer show, and the offset after them.
@@ -105,7 +106,8 @@ fn limits(rt: HostRuntime) -> Result<(), Fail> {
     check_fills(&rt, 1, Some(1), &[(None, b""), (None, b"h")], 1)
 }
 
-// A reader of one byte at a time that keeps for how many bytes it was asked: a decimal digit a call.
+// A reader of one byte at a time that keeps for how many bytes it was asked: a decimal digit a
+// call.
 #[derive(Drop)]
 struct Bytes<'a> {
     bytes: &'a [u8],

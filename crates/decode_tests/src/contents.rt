@@ -7,7 +7,8 @@ use std::io::ErrorKind;
 use std::process::Abort;
 use std::test::Fail;
 
-// A reader that gives at most so many bytes at a call, then fails if it is to, and counts its calls.
+// A reader that gives at most so many bytes at a call, then fails if it is to, and counts its
+// calls.
 #[derive(Drop)]
 struct Pieces<'a> {
     bytes: &'a [u8],
@@ -53,8 +54,8 @@ fn ends_so(read: &Result<(), FillError>, end: End) -> bool {
     }
 }
 
-// The limit, the bytes of a piece, whether the reader of `homer` fails then, how reading ends, the contents, and how
-// many calls of the reader were made.
+// The limit, the bytes of a piece, whether the reader of `homer` fails then, how reading ends, the
+// contents, and how many calls of the reader were made.
 type Row = (Option<usize>, usize, bool, End, &'static [u8], usize);
 
 const ROWS: &[Row] = &[

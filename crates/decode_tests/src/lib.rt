@@ -1,5 +1,5 @@
-//! Tests of the decoder: bytes and their decoded bytes, worked by hand, and how the results are cut. And of what reads
-//! through it: line buffers, and whole contents.
+//! Tests of the decoder: bytes and their decoded bytes, worked by hand, and how the results are
+//! cut. And of what reads through it: line buffers, and whole contents.
 #![tactic(auto)]
 
 #[cfg(test)]

@@ -7,7 +7,8 @@ use grep_testing::{Comparison, Pieces, Recorder, Row};
 use std::alloc::{Allocator, Global};
 use std::io;
 
-// Passes its calls on to a recorder, and makes a copy of the searcher at each match, which makes the search of a row.
+// Passes its calls on to a recorder, and makes a copy of the searcher at each match, which makes
+// the search of a row.
 #[derive(Drop)]
 struct Copying {
     recorder: Recorder,
@@ -71,8 +72,8 @@ impl Sink for Copying {
     }
 }
 
-// Whether a copy of a searcher makes the calls of a row: over a reader, then over a slice if they are the same there,
-// and over a reader again.
+// Whether a copy of a searcher makes the calls of a row: over a reader, then over a slice if they
+// are the same there, and over a reader again.
 fn copy_agrees<A: Allocator + Copy>(searcher: &Searcher<A>, row: &Row) -> bool {
     match searcher.clone() {
         Ok(mut copy) => {
@@ -99,8 +100,8 @@ fn slice_agrees<A: Allocator + Copy>(searcher: &mut Searcher<A>, row: &Row) -> b
     ended.is_ok() && comparison.is_whole()
 }
 
-/// Makes the search of a row with copies of its searcher, and writes how many of them agreed. If the search with the
-/// copies comes to something else than the row says, none did.
+/// Makes the search of a row with copies of its searcher, and writes how many of them agreed. If
+/// the search with the copies comes to something else than the row says, none did.
 pub(crate) fn try_copies<W: io::Write>(
     alloc: Global,
     row: &'static Row,

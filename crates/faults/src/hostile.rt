@@ -91,7 +91,8 @@ const GUESTS: &[(&str, Guest)] = &[
     ("one without an end, and a binary byte", Guest::Binary),
 ];
 
-/// Searches with each, and writes which searches end as they have to and leave a searcher that makes its calls.
+/// Searches with each, and writes which searches end as they have to and leave a searcher that
+/// makes its calls.
 pub(crate) fn try_hostile<W: io::Write>(alloc: Global, output: &mut W) -> io::Result<()> {
     for (name, guest) in GUESTS {
         try_guest(alloc, &BREAK, name, *guest, output)?;
@@ -180,7 +181,8 @@ fn is_interrupted(searcher: &mut Searcher) -> bool {
     }
 }
 
-// A limit of 1 has two lines after the match, which are matches too. Without a limit the sink ends the search.
+// A limit of 1 has two lines after the match, which are matches too. Without a limit the sink ends
+// the search.
 fn is_cut(searcher: &mut Searcher) -> bool {
     let mut reader = Repeated::new(b"a\n", u64::MAX, b"");
     match searcher.max_matches() {

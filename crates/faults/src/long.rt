@@ -7,7 +7,8 @@ use grep_searcher::{ConfigError, SearchError, SearcherBuilder};
 use std::alloc::Global;
 use std::io;
 
-// A search for `z` of a long input, and what it comes to: its totals, or none for the heap limit's error.
+// A search for `z` of a long input, and what it comes to: its totals, or none for the heap limit's
+// error.
 struct Long {
     name: &'static str,
     reader: (&'static [u8], u64, &'static [u8]),

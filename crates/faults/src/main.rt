@@ -1,9 +1,10 @@
-//! Makes each part of a search fail in turn, over a reader of single bytes: each read, with an error of each kind;
-//! each call of the sink, with false; each call, with an error. It compares the calls that were made and how the
-//! search ended with tables, and has the same searcher make the same search again after each case, with nothing that
-//! fails. A sink also makes the search with a copy of the searcher at each match, and each call of a writer of `lgrep`
-//! fails in turn. It writes a line for each row and part, with how many cases agreed, and of a search one for each case
-//! that didn't.
+//! Makes each part of a search fail in turn, over a reader of single bytes: each read, with an
+//! error of each kind; each call of the sink, with false; each call, with an error. It compares the
+//! calls that were made and how the search ended with tables, and has the same searcher make the
+//! same search again after each case, with nothing that fails. A sink also makes the search with a
+//! copy of the searcher at each match, and each call of a writer of `lgrep` fails in turn. It
+//! writes a line for each row and part, with how many cases agreed, and of a search one for each
+//! case that didn't.
 #![tactic(auto)]
 
 mod case;

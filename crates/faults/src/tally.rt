@@ -2,8 +2,8 @@
 use grep_searcher::{SearchError, Searcher, Sink, SinkContext, SinkFinish, SinkMatch};
 use std::alloc::Allocator;
 
-/// How many matches there were, the sums of their line numbers, of their offsets and of their lengths, both in bytes, and
-/// the byte count of the end.
+/// How many matches there were, the sums of their line numbers, of their offsets and of their
+/// lengths, both in bytes, and the byte count of the end.
 pub(crate) type Totals = (u64, u64, u64, u64, u64);
 
 /// Adds up the matches of a search.

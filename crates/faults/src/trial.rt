@@ -90,7 +90,8 @@ impl Tally {
     }
 }
 
-/// Tries all cases of a row by one searcher, and writes how many agreed. An error is that of the write to `output`.
+/// Tries all cases of a row by one searcher, and writes how many agreed. An error is that of the
+/// write to `output`.
 pub(crate) fn try_all<W: io::Write>(alloc: Global, row: &Row, output: &mut W) -> io::Result<()> {
     match row.settings.build(alloc) {
         Ok(mut searcher) => {

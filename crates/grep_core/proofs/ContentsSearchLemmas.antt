@@ -1,5 +1,6 @@
 -- A search of a reader across lines, for which all of it was read first.
-use Rattle.std.proofs.Common.{◌≡◌, ◌⊎◌, ℕ, ◌<◌, Bool, true, false, List, [], ◌∷◌, ◌++◌, length, Option, None, Result, Ok, Err}
+use Rattle.std.proofs.Common.{◌≡◌, ◌⊎◌, ℕ, ◌<◌, Bool, true, false, List, [], ◌∷◌, ◌++◌, length, Option, None, Result}
+use Rattle.std.proofs.Common.{Ok, Err}
 use Rattle.std.proofs.Common.{refl, sym, ◌∙◌, ap, subst, arith, ⊎_elim, inl, inr, append-nil, length-append, ◌≤◌}
 use Rattle.std.proofs.lemmas.Bool.{false≢true}
 use Rattle.std.proofs.lemmas.List.Elements.{All-weaker}
@@ -36,7 +37,8 @@ use Rattle.grep_walk.proofs.FinishLemmas.{finish-counted, run-finish}
 use Rattle.grep_core.proofs.ReadingLemmas as reading
 
 -- bytes below the heap limit are a front of themselves: no line of theirs is too long
-pub front-whole : LinesJoin → (k : Settings) (bytes : List ℕ) → IsBelow k.heap_limit (length bytes) → IsFront k bytes bytes
+pub front-whole : LinesJoin → (k : Settings) (bytes : List ℕ) → IsBelow k.heap_limit (length bytes)
+    → IsFront k bytes bytes
 front-whole join k bytes below = record {
   after = [];
   whole = sym (append-nil bytes);
@@ -78,14 +80,16 @@ module _ {R : Type 0} (remaining : R → Option (List ℕ)) (read_step : R → R
   -- there was no room for all of it
   pub unread-contents : (view : List ℕ → List ℕ) (has_buffers : Bool) (meaning : Meaning) (error : Error)
       → ((bytes : List ℕ) → length given ≤ length bytes → CutsContents k bytes error)
-      → IsUnreadIn remaining read_step true view (record { settings = k; has_buffers = has_buffers }) meaning reader None error reader'
+      → IsUnreadIn remaining read_step true view (record { settings = k; has_buffers = has_buffers }) meaning reader
+      None error reader'
   unread-contents view has_buffers meaning error cut = of_contents refl taken (λ bytes input.
       let text = given-begins bytes input in
       cut bytes (omega (arith, ap length text.1, length-append given text.0)))
 
   -- all of it was read
   module _ (join : LinesJoin) (done : IsDone d) (below : IsBelow k.heap_limit (length given))
-      {S E F : Type 0} (step : Steps S E) (errors : ErrorMakers E) (matcher : MatcherFacts F) (has_buffers : Bool) (old : S) where
+      {S E F : Type 0} (step : Steps S E) (errors : ErrorMakers E) (matcher : MatcherFacts F) (has_buffers : Bool)
+      (old : S) where
     abbrev calls : SearchCalls
     calls = calls_across k matcher.meaning
 
@@ -119,10 +123,12 @@ module _ {R : Type 0} (remaining : R → Option (List ℕ)) (read_step : R → R
         → step mid k (finishes count None) (finish_result result) new
         → IsSourceSearchedIn step errors matcher calls remaining read_step state reader old result reader' new
     contents-finished count outcome mid (Ok u) new counted finish =
-        let finished = finish-counted step k old (calls.turns given) (calls.byte_count given) count outcome mid (Ok u) new
+        let finished = finish-counted step k old (calls.turns given) (calls.byte_count given) count outcome mid (Ok u)
+        new
         counted.is_count finish in
         let begun = has-begun step k old 0 _ (calls.byte_count given) outcome mid new counted.reported finished in
-        let run = run-finish step k old (calls.turns given) (calls.byte_count given) count outcome mid (Ok u) new counted finish in
+        let run = run-finish step k old (calls.turns given) (calls.byte_count given) count outcome mid (Ok u) new
+        counted finish in
         record {
           taken = taken;
           seen = given;
@@ -132,9 +138,11 @@ module _ {R : Type 0} (remaining : R → Option (List ℕ)) (read_step : R → R
           finished = finished;
           front = front-is;
           run = λ bytes input. subst
-              (λ xs. IsRun step k old (calls.turns xs) (calls.byte_count xs) None (Ok u) new) (given-is bytes input) run;
+              (λ xs. IsRun step k old (calls.turns xs) (calls.byte_count xs) None (Ok u) new) (given-is bytes input)
+              run;
           all = λ bytes input all. subst
-              (λ xs. calls.turn_count xs ≤ length (lines (byte_of k.line_terminator) given)) (given-is bytes input) (omega arith);
+              (λ xs. calls.turn_count xs ≤ length (lines (byte_of k.line_terminator) given)) (given-is bytes input)
+              (omega arith);
           begun = begun.0;
           first = begun.1;
           begin = begun.2;
@@ -144,7 +152,8 @@ module _ {R : Type 0} (remaining : R → Option (List ℕ)) (read_step : R → R
           ahead = λ by_line. absurd (false≢true (sym by_line));
         }
     contents-finished count outcome mid (Err e) new counted finish = contents-fault e new
-        (of_sink (run-finish step k old (calls.turns given) (calls.byte_count given) count outcome mid (Err e) new counted finish))
+        (of_sink (run-finish step k old (calls.turns given) (calls.byte_count given) count outcome mid (Err e) new
+        counted finish))
 
     -- a search of it ended at a byte, or might have
     pub contents-until : (b : ℕ) (result : Result (Unit {0}) E) (new : S)
@@ -153,26 +162,31 @@ module _ {R : Type 0} (remaining : R → Option (List ℕ)) (read_step : R → R
     contents-until b (Ok u) new run = record {
       taken = taken;
       whole = done.ended;
-      run = λ bytes input. subst (λ xs. IsRunUntil step errors matcher calls b k xs old (Ok u) new) (given-is bytes input) run;
+      run = λ bytes input. subst (λ xs. IsRunUntil step errors matcher calls b k xs old (Ok u) new)
+          (given-is bytes input) run;
       below = below-limit;
     }
     contents-until b (Err e) new fault = inl (record {
       taken = taken;
       whole = done.ended;
-      run = λ bytes input. subst (λ xs. IsQuitFault step errors matcher calls b k xs old e new) (given-is bytes input) fault;
+      run = λ bytes input. subst (λ xs. IsQuitFault step errors matcher calls b k xs old e new) (given-is bytes input)
+          fault;
       below = below-limit;
     })
 
 -- the reader's last call failed
-pub unread-failed : {R : Type 0} (remaining : R → Option (List ℕ)) (read_step : R → ReadResult → R → Type 0) (k : Settings)
+pub unread-failed : {R : Type 0} (remaining : R → Option (List ℕ)) (read_step : R → ReadResult → R → Type 0)
+    (k : Settings)
     (capacity : ℕ) (reader : R) (given : List ℕ) (d : DecoderState) (mid : R)
     (reads : Decodes remaining read_step (started capacity k.encoding k.bom_sniffing) reader given d mid)
     → ((d : DecoderState) (more : List ℕ) → IsDone d → still_to_give d more ≡ [])
     → (view : List ℕ → List ℕ) (has_buffers : Bool) (meaning : Meaning) (error : Error) (reader' : R)
     → IsBelow k.heap_limit (length given)
     → d.has_ended ≡ false → read_step mid (Err error) reader' → d.ready ≡ [] → IsWaiting d.mode d.held
-    → IsUnreadIn remaining read_step true view (record { settings = k; has_buffers = has_buffers }) meaning reader None error reader'
-unread-failed remaining read_step k capacity reader given d mid reads none view has_buffers meaning error reader' below unended ends
+    → IsUnreadIn remaining read_step true view (record { settings = k; has_buffers = has_buffers }) meaning reader None
+    error reader'
+unread-failed remaining read_step k capacity reader given d mid reads none view has_buffers meaning error reader' below
+    unended ends
     ready waits =
     of_failed_read refl mid (reading.taken remaining read_step k capacity reader given d mid reads) unended ends given
     (reading.decoded-so_far remaining read_step k capacity reader given d mid reads none unended ready waits)
@@ -180,70 +194,88 @@ unread-failed remaining read_step k capacity reader given d mid reads none view 
 
 -- why not all was read, by the error
 module _ {R : Type 0} (remaining : R → Option (List ℕ)) (read_step : R → ReadResult → R → Type 0) (k : Settings)
-    (capacity : ℕ) (d : DecoderState) (start : d ≡ started capacity k.encoding k.bom_sniffing) (reader : R) (given : List ℕ)
+    (capacity : ℕ) (d : DecoderState) (start : d ≡ started capacity k.encoding k.bom_sniffing) (reader : R)
+    (given : List ℕ)
     (d' : DecoderState) (reader' : R) (none : (d : DecoderState) (more : List ℕ) → IsDone d → still_to_give d more ≡ [])
     (view : List ℕ → List ℕ) (has_buffers : Bool) (meaning : Meaning) where
   abbrev Unread : Error → Type 0
   Unread error =
-      IsUnreadIn remaining read_step true view (record { settings = k; has_buffers = has_buffers }) meaning reader None error reader'
+      IsUnreadIn remaining read_step true view (record { settings = k; has_buffers = has_buffers }) meaning reader None
+      error reader'
 
-  pub unread-read : (e : FillError) (error : Error) → IsMadeOf e error → (size : ℕ) → ContentsFail k.heap_limit size given e
+  pub unread-read : (e : FillError) (error : Error) → IsMadeOf e error → (size : ℕ)
+      → ContentsFail k.heap_limit size given e
       → UnlessRead {X = Unit {0}} (Err e) (Decodes remaining read_step d reader given d' reader')
       → IfRead {X = Unit {0}} (Err e) (λ io. FailsAfter remaining read_step io d reader given d' reader')
-      → IfRead {X = Unit {0}} (Err e) (λ _. d'.ready ≡ []) → IfRead {X = Unit {0}} (Err e) (λ _. IsWaiting d'.mode d'.held)
+      → IfRead {X = Unit {0}} (Err e) (λ _. d'.ready ≡ [])
+      → IfRead {X = Unit {0}} (Err e) (λ _. IsWaiting d'.mode d'.held)
       → Unread error
   unread-read (Read io) error made size below reads fails ready waits =
       let fails' = subst (λ from. FailsAfter remaining read_step io from reader given d' reader') start fails in
       subst Unread (sym made)
-      (unread-failed remaining read_step k capacity reader given d' fails'.mid fails'.decodes none view has_buffers meaning io reader'
+      (unread-failed remaining read_step k capacity reader given d' fails'.mid fails'.decodes none view has_buffers
+      meaning io reader'
       below fails'.unended fails'.failed ready waits)
   unread-read HeapLimit error made size full reads fails ready waits =
       unread-contents remaining read_step k capacity reader given d' reader'
-      (subst (λ from. Decodes remaining read_step from reader given d' reader') start reads) none view has_buffers meaning error
+      (subst (λ from. Decodes remaining read_step from reader given d' reader') start reads) none view has_buffers
+      meaning error
       (λ bytes enough. of_full (length given) full made enough)
   unread-read Offset error made size never reads fails ready waits = absurd never
   unread-read Memory error made size lacks reads fails ready waits =
       unread-contents remaining read_step k capacity reader given d' reader'
-      (subst (λ from. Decodes remaining read_step from reader given d' reader') start reads) none view has_buffers meaning error
+      (subst (λ from. Decodes remaining read_step from reader given d' reader') start reads) none view has_buffers
+      meaning error
       (λ bytes enough. of_no_memory made)
 
 -- all was read by a decoder that was started so
 module _ {R : Type 0} (remaining : R → Option (List ℕ)) (read_step : R → ReadResult → R → Type 0) (k : Settings)
-    (capacity : ℕ) (d : DecoderState) (start : d ≡ started capacity k.encoding k.bom_sniffing) (reader : R) (given : List ℕ)
+    (capacity : ℕ) (d : DecoderState) (start : d ≡ started capacity k.encoding k.bom_sniffing) (reader : R)
+    (given : List ℕ)
     (d' : DecoderState) (reader' : R) (reads : Decodes remaining read_step d reader given d' reader')
     (none : (d : DecoderState) (more : List ℕ) → IsDone d → still_to_give d more ≡ [])
     (join : LinesJoin) (done : IsDone d') (below : IsBelow k.heap_limit (length given))
-    {S E F : Type 0} (step : Steps S E) (errors : ErrorMakers E) (matcher : MatcherFacts F) (has_buffers : Bool) (old : S) where
+    {S E F : Type 0} (step : Steps S E) (errors : ErrorMakers E) (matcher : MatcherFacts F) (has_buffers : Bool)
+    (old : S) where
   from-start : Decodes remaining read_step (started capacity k.encoding k.bom_sniffing) reader given d' reader'
   from-start = subst (λ from. Decodes remaining read_step from reader given d' reader') start reads
 
-  pub contents-fault-read : (e : E) (new : S) → IsFaultIn step errors matcher (calls_across k matcher.meaning) k given old e new
+  pub contents-fault-read : (e : E) (new : S) → IsFaultIn step errors matcher (calls_across k matcher.meaning) k given
+      old e new
       → IsReaderFaultIn remaining read_step step errors matcher (calls_across k matcher.meaning)
       (record { settings = k; has_buffers = has_buffers }) reader old e reader' new
-  contents-fault-read = contents-fault remaining read_step k capacity reader given d' reader' from-start none join done below step
+  contents-fault-read = contents-fault remaining read_step k capacity reader given d' reader' from-start none join done
+      below step
       errors matcher has_buffers old
 
   pub contents-searched : (count : ℕ) (outcome : Outcome E) (mid : S) (result : Result (Unit {0}) E) (new : S)
-      → Counted step k old ((calls_across k matcher.meaning).turns given) ((calls_across k matcher.meaning).byte_count given)
+      → Counted step k old ((calls_across k matcher.meaning).turns given)
+      ((calls_across k matcher.meaning).byte_count given)
       count outcome mid
       → step mid k (finishes count None) (finish_result result) new
       → IsSourceSearchedIn step errors matcher (calls_across k matcher.meaning) remaining read_step
       (record { settings = k; has_buffers = has_buffers }) reader old result reader' new
-  contents-searched = contents-finished remaining read_step k capacity reader given d' reader' from-start none join done below step
+  contents-searched = contents-finished remaining read_step k capacity reader given d' reader' from-start none join done
+      below step
       errors matcher has_buffers old
 
   pub contents-until-read : (b : ℕ) (result : Result (Unit {0}) E) (new : S)
       → IsSearchedUntil step errors matcher (calls_across k matcher.meaning) b k given old result new
-      → IsContentsSearched remaining read_step step errors matcher b (record { settings = k; has_buffers = has_buffers }) reader old result
+      → IsContentsSearched remaining read_step step errors matcher b
+      (record { settings = k; has_buffers = has_buffers }) reader old result
       reader' new
-  contents-until-read = contents-until remaining read_step k capacity reader given d' reader' from-start none join done below step
+  contents-until-read = contents-until remaining read_step k capacity reader given d' reader' from-start none join done
+      below step
       errors matcher has_buffers old
 
 -- all wasn't read: the sink had no call, wherever the search looks for a byte
-pub across-unread : {R : Type 0} (remaining : R → Option (List ℕ)) (read_step : R → ReadResult → R → Type 0) {S E F : Type 0}
-    (step : Steps S E) (errors : ErrorMakers E) (matcher : MatcherFacts F) (d : BinaryDetection) (state : SearcherState) (reader : R)
+pub across-unread : {R : Type 0} (remaining : R → Option (List ℕ)) (read_step : R → ReadResult → R → Type 0)
+    {S E F : Type 0}
+    (step : Steps S E) (errors : ErrorMakers E) (matcher : MatcherFacts F) (d : BinaryDetection) (state : SearcherState)
+    (reader : R)
     (old : S) (error : Error) (e : E) (reader' : R)
-    → ((view : List ℕ → List ℕ) → IsUnreadIn remaining read_step true view state matcher.meaning reader None error reader')
+    → ((view : List ℕ → List ℕ) → IsUnreadIn remaining read_step true view state matcher.meaning reader None error
+    reader')
     → errors.is_io error e
     → IsAcrossSearched remaining read_step step errors matcher (look_at d false) state reader old (Err e) reader' old
 across-unread remaining read_step step errors matcher no_detection searcher reader old error e reader' unread made =

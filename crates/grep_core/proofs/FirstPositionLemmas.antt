@@ -11,11 +11,13 @@ module _ {X : Type 0} (p : X → Bool) where
   position-is xs n is = (cond_some (nat_lt (position_or_len p xs) (length xs)) (position_or_len p xs) n is).1
 
   -- with an element before that doesn't pass
-  pub position-later : (x : X) (xs : List X) (n : ℕ) → p x ≡ false → position p xs ≡ Some n → position p (x ∷ xs) ≡ Some (suc n)
+  pub position-later : (x : X) (xs : List X) (n : ℕ) → p x ≡ false → position p xs ≡ Some n → position p (x ∷ xs)
+      ≡ Some (suc n)
   position-later x xs n first is =
       let some = cond_some (nat_lt (position_or_len p xs) (length xs)) (position_or_len p xs) n is in
       let below = ltb-true (position_or_len p xs) (length xs) some.0 in
-      rw first (rw (lt-ltb (1 + position_or_len p xs) (suc (length xs)) (omega (arith, below))) (ap (λ m. Some m) (omega (arith, some.1))))
+      rw first (rw (lt-ltb (1 + position_or_len p xs) (suc (length xs)) (omega (arith, below)))
+      (ap (λ m. Some m) (omega (arith, some.1))))
 
   pub position-never : (x : X) (xs : List X) → p x ≡ false → position p xs ≡ None → position p (x ∷ xs) ≡ None
   position-never x xs first is =

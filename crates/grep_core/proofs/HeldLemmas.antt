@@ -19,7 +19,8 @@ pub split-text : (gone shown rest given later bytes : List ℕ) → bytes ≡ (g
     → bytes ≡ (gone ++ shown) ++ ((rest ++ given) ++ later)
 split-text gone shown rest given later bytes is =
     is ∙ (ap (λ xs. (gone ++ xs) ++ later) (append_assoc shown rest given)
-    ∙ (ap (λ xs. xs ++ later) (sym (append_assoc gone shown (rest ++ given))) ∙ append_assoc (gone ++ shown) (rest ++ given) later))
+    ∙ (ap (λ xs. xs ++ later) (sym (append_assoc gone shown (rest ++ given)))
+    ∙ append_assoc (gone ++ shown) (rest ++ given) later))
 
 module _ {R : Type 0} (remaining : R → Option (List ℕ)) (step : R → ReadResult → R → Type 0) where
   -- the law of fills that follow one another
@@ -33,14 +34,16 @@ module _ {R : Type 0} (remaining : R → Option (List ℕ)) (step : R → ReadRe
       × (gone ++ held new ≡ detected old.detection old.terminator (given ++ fill.given))
       × (new.binary ≡ found_in old.detection old.terminator (given ++ fill.given))
 
-  abbrev pub held-next : FillsContinue → (old new : BufferState) (decoder d d' : DecoderState) (reader r r' : R) (gone given : List ℕ)
+  abbrev pub held-next : FillsContinue → (old new : BufferState) (decoder d d' : DecoderState) (reader r r' : R)
+      (gone given : List ℕ)
       → old.offset ≡ length gone → is_cut old ≡ false
       → HoldsGiven remaining step gone old.detection old.terminator old decoder reader given d r
       → Fills remaining step old d r new d' r'
       → (more : List ℕ)
       × HoldsGiven remaining step gone old.detection old.terminator new decoder reader (given ++ more) d' r'
   held-next continues old new decoder d d' reader r r' gone given at uncut holds fills =
-      let next = continues old new decoder d d' reader r r' gone given holds.decodes holds.whole at holds.found uncut fills in
+      let next = continues old new decoder d d' reader r r' gone given holds.decodes holds.whole at holds.found uncut
+      fills in
       (fills.given, record { whole = next.1; found = next.2; decodes = next.0 })
 
   -- what the view of an input is, by what a buffer holds of it
@@ -74,15 +77,18 @@ module _ {R : Type 0} (remaining : R → Option (List ℕ)) (step : R → ReadRe
 
     -- which is none of the bytes that are gone or held
     pub unquit-held : before_quit k.binary_detection (gone ++ held new) ≡ gone ++ held new
-    unquit-held = ap (before_quit k.binary_detection) holds-is ∙ (views.before-held k.binary_detection t raw ∙ sym holds-is)
+    unquit-held = ap (before_quit k.binary_detection) holds-is
+        ∙ (views.before-held k.binary_detection t raw ∙ sym holds-is)
 
     -- a byte that wasn't found before is after all that was held then
     pub found-past : (given more : List ℕ) → raw ≡ given ++ more → old.binary ≡ None
-        → old.binary ≡ found_in old.detection old.terminator given → gone ++ held old ≡ detected old.detection old.terminator given
+        → old.binary ≡ found_in old.detection old.terminator given → gone ++ held old
+        ≡ detected old.detection old.terminator given
         → (o : ℕ) → new.binary ≡ Some o → length gone + length (held old) ≤ o
     found-past given more all none before was o is =
         let absent : found_in (detection_of k.binary_detection) t given ≡ None =
-        sym (ap (λ d. found_in d old.terminator given) detects ∙ ap (λ c. found_in (detection_of k.binary_detection) c given) ends_at)
+        sym (ap (λ d. found_in d old.terminator given) detects
+        ∙ ap (λ c. found_in (detection_of k.binary_detection) c given) ends_at)
         ∙ (sym before ∙ none) in
         let there = views.found-after k.binary_detection t given more o absent
         (ap (found_in (detection_of k.binary_detection) t) (sym all) ∙ (sym found-there ∙ is)) in
@@ -96,7 +102,8 @@ module _ {R : Type 0} (remaining : R → Option (List ℕ)) (step : R → ReadRe
       unquit-there quits = uncut-none new.detection new.binary uncut (ap is_quit (same.detection ∙ detects) ∙ quits)
 
       pub view-there : view_of k raw ≡ gone ++ held new
-      view-there = sym (holds-is ∙ views.view-held k.binary_detection t raw (λ quits. sym found-there ∙ unquit-there quits))
+      view-there = sym (holds-is ∙ views.view-held k.binary_detection t raw
+          (λ quits. sym found-there ∙ unquit-there quits))
 
       pub shows-there : (later : List ℕ) → view_of k (raw ++ later) ≡ (gone ++ held new) ++ view_of k later
       shows-there later = views.view-append k.binary_detection t raw later ∙ ap (λ xs. xs ++ view_of k later) view-there

@@ -31,18 +31,23 @@ look-detects (Quit c) b is = refl
 look-detects (Convert c) b is = absurd (none-some b is)
 
 -- a search of whole contents up to a byte is what is defined of one that looks for it, in the mode that it runs in
-module _ {S E F : Type 0} (step : Steps S E) (errors : ErrorMakers E) (matcher : MatcherFacts F) (k : Settings) (bytes : List ℕ)
+module _ {S E F : Type 0} (step : Steps S E) (errors : ErrorMakers E) (matcher : MatcherFacts F) (k : Settings)
+    (bytes : List ℕ)
     (old : S) where
-  pub searched-at : (b : ℕ) → quit_byte_of k.binary_detection ≡ Some b → (across : Bool) → across ≡ is_across k matcher.meaning
+  pub searched-at : (b : ℕ) → quit_byte_of k.binary_detection ≡ Some b → (across : Bool) → across
+      ≡ is_across k matcher.meaning
       → (result : Result (Unit {0}) E) (new : S)
       → IsSearchedUntil step errors matcher (calls_if k matcher.meaning across) b k bytes old result new
       → IsBytesSearched step errors matcher (look_at k.binary_detection false) k bytes old result new
   searched-at b is across mode result new searched =
-      subst (λ look. IsBytesSearched step errors matcher look k bytes old result new) (sym (look-quit k.binary_detection b is))
-      (go result (subst (λ m. IsSearchedUntil step errors matcher (calls_if k matcher.meaning m) b k bytes old result new) mode searched))
+      subst (λ look. IsBytesSearched step errors matcher look k bytes old result new)
+      (sym (look-quit k.binary_detection b is))
+      (go result (subst (λ m. IsSearchedUntil step errors matcher (calls_if k matcher.meaning m) b k bytes old result
+      new) mode searched))
     where
       go : (result : Result (Unit {0}) E)
-          → IsSearchedUntil step errors matcher (calls_if k matcher.meaning (is_across k matcher.meaning)) b k bytes old result new
+          → IsSearchedUntil step errors matcher (calls_if k matcher.meaning (is_across k matcher.meaning)) b k bytes old
+          result new
           → IsBytesSearched step errors matcher (in_contents b) k bytes old result new
       go (Ok u) run = run
       go (Err e) fault = fault

@@ -16,29 +16,36 @@ use Rattle.grep_definitions.specs.SinkRuns.{Steps}
 use Rattle.grep_definitions.proofs.PlainStreamLemmas.{IsByLine, stream-plain}
 use Rattle.grep_core.specs.InputSearches.{IsAcrossSearched, IsSourceSearchedIn}
 
-module _ {R : Type 0} (remaining : R → Option (List ℕ)) (read_step : R → ReadResult → R → Type 0) (state : SearcherState) where
-  module _ {S E F : Type 0} (step : Steps S E) (errors : ErrorMakers E) (matcher : MatcherFacts F) (reader : R) (old : S)
+module _ {R : Type 0} (remaining : R → Option (List ℕ)) (read_step : R → ReadResult → R → Type 0)
+    (state : SearcherState) where
+  module _ {S E F : Type 0} (step : Steps S E) (errors : ErrorMakers E) (matcher : MatcherFacts F) (reader : R)
+      (old : S)
       (result : Result (Unit {0}) E) (reader' : R) (new : S) where
     -- a search of a reader in a mode, if it runs in that mode
     source-in : (mode : Bool) → is_across state.settings matcher.meaning ≡ mode
-        → IsSearchedAt remaining read_step step errors matcher (look_at state.settings.binary_detection (not mode)) state reader old result
+        → IsSearchedAt remaining read_step step errors matcher (look_at state.settings.binary_detection (not mode))
+        state reader old result
         reader' new
         → IsSourceSearched remaining read_step step errors matcher state reader old result reader' new
     source-in mode is =
-        subst (λ m. IsSearchedAt remaining read_step step errors matcher (look_at state.settings.binary_detection (not m)) state reader old
+        subst (λ m. IsSearchedAt remaining read_step step errors matcher
+        (look_at state.settings.binary_detection (not m)) state reader old
         result reader' new) (sym is)
 
     -- along the calls of that mode
     plainly-in : (mode : Bool) → is_across state.settings matcher.meaning ≡ mode
-        → IsSourceSearchedIn step errors matcher (calls_if state.settings matcher.meaning mode) remaining read_step state reader old
+        → IsSourceSearchedIn step errors matcher (calls_if state.settings matcher.meaning mode) remaining read_step
+        state reader old
         result reader' new
         → IsPlainlySearched remaining read_step step errors matcher state reader old result reader' new
     plainly-in mode is searched = go result
-        (subst (λ m. IsSourceSearchedIn step errors matcher (calls_if state.settings matcher.meaning m) remaining read_step state reader old
+        (subst (λ m. IsSourceSearchedIn step errors matcher (calls_if state.settings matcher.meaning m) remaining
+        read_step state reader old
         result reader' new) (sym is) searched)
       where
         go : (result : Result (Unit {0}) E)
-            → IsSourceSearchedIn step errors matcher (calls_if state.settings matcher.meaning (is_across state.settings matcher.meaning))
+            → IsSourceSearchedIn step errors matcher (calls_if state.settings matcher.meaning
+            (is_across state.settings matcher.meaning))
             remaining read_step state reader old result reader' new
             → IsPlainlySearched remaining read_step step errors matcher state reader old result reader' new
         go (Ok u) run = run
@@ -50,8 +57,10 @@ module _ {R : Type 0} (remaining : R → Option (List ℕ)) (read_step : R → R
         → IsSourceSearched remaining read_step step errors matcher state reader old result reader' new
     source-by_line by_line searched = source-in false by_line (go state.settings.binary_detection refl)
       where
-        lines : (result : Result (Unit {0}) E) → IsByLine remaining read_step step errors matcher state reader old result reader' new
-            → IsSourceSearchedIn step errors matcher (calls_by_line state.settings matcher.meaning) remaining read_step state reader old
+        lines : (result : Result (Unit {0}) E) → IsByLine remaining read_step step errors matcher state reader old
+            result reader' new
+            → IsSourceSearchedIn step errors matcher (calls_by_line state.settings matcher.meaning) remaining read_step
+            state reader old
             result reader' new
         lines (Ok u) run = run
         lines (Err e) fault = fault
@@ -59,18 +68,21 @@ module _ {R : Type 0} (remaining : R → Option (List ℕ)) (read_step : R → R
         go : (d : BinaryDetection) → state.settings.binary_detection ≡ d
             → IsSearchedAt remaining read_step step errors matcher (look_at d true) state reader old result reader' new
         go no_detection none = plainly-in false by_line
-            (lines result (stream-plain remaining read_step step errors matcher state none reader old result reader' new searched))
+            (lines result (stream-plain remaining read_step step errors matcher state none reader old result reader' new
+            searched))
         go (Quit b) is = searched
         go (Convert b) is = searched
 
     -- across lines it is one of contents
     pub source-across : is_across state.settings matcher.meaning ≡ true
-        → IsAcrossSearched remaining read_step step errors matcher (look_at state.settings.binary_detection false) state reader old result
+        → IsAcrossSearched remaining read_step step errors matcher (look_at state.settings.binary_detection false) state
+        reader old result
         reader' new
         → IsSourceSearched remaining read_step step errors matcher state reader old result reader' new
     source-across across searched = source-in true across (go (look_at state.settings.binary_detection false) searched)
       where
-        go : (look : Look) → IsAcrossSearched remaining read_step step errors matcher look state reader old result reader' new
+        go : (look : Look) → IsAcrossSearched remaining read_step step errors matcher look state reader old result
+            reader' new
             → IsSearchedAt remaining read_step step errors matcher look state reader old result reader' new
         go nowhere searched = plainly-in true across searched
         go (in_contents b) searched = searched
@@ -82,11 +94,14 @@ module _ {R : Type 0} (remaining : R → Option (List ℕ)) (read_step : R → R
       → IsUnreadIn remaining read_step mode (view_of state.settings) state meaning reader seen error reader'
       → IsUnread remaining read_step state meaning reader seen error reader'
   unread-in meaning mode is reader seen error reader' unread =
-      subst (λ b. IsUnreadIn remaining read_step (calls_if state.settings meaning b).across (view_of state.settings) state meaning reader
+      subst (λ b. IsUnreadIn remaining read_step (calls_if state.settings meaning b).across (view_of state.settings)
+      state meaning reader
       seen error reader') (sym is) (go mode unread)
     where
-      go : (mode : Bool) → IsUnreadIn remaining read_step mode (view_of state.settings) state meaning reader seen error reader'
-          → IsUnreadIn remaining read_step (calls_if state.settings meaning mode).across (view_of state.settings) state meaning reader
+      go : (mode : Bool) → IsUnreadIn remaining read_step mode (view_of state.settings) state meaning reader seen error
+          reader'
+          → IsUnreadIn remaining read_step (calls_if state.settings meaning mode).across (view_of state.settings) state
+          meaning reader
           seen error reader'
       go true unread = unread
       go false unread = unread

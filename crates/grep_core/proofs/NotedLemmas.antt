@@ -14,7 +14,8 @@ use Rattle.grep_core.specs.NotedCalls.{HasNoted, Notes, called_with, noted_of}
 pub called-known : {S : Type 0} (n : Noted S) → HasNoted n → called_with n ≡ n.binary
 called-known n same = go n.has_called n.binary same
   where
-    go : (has_called : Bool) (binary : Option ℕ) → has_called ≡ is_some binary → (if has_called then binary else None) ≡ binary
+    go : (has_called : Bool) (binary : Option ℕ) → has_called ≡ is_some binary → (if has_called then binary else None)
+        ≡ binary
     go false None same = refl
     go false (Some offset) same = absurd (cc)
     go true None same = refl
@@ -54,7 +55,9 @@ module _ {S E : Type 0} (step : Steps S E) (k : Settings) where
   -- `begin` returned true, and no binary byte is known
   pub notes-begun : (first : S) (now : Noted S) → now.binary ≡ None → now.has_called ≡ false
       → step first k begins (Ok true) now.sink.now
-      → Notes step (record { sink = record now.sink { now = first }; binary = now.binary; has_called = false }) k begins (Ok true) now
+      → Notes step (record { sink = record now.sink { now = first }; binary = now.binary; has_called = false }) k begins
+      (Ok true) now
   notes-begun first now none uncalled begun =
-      notes-passed (record { sink = record now.sink { now = first }; binary = now.binary; has_called = false }) now begins (Ok true)
+      notes-passed (record { sink = record now.sink { now = first }; binary = now.binary; has_called = false }) now
+      begins (Ok true)
       refl refl refl uncalled begun

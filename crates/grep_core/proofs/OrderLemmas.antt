@@ -1,6 +1,7 @@
 -- Calls in order of a sink that passes them on: one to which the first binary byte is noted, and one that looks for a
 -- byte in each report.
-use Rattle.std.proofs.Common.{◌≡◌, ℕ, Bool, true, false, Option, Some, None, length, List, [], refl, sym, ap, subst, ◌∙◌, inl, inr, ◌+◌}
+use Rattle.std.proofs.Common.{◌≡◌, ℕ, Bool, true, false, Option, Some, None, length, List, [], refl, sym, ap, subst}
+use Rattle.std.proofs.Common.{◌∙◌, inl, inr, ◌+◌}
 use Rattle.std.specs.Prelude.{Result, Ok, Err, if◌then◌else◌, ◌&&◌, is_none}
 use Rattle.std.specs.Option.{option_map}
 use Rattle.std.proofs.lemmas.Option.{none-some}
@@ -10,7 +11,8 @@ use Rattle.std.specs.declared.io.Error.{Error}
 use Rattle.grep_decode.specs.DecoderStates.{Calls, DecoderState, Decodes}
 use Rattle.grep_decode.specs.Source.{ReadResult}
 use Rattle.grep_definitions.specs.BinaryBytes.{is_detecting, position_of}
-use Rattle.grep_definitions.specs.CallOrder.{is_inner, HasCalled, HasCalledTo, HasFailedRead, IsOrderedRun, IsReadingError, RunsInOrder, of_run}
+use Rattle.grep_definitions.specs.CallOrder.{is_inner, HasCalled, HasCalledTo, HasFailedRead, IsOrderedRun}
+use Rattle.grep_definitions.specs.CallOrder.{IsReadingError, RunsInOrder, of_run}
 use Rattle.grep_definitions.specs.LineTurns.{one_turn}
 use Rattle.grep_definitions.specs.NotedSinks.{noted, with_binary}
 use Rattle.grep_definitions.specs.QuitPoints.{IsEndedAt, IsQuitRun}
@@ -48,9 +50,11 @@ undetected (Convert b) detection binary f t given none is clear = absurd (false�
 pub clear-filled : (d : BinaryDetection) (old new : BufferState) (given : List ℕ)
     → new.binary ≡ first_of old.binary (option_map (λ i. old.offset + length (held old) + i)
     (found_in old.detection old.terminator given))
-    → old.detection ≡ detection_of d → (is_detecting d ≡ false → old.binary ≡ None) → is_detecting d ≡ false → new.binary ≡ None
+    → old.detection ≡ detection_of d → (is_detecting d ≡ false → old.binary ≡ None) → is_detecting d ≡ false
+    → new.binary ≡ None
 clear-filled d old new given found is clear none =
-    found ∙ undetected d old.detection old.binary (λ i. old.offset + length (held old) + i) old.terminator given none is (clear none)
+    found ∙ undetected d old.detection old.binary (λ i. old.offset + length (held old) + i) old.terminator given none is
+    (clear none)
 
 and-left : (a b : Bool) → (a && b) ≡ true → a ≡ true
 and-left true b is = refl
@@ -109,7 +113,8 @@ module _ {S E : Type 0} (step : Steps S E) (k : Settings) where
       go false is = absurd (cc)
 
   -- an inner call has no offset
-  plain : (call : Call) (offset : ℕ) → is_inner (is_detecting k.binary_detection) call ≡ true → with_binary offset call ≡ call
+  plain : (call : Call) (offset : ℕ) → is_inner (is_detecting k.binary_detection) call ≡ true → with_binary offset call
+      ≡ call
   plain begins offset inner = refl
   plain (matches number from bytes) offset inner = refl
   plain (context kind number from bytes) offset inner = refl
@@ -156,46 +161,53 @@ module _ {S E : Type 0} (step : Steps S E) (k : Settings) where
       go (Some offset) is = absurd (false≢true (sym none ∙ detects offset is))
 
   -- a binary byte of a buffer is noted
-  module _ (binary : Option ℕ) (none : is_detecting k.binary_detection ≡ false → binary ≡ None) (old new : Noted S) where
-    detected : (offset : ℕ) → binary ≡ Some offset → is_detecting k.binary_detection ≡ true
-    detected offset is = go (is_detecting k.binary_detection) refl
-      where
-        go : (b : Bool) → is_detecting k.binary_detection ≡ b → is_detecting k.binary_detection ≡ true
-        go true same = same
-        go false same = absurd (none-some offset (sym (none same) ∙ is))
+  module _ (binary : Option ℕ) (none : is_detecting k.binary_detection ≡ false → binary ≡ None) (old new : Noted S)
+    where
+      detected : (offset : ℕ) → binary ≡ Some offset → is_detecting k.binary_detection ≡ true
+      detected offset is = go (is_detecting k.binary_detection) refl
+        where
+          go : (b : Bool) → is_detecting k.binary_detection ≡ b → is_detecting k.binary_detection ≡ true
+          go true same = same
+          go false same = absurd (none-some offset (sym (none same) ∙ is))
 
-    pub detects-passed : (goes_on : Bool) → DetectsNoted old → PassesBinary step k binary old goes_on new → DetectsNoted new
-    detects-passed goes_on detects (inl (offset, is, unknown, now, has_called, called)) = λ other same. detected offset is
-    detects-passed goes_on detects (inr (why, goes, same)) = subst DetectsNoted (sym same) detects
+      pub detects-passed : (goes_on : Bool) → DetectsNoted old → PassesBinary step k binary old goes_on new
+          → DetectsNoted new
+      detects-passed goes_on detects (inl (offset, is, unknown, now, has_called, called)) = λ other same. detected
+          offset
+          is
+      detects-passed goes_on detects (inr (why, goes, same)) = subst DetectsNoted (sym same) detects
 
-    pub passes-on : PassesBinary step k binary old true new → HasCalled step k old.sink.now all_true new.sink.now
-    passes-on (inl (offset, is, unknown, now, has_called, (returned, called, goes))) =
-        let true_is : returned ≡ true = and-left returned (is_none (quit_byte_of k.binary_detection)) (sym goes) in
-        call-passes old.sink.now new.sink.now (binary_data offset) 0 (Ok true) (detected offset is)
-        (subst (λ r. step old.sink.now k (binary_data offset) (Ok r) new.sink.now) true_is called)
-    passes-on (inr (why, goes, same)) =
-        subst (λ n. HasCalled step k old.sink.now all_true n.sink.now) (sym same) (order.called-none step k old.sink.now)
+      pub passes-on : PassesBinary step k binary old true new → HasCalled step k old.sink.now all_true new.sink.now
+      passes-on (inl (offset, is, unknown, now, has_called, (returned, called, goes))) =
+          let true_is : returned ≡ true = and-left returned (is_none (quit_byte_of k.binary_detection)) (sym goes) in
+          call-passes old.sink.now new.sink.now (binary_data offset) 0 (Ok true) (detected offset is)
+          (subst (λ r. step old.sink.now k (binary_data offset) (Ok r) new.sink.now) true_is called)
+      passes-on (inr (why, goes, same)) =
+          subst (λ n. HasCalled step k old.sink.now all_true n.sink.now) (sym same)
+          (order.called-none step k old.sink.now)
 
-    pub passes-off : (count : ℕ) → PassesBinary step k binary old false new
-        → HasCalledTo step k old.sink.now count new.sink.now
-    passes-off count (inl (offset, is, unknown, now, has_called, (returned, called, goes))) = go returned called
-      where
-        go : (returned : Bool) → step old.sink.now k (binary_data offset) (Ok returned) new.sink.now
-            → HasCalledTo step k old.sink.now count new.sink.now
-        go true called =
-            record {
-              outcome = all_true;
-              ends = tt;
-              called = call-passes old.sink.now new.sink.now (binary_data offset) count (Ok true) (detected offset is) called;
-            }
-        go false called =
-            stopped-to old.sink.now new.sink.now count
-            (call-passes old.sink.now new.sink.now (binary_data offset) count (Ok false) (detected offset is) called)
-    passes-off count (inr (why, goes, same)) = absurd (false≢true goes)
+      pub passes-off : (count : ℕ) → PassesBinary step k binary old false new
+          → HasCalledTo step k old.sink.now count new.sink.now
+      passes-off count (inl (offset, is, unknown, now, has_called, (returned, called, goes))) = go returned called
+        where
+          go : (returned : Bool) → step old.sink.now k (binary_data offset) (Ok returned) new.sink.now
+              → HasCalledTo step k old.sink.now count new.sink.now
+          go true called =
+              record {
+                outcome = all_true;
+                ends = tt;
+                called = call-passes old.sink.now new.sink.now (binary_data offset) count (Ok true) (detected offset is)
+                    called;
+              }
+          go false called =
+              stopped-to old.sink.now new.sink.now count
+              (call-passes old.sink.now new.sink.now (binary_data offset) count (Ok false) (detected offset is) called)
+      passes-off count (inr (why, goes, same)) = absurd (false≢true goes)
 
-    pub fails-at : (e : E) → FailsAtBinary step k binary old e new → HasCalled step k old.sink.now (failed e) new.sink.now
-    fails-at e (offset, is, unknown, called) =
-        call-passes old.sink.now new.sink.now (binary_data offset) 0 (Err e) (detected offset is) called
+      pub fails-at : (e : E) → FailsAtBinary step k binary old e new
+          → HasCalled step k old.sink.now (failed e) new.sink.now
+      fails-at e (offset, is, unknown, called) =
+          call-passes old.sink.now new.sink.now (binary_data offset) 0 (Err e) (detected offset is) called
 
   module _ (may_call : S → Type 0) (detecting : is_detecting k.binary_detection ≡ true) where
     -- no byte was found yet
@@ -203,11 +215,13 @@ module _ {S E : Type 0} (step : Steps S E) (k : Settings) where
     FoundNone q = q.found ≡ None
 
     abbrev QuitPasses : Quitting S → Result Bool E → ℕ → Quitting S → Type 0
-    QuitPasses = order.Passes step (Quits step may_call) k (λ q. q.sink.now) FoundNone (λ q count. count_to q.found count)
+    QuitPasses = order.Passes step (Quits step may_call) k (λ q. q.sink.now) FoundNone
+        (λ q count. count_to q.found count)
 
     -- a call that is made, and the break before it that was held back
     made-after : (has_break : Bool) (old new : S) (call : Call) (end : ℕ) (result : Result Bool E)
-        → is_inner (is_detecting k.binary_detection) call ≡ true → IsMadeAfter step may_call has_break old k call result new
+        → is_inner (is_detecting k.binary_detection) call ≡ true
+        → IsMadeAfter step may_call has_break old k call result new
         → HasCalled step k old (outcome_of end result) new
     made-after false old new call end result inner made = call-passes old new call end result inner made
     made-after true old new call end result inner (inl (mid, may, gap, made)) =
@@ -226,7 +240,8 @@ module _ {S E : Type 0} (step : Steps S E) (k : Settings) where
 
     -- a byte is found in a report
     quits : (old : Quitting S) (result : Result Bool E) (end offset : ℕ) (new : Quitting S) → new.found ≡ Some offset
-        → (returned : Result Bool E) → result ≡ ended returned → step old.sink.now k (binary_data offset) returned new.sink.now
+        → (returned : Result Bool E) → result ≡ ended returned
+        → step old.sink.now k (binary_data offset) returned new.sink.now
         → QuitPasses old result end new
     quits old result end offset new is (Ok goes_on) ends made =
         subst (λ r. QuitPasses old r end new) (sym ends)
@@ -247,16 +262,20 @@ module _ {S E : Type 0} (step : Steps S E) (k : Settings) where
         subst (λ r. QuitPasses old r end new) (sym ends)
         (call-passes old.sink.now new.sink.now (binary_data offset) end (Err e) detecting made)
 
-    looked-at : (found : Option ℕ) (from : ℕ) (call : Call) (end : ℕ) (old : Quitting S) (result : Result Bool E) (new : Quitting S)
+    looked-at : (found : Option ℕ) (from : ℕ) (call : Call) (end : ℕ) (old : Quitting S) (result : Result Bool E)
+        (new : Quitting S)
         → is_inner (is_detecting k.binary_detection) call ≡ true → old.found ≡ None
-        → IsLookedAt step may_call found from (watch_of old) k call result (watch_of new) → QuitPasses old result end new
+        → IsLookedAt step may_call found from (watch_of old) k call result (watch_of new)
+        → QuitPasses old result end new
     looked-at None from call end old result new inner none (same, unbroken, made) =
-        clear old result end new (same ∙ none) (made-after old.has_break old.sink.now new.sink.now call end result inner made)
+        clear old result end new (same ∙ none) (made-after old.has_break old.sink.now new.sink.now call end result inner
+        made)
     looked-at (Some index) from call end old result new inner none (is, unbroken, (returned, ends, made)) =
         quits old result end (from + index) new is returned ends made
 
     pub quits-one : (call : Call) (end : ℕ) (old : Quitting S) (result : Result Bool E) (new : Quitting S)
-        → is_inner (is_detecting k.binary_detection) call ≡ true → FoundNone old → Quits step may_call old k call result new
+        → is_inner (is_detecting k.binary_detection) call ≡ true → FoundNone old
+        → Quits step may_call old k call result new
         → QuitPasses old result end new
     quits-one begins end old result new inner none made = absurd (false≢true inner)
     quits-one (matches number from bytes) end old result new inner none (name, byte, made) =
@@ -266,7 +285,8 @@ module _ {S E : Type 0} (step : Steps S E) (k : Settings) where
     quits-one breaks end old result new inner none (name, byte, (held, goes)) =
         subst (λ r. QuitPasses old r end new) (sym goes) (
           ap (λ w. w.found) held ∙ none,
-          subst (λ s. HasCalled step k old.sink.now all_true s) (sym (ap (λ w. w.sink) held)) (order.called-none step k old.sink.now),
+          subst (λ s. HasCalled step k old.sink.now all_true s) (sym (ap (λ w. w.sink) held))
+              (order.called-none step k old.sink.now),
         )
     quits-one (binary_data offset) end old result new inner none (name, byte, (same, unbroken, made)) =
         clear old result end new (same ∙ none)

@@ -7,19 +7,23 @@ use Rattle.std.specs.List.{position}
 use Rattle.std.proofs.lemmas.Bool.{true≢false, false≢true}
 use Rattle.grep_definitions.specs.BinaryBytes.{position_of}
 use Rattle.grep_definitions.specs.LineTurns.{one_turn}
-use Rattle.grep_definitions.specs.QuitPoints.{holds_byte, call_at, calls_before, offset_at, quit_in_reports, IsEndedAt, IsRunTo}
+use Rattle.grep_definitions.specs.QuitPoints.{holds_byte, call_at, calls_before, offset_at, quit_in_reports, IsEndedAt}
+use Rattle.grep_definitions.specs.QuitPoints.{IsRunTo}
 use Rattle.grep_definitions.specs.Settings.{Settings}
 use Rattle.grep_definitions.specs.SinkCalls.{Call, Turn, begins, matches, context, breaks, binary_data, finishes}
 use Rattle.grep_definitions.specs.SinkCalls.{is_break, is_report, reported_bytes, reported_from}
-use Rattle.grep_definitions.specs.SinkRuns.{Steps, Outcome, all_true, stopped, failed, AreReported, IsFinished, IsRun, finish_result}
+use Rattle.grep_definitions.specs.SinkRuns.{Steps, Outcome, all_true, stopped, failed, AreReported, IsFinished, IsRun}
+use Rattle.grep_definitions.specs.SinkRuns.{finish_result}
 use Rattle.grep_core.specs.QuittingSinks.{Watch, quitting, ended, IsLookedAt, IsMadeAfter, count_to}
 use Rattle.grep_core.proofs.FirstPositionLemmas as first
 
 -- each break is followed by a report with the same end
 pub data AreJoined : List Turn → Type 0 where
   no_turns : AreJoined []
-  joined_report : {turn : Turn} {later : List Turn} → is_report turn.call ≡ true → AreJoined later → AreJoined (turn ∷ later)
-  joined_break : {gap turn : Turn} {later : List Turn} → gap.call ≡ breaks → is_report turn.call ≡ true → gap.end ≡ turn.end
+  joined_report : {turn : Turn} {later : List Turn} → is_report turn.call ≡ true → AreJoined later
+      → AreJoined (turn ∷ later)
+  joined_break : {gap turn : Turn} {later : List Turn} → gap.call ≡ breaks → is_report turn.call ≡ true → gap.end
+      ≡ turn.end
       → AreJoined later → AreJoined (gap ∷ turn ∷ later)
 
 -- a report is no break
@@ -66,7 +70,8 @@ module _ (b : ℕ) where
       let less : suc n - 1 ≡ n = omega arith in
       rw (one, less) (go (is_break (call_at b later n).call))
     where
-      go : (c : Bool) → take (if c then suc n else suc (suc n)) (turn ∷ later) ≡ turn ∷ take (if c then n else suc n) later
+      go : (c : Bool) → take (if c then suc n else suc (suc n)) (turn ∷ later) ≡ turn
+          ∷ take (if c then n else suc n) later
       go true = refl
       go false = refl
 
@@ -81,7 +86,8 @@ module _ {S E : Type 0} (step : Steps S E) (may_call : S → Type 0) (k : Settin
   IsEnd outcome (Ok goes_on) = (end : ℕ) × (outcome ≡ stopped end)
   IsEnd outcome (Err e) = outcome ≡ failed e
 
-  -- what the sink had of some turns: no report holds the byte; or the search ended before the first one that does, or at it
+  -- what the sink had of some turns: no report holds the byte; or the search ended before the first one that does, or
+  -- at it
   pub data HasQuit (turns : List Turn) (old : S) (outcome : Outcome E) (new : Watch S) : Type 0 where
     unheld : position (holds_byte b) turns ≡ None → new.found ≡ None → AreReported step k old turns outcome new.sink
         → HasQuit turns old outcome new
@@ -100,23 +106,27 @@ module _ {S E : Type 0} (step : Steps S E) (may_call : S → Type 0) (k : Settin
       unheld (first.position-never (holds_byte b) turn later free none) clear (inl (mid, made, reported))
   quits-more turn later old mid outcome new free apart made (ended_before n is clear some reported) =
       ended_before (suc n) (first.position-later (holds_byte b) turn later n free is) clear some
-      (subst (λ l. AreReported step k old l outcome new.sink) (sym (before-more b turn later n (apart-at b turn later n apart is)))
+      (subst (λ l. AreReported step k old l outcome new.sink)
+      (sym (before-more b turn later n (apart-at b turn later n apart is)))
       (inl (mid, made, reported)))
   quits-more turn later old mid outcome new free apart made (ended_at n is found last reported returned called end) =
       ended_at (suc n) (first.position-later (holds_byte b) turn later n free is) found last
-      (subst (λ l. AreReported step k old l all_true last) (sym (before-more b turn later n (apart-at b turn later n apart is)))
+      (subst (λ l. AreReported step k old l all_true last)
+      (sym (before-more b turn later n (apart-at b turn later n apart is)))
       (inl (mid, made, reported))) returned called end
 
   -- or it ended at that call
   quits-none : (turn : Turn) (later : List Turn) (old : S) (outcome : Outcome E) (new : Watch S)
       → holds_byte b turn ≡ false → IsApart b turn later → new.found ≡ None → (outcome ≡ all_true → ⊥)
-      → ((rest : List Turn) → AreReported step k old (turn ∷ rest) outcome new.sink) → HasQuit (turn ∷ later) old outcome new
+      → ((rest : List Turn) → AreReported step k old (turn ∷ rest) outcome new.sink)
+      → HasQuit (turn ∷ later) old outcome new
   quits-none turn later old outcome new free apart clear some reported = go (position (holds_byte b) later) refl
     where
       go : (found : Option ℕ) → position (holds_byte b) later ≡ found → HasQuit (turn ∷ later) old outcome new
       go None is = unheld (first.position-never (holds_byte b) turn later free is) clear (reported later)
       go (Some n) is = ended_before (suc n) (first.position-later (holds_byte b) turn later n free is) clear some
-          (subst (λ l. AreReported step k old l outcome new.sink) (sym (before-more b turn later n (apart-at b turn later n apart is)))
+          (subst (λ l. AreReported step k old l outcome new.sink)
+          (sym (before-more b turn later n (apart-at b turn later n apart is)))
           (reported (calls_before b later n)))
 
   abbrev Q : Steps (Watch S) E
@@ -130,7 +140,8 @@ module _ {S E : Type 0} (step : Steps S E) (may_call : S → Type 0) (k : Settin
 
   first-call : (turn : Turn) (later : List Turn) (old : Watch S) (outcome : Outcome E) (new : Watch S)
       → AreReported Q k old (turn ∷ later) outcome new
-      → (result : Result Bool E) × (mid : Watch S) × Q old k turn.call result mid × Went turn result mid later outcome new
+      → (result : Result Bool E) × (mid : Watch S) × Q old k turn.call result mid
+      × Went turn result mid later outcome new
   first-call turn later old outcome new (inl (mid, made, rest)) = (Ok true, mid, made, rest)
   first-call turn later old outcome new (inr (inl (is, made))) = (Ok false, new, made, (is, refl))
   first-call turn later old outcome new (inr (inr (e, is, made))) = (Err e, new, made, (is, refl))
@@ -139,7 +150,8 @@ module _ {S E : Type 0} (step : Steps S E) (may_call : S → Type 0) (k : Settin
   quits-report : (turn : Turn) (later : List Turn) (old : S) (mid : Watch S) (outcome : Outcome E) (new : Watch S)
       → (result : Result Bool E) → is_break turn.call ≡ false → holds_byte b turn ≡ false
       → step old k turn.call result mid.sink → mid.found ≡ None → Went turn result mid later outcome new
-      → (AreReported Q k mid later outcome new → HasQuit later mid.sink outcome new) → HasQuit (turn ∷ later) old outcome new
+      → (AreReported Q k mid later outcome new → HasQuit later mid.sink outcome new)
+      → HasQuit (turn ∷ later) old outcome new
   quits-report turn later old mid outcome new (Ok true) is free made clear went rest =
       quits-more turn later old mid.sink outcome new free (inl is) made (rest went)
   quits-report turn later old mid outcome new (Ok false) is free made clear (stops, same) rest =
@@ -160,12 +172,14 @@ module _ {S E : Type 0} (step : Steps S E) (may_call : S → Type 0) (k : Settin
       go false = refl
 
   -- the search ended at a report
-  end-of : (turn : Turn) (later : List Turn) (mid : Watch S) (outcome : Outcome E) (new : Watch S) (returned : Result Bool E)
+  end-of : (turn : Turn) (later : List Turn) (mid : Watch S) (outcome : Outcome E) (new : Watch S)
+      (returned : Result Bool E)
       → Went turn (ended returned) mid later outcome new → (new ≡ mid) × IsEnd outcome returned
   end-of turn later mid outcome new (Ok goes_on) (stops, same) = (same, (turn.end, stops))
   end-of turn later mid outcome new (Err e) (fails, same) = (same, fails)
 
-  looked : (call : Call) (old : Watch S) (result : Result Bool E) (mid : Watch S) → is_report call ≡ true → Q old k call result mid
+  looked : (call : Call) (old : Watch S) (result : Result Bool E) (mid : Watch S) → is_report call ≡ true
+      → Q old k call result mid
       → IsLookedAt step may_call (position_of b (reported_bytes call)) (reported_from call) old k call result mid
   looked begins old result mid is made = absurd (false≢true is)
   looked (matches number from bytes) old result mid is made = made
@@ -181,31 +195,39 @@ module _ {S E : Type 0} (step : Steps S E) (may_call : S → Type 0) (k : Settin
       → HasQuit turns mid.sink outcome new
 
   pub quits : (turns : List Turn) → AreJoined turns → (old : Watch S) (outcome : Outcome E) (new : Watch S)
-      → old.has_break ≡ false → old.found ≡ None → AreReported Q k old turns outcome new → HasQuit turns old.sink outcome new
+      → old.has_break ≡ false → old.found ≡ None → AreReported Q k old turns outcome new
+      → HasQuit turns old.sink outcome new
   quits [] no_turns old outcome new whole clear (all, same) =
       unheld refl (ap (λ (w : Watch S). w.found) same ∙ clear) (all, ap (λ (w : Watch S). w.sink) same)
   quits (turn ∷ later) (joined_report is joined) old outcome new whole clear reported =
       let made = first-call turn later old outcome new reported in
       go (λ mid none empty. quits later joined mid outcome new none empty)
-      (position_of b (reported_bytes turn.call)) refl made.0 made.1 (looked turn.call old made.0 made.1 is made.2) made.3
+      (position_of b (reported_bytes turn.call)) refl made.0 made.1 (looked turn.call old made.0 made.1 is made.2)
+      made.3
     where
       go : QuitsFrom later outcome new
           → (at : Option ℕ) → position_of b (reported_bytes turn.call) ≡ at → (result : Result Bool E) (mid : Watch S)
-          → IsLookedAt step may_call at (reported_from turn.call) old k turn.call result mid → Went turn result mid later outcome new
+          → IsLookedAt step may_call at (reported_from turn.call) old k turn.call result mid
+          → Went turn result mid later outcome new
           → HasQuit (turn ∷ later) old.sink outcome new
       go quits_later None free result mid (same, none, made) went =
           let alone = subst (λ c. IsMadeAfter step may_call c old.sink k turn.call result mid.sink) whole made in
-          quits-report turn later old.sink mid outcome new result (report-no-break turn.call is) (ap is_some free) alone (same ∙ clear) went
+          quits-report turn later old.sink mid outcome new result (report-no-break turn.call is) (ap is_some free) alone
+          (same ∙ clear) went
           (quits_later mid none (same ∙ clear))
       go quits_later (Some index) holds result mid (found, whole_now, (returned, ends, called)) went =
-          let end = end-of turn later mid outcome new returned (subst (λ r. Went turn r mid later outcome new) ends went) in
+          let end = end-of turn later mid outcome new returned
+          (subst (λ r. Went turn r mid later outcome new) ends went) in
           let offset : offset_at b (turn ∷ later) 0 ≡ reported_from turn.call + index =
-          ap (λ i. reported_from turn.call + i) (first.position-is (λ x. x == b) (reported_bytes turn.call) index holds) in
+          ap (λ i. reported_from turn.call + i) (first.position-is (λ x. x == b) (reported_bytes turn.call) index
+          holds) in
           ended_at 0 (first.position-first (holds_byte b) turn later (ap is_some holds))
           (ap (λ (w : Watch S). w.found) end.0 ∙ found ∙ ap (λ n. Some n) (sym offset)) old.sink
-          (subst (λ l. AreReported step k old.sink l all_true old.sink) (sym (none-before turn later)) (refl, refl)) returned
+          (subst (λ l. AreReported step k old.sink l all_true old.sink) (sym (none-before turn later)) (refl, refl))
+          returned
           (subst (λ n. step old.sink k (binary_data n) returned new.sink) (sym offset)
-          (subst (λ (w : Watch S). step old.sink k (binary_data (reported_from turn.call + index)) returned w.sink) (sym end.0) called))
+          (subst (λ (w : Watch S). step old.sink k (binary_data (reported_from turn.call + index)) returned w.sink)
+          (sym end.0) called))
           end.1
   quits (gap ∷ turn ∷ later) (joined_break off is same_end joined) old outcome new whole clear reported =
       let made = first-call gap (turn ∷ later) old outcome new reported in
@@ -223,22 +245,26 @@ module _ {S E : Type 0} (step : Steps S E) (may_call : S → Type 0) (k : Settin
       gap-free = rw off refl
 
       apart : holds_byte b turn ≡ false → IsApart b gap (turn ∷ later)
-      apart free = inr (λ n at. let some = rw free at (first.position-is (holds_byte b) (turn ∷ later) n at) in omega (arith, some))
+      apart free = inr (λ n at. let some = rw free at (first.position-is (holds_byte b) (turn ∷ later) n at) in
+          omega (arith, some))
 
       nothing : calls_before b (gap ∷ turn ∷ later) 1 ≡ []
       nothing = rw off refl
 
       after : QuitsFrom later outcome new
-          → (result : Result Bool E) (mid : Watch S) → holds_byte b turn ≡ false → mid.found ≡ None → mid.has_break ≡ false
+          → (result : Result Bool E) (mid : Watch S) → holds_byte b turn ≡ false → mid.found ≡ None → mid.has_break
+          ≡ false
           → IsMadeAfter step may_call true old.sink k turn.call result mid.sink → Went turn result mid later outcome new
           → HasQuit (gap ∷ turn ∷ later) old.sink outcome new
       after quits_later result mid free none whole (inl (m, may, broken, made)) went =
           quits-more gap (turn ∷ later) old.sink m outcome new gap-free (apart free)
           (subst (λ call. step old.sink k call (Ok true) m) (sym off) broken)
-          (quits-report turn later m mid outcome new result (report-no-break turn.call is) free made none went (quits_later mid whole none))
+          (quits-report turn later m mid outcome new result (report-no-break turn.call is) free made none went
+          (quits_later mid whole none))
       after quits_later (Ok true) mid free none whole (inr (never, broken)) went = absurd (never refl)
       after quits_later (Ok false) mid free none whole (inr (never, broken)) (stops, same) =
-          quits-none gap (turn ∷ later) old.sink outcome new gap-free (apart free) (ap (λ (w : Watch S). w.found) same ∙ none)
+          quits-none gap (turn ∷ later) old.sink outcome new gap-free (apart free)
+          (ap (λ (w : Watch S). w.found) same ∙ none)
           (λ all. not-stopped turn.end (sym all ∙ stops))
           (λ rest. inr (inl (
             stops ∙ ap (λ n. stopped n) (sym same_end),
@@ -246,7 +272,8 @@ module _ {S E : Type 0} (step : Steps S E) (may_call : S → Type 0) (k : Settin
                 (subst (λ (w : Watch S). step old.sink k breaks (Ok false) w.sink) (sym same) broken),
           )))
       after quits_later (Err e) mid free none whole (inr (never, broken)) (fails, same) =
-          quits-none gap (turn ∷ later) old.sink outcome new gap-free (apart free) (ap (λ (w : Watch S). w.found) same ∙ none)
+          quits-none gap (turn ∷ later) old.sink outcome new gap-free (apart free)
+          (ap (λ (w : Watch S). w.found) same ∙ none)
           (λ all. not-failed e (sym all ∙ fails))
           (λ rest. inr (inr (
             e,
@@ -257,24 +284,29 @@ module _ {S E : Type 0} (step : Steps S E) (may_call : S → Type 0) (k : Settin
 
       go : QuitsFrom later outcome new
           → (at : Option ℕ) → position_of b (reported_bytes turn.call) ≡ at → (result : Result Bool E) (mid : Watch S)
-          → IsLookedAt step may_call at (reported_from turn.call) (record old { has_break = true }) k turn.call result mid
+          → IsLookedAt step may_call at (reported_from turn.call) (record old { has_break = true }) k turn.call result
+          mid
           → Went turn result mid later outcome new → HasQuit (gap ∷ turn ∷ later) old.sink outcome new
       go quits_later None free result mid (same, whole, made) went =
           after quits_later result mid (ap is_some free) (same ∙ clear) whole made went
       go quits_later (Some index) holds result mid (found, whole_now, (returned, ends, called)) went =
-          let end = end-of turn later mid outcome new returned (subst (λ r. Went turn r mid later outcome new) ends went) in
+          let end = end-of turn later mid outcome new returned
+          (subst (λ r. Went turn r mid later outcome new) ends went) in
           let offset : offset_at b (gap ∷ turn ∷ later) 1 ≡ reported_from turn.call + index =
-          ap (λ i. reported_from turn.call + i) (first.position-is (λ x. x == b) (reported_bytes turn.call) index holds) in
+          ap (λ i. reported_from turn.call + i) (first.position-is (λ x. x == b) (reported_bytes turn.call) index
+          holds) in
           ended_at 1 (first.position-later (holds_byte b) gap (turn ∷ later) 0 gap-free
           (first.position-first (holds_byte b) turn later (ap is_some holds)))
           (ap (λ (w : Watch S). w.found) end.0 ∙ found ∙ ap (λ n. Some n) (sym offset)) old.sink
           (subst (λ l. AreReported step k old.sink l all_true old.sink) (sym nothing) (refl, refl)) returned
           (subst (λ n. step old.sink k (binary_data n) returned new.sink) (sym offset)
-          (subst (λ (w : Watch S). step old.sink k (binary_data (reported_from turn.call + index)) returned w.sink) (sym end.0) called))
+          (subst (λ (w : Watch S). step old.sink k (binary_data (reported_from turn.call + index)) returned w.sink)
+          (sym end.0) called))
           end.1
 
   -- and of `begin` and some turns
-  pub quits-begun : (end : ℕ) (turns : List Turn) → AreJoined turns → (old : Watch S) (outcome : Outcome E) (new : Watch S)
+  pub quits-begun : (end : ℕ) (turns : List Turn) → AreJoined turns
+      → (old : Watch S) (outcome : Outcome E) (new : Watch S)
       → old.has_break ≡ false → old.found ≡ None
       → AreReported Q k old (record { call = begins; end = end } ∷ turns) outcome new
       → HasQuit (record { call = begins; end = end } ∷ turns) old.sink outcome new
@@ -285,7 +317,8 @@ module _ {S E : Type 0} (step : Steps S E) (may_call : S → Type 0) (k : Settin
       (quits turns joined made.1 outcome new (made.2.1 ∙ whole) (made.2.0 ∙ clear))
 
   -- `finish` after them
-  pub quits-run : (turns : List Turn) (old : S) (count : ℕ) (outcome : Outcome E) (mid : Watch S) (result : Result (Unit {0}) E)
+  pub quits-run : (turns : List Turn) (old : S) (count : ℕ) (outcome : Outcome E) (mid : Watch S)
+      (result : Result (Unit {0}) E)
       (new : Watch S) → HasQuit turns old outcome mid → IsFinished Q k outcome mid count None result new
       → IsRunTo step k (quit_in_reports b turns) old turns count result new.sink
   quits-run turns old count outcome mid result new (unheld none clear reported) finished =
@@ -311,7 +344,8 @@ module _ {S E : Type 0} (step : Steps S E) (may_call : S → Type 0) (k : Settin
         ended = early outcome some clear finished;
       })
     where
-      early : (outcome : Outcome E) → (outcome ≡ all_true → ⊥) → mid.found ≡ None → IsFinished Q k outcome mid count None result new
+      early : (outcome : Outcome E) → (outcome ≡ all_true → ⊥) → mid.found ≡ None
+          → IsFinished Q k outcome mid count None result new
           → IsEndedAt step k (offset_at b turns n) (offset_at b turns n) outcome mid.sink result new.sink
       early all_true some clear finished = absurd (some refl)
       early (stopped end) some clear (same, broken, made) =
@@ -362,11 +396,13 @@ module _ {S E : Type 0} (step : Steps S E) (may_call : S → Type 0) (k : Settin
       → (position (holds_byte b) turns ≡ None) × AreReported step k old turns all_true new.sink
   quits-all turns old new (unheld none clear reported) = (none, reported)
   quits-all turns old new (ended_before n is clear some reported) = absurd (some refl)
-  quits-all turns old new (ended_at n is found last reported (Ok goes_on) called (end, stops)) = absurd (not-stopped end stops)
+  quits-all turns old new (ended_at n is found last reported (Ok goes_on) called (end, stops)) =
+      absurd (not-stopped end stops)
   quits-all turns old new (ended_at n is found last reported (Err e) called fails) = absurd (not-failed e fails)
 
 -- `binary_data` and `finish`, whatever the first returned
-pub run-called : {S E : Type 0} (step : Steps S E) (k : Settings) (offset count : ℕ) (first mid new : S) (goes_on : Bool)
+pub run-called : {S E : Type 0} (step : Steps S E) (k : Settings) (offset count : ℕ) (first mid new : S)
+    (goes_on : Bool)
     (result : Result (Unit {0}) E) → step first k (binary_data offset) (Ok goes_on) mid
     → step mid k (finishes count (Some offset)) (finish_result result) new
     → IsRun step k first (one_turn (binary_data offset) count) count (Some offset) result new

@@ -8,7 +8,8 @@ use Rattle.grep_decode.specs.declared.label.Label.TheVariants.{Utf8, Utf16Le, Ut
 use Rattle.grep_decode.specs.declared.mode.Mode.{Mode}
 use Rattle.grep_decode.specs.declared.mode.Mode.TheVariants.{Fresh, Passing, Decoding}
 use Rattle.grep_decode.specs.Decoded.{by_label, decoded, found_mark}
-use Rattle.grep_decode.specs.DecoderStates.{DecoderState, Decodes, IsDone, IsSettled, LooksForMark, decode_by, mode_after, mode_of}
+use Rattle.grep_decode.specs.DecoderStates.{DecoderState, Decodes, IsDone, IsSettled, LooksForMark, decode_by}
+use Rattle.grep_decode.specs.DecoderStates.{mode_after, mode_of}
 use Rattle.grep_decode.specs.DecoderStates.{IsWaiting, started, still_to_give, unread}
 use Rattle.grep_decode.specs.Source.{ReadResult}
 use Rattle.grep_matcher.specs.Terminators.{byte_of}
@@ -39,14 +40,16 @@ mode-passing None None unchanged = refl
 mode-passing (Some label) None unchanged = absurd (false≢true unchanged)
 
 -- the mode after a mark, by the encoding
-mode-decodes : (label mark : Option Label) (input : List ℕ) → decode_by (mode_of mark label) input ≡ by_label (encoding_after mark label) input
+mode-decodes : (label mark : Option Label) (input : List ℕ) → decode_by (mode_of mark label) input
+    ≡ by_label (encoding_after mark label) input
 mode-decodes label (Some Utf8) input = refl
 mode-decodes label (Some Utf16Le) input = refl
 mode-decodes label (Some Utf16Be) input = refl
 mode-decodes None None input = refl
 mode-decodes (Some label) None input = refl
 
-mode-waits : (label mark : Option Label) (held : List ℕ) → IsWaiting (mode_of mark label) held → AreWaiting (encoding_after mark label) held
+mode-waits : (label mark : Option Label) (held : List ℕ) → IsWaiting (mode_of mark label) held
+    → AreWaiting (encoding_after mark label) held
 mode-waits label (Some Utf8) held waits = waits
 mode-waits label (Some Utf16Le) held waits = waits
 mode-waits label (Some Utf16Be) held waits = waits
@@ -65,121 +68,141 @@ looks-unsettled (Fresh label sniff) looks settled = settled
 looks-unsettled Passing looks settled = looks
 looks-unsettled (Decoding label) looks settled = looks
 
-module _ {R : Type 0} (remaining : R → Option (List ℕ)) (step : R → ReadResult → R → Type 0) (settings : Settings) (capacity : ℕ)
+module _ {R : Type 0} (remaining : R → Option (List ℕ)) (step : R → ReadResult → R → Type 0) (settings : Settings)
+    (capacity : ℕ)
     (reader : R) (given : List ℕ) (d : DecoderState) (reader' : R)
-    (reads : Decodes remaining step (started capacity settings.encoding settings.bom_sniffing) reader given d reader') where
-  -- what was taken of the reader
-  abbrev pub taken : Taken remaining step reader reader'
-  taken = record { ended = d.has_ended; pieces = reads.pieces; calls = reads.calls; takes = reads.takes }
+    (reads : Decodes remaining step (started capacity settings.encoding settings.bom_sniffing) reader given d reader')
+  where
+    -- what was taken of the reader
+    abbrev pub taken : Taken remaining step reader reader'
+    taken = record { ended = d.has_ended; pieces = reads.pieces; calls = reads.calls; takes = reads.takes }
 
-  -- what it gave is the front of the bytes that are searched, and all of them once it is done
-  pub input-is : ((d : DecoderState) (more : List ℕ) → IsDone d → still_to_give d more ≡ []) → (bytes : List ℕ)
-      → IsInput settings d.has_ended reads.pieces bytes → (later : List ℕ) × (bytes ≡ given ++ later) × (IsDone d → later ≡ [])
-  unfolding searched_bytes
-  input-is none bytes (more, end, is) = (still_to_give d more, is ∙ reads.gives more end, none d more)
+    -- what it gave is the front of the bytes that are searched, and all of them once it is done
+    pub input-is : ((d : DecoderState) (more : List ℕ) → IsDone d → still_to_give d more ≡ []) → (bytes : List ℕ)
+        → IsInput settings d.has_ended reads.pieces bytes → (later : List ℕ) × (bytes ≡ given ++ later)
+        × (IsDone d → later ≡ [])
+    unfolding searched_bytes
+    input-is none bytes (more, end, is) = (still_to_give d more, is ∙ reads.gives more end, none d more)
 
-  -- what is made of it begins with what was made of that
-  pub front-is : ((d : DecoderState) (more : List ℕ) → IsDone d → still_to_give d more ≡ []) → (made : List ℕ → List ℕ)
-      (shown : List ℕ) → ((later : List ℕ) → (back : List ℕ) × (made (given ++ later) ≡ shown ++ back)) → (bytes : List ℕ)
-      → IsInput settings d.has_ended reads.pieces bytes → (back : List ℕ) × (made bytes ≡ shown ++ back)
-  front-is none made shown fronts bytes input =
-      let text = input-is none bytes input in
-      let front = fronts text.0 in
-      (front.0, ap made text.1 ∙ front.1)
+    -- what is made of it begins with what was made of that
+    pub front-is : ((d : DecoderState) (more : List ℕ) → IsDone d → still_to_give d more ≡ [])
+        → (made : List ℕ → List ℕ)
+        (shown : List ℕ) → ((later : List ℕ) → (back : List ℕ) × (made (given ++ later) ≡ shown ++ back))
+        → (bytes : List ℕ)
+        → IsInput settings d.has_ended reads.pieces bytes → (back : List ℕ) × (made bytes ≡ shown ++ back)
+    front-is none made shown fronts bytes input =
+        let text = input-is none bytes input in
+        let front = fronts text.0 in
+        (front.0, ap made text.1 ∙ front.1)
 
-  -- and its view is all of it once it is done, if no byte cut it
-  pub view-is : ((d : DecoderState) (more : List ℕ) → IsDone d → still_to_give d more ≡ []) → (shown : List ℕ)
-      → ((later : List ℕ) → view_of settings (given ++ later) ≡ shown ++ view_of settings later) → (bytes : List ℕ)
-      → IsInput settings d.has_ended reads.pieces bytes
-      → (later : List ℕ) × (view_of settings bytes ≡ shown ++ later) × (IsDone d → later ≡ [])
-  view-is none shown shows bytes input =
-      let text = input-is none bytes input in (
-        view_of settings text.0,
-        ap (view_of settings) text.1 ∙ shows text.0,
-        λ done. ap (view_of settings) (text.2 done) ∙ view-none settings.binary_detection (byte_of settings.line_terminator),
-      )
+    -- and its view is all of it once it is done, if no byte cut it
+    pub view-is : ((d : DecoderState) (more : List ℕ) → IsDone d → still_to_give d more ≡ []) → (shown : List ℕ)
+        → ((later : List ℕ) → view_of settings (given ++ later) ≡ shown ++ view_of settings later) → (bytes : List ℕ)
+        → IsInput settings d.has_ended reads.pieces bytes
+        → (later : List ℕ) × (view_of settings bytes ≡ shown ++ later) × (IsDone d → later ≡ [])
+    view-is none shown shows bytes input =
+        let text = input-is none bytes input in (
+          view_of settings text.0,
+          ap (view_of settings) text.1 ∙ shows text.0,
+          λ done. ap (view_of settings) (text.2 done) ∙ view-none settings.binary_detection
+              (byte_of settings.line_terminator),
+        )
 
-  -- the bytes that are searched, if the input ended here
-  decoded-is : searched_bytes settings (concat reads.pieces) ≡ given ++ still_to_give d []
-  unfolding searched_bytes
-  decoded-is = ap (decoded settings.encoding settings.bom_sniffing) (sym (append-nil (concat reads.pieces))) ∙ reads.gives [] (λ _. refl)
+    -- the bytes that are searched, if the input ended here
+    decoded-is : searched_bytes settings (concat reads.pieces) ≡ given ++ still_to_give d []
+    unfolding searched_bytes
+    decoded-is = ap (decoded settings.encoding settings.bom_sniffing) (sym (append-nil (concat reads.pieces)))
+        ∙ reads.gives [] (λ _. refl)
 
-  -- the mark in what was taken
-  abbrev mark : Option Label
-  mark = found_mark settings.encoding settings.bom_sniffing (concat reads.pieces)
+    -- the mark in what was taken
+    abbrev mark : Option Label
+    mark = found_mark settings.encoding settings.bom_sniffing (concat reads.pieces)
 
-  mode-is : IsSettled d.mode → d.mode ≡ mode_of mark settings.encoding
-  mode-is settled =
-      sym (mode-stays d.mode (d.held ++ unread d.has_ended []) settled) ∙ (sym (reads.settles [] (λ _. refl))
-      ∙ ap (λ xs. mode_of (found_mark settings.encoding settings.bom_sniffing xs) settings.encoding) (append-nil (concat reads.pieces)))
+    mode-is : IsSettled d.mode → d.mode ≡ mode_of mark settings.encoding
+    mode-is settled =
+        sym (mode-stays d.mode (d.held ++ unread d.has_ended []) settled) ∙ (sym (reads.settles [] (λ _. refl))
+        ∙ ap (λ xs. mode_of (found_mark settings.encoding settings.bom_sniffing xs) settings.encoding)
+        (append-nil (concat reads.pieces)))
 
-  module _ (unchanged : passes_unchanged settings (concat reads.pieces) ≡ true) (settled : IsSettled d.mode) where
-    pub passes : d.mode ≡ Passing
-    unfolding passes_unchanged
-    passes = mode-is settled ∙ mode-passing settings.encoding mark unchanged
+    module _ (unchanged : passes_unchanged settings (concat reads.pieces) ≡ true) (settled : IsSettled d.mode) where
+      pub passes : d.mode ≡ Passing
+      unfolding passes_unchanged
+      passes = mode-is settled ∙ mode-passing settings.encoding mark unchanged
 
-    -- at most three bytes more were taken than given
-    pub taken-few : (d.mode ≡ Passing → (length d.ready ≤ 3) × (d.held ≡ [])) → length (concat reads.pieces) ≤ length given + 3
-    taken-few few = omega (arith, reads.ahead passes, ap length (few passes).1)
+      -- at most three bytes more were taken than given
+      pub taken-few : (d.mode ≡ Passing → (length d.ready ≤ 3) × (d.held ≡ []))
+          → length (concat reads.pieces) ≤ length given + 3
+      taken-few few = omega (arith, reads.ahead passes, ap length (few passes).1)
 
-    -- all is given if nothing is ready and held
-    decoded-all : d.ready ≡ [] → (d.mode ≡ Passing → d.held ≡ []) → given ≡ searched_bytes settings (concat reads.pieces)
-    decoded-all ready held =
-        let left : still_to_give d [] ≡ [] =
-        ap (λ xs. xs ++ decode_by d.mode (d.held ++ unread d.has_ended [])) ready
-        ∙ (ap (λ m. decode_by m (d.held ++ unread d.has_ended [])) passes
-        ∙ (ap (λ xs. xs ++ unread d.has_ended []) (held passes) ∙ unread-nothing d.has_ended)) in
-        sym (decoded-is ∙ (ap (λ xs. given ++ xs) left ∙ append-nil given))
+      -- all is given if nothing is ready and held
+      decoded-all : d.ready ≡ [] → (d.mode ≡ Passing → d.held ≡ []) → given
+          ≡ searched_bytes settings (concat reads.pieces)
+      decoded-all ready held =
+          let left : still_to_give d [] ≡ [] =
+          ap (λ xs. xs ++ decode_by d.mode (d.held ++ unread d.has_ended [])) ready
+          ∙ (ap (λ m. decode_by m (d.held ++ unread d.has_ended [])) passes
+          ∙ (ap (λ xs. xs ++ unread d.has_ended []) (held passes) ∙ unread-nothing d.has_ended)) in
+          sym (decoded-is ∙ (ap (λ xs. given ++ xs) left ∙ append-nil given))
 
-  -- a decoder that looks for a mark has given nothing, and holds all that was taken
-  unsettled : IsSettled d.mode ⊎ LooksForMark d.mode × (length d.held ≤ 2)
-      → IsSettled d.mode ⊎ (looks_for_mark settings ≡ true) × (given ≡ []) × (length (concat reads.pieces) < 3)
-  unsettled (inl settled) = inl settled
-  unsettled (inr (looks, few)) =
-      let waits = reads.unsettled (looks-unsettled d.mode looks) in
-      inr (subst LooksForMark waits.0 looks, waits.1, omega (arith, few, ap length waits.2))
+    -- a decoder that looks for a mark has given nothing, and holds all that was taken
+    unsettled : IsSettled d.mode ⊎ LooksForMark d.mode × (length d.held ≤ 2)
+        → IsSettled d.mode ⊎ (looks_for_mark settings ≡ true) × (given ≡ []) × (length (concat reads.pieces) < 3)
+    unsettled (inl settled) = inl settled
+    unsettled (inr (looks, few)) =
+        let waits = reads.unsettled (looks-unsettled d.mode looks) in
+        inr (subst LooksForMark waits.0 looks, waits.1, omega (arith, few, ap length waits.2))
 
-  settled-enough : IsSettled d.mode ⊎ LooksForMark d.mode × (length d.held ≤ 2)
-      → (looks_for_mark settings ≡ true → 3 ≤ length (concat reads.pieces)) → IsSettled d.mode
-  settled-enough few enough = ⊎_elim (λ settled. settled) (λ waits. absurd (omega (arith, enough waits.0, waits.2))) (unsettled few)
+    settled-enough : IsSettled d.mode ⊎ LooksForMark d.mode × (length d.held ≤ 2)
+        → (looks_for_mark settings ≡ true → 3 ≤ length (concat reads.pieces)) → IsSettled d.mode
+    settled-enough few enough = ⊎_elim (λ settled. settled) (λ waits. absurd (omega (arith, enough waits.0, waits.2)))
+        (unsettled few)
 
-  given-none : IsSettled d.mode ⊎ LooksForMark d.mode × (length d.held ≤ 2) → d.has_ended ≡ false
-      → looks_for_mark settings ≡ true → length (concat reads.pieces) < 3 → given ≡ []
-  given-none few unended looks short = ⊎_elim
-      (λ settled. ⊎_elim (λ long. absurd (omega (arith, long, short))) (λ ended. absurd (false≢true (sym unended ∙ ended)))
-      (reads.enough looks settled))
-      (λ waits. waits.1) (unsettled few)
+    given-none : IsSettled d.mode ⊎ LooksForMark d.mode × (length d.held ≤ 2) → d.has_ended ≡ false
+        → looks_for_mark settings ≡ true → length (concat reads.pieces) < 3 → given ≡ []
+    given-none few unended looks short = ⊎_elim
+        (λ settled. ⊎_elim (λ long. absurd (omega (arith, long, short)))
+        (λ ended. absurd (false≢true (sym unended ∙ ended)))
+        (reads.enough looks settled))
+        (λ waits. waits.1) (unsettled few)
 
-  -- the last bytes that came wait if the decoder holds them, and the rest of the text is theirs and of what comes
-  module _ (unended : d.has_ended ≡ false) (ready : d.ready ≡ []) (waits : IsWaiting d.mode d.held) (settled : IsSettled d.mode) where
-    waiting-bytes : AreWaiting (encoding_of settings (concat reads.pieces)) d.held
-    unfolding encoding_of
-    waiting-bytes = mode-waits settings.encoding mark d.held (subst (λ m. IsWaiting m d.held) (mode-is settled) waits)
+    -- the last bytes that came wait if the decoder holds them, and the rest of the text is theirs and of what comes
+    module _ (unended : d.has_ended ≡ false) (ready : d.ready ≡ []) (waits : IsWaiting d.mode d.held)
+        (settled : IsSettled d.mode) where
+      waiting-bytes : AreWaiting (encoding_of settings (concat reads.pieces)) d.held
+      unfolding encoding_of
+      waiting-bytes = mode-waits settings.encoding mark d.held (subst (λ m. IsWaiting m d.held) (mode-is settled) waits)
 
-    waiting-text : (more : List ℕ) → searched_bytes settings (concat reads.pieces ++ more)
-        ≡ given ++ by_label (encoding_of settings (concat reads.pieces)) (d.held ++ more)
-    unfolding searched_bytes encoding_of
-    waiting-text more =
-        reads.gives more (λ ended. absurd (false≢true (sym unended ∙ ended)))
-        ∙ (ap (λ xs. given ++ (xs ++ decode_by d.mode (d.held ++ unread d.has_ended more))) ready
-        ∙ (ap (λ b. given ++ decode_by d.mode (d.held ++ unread b more)) unended
-        ∙ (ap (λ m. given ++ decode_by m (d.held ++ more)) (mode-is settled)
-        ∙ ap (λ xs. given ++ xs) (mode-decodes settings.encoding mark (d.held ++ more)))))
+      waiting-text : (more : List ℕ) → searched_bytes settings (concat reads.pieces ++ more)
+          ≡ given ++ by_label (encoding_of settings (concat reads.pieces)) (d.held ++ more)
+      unfolding searched_bytes encoding_of
+      waiting-text more =
+          reads.gives more (λ ended. absurd (false≢true (sym unended ∙ ended)))
+          ∙ (ap (λ xs. given ++ (xs ++ decode_by d.mode (d.held ++ unread d.has_ended more))) ready
+          ∙ (ap (λ b. given ++ decode_by d.mode (d.held ++ unread b more)) unended
+          ∙ (ap (λ m. given ++ decode_by m (d.held ++ more)) (mode-is settled)
+          ∙ ap (λ xs. given ++ xs) (mode-decodes settings.encoding mark (d.held ++ more)))))
 
-  -- what was decoded when the reader failed
-  pub decoded-so_far : ((d : DecoderState) (more : List ℕ) → IsDone d → still_to_give d more ≡ []) → d.has_ended ≡ false
-      → d.ready ≡ [] → IsWaiting d.mode d.held → IsDecodedSoFar settings reads.pieces given
-  decoded-so_far none unended ready waits = record {
-    begins = λ bytes input.
-        let text = input-is none bytes (input.0, (λ ended. absurd (false≢true (sym unended ∙ ended))), input.2) in
-        (text.0, text.1);
-    none = given-none few unended;
-    all = λ enough.
-        let settled = settled-enough few enough in
-        (reads.last.0, d.held, reads.last.1, waiting-bytes unended ready waits settled, waiting-text unended ready waits settled);
-    whole = λ enough unchanged. decoded-all unchanged (settled-enough few enough) ready
-        (λ passing. subst (λ m. IsWaiting m d.held) passing waits);
-  }
-    where
-      few : IsSettled d.mode ⊎ LooksForMark d.mode × (length d.held ≤ 2)
-      few = waits-few d.mode d.held waits
+    -- what was decoded when the reader failed
+    pub decoded-so_far : ((d : DecoderState) (more : List ℕ) → IsDone d → still_to_give d more ≡ []) → d.has_ended
+        ≡ false
+        → d.ready ≡ [] → IsWaiting d.mode d.held → IsDecodedSoFar settings reads.pieces given
+    decoded-so_far none unended ready waits = record {
+      begins = λ bytes input.
+          let text = input-is none bytes (input.0, (λ ended. absurd (false≢true (sym unended ∙ ended))), input.2) in
+          (text.0, text.1);
+      none = given-none few unended;
+      all = λ enough.
+          let settled = settled-enough few enough in (
+            reads.last.0,
+            d.held,
+            reads.last.1,
+            waiting-bytes unended ready waits settled,
+            waiting-text unended ready waits
+                settled,
+          );
+      whole = λ enough unchanged. decoded-all unchanged (settled-enough few enough) ready
+          (λ passing. subst (λ m. IsWaiting m d.held) passing waits);
+    }
+      where
+        few : IsSettled d.mode ⊎ LooksForMark d.mode × (length d.held ≤ 2)
+        few = waits-few d.mode d.held waits

@@ -1,5 +1,7 @@
--- A search of a reader, fill by fill, against the calls that are defined for every input that begins with what was read.
-use Rattle.std.proofs.Common.{◌≡◌, ◌≢◌, ℕ, ◌+◌, ◌-◌, ◌<◌, ◌≤◌, ◌⊎◌, ◌&&◌, ◌==◌, Bool, true, false, List, [], ◌++◌, length, take, drop, get_or}
+-- A search of a reader, fill by fill, against the calls that are defined for every input that begins with what was
+-- read.
+use Rattle.std.proofs.Common.{◌≡◌, ◌≢◌, ℕ, ◌+◌, ◌-◌, ◌<◌, ◌≤◌, ◌⊎◌, ◌&&◌, ◌==◌, Bool, true, false, List, [], ◌++◌}
+use Rattle.std.proofs.Common.{length, take, drop, get_or}
 use Rattle.std.proofs.Common.{Some, inl, inr, refl, sym, ◌∙◌, ap, subst, arith, append-nil}
 use Rattle.std.proofs.Common.{append_assoc, length-append, length-drop}
 use Rattle.std.proofs.lemmas.List.{drop_at, get_or-append-add, get_or_append_left, length-take-le, take-append-drop}
@@ -67,7 +69,13 @@ module _ (t : ℕ) (old new : BufferState) (ends_at : old.terminator ≡ t) wher
   -- nothing follows if it shows no more lines, or an unterminated one
   pub last-filled : (later : List ℕ) → IsUncut old new → (new.has_ended ≡ true → later ≡ [])
       → IsLast t new.shown (length old.shown) → new.rest ++ later ≡ []
-  last-filled later (inl line) done (inl same) = absurd (omega (arith, same, line.came, length-append old.shown old.rest))
+  last-filled later (inl line) done (inl same) = absurd (omega (
+    arith,
+    same,
+    line.came,
+    length-append old.shown
+        old.rest,
+  ))
   last-filled later (inl line) done (inr broken) = absurd (broken (λ _. line.ends.last ∙ ends_at))
   last-filled later (inr end) done last = ap (λ xs. xs ++ later) end.all ∙ done end.ended
 
@@ -77,7 +85,8 @@ module _ (t : ℕ) (old new : BufferState) (ends_at : old.terminator ≡ t) wher
   unended-filled given whole lacks (inl line) more closed =
       (line.unended, λ i x below. subst (λ b. get_or new.rest i x ≢ b) ends_at (line.none i x below))
   unended-filled given whole lacks (inr end) more closed =
-      let all : new.shown ≡ held old ++ given = sym (append-nil new.shown) ∙ (ap (λ xs. new.shown ++ xs) (sym end.all) ∙ whole) in
+      let all : new.shown ≡ held old ++ given = sym (append-nil new.shown)
+      ∙ (ap (λ xs. new.shown ++ xs) (sym end.all) ∙ whole) in
       let tail : List ℕ = old.rest ++ given in
       let shown : new.shown ≡ old.shown ++ tail = all ∙ append_assoc old.shown old.rest given in
       let given_lacks : All (λ b. b ≢ t) given = subst (All (λ b. b ≢ t))
@@ -91,244 +100,279 @@ module _ (t : ℕ) (old new : BufferState) (ends_at : old.terminator ≡ t) wher
       ∙ (ap (λ i. get_or (old.shown ++ tail) i 0) last ∙ (ap (λ xs. slice_index xs (length new.shown - 1)) (sym shown)
       ∙ closed (omega (arith, more))))))
 
-module _ (join : LinesJoin) (append : LinesAppend) {S E : Type 0} (step : Steps S E) (k : Settings) (meaning : Meaning) where
-  abbrev pub t : ℕ
-  t = byte_of k.line_terminator
+module _ (join : LinesJoin) (append : LinesAppend) {S E : Type 0} (step : Steps S E) (k : Settings) (meaning : Meaning)
+  where
+    abbrev pub t : ℕ
+    t = byte_of k.line_terminator
 
-  -- at the end of what is shown, if nothing follows it
-  pub passed-end : (gone shown : List ℕ) (start : ℕ) (first : S) (w : Walk) (now : S)
-      → IsReady step k meaning gone shown start first w now → start ≡ length shown
-      → HasPassed step k meaning gone shown (gone ++ (shown ++ [])) first w now
-  passed-end gone shown start first w now ready end =
-      passed-all step k meaning gone shown (gone ++ (shown ++ [])) first start w now (ready [] nothing) end
-      (λ i here. start-same join append t shown (length shown) i (length (lines t shown))
-      (subst (λ p. IsLineStart t shown p i) end here) (start-all join append t shown))
+    -- at the end of what is shown, if nothing follows it
+    pub passed-end : (gone shown : List ℕ) (start : ℕ) (first : S) (w : Walk) (now : S)
+        → IsReady step k meaning gone shown start first w now → start ≡ length shown
+        → HasPassed step k meaning gone shown (gone ++ (shown ++ [])) first w now
+    passed-end gone shown start first w now ready end =
+        passed-all step k meaning gone shown (gone ++ (shown ++ [])) first start w now (ready [] nothing) end
+        (λ i here. start-same join append t shown (length shown) i (length (lines t shown))
+        (subst (λ p. IsLineStart t shown p i) end here) (start-all join append t shown))
 
-  pub counted-end : (gone shown : List ℕ) (first : S) (w : Walk) (now : S) → IsClosed t gone
-      → HasPassed step k meaning gone shown (gone ++ (shown ++ [])) first w now
-      → IsCountedFor step k meaning first (gone ++ (shown ++ [])) w.offset all_true now
-  counted-end gone shown first w now opens passed =
-      walks.counted-end k meaning (gone ++ (shown ++ [])) step first
-      (recounted w passed.searched.line passed.searched.through) now passed.searched.walked.reported
-      (passed.all ∙ (ap (λ xs. length (lines t gone) + length (lines t xs)) (sym (append-nil shown))
-      ∙ sym (count-after join append t gone (shown ++ []) opens)))
+    pub counted-end : (gone shown : List ℕ) (first : S) (w : Walk) (now : S) → IsClosed t gone
+        → HasPassed step k meaning gone shown (gone ++ (shown ++ [])) first w now
+        → IsCountedFor step k meaning first (gone ++ (shown ++ [])) w.offset all_true now
+    counted-end gone shown first w now opens passed =
+        walks.counted-end k meaning (gone ++ (shown ++ [])) step first
+        (recounted w passed.searched.line passed.searched.through) now passed.searched.walked.reported
+        (passed.all ∙ (ap (λ xs. length (lines t gone) + length (lines t xs)) (sym (append-nil shown))
+        ∙ sym (count-after join append t gone (shown ++ []) opens)))
 
-  -- what came of a walk over what a buffer shows
-  module _ (old : BufferState) (w : Walk) (now : S) where
-    -- nothing new is shown
-    pub ended-nothing : start_in old w ≡ length old.shown → old.offset ≤ w.offset → HasEnded step k meaning old w now w now
-    ended-nothing same low = record {
-      outcome = all_true;
-      low = omega arith;
-      high = omega (arith, same, low);
-      counted = λ gone first opens ready after closes last.
-          subst (λ xs. IsCountedFor step k meaning first (gone ++ (old.shown ++ xs)) w.offset all_true now) (sym (last (inl same)))
-          (counted-end gone old.shown first w now opens
-          (passed-end gone old.shown (start_in old w) first w now ready same));
-    }
-
-    module _ (window : List ℕ) (start : ℕ) (shown : window ≡ old.shown) (at : start ≡ start_in old w) (w' : Walk) (now' : S)
-        (low : w.offset ≤ w'.offset) (high : w'.offset ≤ old.offset + length old.shown) where
-      searched-there : (gone after : List ℕ) (first : S)
-          → HasSearched step k meaning gone old.shown (gone ++ (old.shown ++ after)) first (start_in old w) w now
-          → HasSearched step k meaning gone window (gone ++ (old.shown ++ after)) first start w now
-      searched-there gone after first searched =
-          subst (λ p. HasSearched step k meaning gone window (gone ++ (old.shown ++ after)) first p w now) (sym at)
-          (subst (λ xs. HasSearched step k meaning gone xs (gone ++ (old.shown ++ after)) first (start_in old w) w now) (sym shown)
-          searched)
-
-      -- the search ended within it
-      pub ended-within : (outcome : Outcome E)
-          → ((gone input : List ℕ) (first : S) → HasSearched step k meaning gone window input first start w now
-          → IsCountedFor step k meaning first input w'.offset outcome now')
-          → HasEnded step k meaning old w now w' now'
-      ended-within outcome counted = record {
-        outcome = outcome;
-        low = low;
-        high = high;
+    -- what came of a walk over what a buffer shows
+    module _ (old : BufferState) (w : Walk) (now : S) where
+      -- nothing new is shown
+      pub ended-nothing : start_in old w ≡ length old.shown → old.offset ≤ w.offset
+          → HasEnded step k meaning old w now w now
+      ended-nothing same low = record {
+        outcome = all_true;
+        low = omega arith;
+        high = omega (arith, same, low);
         counted = λ gone first opens ready after closes last.
-            counted gone (gone ++ (old.shown ++ after)) first (searched-there gone after first (ready after closes));
+            subst (λ xs. IsCountedFor step k meaning first (gone ++ (old.shown ++ xs)) w.offset all_true now)
+            (sym (last (inl same)))
+            (counted-end gone old.shown first w now opens
+            (passed-end gone old.shown (start_in old w) first w now ready same));
       }
 
-      module _ (passes : (gone input : List ℕ) (first : S) → HasSearched step k meaning gone window input first start w now
-          → HasPassed step k meaning gone window input first w' now') where
-        passed-there : (gone after : List ℕ) (first : S)
+      module _ (window : List ℕ) (start : ℕ) (shown : window ≡ old.shown) (at : start ≡ start_in old w) (w' : Walk)
+          (now' : S)
+          (low : w.offset ≤ w'.offset) (high : w'.offset ≤ old.offset + length old.shown) where
+        searched-there : (gone after : List ℕ) (first : S)
             → HasSearched step k meaning gone old.shown (gone ++ (old.shown ++ after)) first (start_in old w) w now
-            → HasPassed step k meaning gone old.shown (gone ++ (old.shown ++ after)) first w' now'
-        passed-there gone after first searched =
-            subst (λ xs. HasPassed step k meaning gone xs (gone ++ (old.shown ++ after)) first w' now') shown
-            (passes gone (gone ++ (old.shown ++ after)) first (searched-there gone after first searched))
+            → HasSearched step k meaning gone window (gone ++ (old.shown ++ after)) first start w now
+        searched-there gone after first searched =
+            subst (λ p. HasSearched step k meaning gone window (gone ++ (old.shown ++ after)) first p w now) (sym at)
+            (subst (λ xs. HasSearched step k meaning gone xs (gone ++ (old.shown ++ after)) first (start_in old w) w
+            now)
+            (sym shown)
+            searched)
 
-        -- its last line is unterminated, so that nothing follows
-        pub ended-broken : (IsClosed t old.shown → ⊥) → HasEnded step k meaning old w now w' now'
-        ended-broken broken = record {
-          outcome = all_true;
+        -- the search ended within it
+        pub ended-within : (outcome : Outcome E)
+            → ((gone input : List ℕ) (first : S) → HasSearched step k meaning gone window input first start w now
+            → IsCountedFor step k meaning first input w'.offset outcome now')
+            → HasEnded step k meaning old w now w' now'
+        ended-within outcome counted = record {
+          outcome = outcome;
           low = low;
           high = high;
           counted = λ gone first opens ready after closes last.
-              subst (λ xs. IsCountedFor step k meaning first (gone ++ (old.shown ++ xs)) w'.offset all_true now')
-              (sym (last (inr broken)))
-              (counted-end gone old.shown first w' now' opens (passed-there gone [] first (ready [] nothing)));
+              counted gone (gone ++ (old.shown ++ after)) first (searched-there gone after first (ready after closes));
         }
 
-        -- some of its lines are kept for the next one
-        pub next-rolled : (r : ℕ) → r ≤ length old.shown → IsClosed t old.shown
-            → ((gone : List ℕ) → IsClosed t gone → IsClosed t (gone ++ take r old.shown))
-            → ((gone more after : List ℕ) → IsClosed t gone → (0 < length after → IsClosed t (drop r old.shown ++ more))
-            → (line through : ℕ) → AreCounts k w' line through
-            → IsInWindow k gone old.shown (gone ++ (old.shown ++ (more ++ after))) (length old.shown) (recounted w' line through)
-            → IsInWindow k (gone ++ take r old.shown) (drop r old.shown ++ more) (gone ++ (old.shown ++ (more ++ after)))
-            (length old.shown - r) (recounted w' line through))
-            → (gone : List ℕ) (first : S) → IsClosed t gone → IsReady step k meaning gone old.shown (start_in old w) first w now
-            → IsClosed t (gone ++ take r old.shown)
-            × IsNext step k meaning (gone ++ take r old.shown) (drop r old.shown) first w' now'
-        next-rolled r within closed shuts keeps gone first opens ready = (
-          shuts gone opens,
-          λ more after closes.
-              let input : List ℕ = gone ++ (old.shown ++ (more ++ after)) in
-              let passed = passed-there gone (more ++ after) first (ready (more ++ after) (λ _. closed)) in
-              subst (λ xs. HasSearched step k meaning (gone ++ take r old.shown) (drop r old.shown ++ more) xs first
-              (length (drop r old.shown)) w' now')
-              (roll-input gone old.shown more after r)
-              (subst (λ p. HasSearched step k meaning (gone ++ take r old.shown) (drop r old.shown ++ more) input first p w' now')
-              (sym (length-drop r old.shown))
-              (searched-rolled step k meaning gone old.shown input first w' now' passed (gone ++ take r old.shown)
-              (drop r old.shown ++ more) (length old.shown - r) (keeps gone more after opens closes _ _ passed.searched.counts
-              passed.searched.walked.inside))),
-        )
+        module _ (passes : (gone input : List ℕ) (first : S)
+            → HasSearched step k meaning gone window input first start w now
+            → HasPassed step k meaning gone window input first w' now') where
+          passed-there : (gone after : List ℕ) (first : S)
+              → HasSearched step k meaning gone old.shown (gone ++ (old.shown ++ after)) first (start_in old w) w now
+              → HasPassed step k meaning gone old.shown (gone ++ (old.shown ++ after)) first w' now'
+          passed-there gone after first searched =
+              subst (λ xs. HasPassed step k meaning gone xs (gone ++ (old.shown ++ after)) first w' now') shown
+              (passes gone (gone ++ (old.shown ++ after)) first (searched-there gone after first searched))
 
-  module _ (gone : List ℕ) (old : BufferState) (first : S) (w : Walk) (now : S)
-      (between : IsBetween step k meaning gone old first w now) where
-    abbrev seen : List ℕ
-    seen = gone ++ old.shown
+          -- its last line is unterminated, so that nothing follows
+          pub ended-broken : (IsClosed t old.shown → ⊥) → HasEnded step k meaning old w now w' now'
+          ended-broken broken = record {
+            outcome = all_true;
+            low = low;
+            high = high;
+            counted = λ gone first opens ready after closes last.
+                subst (λ xs. IsCountedFor step k meaning first (gone ++ (old.shown ++ xs)) w'.offset all_true now')
+                (sym (last (inr broken)))
+                (counted-end gone old.shown first w' now' opens (passed-there gone [] first (ready [] nothing)));
+          }
 
-    pub walk-at : w.offset ≡ length gone + length old.shown
-    walk-at = between.at
+          -- some of its lines are kept for the next one
+          pub next-rolled : (r : ℕ) → r ≤ length old.shown → IsClosed t old.shown
+              → ((gone : List ℕ) → IsClosed t gone → IsClosed t (gone ++ take r old.shown))
+              → ((gone more after : List ℕ) → IsClosed t gone
+              → (0 < length after → IsClosed t (drop r old.shown ++ more))
+              → (line through : ℕ) → AreCounts k w' line through
+              → IsInWindow k gone old.shown (gone ++ (old.shown ++ (more ++ after))) (length old.shown)
+              (recounted w' line through)
+              → IsInWindow k (gone ++ take r old.shown) (drop r old.shown ++ more)
+              (gone ++ (old.shown ++ (more ++ after)))
+              (length old.shown - r) (recounted w' line through))
+              → (gone : List ℕ) (first : S) → IsClosed t gone
+              → IsReady step k meaning gone old.shown (start_in old w) first w now
+              → IsClosed t (gone ++ take r old.shown)
+              × IsNext step k meaning (gone ++ take r old.shown) (drop r old.shown) first w' now'
+          next-rolled r within closed shuts keeps gone first opens ready = (
+            shuts gone opens,
+            λ more after closes.
+                let input : List ℕ = gone ++ (old.shown ++ (more ++ after)) in
+                let passed = passed-there gone (more ++ after) first (ready (more ++ after) (λ _. closed)) in
+                subst (λ xs. HasSearched step k meaning (gone ++ take r old.shown) (drop r old.shown ++ more) xs first
+                (length (drop r old.shown)) w' now')
+                (roll-input gone old.shown more after r)
+                (subst (λ p. HasSearched step k meaning (gone ++ take r old.shown) (drop r old.shown ++ more) input
+                first
+                p w' now')
+                (sym (length-drop r old.shown))
+                (searched-rolled step k meaning gone old.shown input first w' now' passed (gone ++ take r old.shown)
+                (drop r old.shown ++ more) (length old.shown - r)
+                (keeps gone more after opens closes _ _ passed.searched.counts
+                passed.searched.walked.inside))),
+          )
 
-    here : reports_nothing k ≡ false → HasPassed step k meaning gone old.shown (gone ++ (old.shown ++ [])) first w now
-    here busy = passed-end gone old.shown (length old.shown) first w now
-        (subst (λ xs. IsReady step k meaning gone xs (length old.shown) first w now) (append-nil old.shown) (between.next busy [])) refl
+    module _ (gone : List ℕ) (old : BufferState) (first : S) (w : Walk) (now : S)
+        (between : IsBetween step k meaning gone old first w now) where
+      abbrev seen : List ℕ
+      seen = gone ++ old.shown
 
-    -- the calls so far are those over the lines that were seen
-    pub counted-seen : IsCountedFor step k meaning first seen w.offset all_true now
-    counted-seen = by-cases (reports_nothing k) refl
-      where
-        by-cases : (idle : Bool) → reports_nothing k ≡ idle → IsCountedFor step k meaning first seen w.offset all_true now
-        by-cases false busy = subst (λ xs. IsCountedFor step k meaning first (gone ++ xs) w.offset all_true now) (append-nil old.shown)
-            (counted-end gone old.shown first w now between.opens (here busy))
-        by-cases true idle =
-            let unread = between.idle idle in
-            let zero : 0 ≡ w.offset = omega (arith, between.at, ap length unread.none, length-append gone old.shown) in
-            subst (λ n. IsCountedFor step k meaning first seen n all_true now) zero
-            (subst (λ xs. IsCountedFor step k meaning first xs 0 all_true now) (sym unread.none)
-            (walks.counted-idle k meaning [] step first now idle unread.begun))
+      pub walk-at : w.offset ≡ length gone + length old.shown
+      walk-at = between.at
 
-    -- and the search goes on after them, whatever follows
-    pub goes-on : (bytes back : List ℕ) → bytes ≡ seen ++ back → GoesOnAfter k meaning bytes seen
-    goes-on bytes back is = record {
-      front = record { after = back; whole = is; closed = λ _. shut; held = between.fits };
-      closed = shut;
-      has_turn = by-cases (reports_nothing k) refl;
-    }
-      where
-        shut : IsClosed t seen
-        shut = closed-append t gone old.shown between.opens between.shut
+      here : reports_nothing k ≡ false → HasPassed step k meaning gone old.shown (gone ++ (old.shown ++ [])) first w now
+      here busy = passed-end gone old.shown (length old.shown) first w now
+          (subst (λ xs. IsReady step k meaning gone xs (length old.shown) first w now) (append-nil old.shown)
+          (between.next busy [])) refl
 
-        by-cases : (idle : Bool) → reports_nothing k ≡ idle → (is_detecting k.binary_detection && length (lines t seen) == 0) ≡ false
-            → length (lines t seen) < LineSearch.line_count k meaning bytes
-            → length (lines t seen) < LineSearch.turn_count k meaning bytes
-        by-cases true idle more less =
-            let unread = between.idle idle in
-            absurd (false≢true (sym more ∙ (ap (λ d. d && length (lines t seen) == 0) unread.detecting
-            ∙ ap (λ xs. length (lines t xs) == 0) unread.none)))
-        by-cases false busy more less =
-            let searched = between.next busy back [] nothing in
-            let count = searched.line in
-            let line : count ≡ length (lines t seen) = omega (
-              arith,
-              searched.walked.inside.line.low,
-              start-same join append t (old.shown ++ back) (length old.shown) (count - length (lines t gone)) (length (lines t old.shown))
-                  searched.walked.inside.line.begins (start-there join append t old.shown back between.shut),
-              count-after join append t gone old.shown between.opens,
-            ) in
-            let walk = searched.walked.reported.walk in
-            let input : gone ++ ((old.shown ++ back) ++ []) ≡ bytes =
-            ap (λ xs. gone ++ xs) (append-nil (old.shown ++ back)) ∙ (sym (append_assoc gone old.shown back) ∙ sym is) in
-            subst (λ i. i < LineSearch.turn_count k meaning bytes) line
-            (turn_above k meaning bytes count w.after_context_left w.match_count
-            (subst (λ xs. IsOpen k meaning xs count w.after_context_left w.match_count) input walk.opened)
-            (subst (λ i. i < length (lines t bytes)) (sym line) less))
-
-    module _ (new : BufferState) (given : List ℕ) (whole : held new ≡ held old ++ given) (ends_at : old.terminator ≡ t) where
-      -- what a fill shows is searched from the end of what was shown
-      pub filled-ready : reports_nothing k ≡ false → IsUncut old new → IsReady step k meaning gone new.shown (length old.shown) first w now
-      filled-ready busy filled =
-          let split : new.shown ≡ old.shown ++ drop (length old.shown) new.shown =
-          longer-front old.shown (old.rest ++ given) new.shown new.rest (sym (whole ∙ append_assoc old.shown old.rest given))
-          (long-shown old new given whole filled) in
-          subst (λ xs. IsReady step k meaning gone xs (length old.shown) first w now) (sym split)
-          (between.next busy (drop (length old.shown) new.shown))
-
-      -- none of its lines is too long
-      pub fits-filled : IsUncut old new → length new.shown ≤ new.size → (limit : ℕ) → k.heap_limit ≡ Some limit → new.size ≤ limit
-          → All (λ line. IsTooLong t limit line → ⊥) (lines t (gone ++ new.shown))
-      fits-filled filled room limit is within =
-          subst (All Fits) (sym (append t gone new.shown between.opens)) (All-append Fits (lines t gone) (lines t new.shown) left right)
+      -- the calls so far are those over the lines that were seen
+      pub counted-seen : IsCountedFor step k meaning first seen w.offset all_true now
+      counted-seen = by-cases (reports_nothing k) refl
         where
-          Fits : List ℕ → Type 0
-          Fits line = IsTooLong t limit line → ⊥
+          by-cases : (idle : Bool) → reports_nothing k ≡ idle
+              → IsCountedFor step k meaning first seen w.offset all_true now
+          by-cases false busy = subst (λ xs. IsCountedFor step k meaning first (gone ++ xs) w.offset all_true now)
+              (append-nil old.shown)
+              (counted-end gone old.shown first w now between.opens (here busy))
+          by-cases true idle =
+              let unread = between.idle idle in
+              let zero : 0 ≡ w.offset = omega (
+                arith,
+                between.at,
+                ap length unread.none,
+                length-append gone
+                    old.shown,
+              ) in
+              subst (λ n. IsCountedFor step k meaning first seen n all_true now) zero
+              (subst (λ xs. IsCountedFor step k meaning first xs 0 all_true now) (sym unread.none)
+              (walks.counted-idle k meaning [] step first now idle unread.begun))
 
-          before : All Fits (lines t gone ++ lines t old.shown)
-          before = subst (All Fits) (append t gone old.shown between.opens) (between.fits limit is)
+      -- and the search goes on after them, whatever follows
+      pub goes-on : (bytes back : List ℕ) → bytes ≡ seen ++ back → GoesOnAfter k meaning bytes seen
+      goes-on bytes back is = record {
+        front = record { after = back; whole = is; closed = λ _. shut; held = between.fits };
+        closed = shut;
+        has_turn = by-cases (reports_nothing k) refl;
+      }
+        where
+          shut : IsClosed t seen
+          shut = closed-append t gone old.shown between.opens between.shut
 
-          left : All Fits (lines t gone)
-          left = λ i x below. subst Fits (get_or_append_left (lines t gone) (lines t old.shown) x i below)
-              (before i x (omega (arith, below, length-append (lines t gone) (lines t old.shown))))
+          by-cases : (idle : Bool) → reports_nothing k ≡ idle
+              → (is_detecting k.binary_detection && length (lines t seen) == 0) ≡ false
+              → length (lines t seen) < LineSearch.line_count k meaning bytes
+              → length (lines t seen) < LineSearch.turn_count k meaning bytes
+          by-cases true idle more less =
+              let unread = between.idle idle in
+              absurd (false≢true (sym more ∙ (ap (λ d. d && length (lines t seen) == 0) unread.detecting
+              ∙ ap (λ xs. length (lines t xs) == 0) unread.none)))
+          by-cases false busy more less =
+              let searched = between.next busy back [] nothing in
+              let count = searched.line in
+              let line : count ≡ length (lines t seen) = omega (
+                arith,
+                searched.walked.inside.line.low,
+                start-same join append t (old.shown ++ back) (length old.shown) (count - length (lines t gone))
+                    (length (lines t old.shown))
+                    searched.walked.inside.line.begins (start-there join append t old.shown back between.shut),
+                count-after join append t gone old.shown between.opens,
+              ) in
+              let walk = searched.walked.reported.walk in
+              let input : gone ++ ((old.shown ++ back) ++ []) ≡ bytes =
+              ap (λ xs. gone ++ xs) (append-nil (old.shown ++ back))
+              ∙ (sym (append_assoc gone old.shown back) ∙ sym is) in
+              subst (λ i. i < LineSearch.turn_count k meaning bytes) line
+              (turn_above k meaning bytes count w.after_context_left w.match_count
+              (subst (λ xs. IsOpen k meaning xs count w.after_context_left w.match_count) input walk.opened)
+              (subst (λ i. i < length (lines t bytes)) (sym line) less))
 
-          full : IsUncut old new → length new.shown ≡ limit → IsClosed t new.shown
-          full (inl line) same = λ _. line.ends.last ∙ ends_at
-          full (inr end) same = absurd (omega (arith, same, end.room, within))
+      module _ (new : BufferState) (given : List ℕ) (whole : held new ≡ held old ++ given)
+          (ends_at : old.terminator ≡ t)
+        where
+          -- what a fill shows is searched from the end of what was shown
+          pub filled-ready : reports_nothing k ≡ false → IsUncut old new
+              → IsReady step k meaning gone new.shown (length old.shown) first w now
+          filled-ready busy filled =
+              let split : new.shown ≡ old.shown ++ drop (length old.shown) new.shown =
+              longer-front old.shown (old.rest ++ given) new.shown new.rest
+              (sym (whole ∙ append_assoc old.shown old.rest given))
+              (long-shown old new given whole filled) in
+              subst (λ xs. IsReady step k meaning gone xs (length old.shown) first w now) (sym split)
+              (between.next busy (drop (length old.shown) new.shown))
 
-          right : All Fits (lines t new.shown)
-          right = lines-fit join t limit new.shown (omega (arith, room, within)) (full filled)
+          -- none of its lines is too long
+          pub fits-filled : IsUncut old new → length new.shown ≤ new.size → (limit : ℕ) → k.heap_limit ≡ Some limit
+              → new.size ≤ limit
+              → All (λ line. IsTooLong t limit line → ⊥) (lines t (gone ++ new.shown))
+          fits-filled filled room limit is within =
+              subst (All Fits) (sym (append t gone new.shown between.opens))
+              (All-append Fits (lines t gone) (lines t new.shown) left right)
+            where
+              Fits : List ℕ → Type 0
+              Fits line = IsTooLong t limit line → ⊥
 
-      -- the next fill, after the walk passed what is shown
-      pub between-next : reports_nothing k ≡ false → IsUncut old new → new.offset ≡ old.offset → length new.shown ≤ new.size
-          → ((limit : ℕ) → k.heap_limit ≡ Some limit → new.size ≤ limit)
-          → (moved : BufferState) (w' : Walk) (now' : S) (on : HasMovedOn step k meaning new w now moved w' now')
-          → IsBetween step k meaning (gone ++ take on.count new.shown) moved first w' now'
-      between-next busy filled same room within moved w' now' on =
-          let start : start_in new w ≡ length old.shown = omega (arith, walk-at, same, between.offset) in
-          let next = on.next gone first between.opens
-          (subst (λ p. IsReady step k meaning gone new.shown p first w now) (sym start) (filled-ready busy filled)) in
-          let rest = unended-filled t old new ends_at given whole between.unfinished filled (omega (arith, on.some, start)) on.closed in
-          subst (λ b. IsBetween step k meaning (gone ++ take on.count new.shown) b first w' now') (sym on.moved)
-          (record {
-            opens = next.0;
-            shut = closed-drop t new.shown on.count on.closed;
-            unfinished = rest.1;
-            offset = omega (
-              arith,
-              same,
-              between.offset,
-              length-append gone (take on.count new.shown),
-              length-take-le on.count new.shown on.within,
-            );
-            unended = rest.0;
-            few = on.few;
-            fits = λ limit is. subst (λ xs. All (λ line. IsTooLong t limit line → ⊥) (lines t xs))
-                (ap (λ xs. gone ++ xs) (sym (take-append-drop on.count new.shown))
-                ∙ sym (append_assoc gone (take on.count new.shown) (drop on.count new.shown)))
-                (fits-filled filled room limit is (within limit is));
-            at = omega (
-              arith,
-              on.at,
-              same,
-              between.offset,
-              length-append gone (take on.count new.shown),
-              length-take-le on.count new.shown on.within,
-              length-drop on.count new.shown,
-            );
-            next = λ _. next.1;
-            idle = λ idle. absurd (clash idle busy);
-          })
+              before : All Fits (lines t gone ++ lines t old.shown)
+              before = subst (All Fits) (append t gone old.shown between.opens) (between.fits limit is)
+
+              left : All Fits (lines t gone)
+              left = λ i x below. subst Fits (get_or_append_left (lines t gone) (lines t old.shown) x i below)
+                  (before i x (omega (arith, below, length-append (lines t gone) (lines t old.shown))))
+
+              full : IsUncut old new → length new.shown ≡ limit → IsClosed t new.shown
+              full (inl line) same = λ _. line.ends.last ∙ ends_at
+              full (inr end) same = absurd (omega (arith, same, end.room, within))
+
+              right : All Fits (lines t new.shown)
+              right = lines-fit join t limit new.shown (omega (arith, room, within)) (full filled)
+
+          -- the next fill, after the walk passed what is shown
+          pub between-next : reports_nothing k ≡ false → IsUncut old new → new.offset ≡ old.offset
+              → length new.shown ≤ new.size
+              → ((limit : ℕ) → k.heap_limit ≡ Some limit → new.size ≤ limit)
+              → (moved : BufferState) (w' : Walk) (now' : S) (on : HasMovedOn step k meaning new w now moved w' now')
+              → IsBetween step k meaning (gone ++ take on.count new.shown) moved first w' now'
+          between-next busy filled same room within moved w' now' on =
+              let start : start_in new w ≡ length old.shown = omega (arith, walk-at, same, between.offset) in
+              let next = on.next gone first between.opens
+              (subst (λ p. IsReady step k meaning gone new.shown p first w now) (sym start)
+              (filled-ready busy filled)) in
+              let rest = unended-filled t old new ends_at given whole between.unfinished filled
+              (omega (arith, on.some, start)) on.closed in
+              subst (λ b. IsBetween step k meaning (gone ++ take on.count new.shown) b first w' now') (sym on.moved)
+              (record {
+                opens = next.0;
+                shut = closed-drop t new.shown on.count on.closed;
+                unfinished = rest.1;
+                offset = omega (
+                  arith,
+                  same,
+                  between.offset,
+                  length-append gone (take on.count new.shown),
+                  length-take-le on.count new.shown on.within,
+                );
+                unended = rest.0;
+                few = on.few;
+                fits = λ limit is. subst (λ xs. All (λ line. IsTooLong t limit line → ⊥) (lines t xs))
+                    (ap (λ xs. gone ++ xs) (sym (take-append-drop on.count new.shown))
+                    ∙ sym (append_assoc gone (take on.count new.shown) (drop on.count new.shown)))
+                    (fits-filled filled room limit is (within limit is));
+                at = omega (
+                  arith,
+                  on.at,
+                  same,
+                  between.offset,
+                  length-append gone (take on.count new.shown),
+                  length-take-le on.count new.shown on.within,
+                  length-drop on.count new.shown,
+                );
+                next = λ _. next.1;
+                idle = λ idle. absurd (clash idle busy);
+              })

@@ -10,7 +10,8 @@ use Rattle.grep_decode.specs.DecoderStates.{DecoderState, Decodes, IsDone, IsSet
 use Rattle.grep_decode.specs.Source.{ReadResult}
 use Rattle.grep_line_buffer.specs.declared.detection.Detection.{Detection}
 use Rattle.grep_line_buffer.specs.declared.detection.Detection.TheVariants.{None as no_detection, Quit, Convert}
-use Rattle.grep_line_buffer.specs.BufferStates.{BufferState, held, is_cut, GrowsIfFull, IsFilled, IsSameBuffer, IsWithin}
+use Rattle.grep_line_buffer.specs.BufferStates.{BufferState, held, is_cut, GrowsIfFull, IsFilled, IsSameBuffer}
+use Rattle.grep_line_buffer.specs.BufferStates.{IsWithin}
 use Rattle.grep_line_buffer.specs.Detections.{detected, found_in, is_quit}
 use Rattle.grep_line_buffer.specs.Fills.{Fills}
 use Rattle.grep_core.specs.HeldViews.{HoldsGiven}
@@ -23,13 +24,15 @@ use Rattle.grep_definitions.specs.DecodedInputs.{IsInput}
 use Rattle.grep_definitions.specs.InputFronts.{IsClosed, IsFront}
 use Rattle.grep_definitions.specs.LineSearch
 use Rattle.grep_definitions.specs.ReaderSearches.{IsReaderFaultIn, Taken, reports_nothing, reads_lines, of_search}
-use Rattle.grep_definitions.specs.Searches.{ErrorMakers, MatcherFacts, IsClearFault, IsFaultIn, IsLineFault, of_matcher, of_sink}
+use Rattle.grep_definitions.specs.Searches.{ErrorMakers, MatcherFacts, IsClearFault, IsFaultIn, IsLineFault, of_matcher}
+use Rattle.grep_definitions.specs.Searches.{of_sink}
 use Rattle.grep_definitions.specs.StreamSearches.{stream_calls}
 use Rattle.grep_definitions.specs.Settings.{Settings}
 use Rattle.grep_definitions.specs.SinkCalls.{begins}
 use Rattle.grep_definitions.specs.SinkRuns.{Steps}
 use Rattle.grep_walk.specs.declared.walk.Walk.{Walk}
-use Rattle.grep_core.specs.Rolls.{HasCounted, HasEnded, HasMovedOn, IsBetween, IsCountedFor, IsLast, IsReady, IsRolling, start_in}
+use Rattle.grep_core.specs.Rolls.{HasCounted, HasEnded, HasMovedOn, IsBetween, IsCountedFor, IsLast, IsReady, IsRolling}
+use Rattle.grep_core.specs.Rolls.{start_in}
 use Rattle.grep_walk.specs.Walks.{IsCount}
 use Rattle.grep_walk.specs.Windows.{HasSearched}
 use Rattle.grep_core.specs.SearchBuffers.{IsFitting, detection_of, least_size}
@@ -45,7 +48,8 @@ use Rattle.grep_walk.proofs.WindowLemmas.{closed-append}
 use Rattle.grep_walk.proofs.WindowSearchLemmas.{searched-start}
 
 -- a fault of a search by line is one of a search of a view
-stream-fault : {S E F : Type 0} (step : Steps S E) (errors : ErrorMakers E) (matcher : MatcherFacts F) (k : Settings) (bytes : List ℕ)
+stream-fault : {S E F : Type 0} (step : Steps S E) (errors : ErrorMakers E) (matcher : MatcherFacts F) (k : Settings)
+    (bytes : List ℕ)
     (first : S) (e : E) (now : S) → IsLineFault step errors matcher k bytes first e now
     → IsFaultIn step errors matcher (stream_calls k matcher.meaning) k bytes first e now
 stream-fault step errors matcher k bytes first e now (of_sink run) = of_sink run
@@ -63,37 +67,46 @@ module _ {R : Type 0} (remaining : R → Option (List ℕ)) (read_step : R → R
   t = byte_of k.line_terminator
 
   -- a search begins with an empty buffer, once `begin` returned true
-  pub rolling-start : LinesAreNumbered → LinesAreFew → (decoder : DecoderState) (reader : R) (first now : S) (buffer : BufferState)
+  pub rolling-start : LinesAreNumbered → LinesAreFew
+      → (decoder : DecoderState) (reader : R) (first now : S) (buffer : BufferState)
       → buffer.shown ≡ [] → buffer.rest ≡ [] → buffer.offset ≡ 0 → buffer.has_ended ≡ false → buffer.binary ≡ None
       → buffer.detection ≡ detection_of k.binary_detection → buffer.terminator ≡ t
-      → Decodes remaining read_step decoder reader [] decoder reader → reads_lines k ≡ true → step first k begins (Ok true) now
-      → IsRolling step k meaning remaining read_step decoder reader first buffer decoder reader (start_walk k meaning []) now
-  rolling-start numbered few decoder reader first now buffer shown rest offset unended binary detects ends_at reads busy begun = record {
-    gone = [];
-    between = record {
-      opens = λ none. rolls.nothing none;
-      shut = λ some. absurd (omega (arith, some, ap length shown));
-      unfinished = λ i x below. absurd (omega (arith, below, ap length rest));
-      offset = offset;
-      unended = unended;
-      few = omega (arith, ap (λ xs. length (lines t xs)) shown);
-      fits = λ limit is i x below. absurd (omega (arith, below, ap (λ xs. length (lines t xs)) shown));
-      at = omega (arith, ap length shown);
-      next = λ some. subst (λ xs. (more after : List ℕ) → (0 < length after → IsClosed t (xs ++ more))
-          → HasSearched-at (xs ++ more) (xs ++ more) (length xs) after) (sym shown)
-          (λ more after closes. searched-start step k meaning more (more ++ after) first now
-          (windows.shown join append numbered few t [] more after (λ none. rolls.nothing none) closes) some begun);
-      idle = λ idle. record { none = shown; detecting = idle-detects (reports_nothing k) (is_detecting k.binary_detection) idle busy; begun = begun };
-    };
-    given = [];
-    holds = record {
-      whole = ap (λ xs. xs ++ buffer.rest) shown ∙ (rest ∙ sym (nothing-held buffer.detection));
-      found = binary ∙ sym (nothing-found buffer.detection);
-      decodes = reads;
-    };
-    detects = detects;
-    uncut = ap (λ b. is_quit buffer.detection && is_some b) binary ∙ never buffer.detection;
-  }
+      → Decodes remaining read_step decoder reader [] decoder reader → reads_lines k ≡ true
+      → step first k begins (Ok true) now
+      → IsRolling step k meaning remaining read_step decoder reader first buffer decoder reader
+      (start_walk k meaning []) now
+  rolling-start numbered few decoder reader first now buffer shown rest offset unended binary detects ends_at reads busy
+      begun = record {
+        gone = [];
+        between = record {
+          opens = λ none. rolls.nothing none;
+          shut = λ some. absurd (omega (arith, some, ap length shown));
+          unfinished = λ i x below. absurd (omega (arith, below, ap length rest));
+          offset = offset;
+          unended = unended;
+          few = omega (arith, ap (λ xs. length (lines t xs)) shown);
+          fits = λ limit is i x below. absurd (omega (arith, below, ap (λ xs. length (lines t xs)) shown));
+          at = omega (arith, ap length shown);
+          next = λ some. subst (λ xs. (more after : List ℕ) → (0 < length after → IsClosed t (xs ++ more))
+              → HasSearched-at (xs ++ more) (xs ++ more) (length xs) after) (sym shown)
+              (λ more after closes. searched-start step k meaning more (more ++ after) first now
+              (windows.shown join append numbered few t [] more after (λ none. rolls.nothing none) closes) some begun);
+          idle = λ idle. record {
+            none = shown;
+            detecting = idle-detects (reports_nothing k)
+                (is_detecting k.binary_detection) idle busy;
+            begun = begun;
+          };
+        };
+        given = [];
+        holds = record {
+          whole = ap (λ xs. xs ++ buffer.rest) shown ∙ (rest ∙ sym (nothing-held buffer.detection));
+          found = binary ∙ sym (nothing-found buffer.detection);
+          decodes = reads;
+        };
+        detects = detects;
+        uncut = ap (λ b. is_quit buffer.detection && is_some b) binary ∙ never buffer.detection;
+      }
     where
       nothing-held : (d : Detection) → detected d buffer.terminator [] ≡ []
       nothing-held no_detection = refl
@@ -120,13 +133,15 @@ module _ {R : Type 0} (remaining : R → Option (List ℕ)) (read_step : R → R
 
   -- a fill of a search that reads on
   module _ (capacity : ℕ) (reader reader' : R) (d d' : DecoderState) (gone : List ℕ) (old new : BufferState) (first : S)
-      (w : Walk) (now : S) (between : IsBetween step k meaning gone old first w now) (fitting : IsFitting k.heap_limit t old)
+      (w : Walk) (now : S) (between : IsBetween step k meaning gone old first w now)
+      (fitting : IsFitting k.heap_limit t old)
       (same : IsSameBuffer old new) where
     abbrev seen : List ℕ
     seen = gone ++ old.shown
 
     -- it succeeded
-    module _ (busy : reports_nothing k ≡ false) (given : List ℕ) (whole : held new ≡ held old ++ given) (filled : rolls.IsUncut old new)
+    module _ (busy : reports_nothing k ≡ false) (given : List ℕ) (whole : held new ≡ held old ++ given)
+        (filled : rolls.IsUncut old new)
         (room : length (held new) ≤ new.size)
         (within : IsWithin new.limit new.size) (raw : List ℕ)
         (shows : (later : List ℕ) → view_of k (raw ++ later) ≡ (gone ++ held new) ++ view_of k later)
@@ -153,21 +168,27 @@ module _ {R : Type 0} (remaining : R → Option (List ℕ)) (read_step : R → R
       -- what follows what is shown
       abbrev after : (bytes : List ℕ) → Input bytes → List ℕ
       after bytes input =
-          new.rest ++ (reading.view-is remaining read_step k capacity reader raw d' reader' reads none (gone ++ held new) shows bytes input).0
+          new.rest ++ (reading.view-is remaining read_step k capacity reader raw d' reader' reads none
+          (gone ++ held new) shows bytes input).0
 
       after-is : (bytes : List ℕ) (input : Input bytes) → gone ++ (new.shown ++ after bytes input) ≡ view_of k bytes
       after-is bytes input =
-          let text = reading.view-is remaining read_step k capacity reader raw d' reader' reads none (gone ++ held new) shows bytes input in
-          sym (text.1 ∙ (append_assoc gone (held new) text.0 ∙ ap (λ xs. gone ++ xs) (append_assoc new.shown new.rest text.0)))
+          let text = reading.view-is remaining read_step k capacity reader raw d' reader' reads none (gone ++ held new)
+          shows bytes input in
+          sym (text.1 ∙ (append_assoc gone (held new) text.0
+          ∙ ap (λ xs. gone ++ xs) (append_assoc new.shown new.rest text.0)))
 
       last : (bytes : List ℕ) (input : Input bytes) → new.has_ended ≡ true
-          → (reading.view-is remaining read_step k capacity reader raw d' reader' reads none (gone ++ held new) shows bytes input).0 ≡ []
+          → (reading.view-is remaining read_step k capacity reader raw d' reader' reads none (gone ++ held new) shows
+          bytes input).0 ≡ []
       last bytes input ended =
-          (reading.view-is remaining read_step k capacity reader raw d' reader' reads none (gone ++ held new) shows bytes input).2 (done ended)
+          (reading.view-is remaining read_step k capacity reader raw d' reader' reads none (gone ++ held new) shows
+          bytes input).2 (done ended)
 
       closes : (bytes : List ℕ) (input : Input bytes) → 0 < length (after bytes input) → IsClosed t new.shown
       closes bytes input = rolls.closed-filled t old new fitting.terminator
-          (reading.view-is remaining read_step k capacity reader raw d' reader' reads none (gone ++ held new) shows bytes input).0 filled
+          (reading.view-is remaining read_step k capacity reader raw d' reader' reads none (gone ++ held new) shows
+          bytes input).0 filled
           (last bytes input)
 
       abbrev front : (bytes : List ℕ) (input : Input bytes) → IsFront k (view_of k bytes) shown
@@ -175,7 +196,8 @@ module _ {R : Type 0} (remaining : R → Option (List ℕ)) (read_step : R → R
         after = after bytes input;
         whole = sym (after-is bytes input) ∙ sym (append_assoc gone new.shown (after bytes input));
         closed = λ some. closed-append t gone new.shown between.opens (closes bytes input some);
-        held = λ limit is. rolls.fits-filled join append step k meaning gone old first w now between new given whole fitting.terminator
+        held = λ limit is. rolls.fits-filled join append step k meaning gone old first w now between new given whole
+            fitting.terminator
             filled shown-room limit is (limit-within limit is);
       }
 
@@ -190,11 +212,17 @@ module _ {R : Type 0} (remaining : R → Option (List ℕ)) (read_step : R → R
       )
 
       start-is : start_in new w ≡ length old.shown
-      start-is = omega (arith, rolls.walk-at join append step k meaning gone old first w now between, same.offset, between.offset)
+      start-is = omega (
+        arith,
+        rolls.walk-at join append step k meaning gone old first w now between,
+        same.offset,
+        between.offset,
+      )
 
       ready : IsReady step k meaning gone new.shown (start_in new w) first w now
       ready = subst (λ p. IsReady step k meaning gone new.shown p first w now) (sym start-is)
-          (rolls.filled-ready join append step k meaning gone old first w now between new given whole fitting.terminator busy filled)
+          (rolls.filled-ready join append step k meaning gone old first w now between new given whole fitting.terminator
+          busy filled)
 
       -- no binary byte is among the first bytes of what is shown, if none was found
       clear-shown : (count : ℕ) → count ≤ length shown → new.binary ≡ None → (bytes : List ℕ) → Input bytes
@@ -226,7 +254,8 @@ module _ {R : Type 0} (remaining : R → Option (List ℕ)) (read_step : R → R
             (fault gone first ready [] rolls.nothing));
       }
 
-      pub faulted : {F : Type 0} (errors : ErrorMakers E) (matcher : MatcherFacts F) (has_buffers : Bool) (e : E) (now' : S)
+      pub faulted : {F : Type 0} (errors : ErrorMakers E) (matcher : MatcherFacts F) (has_buffers : Bool) (e : E)
+          (now' : S)
           → ((gone : List ℕ) (first : S) → IsReady step k meaning gone new.shown (start_in new w) first w now
           → (after : List ℕ) → (0 < length after → IsClosed t new.shown)
           → IsLineFault step errors matcher k (gone ++ (new.shown ++ after)) first e now')
@@ -246,11 +275,14 @@ module _ {R : Type 0} (remaining : R → Option (List ℕ)) (read_step : R → R
 
       -- the search ended within what is shown, or with it
       module _ (w' : Walk) (now' : S) (ended : HasEnded step k meaning new w now w' now') where
-        over : (bytes : List ℕ) (input : Input bytes) → IsCountedFor step k meaning first (view_of k bytes) w'.offset ended.outcome now'
-        over bytes input = subst (λ xs. IsCountedFor step k meaning first xs w'.offset ended.outcome now') (after-is bytes input)
+        over : (bytes : List ℕ) (input : Input bytes)
+            → IsCountedFor step k meaning first (view_of k bytes) w'.offset ended.outcome now'
+        over bytes input = subst (λ xs. IsCountedFor step k meaning first xs w'.offset ended.outcome now')
+            (after-is bytes input)
             (ended.counted gone first between.opens ready (after bytes input) (closes bytes input)
             (λ nothing_new. rolls.last-filled t old new fitting.terminator
-            (reading.view-is remaining read_step k capacity reader raw d' reader' reads none (gone ++ held new) shows bytes input).0 filled
+            (reading.view-is remaining read_step k capacity reader raw d' reader' reads none (gone ++ held new) shows
+            bytes input).0 filled
             (last bytes input) (subst (λ p. IsLast t new.shown p) start-is nothing_new)))
 
         high : w'.offset ≤ length shown
@@ -262,7 +294,8 @@ module _ {R : Type 0} (remaining : R → Option (List ℕ)) (read_step : R → R
           taken = taken;
           seen = shown;
           outcome = ended.outcome;
-          over_seen = subst (λ xs. IsCountedFor step k meaning first (gone ++ xs) w'.offset ended.outcome now') (append-nil new.shown)
+          over_seen = subst (λ xs. IsCountedFor step k meaning first (gone ++ xs) w'.offset ended.outcome now')
+              (append-nil new.shown)
               (ended.counted gone first between.opens ready [] rolls.nothing (λ _. refl));
           front = front;
           over_all = over;
@@ -299,11 +332,14 @@ module _ {R : Type 0} (remaining : R → Option (List ℕ)) (read_step : R → R
 
   -- what comes after a fill that succeeded
   module _ (busy : reports_nothing k ≡ false) (capacity : ℕ) (reader : R) (decoder : DecoderState)
-      (begun : decoder ≡ started capacity k.encoding k.bom_sniffing) (first : S) (old new : BufferState) (d d' : DecoderState)
+      (begun : decoder ≡ started capacity k.encoding k.bom_sniffing) (first : S) (old new : BufferState)
+      (d d' : DecoderState)
       (r r' : R) (w : Walk) (now : S)
       (so_far : IsRolling step k meaning remaining read_step decoder reader first old d r w now)
-      (fitting : IsFitting k.heap_limit t old) (same : IsSameBuffer old new) (fills : Fills remaining read_step old d r new d' r')
-      (held_now : (more : List ℕ) × HoldsGiven remaining read_step so_far.gone old.detection old.terminator new decoder reader
+      (fitting : IsFitting k.heap_limit t old) (same : IsSameBuffer old new)
+      (fills : Fills remaining read_step old d r new d' r')
+      (held_now : (more : List ℕ) × HoldsGiven remaining read_step so_far.gone old.detection old.terminator new decoder
+      reader
       (so_far.given ++ more) d' r') (uncut : is_cut new ≡ false) (filled : IsFilled old new)
       (room : length (held new) ≤ new.size) (within : IsWithin new.limit new.size) where
     abbrev raw : List ℕ
@@ -313,15 +349,18 @@ module _ {R : Type 0} (remaining : R → Option (List ℕ)) (read_step : R → R
     from_start = subst (λ x. Decodes remaining read_step x reader raw d' r') begun held_now.1.decodes
 
     abbrev shows : (later : List ℕ) → view_of k (raw ++ later) ≡ (so_far.gone ++ held new) ++ view_of k later
-    shows = holding.shows-there remaining read_step k so_far.gone raw old new decoder d' reader r' held_now.1 so_far.detects
+    shows = holding.shows-there remaining read_step k so_far.gone raw old new decoder d' reader r' held_now.1
+        so_far.detects
         fitting.terminator same uncut
 
     abbrev is_found : new.binary ≡ found_in (detection_of k.binary_detection) t raw
-    is_found = holding.found-there remaining read_step k so_far.gone raw old new decoder d' reader r' held_now.1 so_far.detects
+    is_found = holding.found-there remaining read_step k so_far.gone raw old new decoder d' reader r' held_now.1
+        so_far.detects
         fitting.terminator same
 
     abbrev unquit : is_quit (detection_of k.binary_detection) ≡ true → new.binary ≡ None
-    unquit = holding.unquit-there remaining read_step k so_far.gone raw old new decoder d' reader r' held_now.1 so_far.detects
+    unquit = holding.unquit-there remaining read_step k so_far.gone raw old new decoder d' reader r' held_now.1
+        so_far.detects
         fitting.terminator same uncut
 
     abbrev appended : List ℕ
@@ -331,17 +370,20 @@ module _ {R : Type 0} (remaining : R → Option (List ℕ)) (read_step : R → R
     shows_whole = rolls.uncut-filled old new uncut filled
 
     module _ (none : (d : DecoderState) (more : List ℕ) → IsDone d → still_to_give d more ≡ [])
-        (done : (old.has_ended ≡ true → is_cut old ≡ false → IsDone d) → new.has_ended ≡ true → is_cut new ≡ false → IsDone d') where
+        (done : (old.has_ended ≡ true → is_cut old ≡ false → IsDone d) → new.has_ended ≡ true → is_cut new ≡ false
+        → IsDone d') where
       done_then : new.has_ended ≡ true → IsDone d'
       done_then ended = done (λ was whole. absurd (false≢true (sym so_far.between.unended ∙ was))) ended uncut
 
-      pub faulted-filled : {F : Type 0} (errors : ErrorMakers E) (matcher : MatcherFacts F) (has_buffers : Bool) (e : E) (now' : S)
+      pub faulted-filled : {F : Type 0} (errors : ErrorMakers E) (matcher : MatcherFacts F) (has_buffers : Bool) (e : E)
+          (now' : S)
           → ((gone : List ℕ) (first : S) → IsReady step k meaning gone new.shown (start_in new w) first w now
           → (after : List ℕ) → (0 < length after → IsClosed t new.shown)
           → IsLineFault step errors matcher k (gone ++ (new.shown ++ after)) first e now')
           → IsReaderFaultIn remaining read_step step errors matcher (stream_calls k matcher.meaning)
           (record { settings = k; has_buffers = has_buffers }) reader first e r' now'
-      faulted-filled = faulted capacity reader r' d d' so_far.gone old new first w now so_far.between fitting same busy appended
+      faulted-filled = faulted capacity reader r' d d' so_far.gone old new first w now so_far.between fitting same busy
+          appended
           fills.appended shows_whole room within raw shows from_start is_found unquit none done_then
 
       pub cleared-filled : {F : Type 0} (errors : ErrorMakers E) (matcher : MatcherFacts F) (e : E) (now' : S)
@@ -350,27 +392,34 @@ module _ {R : Type 0} (remaining : R → Option (List ℕ)) (read_step : R → R
           → IsLineFault step errors matcher k (gone ++ (new.shown ++ after)) first e now')
           → new.binary ≡ None
           → IsClearFault step errors matcher (IsInput k d'.has_ended from_start.pieces) k first e now'
-      cleared-filled = cleared capacity reader r' d d' so_far.gone old new first w now so_far.between fitting same busy appended
+      cleared-filled = cleared capacity reader r' d d' so_far.gone old new first w now so_far.between fitting same busy
+          appended
           fills.appended shows_whole room within raw shows from_start is_found unquit none done_then
 
       pub counted-filled : (w' : Walk) (now' : S) → HasEnded step k meaning new w now w' now' → IsSettled d'.mode
           → (d'.mode ≡ Passing → (length d'.ready ≤ 3) × (d'.held ≡ []))
           → HasCounted step k meaning remaining read_step reader first w'.offset new.binary r' now'
-      counted-filled = has-counted capacity reader r' d d' so_far.gone old new first w now so_far.between fitting same busy appended
+      counted-filled = has-counted capacity reader r' d d' so_far.gone old new first w now so_far.between fitting same
+          busy appended
           fills.appended shows_whole room within raw shows from_start is_found unquit none done_then
 
-      pub rolling-next : (w' : Walk) (moved : BufferState) (now' : S) → HasMovedOn step k meaning new w now moved w' now'
-          → ((count : ℕ) → so_far.gone ++ held new ≡ (so_far.gone ++ take count new.shown) ++ (drop count new.shown ++ new.rest))
+      pub rolling-next : (w' : Walk) (moved : BufferState) (now' : S)
+          → HasMovedOn step k meaning new w now moved w' now'
+          → ((count : ℕ) → so_far.gone ++ held new ≡ (so_far.gone ++ take count new.shown)
+          ++ (drop count new.shown ++ new.rest))
           → IsRolling step k meaning remaining read_step decoder reader first moved d' r' w' now'
       rolling-next w' moved now' on consumed = record {
         gone = so_far.gone ++ take on.count new.shown;
-        between = rolls.between-next join append step k meaning so_far.gone old first w now so_far.between new appended fills.appended
+        between = rolls.between-next join append step k meaning so_far.gone old first w now so_far.between new appended
+            fills.appended
             fitting.terminator busy shows_whole same.offset (omega (arith, room, length-append new.shown new.rest))
-            (limit-within capacity reader r' d d' so_far.gone old new first w now so_far.between fitting same busy appended
+            (limit-within capacity reader r' d d' so_far.gone old new first w now so_far.between fitting same busy
+            appended
             fills.appended shows_whole room within raw shows from_start is_found unquit none done_then)
             moved w' now' on;
         given = raw;
-        holds = subst (λ b. HoldsGiven remaining read_step (so_far.gone ++ take on.count new.shown) b.detection b.terminator b
+        holds = subst (λ b. HoldsGiven remaining read_step (so_far.gone ++ take on.count new.shown) b.detection
+            b.terminator b
             decoder reader raw d' r') (sym on.moved) (record {
               whole = sym (consumed on.count) ∙ (held_now.1.whole
                   ∙ (ap (λ x. detected x old.terminator raw) (sym same.detection)

@@ -16,7 +16,8 @@ use Rattle.grep_definitions.specs.DecodedInputs.{IsInput}
 use Rattle.grep_definitions.specs.InputFronts.{IsFront}
 use Rattle.grep_definitions.specs.LineSearch.{byte_count}
 use Rattle.grep_definitions.specs.NotedSinks.{noted}
-use Rattle.grep_definitions.specs.ReaderSearches.{Taken, Came, reports_nothing, reads_lines, IsStreamSearched, of_search}
+use Rattle.grep_definitions.specs.ReaderSearches.{Taken, Came, reports_nothing, reads_lines, IsStreamSearched}
+use Rattle.grep_definitions.specs.ReaderSearches.{of_search}
 use Rattle.grep_definitions.specs.Searches.{ErrorMakers, MatcherFacts, IsClearFault, IsFaultIn, IsLineFault, of_sink}
 use Rattle.grep_definitions.specs.Settings.{Settings, SearcherState}
 use Rattle.grep_definitions.specs.SinkCalls.{begins}
@@ -34,7 +35,8 @@ idle-unread true detecting unread = refl
 idle-unread false detecting unread = absurd (false≢true (sym unread))
 
 -- the whole count is 0 if it is that of calls that all returned true
-pub none-counted : {E : Type 0} (outcome : Outcome E) (whole : ℕ) → IsCount outcome whole 0 → outcome ≡ all_true → whole ≡ 0
+pub none-counted : {E : Type 0} (outcome : Outcome E) (whole : ℕ) → IsCount outcome whole 0 → outcome ≡ all_true → whole
+    ≡ 0
 none-counted outcome whole same all = sym (subst (λ o. IsCount o whole 0) all same)
 
 -- no lines are at the front of every input
@@ -61,7 +63,8 @@ pub unnoted-for : (k : Settings) (bytes : List ℕ) → IsNotedFor k bytes None
 unnoted-for k bytes = record { first = λ offset is. absurd cc; goes_on = λ b is. refl }
 
 -- an error before any line was seen, with `begin` or without it
-pub clear-none : {S E F : Type 0} (step : Steps S E) (errors : ErrorMakers E) (matcher : MatcherFacts F) (IsOne : List ℕ → Type 0)
+pub clear-none : {S E F : Type 0} (step : Steps S E) (errors : ErrorMakers E) (matcher : MatcherFacts F)
+    (IsOne : List ℕ → Type 0)
     (k : Settings) (old : S) (e : E) (new : S) → IsLineFault step errors matcher k [] old e new
     ⊎ ((error : Error) × errors.is_io error e × (new ≡ old))
     → IsClearFault step errors matcher IsOne k old e new
@@ -92,8 +95,13 @@ module _ {R : Type 0} (remaining : R → Option (List ℕ)) (read_step : R → R
       over_seen = over [];
       front = λ bytes input. front-none k (view_of k bytes);
       over_all = λ bytes input. over (view_of k bytes);
-      all = λ bytes input all. turns-seen join append k meaning [] (view_of k bytes) (λ more some. absurd (omega (arith, some)))
-          (omega (arith, none-counted outcome (byte_count k meaning (view_of k bytes)) (over (view_of k bytes)).is_count all));
+      all = λ bytes input all. turns-seen join append k meaning [] (view_of k bytes)
+          (λ more some. absurd (omega (arith, some)))
+          (omega (
+            arith,
+            none-counted outcome (byte_count k meaning (view_of k bytes)) (over (view_of k bytes)).is_count
+                all,
+          ));
       ahead = λ limit is same. omega arith;
       noted_for = λ bytes input. unnoted-for k bytes;
       clear = λ bytes input none. binary-nil k.binary_detection (byte_of k.line_terminator);
@@ -108,20 +116,23 @@ module _ {R : Type 0} (remaining : R → Option (List ℕ)) (read_step : R → R
         (λ bytes. walks.counted-unbegun k meaning bytes (noted step) (old, None) (new, None) stops)
 
     -- no line may have a turn
-    pub counted-idle : LinesJoin → LinesAppend → (reader : R) (old new : S) → reports_nothing k ≡ true → step old k begins (Ok true) new
+    pub counted-idle : LinesJoin → LinesAppend → (reader : R) (old new : S) → reports_nothing k ≡ true
+        → step old k begins (Ok true) new
         → IsStreamCounted step k meaning remaining read_step reader old 0 None reader new
     counted-idle join append reader old new idle goes =
         counted-unread join append reader old all_true new
         (λ bytes. walks.counted-idle k meaning bytes (noted step) (old, None) (new, None) idle goes)
 
     -- `begin` returned true and the search reads
-    pub begun-busy : (reader : R) (old first : S) (reader' : R) → reads_lines k ≡ true → step old k begins (Ok true) first
+    pub begun-busy : (reader : R) (old first : S) (reader' : R) → reads_lines k ≡ true
+        → step old k begins (Ok true) first
         → HasBegun step k meaning remaining read_step reader old reader'
     begun-busy reader old first reader' reads goes =
         record { begun = true; first = first; begin = goes; unread = λ idle. absurd (clash reads idle) }
 
   -- `begin` failed
-  pub fault-begin : {S E F : Type 0} (step : Steps S E) (errors : ErrorMakers E) (matcher : MatcherFacts F) (state : SearcherState)
+  pub fault-begin : {S E F : Type 0} (step : Steps S E) (errors : ErrorMakers E) (matcher : MatcherFacts F)
+      (state : SearcherState)
       (reader : R) (old : S) (e : E) (new : S) → step old state.settings begins (Err e) new
       → IsStreamSearched remaining read_step step errors matcher state reader old (Err e) reader new
   fault-begin {S} step errors matcher state reader old e new fails = inl (record {
@@ -139,8 +150,15 @@ module _ {R : Type 0} (remaining : R → Option (List ℕ)) (read_step : R → R
         (record { outcome = failed e; mid = new; reported = inr (inr (e, refl, fails)); finished = (refl, refl) })));
   })
     where
-      fault : (bytes : List ℕ) → IsFaultIn {S = S × Option ℕ} (noted step) errors matcher (stream_calls state.settings matcher.meaning)
+      fault : (bytes : List ℕ) → IsFaultIn {S = S × Option ℕ} (noted step) errors matcher
+          (stream_calls state.settings matcher.meaning)
           state.settings bytes
           (old, None) e (new, None)
       fault bytes = of_sink
-          (record { outcome = failed e; mid = (new, None); reported = inr (inr (e, refl, fails)); finished = (refl, refl) })
+          (record {
+            outcome = failed e;
+            mid = (new, None);
+            reported = inr (inr (e, refl, fails));
+            finished =
+                (refl, refl);
+          })

@@ -1,5 +1,6 @@
 -- What detection makes of an input that is searched as it is read, against what a line buffer makes of its parts.
-use Rattle.std.proofs.Common.{◌≡◌, ℕ, ◌+◌, ◌<◌, ◌≤◌, ◌==◌, Bool, true, false, List, [], ◌++◌, length, take, drop, map, Option, Some, None}
+use Rattle.std.proofs.Common.{◌≡◌, ℕ, ◌+◌, ◌<◌, ◌≤◌, ◌==◌, Bool, true, false, List, [], ◌++◌, length, take, drop, map}
+use Rattle.std.proofs.Common.{Option, Some, None}
 use Rattle.std.proofs.Common.{◌⊎◌, inl, inr, refl, sym, ◌∙◌, ap, arith, append-nil, append_assoc, length-append, ⊎_elim}
 use Rattle.std.proofs.lemmas.List.{take_all, length-map, length-take-le, map-append, take-append-le, take-append-drop}
 use Rattle.std.specs.List.{position, position_or_len}
@@ -7,7 +8,8 @@ use Rattle.std.specs.Option.{option_map}
 use Rattle.std.specs.Prelude.{if◌then◌else◌}
 use Rattle.grep_line_buffer.specs.declared.detection.Detection.TheVariants.{Quit as quits_at}
 use Rattle.grep_line_buffer.specs.Detections.{detected, found_in, first_of, is_quit}
-use Rattle.grep_line_buffer.proofs.DetectionLemmas.{all-before, found-append, passes-or-not, position-at, position-missing}
+use Rattle.grep_line_buffer.proofs.DetectionLemmas.{all-before, found-append, passes-or-not, position-at}
+use Rattle.grep_line_buffer.proofs.DetectionLemmas.{position-missing}
 use Rattle.grep_line_buffer.proofs.DetectionLemmas.{detected-append, detected-cut, first-same}
 use Rattle.grep_report.specs.declared.binary_detection.BinaryDetection.{BinaryDetection}
 use Rattle.grep_report.specs.declared.binary_detection.BinaryDetection.TheVariants.{None as no_detection, Quit, Convert}
@@ -15,13 +17,15 @@ use Rattle.grep_definitions.specs.BinaryBytes.{before_quit, binary_position, str
 use Rattle.grep_core.specs.SearchBuffers.{detection_of}
 
 -- where the first binary byte of an input is
-pub found-is : (d : BinaryDetection) (t : ℕ) (bytes : List ℕ) → found_in (detection_of d) t bytes ≡ binary_position d t bytes
+pub found-is : (d : BinaryDetection) (t : ℕ) (bytes : List ℕ) → found_in (detection_of d) t bytes
+    ≡ binary_position d t bytes
 found-is no_detection t bytes = refl
 found-is (Quit b) t bytes = refl
 found-is (Convert b) t bytes = refl
 
 -- the view of two parts is that of one and then of the other
-pub view-append : (d : BinaryDetection) (t : ℕ) (xs ys : List ℕ) → stream_view d t (xs ++ ys) ≡ stream_view d t xs ++ stream_view d t ys
+pub view-append : (d : BinaryDetection) (t : ℕ) (xs ys : List ℕ) → stream_view d t (xs ++ ys) ≡ stream_view d t xs
+    ++ stream_view d t ys
 view-append no_detection t xs ys = refl
 view-append (Quit b) t xs ys = refl
 view-append (Convert b) t xs ys = map-append (λ x. if x == b then t else x) xs ys
@@ -38,9 +42,11 @@ view-none (Convert b) t = refl
 
 -- what a buffer holds of some bytes is their view, if the byte of `Quit` isn't among them
 pub view-held : (d : BinaryDetection) (t : ℕ) (xs : List ℕ)
-    → (is_quit (detection_of d) ≡ true → found_in (detection_of d) t xs ≡ None) → detected (detection_of d) t xs ≡ stream_view d t xs
+    → (is_quit (detection_of d) ≡ true → found_in (detection_of d) t xs ≡ None) → detected (detection_of d) t xs
+    ≡ stream_view d t xs
 view-held no_detection t xs none = refl
-view-held (Quit b) t xs none = take_all (position_or_len (λ x. x == b) xs) xs (omega (arith, all-before (λ x. x == b) xs (none refl)))
+view-held (Quit b) t xs none = take_all (position_or_len (λ x. x == b) xs) xs
+    (omega (arith, all-before (λ x. x == b) xs (none refl)))
 view-held (Convert b) t xs none = refl
 
 -- it is the front of the view in any case
@@ -50,7 +56,11 @@ view-front no_detection t xs ys = (ys, refl)
 view-front (Quit b) t xs ys =
     let n = position_or_len (λ x. x == b) xs in
     (drop n xs ++ ys, ap (λ zs. zs ++ ys) (sym (take-append-drop n xs)) ∙ append_assoc (take n xs) (drop n xs) ys)
-view-front (Convert b) t xs ys = (map (λ x. if x == b then t else x) ys, map-append (λ x. if x == b then t else x) xs ys)
+view-front (Convert b) t xs ys = (
+  map (λ x. if x == b then t else x) ys,
+  map-append (λ x. if x == b then t else x) xs
+      ys,
+)
 
 -- and the front of what comes before the byte of `Quit`
 pub before-front : (d : BinaryDetection) (t : ℕ) (xs ys : List ℕ)
@@ -67,7 +77,11 @@ before-front (Quit b) t xs ys = ⊎_elim
       detected-append (quits_at b) t xs ys (λ _. position-missing (λ x. x == b) xs all),
     ))
     (passes-or-not (λ x. x == b) xs)
-before-front (Convert b) t xs ys = (map (λ x. if x == b then t else x) ys, map-append (λ x. if x == b then t else x) xs ys)
+before-front (Convert b) t xs ys = (
+  map (λ x. if x == b then t else x) ys,
+  map-append (λ x. if x == b then t else x) xs
+      ys,
+)
 
 -- no byte of what a buffer holds ends a search
 pub before-held : (d : BinaryDetection) (t : ℕ) (xs : List ℕ)
@@ -75,7 +89,14 @@ pub before-held : (d : BinaryDetection) (t : ℕ) (xs : List ℕ)
 before-held no_detection t xs = refl
 before-held (Convert b) t xs = refl
 before-held (Quit b) t xs = ⊎_elim
-    (λ some. absurd (omega (arith, some, first-same p front (drop n xs) some, ap (position_or_len p) (take-append-drop n xs), count)))
+    (λ some. absurd (omega (
+      arith,
+      some,
+      first-same p front (drop n xs) some,
+      ap (position_or_len p)
+          (take-append-drop n xs),
+      count,
+    )))
     (λ all. take_all (position_or_len p front) front (omega (arith, all)))
     (passes-or-not p front)
   where
@@ -98,7 +119,8 @@ before-kept (Convert b) xs ys same = refl
 before-kept (Quit b) xs ys same = ⊎_elim
     (λ some.
     let at = first-same p xs ys some in
-    let count = length-take-le (position_or_len p (xs ++ ys)) (xs ++ ys) (omega (arith, at, some, length-append xs ys)) in
+    let count = length-take-le (position_or_len p (xs ++ ys)) (xs ++ ys)
+    (omega (arith, at, some, length-append xs ys)) in
     absurd (omega (arith, some, at, count, ap length same, length-append xs ys)))
     (λ all. take_all (position_or_len p xs) xs (omega (arith, all)))
     (passes-or-not p xs)
@@ -107,7 +129,8 @@ before-kept (Quit b) xs ys same = ⊎_elim
     p = λ x. x == b
 
 -- the first binary byte of a front is that of all
-pub first-kept : (d : BinaryDetection) (t : ℕ) (xs ys : List ℕ) (offset : ℕ) → found_in (detection_of d) t xs ≡ Some offset
+pub first-kept : (d : BinaryDetection) (t : ℕ) (xs ys : List ℕ) (offset : ℕ) → found_in (detection_of d) t xs
+    ≡ Some offset
     → binary_position d t (xs ++ ys) ≡ Some offset
 first-kept d t xs ys offset is =
     sym (found-is d t (xs ++ ys)) ∙ (found-append (detection_of d) t xs ys
@@ -156,7 +179,8 @@ position-is p xs offset is = ⊎_elim
     none-some same = absurd (cc)
 
 -- the first binary byte is among what a buffer holds, or right after it if the byte ends the input
-pub found-below : (d : BinaryDetection) (t : ℕ) (xs : List ℕ) (offset : ℕ) → found_in (detection_of d) t xs ≡ Some offset
+pub found-below : (d : BinaryDetection) (t : ℕ) (xs : List ℕ) (offset : ℕ) → found_in (detection_of d) t xs
+    ≡ Some offset
     → (offset < length (detected (detection_of d) t xs))
     ⊎ ((offset ≤ length (detected (detection_of d) t xs)) × (is_quit (detection_of d) ≡ true))
 found-below no_detection t xs offset is = absurd (cc)

@@ -11,7 +11,8 @@ use Rattle.grep_decode.specs.DecoderStates.{DecoderState, Decodes, IsDone, IsWai
 use Rattle.grep_decode.specs.Source.{ReadResult}
 use Rattle.grep_line_buffer.specs.declared.fill_error.FillError.{FillError}
 use Rattle.grep_line_buffer.specs.declared.fill_error.FillError.TheVariants.{Read, HeapLimit, Offset, Memory}
-use Rattle.grep_line_buffer.specs.BufferStates.{BufferState, held, is_cut, GrowsIfFull, HasNoLine, IsSameBuffer, IsWithin}
+use Rattle.grep_line_buffer.specs.BufferStates.{BufferState, held, is_cut, GrowsIfFull, HasNoLine, IsSameBuffer}
+use Rattle.grep_line_buffer.specs.BufferStates.{IsWithin}
 use Rattle.grep_line_buffer.specs.Detections.{detected}
 use Rattle.grep_line_buffer.specs.Fills.{FailsToFill, FillFails, Fills, IfRead, UnlessRead}
 use Rattle.grep_lines.specs.LineLaws.{LinesJoin, LinesAppend}
@@ -62,7 +63,8 @@ pub filled-to : {R : Type 0} (remaining : R → Option (List ℕ)) (read_step : 
     → IfRead {X = Bool} (Err error) (λ e. FailsToFill remaining read_step e old d r new d' r')
     → (mid : R) × Fills remaining read_step old d r new d' mid
     × ((mid ≡ r') ⊎ ((e : Error) × (d'.has_ended ≡ false) × read_step mid (Err e) r'))
-filled-to remaining read_step old new d d' r r' (Read e) cut read = (read.mid, read.fills, inr (e, read.unended, read.failed))
+filled-to remaining read_step old new d d' r r' (Read e) cut read =
+    (read.mid, read.fills, inr (e, read.unended, read.failed))
 filled-to remaining read_step old new d d' r r' HeapLimit cut read = (r', cut, inl refl)
 filled-to remaining read_step old new d d' r r' Offset cut read = (r', cut, inl refl)
 filled-to remaining read_step old new d d' r r' Memory cut read = (r', cut, inl refl)
@@ -73,9 +75,12 @@ module _ {R : Type 0} (remaining : R → Option (List ℕ)) (read_step : R → R
   t = byte_of k.line_terminator
 
   -- a fill that failed, after these bytes were given since the one before
-  module _ (capacity : ℕ) (reader reader' : R) (d' : DecoderState) (gone : List ℕ) (old new : BufferState) (first : S) (w : Walk) (now : S)
-      (between : IsBetween step k meaning gone old first w now) (fitting : IsFitting k.heap_limit t old) (same : IsSameBuffer old new)
-      (has_buffers : Bool) (grows : GrowsIfFull old new) (within : IsWithin new.limit new.size) (allowed : is_at 0 k.heap_limit ≡ false)
+  module _ (capacity : ℕ) (reader reader' : R) (d' : DecoderState) (gone : List ℕ) (old new : BufferState) (first : S)
+      (w : Walk) (now : S)
+      (between : IsBetween step k meaning gone old first w now) (fitting : IsFitting k.heap_limit t old)
+      (same : IsSameBuffer old new)
+      (has_buffers : Bool) (grows : GrowsIfFull old new) (within : IsWithin new.limit new.size)
+      (allowed : is_at 0 k.heap_limit ≡ false)
       (none : (d : DecoderState) (more : List ℕ) → IsDone d → still_to_give d more ≡ [])
       (given : List ℕ) (whole : held new ≡ held old ++ given) where
     abbrev seen : List ℕ
@@ -83,14 +88,16 @@ module _ {R : Type 0} (remaining : R → Option (List ℕ)) (read_step : R → R
 
     abbrev IsUnreadBy : Error → Type 0
     IsUnreadBy error =
-        IsLineUnread remaining read_step (record { settings = k; has_buffers = has_buffers }) meaning reader (Some seen) error reader'
+        IsLineUnread remaining read_step (record { settings = k; has_buffers = has_buffers }) meaning reader (Some seen)
+        error reader'
 
     -- what is gone and held is what was seen, and the bytes after it
     seen-is : gone ++ held new ≡ seen ++ (old.rest ++ given)
     seen-is = ap (λ xs. gone ++ xs) whole ∙ (ap (λ xs. gone ++ xs) (append_assoc old.shown old.rest given)
         ∙ sym (append_assoc gone old.shown (old.rest ++ given)))
 
-    text-is : (later bytes : List ℕ) → bytes ≡ (gone ++ held new) ++ later → bytes ≡ seen ++ ((old.rest ++ given) ++ later)
+    text-is : (later bytes : List ℕ) → bytes ≡ (gone ++ held new) ++ later → bytes ≡ seen
+        ++ ((old.rest ++ given) ++ later)
     text-is later bytes is = is ∙ (ap (λ xs. xs ++ later) seen-is ∙ append_assoc seen (old.rest ++ given) later)
 
     room-is : length (held new) ≡ length old.shown + length (old.rest ++ given)
@@ -118,17 +125,20 @@ module _ {R : Type 0} (remaining : R → Option (List ℕ)) (read_step : R → R
         → length (held new) ≡ new.size → 0 < least → least ≤ new.size → IsCrowded k meaning bytes seen least
     crowded-there later bytes least no_line is full some enough = subst (λ xs. IsCrowded k meaning xs seen least)
         (sym (text-is later bytes is))
-        (crowded join append k meaning gone old.shown (old.rest ++ given) later least between.opens between.shut (unended-is no_line)
+        (crowded join append k meaning gone old.shown (old.rest ++ given) later least between.opens between.shut
+        (unended-is no_line)
         between.few some (omega (arith, enough, full, room-is)))
 
     -- the buffer's error does
-    cuts-short : (error : FillError) (io : Error) → IsMadeOf error io → FillFails old new error → ((e : Error) → error ≡ Read e → ⊥)
+    cuts-short : (error : FillError) (io : Error) → IsMadeOf error io → FillFails old new error
+        → ((e : Error) → error ≡ Read e → ⊥)
         → (later bytes : List ℕ) → bytes ≡ (gone ++ held new) ++ later → CutsShort k meaning bytes seen io
     cuts-short (Read e) io made fails other later bytes is = absurd (other e refl)
     cuts-short HeapLimit io made (no_line, at) other later bytes is =
         let limit = sym limit-is ∙ at.limit in
         of_limit new.size limit made
-        (crowded-there later bytes new.size no_line is at.full (limit-above k.heap_limit new.size allowed limit) (omega arith))
+        (crowded-there later bytes new.size no_line is at.full (limit-above k.heap_limit new.size allowed limit)
+        (omega arith))
     cuts-short Offset io made fails other later bytes is = of_offset made (omega (
       arith,
       fails.past,
@@ -143,9 +153,10 @@ module _ {R : Type 0} (remaining : R → Option (List ℕ)) (read_step : R → R
         (subst (λ m. IsWithin m new.size) limit-is within) (λ is. may.limit (limit-is ∙ is)) in
         of_memory made large.0 (crowded-there later bytes 65536 no_line is may.full (omega arith) large.1)
 
-    -- what is gone and held is the front of the view of every input that begins with what was given so far, also before a
-    -- byte that ends the search. It holds none
-    module _ (raw : List ℕ) (fronts : (later : List ℕ) → (back : List ℕ) × (view_of k (raw ++ later) ≡ (gone ++ held new) ++ back))
+    -- what is gone and held is the front of the view of every input that begins with what was given so far, also before
+    -- a byte that ends the search. It holds none
+    module _ (raw : List ℕ) (fronts : (later : List ℕ) → (back : List ℕ)
+        × (view_of k (raw ++ later) ≡ (gone ++ held new) ++ back))
         (befores : (later : List ℕ)
         → (back : List ℕ) × (before_quit k.binary_detection (view_of k (raw ++ later)) ≡ (gone ++ held new) ++ back))
         (unquit : before_quit k.binary_detection (gone ++ held new) ≡ gone ++ held new) where
@@ -153,16 +164,21 @@ module _ {R : Type 0} (remaining : R → Option (List ℕ)) (read_step : R → R
       unquit-seen = views.before-kept k.binary_detection seen (old.rest ++ given)
           (ap (before_quit k.binary_detection) (sym seen-is) ∙ (unquit ∙ seen-is))
 
-      goes-on : (bytes later : List ℕ) → view_of k bytes ≡ (gone ++ held new) ++ later → GoesOnAfter k meaning (view_of k bytes) seen
+      goes-on : (bytes later : List ℕ) → view_of k bytes ≡ (gone ++ held new) ++ later
+          → GoesOnAfter k meaning (view_of k bytes) seen
       goes-on bytes later is = rolls.goes-on join append step k meaning gone old first w now between (view_of k bytes)
           ((old.rest ++ given) ++ later) (text-is later (view_of k bytes) is)
 
       -- the buffer's own error
-      pub unread-cut : (error : FillError) (io : Error) → IsMadeOf error io → FillFails old new error → ((e : Error) → error ≡ Read e → ⊥)
-          → Decodes remaining read_step (started capacity k.encoding k.bom_sniffing) reader raw d' reader' → IsUnreadBy io
+      pub unread-cut : (error : FillError) (io : Error) → IsMadeOf error io → FillFails old new error
+          → ((e : Error) → error ≡ Read e → ⊥)
+          → Decodes remaining read_step (started capacity k.encoding k.bom_sniffing) reader raw d' reader'
+          → IsUnreadBy io
       unread-cut error io made fails other reads =
-          of_cut refl unquit-seen (reading.taken remaining read_step k capacity reader raw d' reader' reads) (λ bytes input.
-          let text = reading.front-is remaining read_step k capacity reader raw d' reader' reads none (view_of k) (gone ++ held new)
+          of_cut refl unquit-seen (reading.taken remaining read_step k capacity reader raw d' reader' reads)
+          (λ bytes input.
+          let text = reading.front-is remaining read_step k capacity reader raw d' reader' reads none (view_of k)
+          (gone ++ held new)
           fronts bytes input in
           let before = reading.front-is remaining read_step k capacity reader raw d' reader' reads none
           (λ xs. before_quit k.binary_detection (view_of k xs)) (gone ++ held new) befores bytes input in (
@@ -178,7 +194,8 @@ module _ {R : Type 0} (remaining : R → Option (List ℕ)) (read_step : R → R
       unread-read error mid shows reads no_line room unended failed ready waits = of_reader refl unquit-seen mid
           (reading.taken remaining read_step k capacity reader raw d' mid reads) unended failed
           (λ bytes input.
-          let text = reading.front-is remaining read_step k capacity reader raw d' mid reads none (view_of k) (gone ++ held new)
+          let text = reading.front-is remaining read_step k capacity reader raw d' mid reads none (view_of k)
+          (gone ++ held new)
           fronts bytes input in
           goes-on bytes text.0 text.1)
           raw
@@ -192,17 +209,20 @@ module _ {R : Type 0} (remaining : R → Option (List ℕ)) (read_step : R → R
           })
 
   -- a fill that failed of a search that reads on
-  module _ (capacity : ℕ) (reader : R) (decoder : DecoderState) (begun : decoder ≡ started capacity k.encoding k.bom_sniffing) (first : S)
+  module _ (capacity : ℕ) (reader : R) (decoder : DecoderState)
+      (begun : decoder ≡ started capacity k.encoding k.bom_sniffing) (first : S)
       (old new : BufferState) (d d' : DecoderState) (r r' : R) (w : Walk) (now : S)
       (so_far : IsRolling step k meaning remaining read_step decoder reader first old d r w now)
       (fitting : IsFitting k.heap_limit t old) (same : IsSameBuffer old new)
       (reads : (r2 : R) → Fills remaining read_step old d r new d' r2
       → (more : List ℕ) × HoldsGiven remaining read_step so_far.gone old.detection old.terminator new decoder reader
       (so_far.given ++ more) d' r2)
-      (has_buffers : Bool) (grows : GrowsIfFull old new) (within : IsWithin new.limit new.size) (allowed : is_at 0 k.heap_limit ≡ false)
+      (has_buffers : Bool) (grows : GrowsIfFull old new) (within : IsWithin new.limit new.size)
+      (allowed : is_at 0 k.heap_limit ≡ false)
       (none : (d : DecoderState) (more : List ℕ) → IsDone d → still_to_give d more ≡ []) where
     abbrev IsUnreadAt : Error → Type 0
-    IsUnreadAt error = IsLineUnread remaining read_step (record { settings = k; has_buffers = has_buffers }) meaning reader
+    IsUnreadAt error = IsLineUnread remaining read_step (record { settings = k; has_buffers = has_buffers }) meaning
+        reader
         (Some (so_far.gone ++ old.shown)) error r'
 
     -- what was given so far
@@ -214,12 +234,15 @@ module _ {R : Type 0} (remaining : R → Option (List ℕ)) (read_step : R → R
       from_start = subst (λ x. Decodes remaining read_step x reader raw d' r2) begun (reads r2 fills).1.decodes
 
       fronts : (later : List ℕ) → (back : List ℕ) × (view_of k (raw ++ later) ≡ (so_far.gone ++ held new) ++ back)
-      fronts = holding.fronts-there remaining read_step k so_far.gone raw old new decoder d' reader r2 (reads r2 fills).1
+      fronts = holding.fronts-there remaining read_step k so_far.gone raw old new decoder d' reader r2
+          (reads r2 fills).1
           so_far.detects fitting.terminator same
 
       befores : (later : List ℕ)
-          → (back : List ℕ) × (before_quit k.binary_detection (view_of k (raw ++ later)) ≡ (so_far.gone ++ held new) ++ back)
-      befores = holding.before-there remaining read_step k so_far.gone raw old new decoder d' reader r2 (reads r2 fills).1
+          → (back : List ℕ) × (before_quit k.binary_detection (view_of k (raw ++ later)) ≡ (so_far.gone ++ held new)
+          ++ back)
+      befores = holding.before-there remaining read_step k so_far.gone raw old new decoder d' reader r2
+          (reads r2 fills).1
           so_far.detects fitting.terminator same
 
       unquit : before_quit k.binary_detection (so_far.gone ++ held new) ≡ so_far.gone ++ held new
@@ -230,10 +253,12 @@ module _ {R : Type 0} (remaining : R → Option (List ℕ)) (read_step : R → R
       view-is = holding.view-there remaining read_step k so_far.gone raw old new decoder d' reader r2 (reads r2 fills).1
           so_far.detects fitting.terminator same
 
-    cut-by : (error : FillError) (io : Error) → IsMadeOf error io → FillFails old new error → ((e : Error) → error ≡ Read e → ⊥)
+    cut-by : (error : FillError) (io : Error) → IsMadeOf error io → FillFails old new error
+        → ((e : Error) → error ≡ Read e → ⊥)
         → Fills remaining read_step old d r new d' r' → IsUnreadAt io
     cut-by error io made fails other fills =
-        unread-cut capacity reader r' d' so_far.gone old new first w now so_far.between fitting same has_buffers grows within allowed
+        unread-cut capacity reader r' d' so_far.gone old new first w now so_far.between fitting same has_buffers grows
+        within allowed
         none (detected old.detection old.terminator fills.given) fills.appended (raw r' fills) (fronts r' fills)
         (befores r' fills) (unquit r' fills) error io made fails other (from_start r' fills)
 
@@ -246,10 +271,12 @@ module _ {R : Type 0} (remaining : R → Option (List ℕ)) (read_step : R → R
         → IfRead {X = Bool} (Err error) (λ _. IsWaiting d'.mode d'.held) → IsUnreadAt io
     unread-filled (Read e) io made fails cut read uncut empty waits =
         subst IsUnreadAt (sym made)
-        (unread-read capacity reader r' d' so_far.gone old new first w now so_far.between fitting same has_buffers grows within allowed
+        (unread-read capacity reader r' d' so_far.gone old new first w now so_far.between fitting same has_buffers grows
+        within allowed
         none (detected old.detection old.terminator read.fills.given) read.fills.appended (raw read.mid read.fills)
         (fronts read.mid read.fills) (befores read.mid read.fills) (unquit read.mid read.fills) e read.mid
-        (view-is read.mid read.fills uncut) (from_start read.mid read.fills) fails.0 fails.1 read.unended read.failed empty waits)
+        (view-is read.mid read.fills uncut) (from_start read.mid read.fills) fails.0 fails.1 read.unended read.failed
+        empty waits)
     unread-filled HeapLimit io made fails cut read uncut empty waits = cut-by HeapLimit io made fails (λ e is. cc) cut
     unread-filled Offset io made fails cut read uncut empty waits = cut-by Offset io made fails (λ e is. cc) cut
     unread-filled Memory io made fails cut read uncut empty waits = cut-by Memory io made fails (λ e is. cc) cut

@@ -18,7 +18,8 @@ use Rattle.grep_definitions.specs.Searches.{ErrorMakers, MatcherFacts, IsFaultIn
 use Rattle.grep_definitions.specs.Searches.{of_sink, of_matcher, of_quit_sink, of_quit_matcher}
 use Rattle.grep_definitions.specs.SearchTurns.{calls_if}
 use Rattle.grep_definitions.specs.Settings.{Settings}
-use Rattle.grep_definitions.specs.SinkCalls.{Call, Turn, begins, matches, context, breaks, binary_data, finishes, is_break, is_report}
+use Rattle.grep_definitions.specs.SinkCalls.{Call, Turn, begins, matches, context, breaks, binary_data, finishes}
+use Rattle.grep_definitions.specs.SinkCalls.{is_break, is_report}
 use Rattle.grep_definitions.specs.SinkRuns.{Steps, Outcome, all_true, stopped, failed}
 use Rattle.grep_definitions.specs.SinkRuns.{AreReported, IsFinished, IsRun, NeverFails, finish_result}
 use Rattle.grep_definitions.proofs.BreakLemmas as pairs
@@ -60,9 +61,11 @@ joined-of (turn ∷ []) (here, paired) (line, lines) = go (is_break turn.call) r
     go true is = absurd (here is)
     go false is = joined_report (report-of turn.call is line) no_turns
 joined-of (turn ∷ next ∷ later) (here, (there, paired)) (line, (line', lines)) =
-    go (is_break turn.call) refl (joined-of later paired lines) (joined-of (next ∷ later) (there, paired) (line', lines))
+    go (is_break turn.call) refl (joined-of later paired lines)
+    (joined-of (next ∷ later) (there, paired) (line', lines))
   where
-    go : (c : Bool) → is_break turn.call ≡ c → AreJoined later → AreJoined (next ∷ later) → AreJoined (turn ∷ next ∷ later)
+    go : (c : Bool) → is_break turn.call ≡ c → AreJoined later → AreJoined (next ∷ later)
+        → AreJoined (turn ∷ next ∷ later)
     go true is two one =
         let report = here is in
         joined_break (is-breaks turn.call is) (report-of next.call report.0 line') (sym report.1) two
@@ -76,7 +79,8 @@ lines-joined : (f : ℕ → List Turn) (i n : ℕ) → ((j : ℕ) → AreOfLines
 lines-joined f i zero each = tt
 lines-joined f i (suc n) each = lines-append (f i) (joined_from f (i + 1) n) (each i) (lines-joined f (i + 1) n each)
 
-lines-through : (offset : ℕ) (turns : List Turn) → AreOfLines turns → AreOfLines (filter (λ turn. nat_le turn.end offset) turns)
+lines-through : (offset : ℕ) (turns : List Turn) → AreOfLines turns
+    → AreOfLines (filter (λ turn. nat_le turn.end offset) turns)
 lines-through offset [] lines = tt
 lines-through offset (turn ∷ later) (line, lines) = go (nat_le turn.end offset) (lines-through offset later lines)
   where
@@ -102,13 +106,27 @@ module _ {S E : Type 0} (step : Steps S E) (may_call : S → Type 0) (k : Settin
           next.1,
         ),
       )
-  watched (turn ∷ later) old outcome new is (inr (inl (stops, made))) =
-      (made.1 ∙ is, inr (inl (stops, subst (λ n. quitting step may_call n (watch_of old) k turn.call (Ok false) (watch_of new)) is made.2)))
-  watched (turn ∷ later) old outcome new is (inr (inr (e, fails, made))) =
-      (made.1 ∙ is, inr (inr (e, fails, subst (λ n. quitting step may_call n (watch_of old) k turn.call (Err e) (watch_of new)) is made.2)))
+  watched (turn ∷ later) old outcome new is (inr (inl (stops, made))) = (
+    made.1 ∙ is,
+    inr (inl (
+      stops,
+      subst (λ n. quitting step may_call n (watch_of old) k turn.call (Ok false)
+          (watch_of new)) is made.2,
+    )),
+  )
+  watched (turn ∷ later) old outcome new is (inr (inr (e, fails, made))) = (
+    made.1 ∙ is,
+    inr (inr (
+      e,
+      fails,
+      subst (λ n. quitting step may_call n (watch_of old) k turn.call (Err e)
+          (watch_of new)) is made.2,
+    )),
+  )
 
   -- a search by a sink that has made no call yet ended in `finish`
-  pub until-run : (turns : List Turn) → AreJoined turns → (count : ℕ) (old : Quitting S) → old.byte ≡ b → old.has_break ≡ false
+  pub until-run : (turns : List Turn) → AreJoined turns → (count : ℕ) (old : Quitting S) → old.byte ≡ b → old.has_break
+      ≡ false
       → old.found ≡ None → (result : Result (Unit {0}) E) (new : Quitting S)
       → IsRun (Quits step may_call) k old (record { call = begins; end = 0 } ∷ turns) count None result new
       → IsRunTo step k (quit_in_reports b (record { call = begins; end = 0 } ∷ turns)) old.sink.now
@@ -116,18 +134,22 @@ module _ {S E : Type 0} (step : Steps S E) (may_call : S → Type 0) (k : Settin
   until-run turns joined count old is whole clear result new run =
       let all : List Turn = record { call = begins; end = 0 } ∷ turns in
       let made = watched all old run.outcome run.mid is run.reported in
-      quitting_calls.quits-run step may_call k b all old.sink.now count run.outcome (watch_of run.mid) result (watch_of new)
-      (quitting_calls.quits-begun step may_call k b 0 turns joined (watch_of old) run.outcome (watch_of run.mid) whole clear made.1)
+      quitting_calls.quits-run step may_call k b all old.sink.now count run.outcome (watch_of run.mid) result
+      (watch_of new)
+      (quitting_calls.quits-begun step may_call k b 0 turns joined (watch_of old) run.outcome (watch_of run.mid) whole
+      clear made.1)
       (closed run.outcome made.0 run.finished)
     where
       closed : (outcome : Outcome E) → run.mid.byte ≡ b
           → IsFinished (Quits step may_call) k outcome run.mid count None result new
           → IsFinished (quitting step may_call b) k outcome (watch_of run.mid) count None result (watch_of new)
       closed all_true same finished =
-          subst (λ n. quitting step may_call n (watch_of run.mid) k (finishes count None) (finish_result result) (watch_of new)) same
+          subst (λ n. quitting step may_call n (watch_of run.mid) k (finishes count None) (finish_result result)
+          (watch_of new)) same
           finished.2
       closed (stopped end) same finished =
-          subst (λ n. quitting step may_call n (watch_of run.mid) k (finishes end None) (finish_result result) (watch_of new)) same
+          subst (λ n. quitting step may_call n (watch_of run.mid) k (finishes end None) (finish_result result)
+          (watch_of new)) same
           finished.2
       closed (failed e) same (fails, stays) = (fails, ap watch_of stays)
 
@@ -138,9 +160,11 @@ module _ {S E : Type 0} (step : Steps S E) (may_call : S → Type 0) (never : Ne
   made-fails true old k call e new may (inl (mid, still, broken, made)) = never mid k call e new still made
   made-fails true old k call e new may (inr (no_true, made)) = never old k breaks e new may made
 
-  looked-fails : (at : Option ℕ) (from : ℕ) (old : Watch S) (k : Settings) (call : Call) (e : E) (new : Watch S) → may_call old.sink
+  looked-fails : (at : Option ℕ) (from : ℕ) (old : Watch S) (k : Settings) (call : Call) (e : E) (new : Watch S)
+      → may_call old.sink
       → IsLookedAt step may_call at from old k call (Err e) new → ⊥
-  looked-fails None from old k call e new may (same, whole, made) = made-fails old.has_break old.sink k call e new.sink may made
+  looked-fails None from old k call e new may (same, whole, made) = made-fails old.has_break old.sink k call e new.sink
+      may made
   looked-fails (Some index) from old k call e new may (found, whole, (Ok goes_on, ends, called)) = is-ok ends
     where
       is-ok : ◌≡◌ {A = Result Bool E} (Err e) (Ok false) → ⊥
@@ -154,11 +178,14 @@ module _ {S E : Type 0} (step : Steps S E) (may_call : S → Type 0) (never : Ne
 
   -- such a sink never fails, if the sink that it has doesn't
   pub never-fails : NeverFails (Quits step may_call) (λ q. may_call q.sink.now)
-  never-fails old k begins e new may (name, byte, (found, whole, made)) = never old.sink.now k begins e new.sink.now may made
+  never-fails old k begins e new may (name, byte, (found, whole, made)) = never old.sink.now k begins e new.sink.now may
+      made
   never-fails old k (matches number from bytes) e new may (name, byte, made) =
-      looked-fails (position_of old.byte bytes) from (watch_of old) k (matches number from bytes) e (watch_of new) may made
+      looked-fails (position_of old.byte bytes) from (watch_of old) k (matches number from bytes) e (watch_of new) may
+      made
   never-fails old k (context kind number from bytes) e new may (name, byte, made) =
-      looked-fails (position_of old.byte bytes) from (watch_of old) k (context kind number from bytes) e (watch_of new) may made
+      looked-fails (position_of old.byte bytes) from (watch_of old) k (context kind number from bytes) e (watch_of new)
+      may made
   never-fails old k breaks e new may (name, byte, (same, goes_on)) = is-true goes_on
     where
       is-true : ◌≡◌ {A = Result Bool E} (Err e) (Ok true) → ⊥
@@ -169,7 +196,8 @@ module _ {S E : Type 0} (step : Steps S E) (may_call : S → Type 0) (never : Ne
           goes (Err e) = false
   never-fails old k (binary_data offset) e new may (name, byte, (found, whole, made)) =
       never old.sink.now k (binary_data offset) e new.sink.now may made
-  never-fails old k (finishes count binary) e new may (name, byte, (found, whole, made)) = never old.sink.now k _ e new.sink.now may made
+  never-fails old k (finishes count binary) e new may (name, byte, (found, whole, made)) = never old.sink.now k _ e
+      new.sink.now may made
 
 module _ (k : Settings) (meaning : Meaning) (bytes : List ℕ) where
   line-report : (i : ℕ) (o : Option Kind) → AreOfLines (LineSearch.report k meaning bytes i o)
@@ -222,11 +250,13 @@ module _ (k : Settings) (meaning : Meaning) (bytes : List ℕ) where
 pub first-found : (b : ℕ) (bytes : List ℕ) (n : ℕ) (found : Option ℕ) → n ≡ min (length bytes) first_look
     → IsFirstByte (is_byte b) (take n bytes) found → position_of b (take first_look bytes) ≡ found
 first-found b bytes n found is first =
-    ap (position_of b) (sym (ap (λ m. take m bytes) (is ∙ min_comm (length bytes) first_look) ∙ take_min first_look bytes))
+    ap (position_of b) (sym (ap (λ m. take m bytes) (is ∙ min_comm (length bytes) first_look)
+    ∙ take_min first_look bytes))
     ∙ position-found b (take n bytes) found first
 
 -- a search that ended before its first line
-pub quit-searched : {S E F : Type 0} (step : Steps S E) (errors : ErrorMakers E) (matcher : MatcherFacts F) (k : Settings) (b : ℕ)
+pub quit-searched : {S E F : Type 0} (step : Steps S E) (errors : ErrorMakers E) (matcher : MatcherFacts F)
+    (k : Settings) (b : ℕ)
     (bytes : List ℕ) (across : Bool) (offset : ℕ) → position_of b (take first_look bytes) ≡ Some offset → (old : S)
     (result : Result (Unit {0}) E) (new : S)
     → IsQuitRun step k old (record { before = one_turn begins 0; offset = offset; count = 0 }) result new
@@ -245,8 +275,10 @@ quit-searched step errors matcher k b bytes across offset is old result new run 
     go across (Ok u) run = run
     go across (Err e) run = of_quit_sink run
 
-module _ {S E F : Type 0} (step : Steps S E) (may_call : S → Type 0) (errors : ErrorMakers E) (matcher : MatcherFacts F) (k : Settings)
-    (b : ℕ) (bytes : List ℕ) (none : position_of b (take first_look bytes) ≡ None) (old : Quitting S) (is : old.byte ≡ b)
+module _ {S E F : Type 0} (step : Steps S E) (may_call : S → Type 0) (errors : ErrorMakers E) (matcher : MatcherFacts F)
+    (k : Settings)
+    (b : ℕ) (bytes : List ℕ) (none : position_of b (take first_look bytes) ≡ None) (old : Quitting S)
+    (is : old.byte ≡ b)
     (whole : old.has_break ≡ false) (clear : old.found ≡ None) where
   -- a search that ended in `finish`
   pub searched-until : (across : Bool) (result : Result (Unit {0}) E) (new : Quitting S)
@@ -268,7 +300,8 @@ module _ {S E F : Type 0} (step : Steps S E) (may_call : S → Type 0) (errors :
       → IsQuitFault step errors matcher (calls_if k matcher.meaning across) b k bytes old.sink.now e new.sink.now
   fault-made across haystack error made later e new begun joined asked fails message reported =
       let seen = watched step may_call k b made old all_true new is reported in
-      let all = quitting_calls.quits-all step may_call k b (record { call = begins; end = 0 } ∷ later) old.sink.now (watch_of new)
+      let all = quitting_calls.quits-all step may_call k b (record { call = begins; end = 0 } ∷ later) old.sink.now
+      (watch_of new)
       (quitting_calls.quits-begun step may_call k b 0 later joined (watch_of old) all_true (watch_of new) whole clear
       (subst (λ l. AreReported (quitting step may_call b) k (watch_of old) l all_true (watch_of new)) begun seen.1)) in
       of_quit_matcher haystack error made asked fails message
@@ -284,7 +317,8 @@ module _ {S E F : Type 0} (step : Steps S E) (may_call : S → Type 0) (errors :
       → IsQuitFault step errors matcher (calls_if k matcher.meaning across) b k bytes old.sink.now e new.sink.now
   through across turns paired lines offset haystack error made e new before asked fails message reported =
       let later : List Turn = filter (λ turn. nat_le turn.end offset) turns in
-      let begun : made ≡ record { call = begins; end = 0 } ∷ later = before ∙ (rw (le-leb 0 offset (omega arith)) refl) in
+      let begun : made ≡ record { call = begins; end = 0 } ∷ later = before
+      ∙ (rw (le-leb 0 offset (omega arith)) refl) in
       fault-made across haystack error made later e new begun
       (joined-of later (pairs.paired-through offset turns paired) (lines-through offset turns lines))
       asked fails message reported
@@ -304,16 +338,20 @@ module _ {S E F : Type 0} (step : Steps S E) (may_call : S → Type 0) (errors :
       haystack error made e new asked.before asked fails message reported
 
   -- `finish` ends what was counted
-  pub until-finished : (across : Bool) (count : ℕ) (outcome : Outcome E) (mid : Quitting S) (result : Result (Unit {0}) E)
+  pub until-finished : (across : Bool) (count : ℕ) (outcome : Outcome E) (mid : Quitting S)
+      (result : Result (Unit {0}) E)
       (new : Quitting S)
       → Counted (Quits step may_call) k old ((calls_if k matcher.meaning across).turns bytes)
       ((calls_if k matcher.meaning across).byte_count bytes) count outcome mid
       → Quits step may_call mid k (finishes count None) (finish_result result) new
-      → IsSearchedUntil step errors matcher (calls_if k matcher.meaning across) b k bytes old.sink.now result new.sink.now
+      → IsSearchedUntil step errors matcher (calls_if k matcher.meaning across) b k bytes old.sink.now result
+      new.sink.now
   until-finished across count outcome mid (Ok u) new counted finish =
-      searched-until across (Ok u) new (run-finish (Quits step may_call) k old ((calls_if k matcher.meaning across).turns bytes)
+      searched-until across (Ok u) new (run-finish (Quits step may_call) k old
+      ((calls_if k matcher.meaning across).turns bytes)
       ((calls_if k matcher.meaning across).byte_count bytes) count outcome mid (Ok u) new counted finish)
   until-finished across count outcome mid (Err e) new counted finish =
       of_quit_sink (searched-until across (Err e) new (run-finish (Quits step may_call) k old
-      ((calls_if k matcher.meaning across).turns bytes) ((calls_if k matcher.meaning across).byte_count bytes) count outcome mid (Err e) new
+      ((calls_if k matcher.meaning across).turns bytes) ((calls_if k matcher.meaning across).byte_count bytes) count
+      outcome mid (Err e) new
       counted finish))

@@ -1,5 +1,5 @@
--- What a line buffer holds of the bytes that a decoder gave. The contracts of private functions cite these definitions;
--- no public contract does.
+-- What a line buffer holds of the bytes that a decoder gave. The contracts of private functions
+-- cite these definitions; no public contract does.
 use Rattle.std.specs.Prelude.{◌≡◌, ℕ, List, ◌++◌, Option}
 use Rattle.grep_decode.specs.DecoderStates.{DecoderState, Decodes}
 use Rattle.grep_decode.specs.Source.{ReadResult}
@@ -8,8 +8,8 @@ use Rattle.grep_line_buffer.specs.BufferStates.{BufferState, held}
 use Rattle.grep_line_buffer.specs.Detections.{detected, found_in}
 
 module _ {R : Type 0} (remaining : R → Option (List ℕ)) (step : R → ReadResult → R → Type 0) where
-  -- Reads of a decoder gave some bytes. What detection makes of these is what was consumed and then what is held, and
-  -- where the first binary byte is among them is known.
+  -- Reads of a decoder gave some bytes. What detection makes of these is what was consumed and then
+  -- what is held, and where the first binary byte is among them is known.
   pub record HoldsGiven (gone : List ℕ) (detection : Detection) (t : ℕ) (w : BufferState)
       (decoder : DecoderState) (reader : R)
       (given : List ℕ) (decoder' : DecoderState) (reader' : R) : Type 0 where

@@ -1,12 +1,14 @@
--- A search of an input that isn't refused, by where it looks for binary bytes. `IsBytesSearched` is what a search of
--- bytes promises; the contracts of private functions cite the others.
+-- A search of an input that isn't refused, by where it looks for binary bytes. `IsBytesSearched` is
+-- what a search of bytes promises; the contracts of private functions cite the others.
 use Rattle.std.specs.Prelude.{ℕ, List, Option, Result, Ok, Err}
 use Rattle.grep_decode.specs.Source.{ReadResult}
 use Rattle.grep_definitions.specs.BinaryBytes.{Look, nowhere, in_contents, on_stream}
-use Rattle.grep_definitions.specs.ReaderSearches.{IsContentsSearched, IsReaderFaultIn, IsReaderRunIn}
+use Rattle.grep_definitions.specs.ReaderSearches.{IsContentsSearched, IsReaderFaultIn}
+use Rattle.grep_definitions.specs.ReaderSearches.{IsReaderRunIn}
 use Rattle.grep_definitions.specs.SearchTurns.{SearchCalls, calls_across, search_calls}
 use Rattle.grep_definitions.specs.Settings.{Settings, SearcherState}
-use Rattle.grep_definitions.specs.Searches.{ErrorMakers, MatcherFacts, IsQuitFault, IsRunUntil, IsSearchedAlong}
+use Rattle.grep_definitions.specs.Searches.{ErrorMakers, MatcherFacts, IsQuitFault, IsRunUntil}
+use Rattle.grep_definitions.specs.Searches.{IsSearchedAlong}
 use Rattle.grep_definitions.specs.SinkRuns.{Steps}
 
 module _ {S E F : Type 0} (step : Steps S E) (errors : ErrorMakers E)

@@ -1,14 +1,17 @@
--- A sink that looks for a byte in each report, and passes the calls on up to the first report that holds the byte. The
--- contracts of private functions cite these definitions; no public contract does.
-use Rattle.std.specs.Prelude.{◌≡◌, ◌⊎◌, ℕ, ◌+◌, Bool, true, false, Option, None, Some, Result, Ok, Err}
+-- A sink that looks for a byte in each report, and passes the calls on up to the first report that
+-- holds the byte. The contracts of private functions cite these definitions; no public contract
+-- does.
+use Rattle.std.specs.Prelude.{◌≡◌, ◌⊎◌, ℕ, ◌+◌, Bool, true, false, Option, None, Some, Result, Ok}
+use Rattle.std.specs.Prelude.{Err}
 use Rattle.grep_definitions.specs.BinaryBytes.{position_of}
 use Rattle.grep_definitions.specs.Settings.{Settings}
-use Rattle.grep_definitions.specs.SinkCalls.{Call, begins, matches, context, breaks, binary_data, finishes}
+use Rattle.grep_definitions.specs.SinkCalls.{Call, begins, matches, context, breaks, binary_data}
+use Rattle.grep_definitions.specs.SinkCalls.{finishes}
 use Rattle.grep_definitions.specs.SinkRuns.{Steps}
 use Rattle.grep_core.specs.declared.quitting.Quitting.{Quitting}
 
--- the sink, whether a break is held back until the report after it is looked at, and the offset of the byte if a report
--- held it
+-- the sink, whether a break is held back until the report after it is looked at, and the offset of
+-- the byte if a report held it
 pub record Watch (S : Type 0) : Type 0 where
   pub sink : S
   pub has_break : Bool
@@ -25,7 +28,8 @@ count_to None count = count
 count_to (Some offset) count = offset
 
 module _ {S E : Type 0} (step : Steps S E) (may_call : S → Type 0) where
-  -- a break that was held back, and the report if the break returned true: then the sink may be called
+  -- a break that was held back, and the report if the break returned true: then the sink may be
+  -- called
   abbrev pub IsMadeAfter : Bool → S → Settings → Call → Result Bool E → S → Type 0
   IsMadeAfter false old settings call result new = step old settings call result new
   IsMadeAfter true old settings call result new =
@@ -33,8 +37,8 @@ module _ {S E : Type 0} (step : Steps S E) (may_call : S → Type 0) where
       × step mid settings call result new)
       ⊎ (result ≡ Ok true → ⊥) × step old settings breaks result new
 
-  -- a report of bytes from an offset on, by where the byte is in them: without it the report is made, else
-  -- `binary_data` is called in its place and its break isn't made
+  -- a report of bytes from an offset on, by where the byte is in them: without it the report is
+  -- made, else `binary_data` is called in its place and its break isn't made
   abbrev pub IsLookedAt : Option ℕ → ℕ → Watch S → Settings → Call → Result Bool E → Watch S
       → Type 0
   IsLookedAt None from old settings call result new =

@@ -1,6 +1,7 @@
--- A search of a reader, fill by fill of a line buffer: `gone` are the bytes that were moved past. The contracts of
--- private functions cite these definitions; no public contract does.
-use Rattle.std.specs.Prelude.{◌≡◌, ◌⊎◌, ℕ, ◌+◌, ◌-◌, ◌<◌, ◌≤◌, ◌^◌, ◌&&◌, Bool, true, false, Ok, List, [], ◌++◌}
+-- A search of a reader, fill by fill of a line buffer: `gone` are the bytes that were moved past.
+-- The contracts of private functions cite these definitions; no public contract does.
+use Rattle.std.specs.Prelude.{◌≡◌, ◌⊎◌, ℕ, ◌+◌, ◌-◌, ◌<◌, ◌≤◌, ◌^◌, ◌&&◌, Bool, true, false, Ok}
+use Rattle.std.specs.Prelude.{List, [], ◌++◌}
 use Rattle.std.specs.Prelude.{length, take, drop, All, Option, Some, None}
 use Rattle.std.specs.List.{concat}
 use Rattle.grep_decode.specs.DecoderStates.{DecoderState}
@@ -76,7 +77,8 @@ module _ {S E : Type 0} (step : Steps S E) (settings : Settings) (meaning : Mean
     pub next : reports_nothing settings ≡ false → IsNext gone buffer.shown first w now
     pub idle : reports_nothing settings ≡ true → IsIdle gone buffer first now
 
-  -- a walk went to the end of what a buffer shows, which are whole lines, and the buffer moved past some of them
+  -- a walk went to the end of what a buffer shows, which are whole lines, and the buffer moved past
+  -- some of them
   pub record HasMovedOn (old : BufferState) (w : Walk) (now : S) (new : BufferState) (w' : Walk)
       (now' : S) : Type 0 where
     pub count : ℕ
@@ -107,8 +109,8 @@ module _ {S E : Type 0} (step : Steps S E) (settings : Settings) (meaning : Mean
 
   module _ {R : Type 0} (remaining : R → Option (List ℕ))
       (read_step : R → ReadResult → R → Type 0) where
-    -- a search that reads on: what is gone and what is held is what detection makes of the bytes that were given since
-    -- its start, and they hold no byte that ends it
+    -- a search that reads on: what is gone and what is held is what detection makes of the bytes
+    -- that were given since its start, and they hold no byte that ends it
     pub record IsRolling (decoder : DecoderState) (reader : R) (first : S) (buffer : BufferState)
         (decoder' : DecoderState)
         (reader' : R) (w : Walk) (now : S) : Type 0 where
@@ -121,9 +123,9 @@ module _ {S E : Type 0} (step : Steps S E) (settings : Settings) (meaning : Mean
       pub detects : buffer.detection ≡ detection_of settings.binary_detection
       pub uncut : is_cut buffer ≡ false
 
-    -- a search of a reader came to its end with this count, and with the offset of the first binary byte if
-    -- `binary_data` was called: that of the lines that were seen, and of the view of every input that begins with what
-    -- was taken
+    -- a search of a reader came to its end with this count, and with the offset of the first binary
+    -- byte if `binary_data` was called: that of the lines that were seen, and of the view of every
+    -- input that begins with what was taken
     pub record HasCounted (reader : R) (first : S) (count : ℕ) (found : Option ℕ) (reader' : R)
         (new : S)
         : Type 0 where
@@ -149,8 +151,8 @@ module _ {S E : Type 0} (step : Steps S E) (settings : Settings) (meaning : Mean
       pub clear_seen : (bytes : List ℕ) → IsInput settings taken.ended taken.pieces bytes
           → IsClear settings bytes found (length seen)
 
-    -- a search of a reader ended at the first binary byte of every input that begins with what was taken: after the
-    -- calls for the lines that were seen came `binary_data`, with this outcome
+    -- a search of a reader ended at the first binary byte of every input that begins with what was
+    -- taken: after the calls for the lines that were seen came `binary_data`, with this outcome
     pub record HasCut (reader : R) (first : S) (count offset : ℕ) (outcome : Outcome E)
         (reader' : R) (last : S)
         : Type 0 where
@@ -167,14 +169,16 @@ module _ {S E : Type 0} (step : Steps S E) (settings : Settings) (meaning : Mean
       pub called : AreReported step settings mid (one_turn (binary_data offset) count) outcome last
       pub quits : outcome ≡ all_true → (b : ℕ) × (settings.binary_detection ≡ Quit b)
 
-    -- a search of a reader begins, and reads nothing unless `begin` returned true and it reads lines
+    -- a search of a reader begins, and reads nothing unless `begin` returned true and it reads
+    -- lines
     pub record HasBegun (reader : R) (old : S) (reader' : R) : Type 0 where
       pub begun : Bool
       pub first : S
       pub begin : step old settings begins (Ok begun) first
       pub unread : (begun && reads_lines settings) ≡ false → reader' ≡ reader
 
--- a search of a reader came to its end, and `finish` is still to be called, with this count and this offset
+-- a search of a reader came to its end, and `finish` is still to be called, with this count and
+-- this offset
 abbrev pub IsStreamCounted : {S E : Type 0} → Steps S E → Settings → Meaning → {R : Type 0}
     → (R → Option (List ℕ))
     → (R → ReadResult → R → Type 0) → R → S → ℕ → Option ℕ → R → S → Type 0

@@ -6,13 +6,17 @@ use Rattle.std.specs.declared.io.ErrorKind.TheVariants.{InvalidData, Other, OutO
 use Rattle.grep_core.specs.declared.buffers.Buffers.{Buffers}
 use Rattle.grep_definitions.specs.Settings.{Settings}
 use Rattle.grep_line_buffer.specs.declared.fill_error.FillError.{FillError}
-use Rattle.grep_line_buffer.specs.declared.fill_error.FillError.TheVariants.{Read, HeapLimit, Offset, Memory}
+use Rattle.grep_line_buffer.specs.declared.fill_error.FillError.TheVariants.{Read, HeapLimit}
+use Rattle.grep_line_buffer.specs.declared.fill_error.FillError.TheVariants.{Offset, Memory}
 use Rattle.grep_line_buffer.specs.declared.detection.Detection.{Detection}
-use Rattle.grep_line_buffer.specs.declared.detection.Detection.TheVariants.{None as detects_nothing, Quit as quits_at, Convert as converts}
+use Rattle.grep_line_buffer.specs.declared.detection.Detection.TheVariants.{None as detects_nothing}
+use Rattle.grep_line_buffer.specs.declared.detection.Detection.TheVariants.{Quit as quits_at}
+use Rattle.grep_line_buffer.specs.declared.detection.Detection.TheVariants.{Convert as converts}
 use Rattle.grep_line_buffer.specs.BufferStates.{BufferState, IsWithin}
 use Rattle.grep_matcher.specs.Terminators.{byte_of}
 use Rattle.grep_report.specs.declared.binary_detection.BinaryDetection.{BinaryDetection}
-use Rattle.grep_report.specs.declared.binary_detection.BinaryDetection.TheVariants.{None as no_detection, Quit, Convert}
+use Rattle.grep_report.specs.declared.binary_detection.BinaryDetection.TheVariants.{None as no_detection}
+use Rattle.grep_report.specs.declared.binary_detection.BinaryDetection.TheVariants.{Quit, Convert}
 
 -- the least size of a line buffer, by its limit
 abbrev pub least_size : Option ℕ → ℕ
@@ -37,7 +41,8 @@ abbrev pub AreFitting : {A : Type 0} → Settings → Buffers A → Type 0
 AreFitting settings buffers =
     IsFitting settings.heap_limit (byte_of settings.line_terminator) buffers.lines
 
--- the error of reading that an error of a line buffer becomes: the reader's own, or one of a kind of its own
+-- the error of reading that an error of a line buffer becomes: the reader's own, or one of a kind
+-- of its own
 abbrev pub IsMadeOf : FillError → Error → Type 0
 IsMadeOf (Read e) error = error ≡ e
 IsMadeOf HeapLimit error = error_kind error ≡ Other

@@ -13,7 +13,8 @@ const BUFFER_CAPACITY: usize = 64 * 1024;
 // How many bytes of its reader a decoder keeps.
 const DECODER_CAPACITY: usize = 8192;
 
-/// What a search of a reader needs: a decoder, and a buffer that shows its lines or, across lines, all its bytes.
+/// What a search of a reader needs: a decoder, and a buffer that shows its lines or, across lines,
+/// all its bytes.
 #[derive(Drop)]
 pub struct Buffers<A: Allocator> {
     pub(crate) lines: LineBuffer<A>,
@@ -22,8 +23,9 @@ pub struct Buffers<A: Allocator> {
 }
 
 impl<A: Allocator + Copy> Buffers<A> {
-    /// Buffers for searches with this configuration: a line buffer of 65,536 bytes, or of the heap limit if that is
-    /// lower, a decoder's 8,192, and none yet for contents. An error says that there was no memory for them.
+    /// Buffers for searches with this configuration: a line buffer of 65,536 bytes, or of the heap
+    /// limit if that is lower, a decoder's 8,192, and none yet for contents. An error says that
+    /// there was no memory for them.
     pub fn new(alloc: A, config: &Config) -> Result<Buffers<A>, AllocError>
         ensures fitting { IfOk result (λ buffers. AreFitting config.now buffers) }
         ensures lines { IfOk result (λ buffers.

@@ -1,4 +1,5 @@
-//! The walk of a search by line: over all lines of a slice, or over those of a window, with the calls that they make.
+//! The walk of a search by line: over all lines of a slice, or over those of a window, with the
+//! calls that they make.
 ghost use Rattle.std.specs.Prelude.{◌≡◌, ◌≤◌, ◌<◌, ◌+◌, ◌-◌, ◌^◌, ℕ, true, false, length};
 ghost use Rattle.std.specs.Prelude.{List, IfOk, IfErr, IsOk};
 ghost use Rattle.grep_matcher.specs.Matching.{IsInfallible};
@@ -63,10 +64,10 @@ impl<'c, A: Allocator + Copy, T> Search<'c, A, T> {
         Ok(walk.offset)
     }
 
-    // Walks over the lines of a window from `start` to the window's end, and returns whether the search goes on
-    // after it; if not, the walk's offset is the byte count. A window shows some bytes of the input. The caller
-    // ensures that its lines are lines of the input, and that of the lines before `start` that weren't reported it
-    // has as many as are reported with a match.
+    // Walks over the lines of a window from `start` to the window's end, and returns whether the
+    // search goes on after it; if not, the walk's offset is the byte count. A window shows some
+    // bytes of the input. The caller ensures that its lines are lines of the input, and that of the
+    // lines before `start` that weren't reported it has as many as are reported with a match.
     pub(crate) fn search_window<M: Matcher, C: Calls<T>>(
         &self,
         matcher: &M,
@@ -128,10 +129,7 @@ impl<'c, A: Allocator + Copy, T> Search<'c, A, T> {
         let mut start = start;
         let mut ahead = NOTHING_AHEAD;
         'lines: loop {
-            ahead = match self
-                .config
-                .look_ahead(matcher, window, start, walk, ahead)
-            {
+            ahead = match self.config.look_ahead(matcher, window, start, walk, ahead) {
                 Ok(ahead) => ahead,
                 Err(error) => return Err(C::Error::error_message(self.alloc, error)),
             };

@@ -11,8 +11,8 @@ ghost use Rattle.grep_definitions.specs.SinkRuns.{finish_result};
 use crate::search::Search;
 use grep_report::{SinkContext, SinkFinish, SinkMatch};
 
-/// How a search calls the sinks of one type, with a searcher of type `T`. What implements it is a name alone: no value
-/// of it is needed.
+/// How a search calls the sinks of one type, with a searcher of type `T`. What implements it is a
+/// name alone: no value of it is needed.
 ///
 /// Each call but `finish` returns whether the search goes on; an error is the sink's own.
 pub trait Calls<T> {
@@ -25,7 +25,8 @@ pub trait Calls<T> {
     /// The settings of a searcher.
     ghost settings: { T → Settings };
 
-    /// One call: the state before, the searcher's settings, the call with its data, what it returned, the state after.
+    /// One call: the state before, the searcher's settings, the call with its data, what it
+    /// returned, the state after.
     ghost step: { Self.Sink → Settings → Call → Result Bool Self.Error → Self.Sink → Type 0 };
 
     /// Whether the sink may be called. The caller of a search ensures it, and each call keeps it.
@@ -38,7 +39,8 @@ pub trait Calls<T> {
         ensures step { step sink.old search.now.config begins result sink.new }
         ensures may_call { may_call sink.new };
 
-    /// Selected lines, split as the searcher splits lines, with a line number exactly if it numbers lines.
+    /// Selected lines, split as the searcher splits lines, with a line number exactly if it numbers
+    /// lines.
     fn matched<A>(
         search: &Search<'_, A, T>,
         sink: &mut Self::Sink,
@@ -52,7 +54,8 @@ pub trait Calls<T> {
         ensures step { step sink.old search.now.config (match_call found.now) result sink.new }
         ensures may_call { may_call sink.new };
 
-    /// A line that isn't selected and is reported, with a number exactly if the searcher numbers lines.
+    /// A line that isn't selected and is reported, with a number exactly if the searcher numbers
+    /// lines.
     fn context<A>(
         search: &Search<'_, A, T>,
         sink: &mut Self::Sink,
@@ -75,7 +78,8 @@ pub trait Calls<T> {
         ensures step { step sink.old search.now.config breaks result sink.new }
         ensures may_call { may_call sink.new };
 
-    /// The input is binary: `binary_byte_offset` is the offset, in bytes, of the first binary byte that was found.
+    /// The input is binary: `binary_byte_offset` is the offset, in bytes, of the first binary byte
+    /// that was found.
     fn binary_data<A>(
         search: &Search<'_, A, T>,
         sink: &mut Self::Sink,

@@ -23,8 +23,8 @@ use grep_report::{SinkError, SinkFinish};
 use std::alloc::Allocator;
 
 impl<'c, A: Allocator + Copy, T> Search<'c, A, T> {
-    // Searches the decoded bytes of a reader across lines. All of them are read into `contents` before `begin`. The
-    // caller ensures that the decoder was started with the searcher's label.
+    // Searches the decoded bytes of a reader across lines. All of them are read into `contents`
+    // before `begin`. The caller ensures that the decoder was started with the searcher's label.
     pub(crate) fn search_contents<M: Matcher, R: Source, C: Calls<T>>(
         &self,
         matcher: &M,

@@ -1,5 +1,5 @@
-//! The search itself: the loops over the lines of a slice, over the fills of a line buffer and across lines, and the
-//! calls that they make of a sink.
+//! The search itself: the loops over the lines of a slice, over the fills of a line buffer and
+//! across lines, and the calls that they make of a sink.
 #![tactic(auto)]
 
 mod buffers;

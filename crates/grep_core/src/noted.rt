@@ -9,8 +9,8 @@ use crate::search::Search;
 use grep_report::{SinkContext, SinkFinish, SinkMatch};
 use std::marker::PhantomData;
 
-// A sink, the offset of the first binary byte once it is known, and whether `binary_data` was called with it and didn't
-// fail.
+// A sink, the offset of the first binary byte once it is known, and whether `binary_data` was
+// called with it and didn't fail.
 #[derive(Drop)]
 pub(crate) struct Noted<'s, S> {
     pub(crate) sink: &'s mut S,
@@ -57,7 +57,8 @@ impl<'c, A, T> Search<'c, A, T> {
     }
 }
 
-// Passes each call on to a sink; `finish` has the offset of the first binary byte, once it is known.
+// Passes each call on to a sink; `finish` has the offset of the first binary byte, once it is
+// known.
 pub(crate) struct NotedCalls<'s, C>(PhantomData<(&'s (), C)>);
 
 impl<'s, T, C: Calls<T>> Calls<T> for NotedCalls<'s, C>

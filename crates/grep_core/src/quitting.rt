@@ -1,5 +1,6 @@
 //! A sink that ends a search at a binary byte.
-ghost use Rattle.std.specs.Prelude.{◌≡◌, ◌+◌, ◌<◌, ◌^◌, true, false, Bool, Option, None, Some, Ok, Result, length};
+ghost use Rattle.std.specs.Prelude.{◌≡◌, ◌+◌, ◌<◌, ◌^◌, true, false, Bool, Option, None, Some, Ok};
+ghost use Rattle.std.specs.Prelude.{Result, length};
 ghost use Rattle.std.specs.Option.{option_map};
 ghost use Rattle.grep_core.specs.Configured.{IsConfigured};
 ghost use Rattle.grep_core.specs.QuittingSinks.{ended};
@@ -97,8 +98,8 @@ impl<'c, A, T> Search<'c, A, T> {
     }
 }
 
-// Passes each call on to a sink, up to the first report that holds the byte. Neither that report nor its break is made:
-// `binary_data` is called in their place, and the search ends there.
+// Passes each call on to a sink, up to the first report that holds the byte. Neither that report
+// nor its break is made: `binary_data` is called in their place, and the search ends there.
 pub(crate) struct QuittingCalls<'s, C>(PhantomData<(&'s (), C)>);
 
 impl<'s, T, C: Calls<T>> Calls<T> for QuittingCalls<'s, C>

@@ -1,5 +1,7 @@
-//! The search of a reader, fill by fill of a line buffer. It follows grep-searcher's module `searcher::glue`.
-ghost use Rattle.std.specs.Prelude.{◌^◌, ◌≡◌, ◌≤◌, ◌<◌, ◌+◌, ◌++◌, ℕ, Bool, List, Option, Ok, true, false, length};
+//! The search of a reader, fill by fill of a line buffer. It follows grep-searcher's module
+//! `searcher::glue`.
+ghost use Rattle.std.specs.Prelude.{◌^◌, ◌≡◌, ◌≤◌, ◌<◌, ◌+◌, ◌++◌, ℕ, Bool, List, Option, Ok, true};
+ghost use Rattle.std.specs.Prelude.{false, length};
 ghost use Rattle.std.specs.Prelude.{IfOk, IfErr, IsOk, OnErr, OnOk, Err, None};
 ghost use Rattle.std.specs.declared.io.Error.{Error};
 ghost use Rattle.grep_matcher.specs.Terminators.{byte_of};
@@ -18,7 +20,8 @@ ghost use Rattle.grep_definitions.specs.Searches.{IsLineFault, errors_by, facts_
 ghost use Rattle.grep_definitions.specs.SinkCalls.{begins};
 ghost use Rattle.grep_definitions.specs.SinkRuns.{NeverFails};
 ghost use Rattle.grep_core.specs.NotedCalls.{FailsAtBinary, HasNoted, PassesBinary};
-ghost use Rattle.grep_core.specs.Rolls.{IsReady, HasBegun, HasMovedOn, HasEnded, IsStreamCounted, start_in};
+ghost use Rattle.grep_core.specs.Rolls.{IsReady, HasBegun, HasMovedOn, HasEnded, IsStreamCounted};
+ghost use Rattle.grep_core.specs.Rolls.{start_in};
 ghost use Rattle.grep_core.specs.SearchBuffers.{AreFitting, IsFitting, IsMadeOf, detection_of};
 ghost use Rattle.grep_walk.specs.Walks.{IsOrdered};
 ghost use Rattle.grep_core.specs.Configured.{IsConfigured};
@@ -39,11 +42,12 @@ use std::alloc::Allocator;
 use std::io;
 
 impl<'c, A: Allocator + Copy, T> Search<'c, A, T> {
-    /// Searches the decoded bytes of a reader with these buffers, across lines or by line, as `Searcher::search_reader`
-    /// says, and returns its errors. Whatever comes, the buffers fit another search with this configuration.
+    /// Searches the decoded bytes of a reader with these buffers, across lines or by line, as
+    /// `Searcher::search_reader` says, and returns its errors. Whatever comes, the buffers fit
+    /// another search with this configuration.
     ///
-    /// The caller ensures that the configuration is the searcher's, that its heap limit isn't 0, that the buffers fit
-    /// the configuration, as new ones do, and that the sink may be called.
+    /// The caller ensures that the configuration is the searcher's, that its heap limit isn't 0,
+    /// that the buffers fit the configuration, as new ones do, and that the sink may be called.
     pub fn search_reader<M: Matcher, R: Source, C: Calls<T>>(
         &self,
         matcher: &M,
@@ -193,10 +197,11 @@ impl<'c, A: Allocator + Copy, T> Search<'c, A, T> {
         }
     }
 
-    // Searches the decoded bytes of a reader as a buffer shows them. Makes each call but `begin` and `finish`, and
-    // returns the byte count. The caller ensures that the buffer is empty and detects what is set, that the decoder was
-    // started with the searcher's label, that no binary byte is noted, and that `begin` returned true and some line may
-    // have a turn or a binary byte is looked for.
+    // Searches the decoded bytes of a reader as a buffer shows them. Makes each call but `begin`
+    // and `finish`, and returns the byte count. The caller ensures that the buffer is empty and
+    // detects what is set, that the decoder was started with the searcher's label, that no binary
+    // byte is noted, and that `begin` returned true and some line may have a turn or a binary byte
+    // is looked for.
     fn read_by_line<M: Matcher, R: Source, C: Calls<T>>(
         &self,
         matcher: &M,
@@ -278,7 +283,8 @@ impl<'c, A: Allocator + Copy, T> Search<'c, A, T> {
         }
     }
 
-    // Calls `binary_data` if a binary byte was found that isn't noted. Returns whether the search goes on.
+    // Calls `binary_data` if a binary byte was found that isn't noted. Returns whether the search
+    // goes on.
     fn passes_binary<C: Calls<T>>(
         &self,
         binary: Option<u64>,
@@ -303,8 +309,8 @@ impl<'c, A: Allocator + Copy, T> Search<'c, A, T> {
         }
     }
 
-    // Searches what a buffer shows from where a walk is, and moves past the lines that aren't kept. Returns whether
-    // more lines may come; if not, the walk's offset is the byte count.
+    // Searches what a buffer shows from where a walk is, and moves past the lines that aren't kept.
+    // Returns whether more lines may come; if not, the walk's offset is the byte count.
     fn search_shown<M: Matcher, C: Calls<T>>(
         &self,
         matcher: &M,

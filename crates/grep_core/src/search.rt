@@ -19,8 +19,8 @@ use grep_report::{SinkError, SinkFinish};
 use grep_walk::Config;
 use std::alloc::Allocator;
 
-/// What a search runs with: its configuration, the searcher that the calls of a sink get, and the allocator for what
-/// the search makes.
+/// What a search runs with: its configuration, the searcher that the calls of a sink get, and the
+/// allocator for what the search makes.
 #[derive(Drop)]
 pub struct Search<'c, A, T> {
     /// The configuration: the searcher's.
@@ -32,10 +32,11 @@ pub struct Search<'c, A, T> {
 }
 
 impl<'c, A: Allocator + Copy, T> Search<'c, A, T> {
-    /// Searches a slice as it is, across lines or by line, as `Searcher::search_slice` says of one that isn't decoded.
-    /// An error is the sink's own or made of the matcher's.
+    /// Searches a slice as it is, across lines or by line, as `Searcher::search_slice` says of one
+    /// that isn't decoded. An error is the sink's own or made of the matcher's.
     ///
-    /// The caller ensures that the configuration is the searcher's, and that the sink may be called.
+    /// The caller ensures that the configuration is the searcher's, and that the sink may be
+    /// called.
     pub fn search_bytes<M: Matcher, C: Calls<T>>(
         &self,
         matcher: &M,

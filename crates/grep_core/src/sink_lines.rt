@@ -1,11 +1,13 @@
-//! What a walk reports of a line: the lines before a match, the match, a line after one, or any line under `passthru`.
+//! What a walk reports of a line: the lines before a match, the match, a line after one, or any
+//! line under `passthru`.
 ghost use Rattle.std.specs.Prelude.{◌≡◌, ◌≤◌, ◌<◌, ◌+◌, ◌-◌, ◌^◌, ℕ, true, List, length};
 ghost use Rattle.std.specs.Prelude.{IsOk};
 ghost use Rattle.grep_lines.specs.Positions.{slice};
 ghost use Rattle.grep_definitions.specs.CallOrder.{HasCalled};
 ghost use Rattle.grep_definitions.specs.SinkCalls.{context};
 ghost use Rattle.grep_definitions.specs.LineTurns.{number_of, is_gap, break_turns};
-ghost use Rattle.grep_definitions.specs.LineTurns.{after_turns, before_turns, pending_turns, match_turns};
+ghost use Rattle.grep_definitions.specs.LineTurns.{after_turns, before_turns, pending_turns};
+ghost use Rattle.grep_definitions.specs.LineTurns.{match_turns};
 ghost use Rattle.grep_definitions.specs.SinkRuns.{AreReported, outcome_of, NeverFails};
 ghost use Rattle.grep_walk.specs.Walks.{chooses, counts_lines, trails, line_turns, line_end};
 ghost use Rattle.grep_walk.specs.Windows.{IsInWindow, IsLineIn};
@@ -18,8 +20,9 @@ use grep_walk::{Verdict, Walk};
 use std::alloc::Allocator;
 
 impl<'c, A: Allocator + Copy, T> Search<'c, A, T> {
-    // Reports the line that a walk is at, from `start` up to `end` of the window, and if it is chosen the lines before
-    // it that are near. In the context after a match a trailing line is a match too. Returns whether the search goes on.
+    // Reports the line that a walk is at, from `start` up to `end` of the window, and if it is
+    // chosen the lines before it that are near. In the context after a match a trailing line is a
+    // match too. Returns whether the search goes on.
     pub(crate) fn sink_line<C: Calls<T>>(
         &self,
         window: &[u8],
@@ -65,8 +68,8 @@ impl<'c, A: Allocator + Copy, T> Search<'c, A, T> {
         Ok(true)
     }
 
-    // Reports the line that a walk is at, from `start` up to `end` of the window, which is in the context after a match
-    // and isn't chosen.
+    // Reports the line that a walk is at, from `start` up to `end` of the window, which is in the
+    // context after a match and isn't chosen.
     fn sink_after_context<C: Calls<T>>(
         &self,
         window: &[u8],
@@ -101,8 +104,9 @@ impl<'c, A: Allocator + Copy, T> Search<'c, A, T> {
         }
     }
 
-    // Reports the lines before the chosen one that a walk is at, which begins at `start` of the window: of those after
-    // the last reported one as many as the context has. They are found again by stepping back.
+    // Reports the lines before the chosen one that a walk is at, which begins at `start` of the
+    // window: of those after the last reported one as many as the context has. They are found again
+    // by stepping back.
     fn sink_before_context<C: Calls<T>>(
         &self,
         window: &[u8],
@@ -137,8 +141,8 @@ impl<'c, A: Allocator + Copy, T> Search<'c, A, T> {
         self.sink_before_lines::<C>(window, first, walk.line - near as u64, start, walk, sink)
     }
 
-    // Reports the lines from the one with this index on, which begins at `first` of the window, up to the chosen one
-    // that a walk is at, which begins at `start`.
+    // Reports the lines from the one with this index on, which begins at `first` of the window, up
+    // to the chosen one that a walk is at, which begins at `start`.
     fn sink_before_lines<C: Calls<T>>(
         &self,
         window: &[u8],
@@ -187,7 +191,8 @@ impl<'c, A: Allocator + Copy, T> Search<'c, A, T> {
         Ok(true)
     }
 
-    // Reports a line near the chosen one that a walk is at, and the break before it, if there is one.
+    // Reports a line near the chosen one that a walk is at, and the break before it, if there is
+    // one.
     fn sink_before_line<C: Calls<T>>(
         &self,
         line: &[u8],
@@ -216,8 +221,8 @@ impl<'c, A: Allocator + Copy, T> Search<'c, A, T> {
         self.sink_context::<C>(SinkContextKind::Before, line, offset, index, sink)
     }
 
-    // Reports the line that a walk is at, from `start` up to `end` of the window, as a match, and the break before it, if
-    // there is one.
+    // Reports the line that a walk is at, from `start` up to `end` of the window, as a match, and
+    // the break before it, if there is one.
     fn sink_matched<C: Calls<T>>(
         &self,
         window: &[u8],

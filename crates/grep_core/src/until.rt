@@ -25,8 +25,8 @@ use std::alloc::Allocator;
 const FIRST_LOOK: usize = 65_536;
 
 impl<'c, A: Allocator + Copy, T> Search<'c, A, T> {
-    // Searches whole contents, across lines or by line, up to the first report that holds a byte, or not at all if the
-    // first bytes hold it.
+    // Searches whole contents, across lines or by line, up to the first report that holds a byte,
+    // or not at all if the first bytes hold it.
     pub(crate) fn search_until<M: Matcher, C: Calls<T>>(
         &self,
         matcher: &M,
@@ -81,8 +81,8 @@ impl<'c, A: Allocator + Copy, T> Search<'c, A, T> {
         C::finish(self, sink, &SinkFinish::new(0, Some(offset)))
     }
 
-    // Searches whole contents whose first bytes don't hold the byte, up to the first report that does. The caller
-    // ensures that the sink has had no call.
+    // Searches whole contents whose first bytes don't hold the byte, up to the first report that
+    // does. The caller ensures that the sink has had no call.
     fn search_quitting<M: Matcher, C: Calls<T>>(
         &self,
         matcher: &M,

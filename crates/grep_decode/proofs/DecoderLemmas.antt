@@ -1,7 +1,8 @@
 -- What reads of a decoder do, one after the other.
 use Rattle.std.proofs.Common.{◌≡◌, ℕ, suc, ◌-◌, ◌<◌, ◌≤◌, ◌==◌, Bool, true, false, List, [], ◌∷◌, ◌++◌, Option, Some}
 use Rattle.std.proofs.Common.{None, Result, Ok, Err, IfSome, IfOk, IfErr, OnErr, take, ◌+◌, refl, sym, subst, ap, ◌∙◌}
-use Rattle.std.proofs.Common.{append-nil, append_assoc, arith, length, length-append, length-take, min, ◌⊎◌, ⊎_elim, inl, inr}
+use Rattle.std.proofs.Common.{append-nil, append_assoc, arith, length, length-append, length-take, min, ◌⊎◌, ⊎_elim}
+use Rattle.std.proofs.Common.{inl, inr}
 use Rattle.std.proofs.lemmas.Bool.{false≢true}
 use Rattle.std.proofs.lemmas.Bool.Decides.{nat_tests}
 use Rattle.std.proofs.lemmas.List.Folds.{concat-append}
@@ -85,14 +86,18 @@ module _ {R : Type 0} (remaining : R → Option (List ℕ)) (step : R → ReadRe
     ahead = λ passing. omega arith;
   }
 
-  joined : (first second : List (List ℕ)) (more : List ℕ) → concat (first ++ second) ++ more ≡ concat first ++ (concat second ++ more)
-  joined first second more = ap (λ l. l ++ more) (concat-append first second) ∙ append_assoc (concat first) (concat second) more
+  joined : (first second : List (List ℕ)) (more : List ℕ) → concat (first ++ second) ++ more ≡ concat first
+      ++ (concat second ++ more)
+  joined first second more = ap (λ l. l ++ more) (concat-append first second)
+      ∙ append_assoc (concat first) (concat second) more
 
-  pub Decodes-append : (d d1 d2 : DecoderState) (r r1 r2 : R) (given later : List ℕ) → Decodes remaining step d r given d1 r1
+  pub Decodes-append : (d d1 d2 : DecoderState) (r r1 r2 : R) (given later : List ℕ)
+      → Decodes remaining step d r given d1 r1
       → Decodes remaining step d1 r1 later d2 r2 → Decodes remaining step d r (given ++ later) d2 r2
   Decodes-append d d1 d2 r r1 r2 given later first second = record {
     pieces = first.pieces ++ second.pieces;
-    calls = Calls-append remaining step d.has_ended d1.has_ended d2.has_ended r r1 r2 first.pieces second.pieces first.calls second.calls;
+    calls = Calls-append remaining step d.has_ended d1.has_ended d2.has_ended r r1 r2 first.pieces second.pieces
+        first.calls second.calls;
     last = (
       first.last.0 ++ second.last.0,
       ap (λ xs. d.held ++ xs) (concat-append first.pieces second.pieces)
@@ -101,15 +106,18 @@ module _ {R : Type 0} (remaining : R → Option (List ℕ)) (step : R → ReadRe
           ∙ (append_assoc first.last.0 d1.held (concat second.pieces)
           ∙ (ap (λ xs. first.last.0 ++ xs) second.last.1 ∙ sym (append_assoc first.last.0 second.last.0 d2.held))))),
     );
-    takes = subst (λ bytes. Consumes (remaining r) (remaining r2) bytes) (sym (concat-append first.pieces second.pieces))
-        (Consumes-trans (remaining r) (remaining r1) (remaining r2) (concat first.pieces) (concat second.pieces) first.takes second.takes);
+    takes = subst (λ bytes. Consumes (remaining r) (remaining r2) bytes)
+        (sym (concat-append first.pieces second.pieces))
+        (Consumes-trans (remaining r) (remaining r1) (remaining r2) (concat first.pieces) (concat second.pieces)
+        first.takes second.takes);
     gives = λ more end. ap (still_to_give d) (joined first.pieces second.pieces more)
         ∙ (first.gives (concat second.pieces ++ more)
         (Calls-nothing remaining step d1.has_ended d2.has_ended r1 r2 second.pieces more second.calls end)
         ∙ (ap (λ l. given ++ l) (second.gives more end) ∙ sym (append_assoc given later (still_to_give d2 more))));
     settles = λ more end. ap (next_mode d) (joined first.pieces second.pieces more)
         ∙ (first.settles (concat second.pieces ++ more)
-        (Calls-nothing remaining step d1.has_ended d2.has_ended r1 r2 second.pieces more second.calls end) ∙ second.settles more end);
+        (Calls-nothing remaining step d1.has_ended d2.has_ended r1 r2 second.pieces more second.calls end)
+        ∙ second.settles more end);
     stays = λ settled. second.stays (subst IsSettled (sym (first.stays settled)) settled) ∙ first.stays settled;
     unsettled = λ fresh.
         let later_held = second.unsettled fresh in
@@ -155,12 +163,15 @@ module _ {R : Type 0} (remaining : R → Option (List ℕ)) (step : R → ReadRe
         (settled-or d1.mode);
   }
     where
-      taken : length (concat (first.pieces ++ second.pieces)) ≡ length (concat first.pieces) + length (concat second.pieces)
-      taken = ap length (concat-append first.pieces second.pieces) ∙ length-append (concat first.pieces) (concat second.pieces)
+      taken : length (concat (first.pieces ++ second.pieces))
+          ≡ length (concat first.pieces) + length (concat second.pieces)
+      taken = ap length (concat-append first.pieces second.pieces)
+          ∙ length-append (concat first.pieces) (concat second.pieces)
 
   -- without a call of the reader
   pub Decodes-within : (d d1 : DecoderState) (r : R) (given : List ℕ) → d1.has_ended ≡ d.has_ended
-      → ((rest : List ℕ) → still_to_give d rest ≡ given ++ still_to_give d1 rest) → ((rest : List ℕ) → next_mode d rest ≡ next_mode d1 rest)
+      → ((rest : List ℕ) → still_to_give d rest ≡ given ++ still_to_give d1 rest)
+      → ((rest : List ℕ) → next_mode d rest ≡ next_mode d1 rest)
       → IsSettled d1.mode → (IsSettled d.mode → (d1.mode ≡ d.mode) × (length d.held ≤ length given + length d1.held))
       → (d1.mode ≡ Passing → length d.held ≤ length given + length d1.held + 3)
       → (LooksForMark d.mode → (3 ≤ length d.held) ⊎ (d1.has_ended ≡ true))
@@ -168,7 +179,8 @@ module _ {R : Type 0} (remaining : R → Option (List ℕ)) (step : R → ReadRe
       → Decodes remaining step d r given d1 r
   Decodes-within d d1 r given ended same next settled kept few enough last = record {
     pieces = [];
-    calls = subst (λ b. Calls remaining step d.has_ended b r [] r) (sym ended) (Calls-none remaining step d.has_ended r);
+    calls = subst (λ b. Calls remaining step d.has_ended b r [] r) (sym ended)
+        (Calls-none remaining step d.has_ended r);
     last = (last.0, append-nil d.held ∙ last.1);
     takes = Consumes-nil (remaining r);
     gives = λ more end. same more;
@@ -184,10 +196,12 @@ module _ {R : Type 0} (remaining : R → Option (List ℕ)) (step : R → ReadRe
   same-unread true more end = sym (end refl)
   same-unread false more end = refl
 
-  call-by : (d d1 : DecoderState) (r r1 : R) (given piece : List ℕ) (is : Bool) → d1.has_ended ≡ is → d.has_ended ≡ false
+  call-by : (d d1 : DecoderState) (r r1 : R) (given piece : List ℕ) (is : Bool) → d1.has_ended ≡ is → d.has_ended
+      ≡ false
       → (is ≡ true → (piece ≡ []) × IsAtEnd (remaining r1)) → (is ≡ false → 0 < length piece) → step r (Ok piece) r1
       → Consumes (remaining r) (remaining r1) piece
-      → ((more : List ℕ) → (d1.has_ended ≡ true → more ≡ []) → still_to_give d (piece ++ more) ≡ given ++ still_to_give d1 more)
+      → ((more : List ℕ) → (d1.has_ended ≡ true → more ≡ []) → still_to_give d (piece ++ more) ≡ given
+      ++ still_to_give d1 more)
       → ((more : List ℕ) → (d1.has_ended ≡ true → more ≡ []) → next_mode d (piece ++ more) ≡ next_mode d1 more)
       → d1.mode ≡ d.mode → ((IsSettled d1.mode → ⊥) → (given ≡ []) × (d1.held ≡ d.held ++ piece))
       → length d.held + length piece ≤ length given + length d1.held
@@ -236,18 +250,27 @@ module _ {R : Type 0} (remaining : R → Option (List ℕ)) (step : R → ReadRe
   pub Decodes-hold : (mode : Mode) (old new : UndecodedBytes) (r r1 : R) (count : ℕ) → old.has_ended ≡ false
       → Grows remaining step old r count new r1 → Decodes remaining step (holding mode old) r [] (holding mode new) r1
   Decodes-hold mode old new r r1 count was grows =
-      let input : (more : List ℕ) → (new.has_ended ≡ true → more ≡ []) → old.bytes ++ unread old.has_ended (grows.piece ++ more)
+      let input : (more : List ℕ) → (new.has_ended ≡ true → more ≡ []) → old.bytes
+      ++ unread old.has_ended (grows.piece ++ more)
       ≡ new.bytes ++ unread new.has_ended more =
-      λ more end. ap (λ b. old.bytes ++ unread b (grows.piece ++ more)) was ∙ (sym (append_assoc old.bytes grows.piece more)
-      ∙ (ap (λ l. l ++ more) (sym grows.appended) ∙ ap (λ l. new.bytes ++ l) (sym (same-unread new.has_ended more end)))) in
+      λ more end. ap (λ b. old.bytes ++ unread b (grows.piece ++ more)) was
+      ∙ (sym (append_assoc old.bytes grows.piece more)
+      ∙ (ap (λ l. l ++ more) (sym grows.appended) ∙ ap (λ l. new.bytes ++ l)
+      (sym (same-unread new.has_ended more end)))) in
       call-by (holding mode old) (holding mode new) r r1 [] grows.piece (count == 0) grows.has_ended was
       (λ none. (is-none count grows.piece grows.counted none, grows.ended (is-zero count none)))
       (λ some. is-some count grows.piece grows.counted some) grows.called grows.takes
       (λ more end. ap (decode_by mode) (input more end)) (λ more end. ap (mode_after mode) (input more end))
-      refl (λ fresh. (refl, grows.appended)) (omega (arith, ap length grows.appended, length-append old.bytes grows.piece))
+      refl (λ fresh. (refl, grows.appended)) (omega (
+        arith,
+        ap length grows.appended,
+        length-append old.bytes
+            grows.piece,
+      ))
       ([], sym grows.appended)
 
-  grown : (b : Bool) (old new : UndecodedBytes) (r r1 : R) (count most : ℕ) → new.has_ended ≡ b → length old.bytes < most
+  grown : (b : Bool) (old new : UndecodedBytes) (r r1 : R) (count most : ℕ) → new.has_ended ≡ b
+      → length old.bytes < most
       → Grows remaining step old r count new r1 → calls_left b (most - length new.bytes) < suc (most - length old.bytes)
   grown true old new r r1 count most ended few grows = omega arith
   grown false old new r r1 count most ended few grows =
@@ -255,7 +278,8 @@ module _ {R : Type 0} (remaining : R → Option (List ℕ)) (step : R → ReadRe
       omega (arith, some, few, ap length grows.appended ∙ length-append old.bytes grows.piece)
 
   -- each call brings bytes, or is the last
-  pub Grows-smaller : (old new : UndecodedBytes) (r r1 : R) (count most : ℕ) → old.has_ended ≡ false → length old.bytes < most
+  pub Grows-smaller : (old new : UndecodedBytes) (r r1 : R) (count most : ℕ) → old.has_ended ≡ false
+      → length old.bytes < most
       → Grows remaining step old r count new r1
       → calls_left new.has_ended (most - length new.bytes) < calls_left old.has_ended (most - length old.bytes)
   Grows-smaller old new r r1 count most was few grows =
@@ -264,7 +288,8 @@ module _ {R : Type 0} (remaining : R → Option (List ℕ)) (step : R → ReadRe
 
   -- one call more, after others
   pub hold-more : (mode : Mode) (first old new : UndecodedBytes) (r r1 r2 : R) (count : ℕ) → old.has_ended ≡ false
-      → Decodes remaining step (holding mode first) r [] (holding mode old) r1 → Grows remaining step old r1 count new r2
+      → Decodes remaining step (holding mode first) r [] (holding mode old) r1
+      → Grows remaining step old r1 count new r2
       → Decodes remaining step (holding mode first) r [] (holding mode new) r2
   hold-more mode first old new r r1 r2 count was run grows =
       Decodes-append (holding mode first) (holding mode old) (holding mode new) r r1 r2 [] [] run
@@ -272,12 +297,14 @@ module _ {R : Type 0} (remaining : R → Option (List ℕ)) (step : R → ReadRe
 
   -- bytes that are held are decoded, without a call of the reader
   pub Decodes-text : (label : Label) (old new : UndecodedBytes) (r : R) (given : List ℕ) → new.has_ended ≡ old.has_ended
-      → ((rest : List ℕ) → still_to_give (holding (Decoding label) old) rest ≡ given ++ still_to_give (holding (Decoding label) new) rest)
+      → ((rest : List ℕ) → still_to_give (holding (Decoding label) old) rest ≡ given
+      ++ still_to_give (holding (Decoding label) new) rest)
       → (front : List ℕ) × (old.bytes ≡ front ++ new.bytes)
       → Decodes remaining step (holding (Decoding label) old) r given (holding (Decoding label) new) r
   Decodes-text label old new r given ended same last = record {
     pieces = [];
-    calls = subst (λ b. Calls remaining step old.has_ended b r [] r) (sym ended) (Calls-none remaining step old.has_ended r);
+    calls = subst (λ b. Calls remaining step old.has_ended b r [] r) (sym ended)
+        (Calls-none remaining step old.has_ended r);
     last = (last.0, append-nil old.bytes ∙ last.1);
     takes = Consumes-nil (remaining r);
     gives = λ more end. same more;
@@ -290,16 +317,20 @@ module _ {R : Type 0} (remaining : R → Option (List ℕ)) (step : R → ReadRe
   }
 
   -- a call of the reader, whose bytes pass unchanged
-  pub Decodes-pass : (old new : UndecodedBytes) (r r1 : R) (count : ℕ) (piece : List ℕ) → old.bytes ≡ [] → new.bytes ≡ []
+  pub Decodes-pass : (old new : UndecodedBytes) (r r1 : R) (count : ℕ) (piece : List ℕ) → old.bytes ≡ [] → new.bytes
+      ≡ []
       → old.has_ended ≡ false → new.has_ended ≡ (count == 0) → length piece ≡ count → step r (Ok piece) r1
       → Consumes (remaining r) (remaining r1) piece → (count ≡ 0 → IsAtEnd (remaining r1))
       → Decodes remaining step (holding Passing old) r piece (holding Passing new) r1
   Decodes-pass old new r r1 count piece empty none was ended counted called takes last =
       let before : (rest : List ℕ) → still_to_give (holding Passing old) rest ≡ rest = λ rest. rw (empty, was) refl in
-      let after : (rest : List ℕ) → still_to_give (holding Passing new) rest ≡ unread new.has_ended rest = λ rest. rw none refl in
+      let after : (rest : List ℕ) → still_to_give (holding Passing new) rest
+      ≡ unread new.has_ended rest = λ rest. rw none refl in
       call-by (holding Passing old) (holding Passing new) r r1 piece piece (count == 0) ended was
-      (λ zero. (is-none count piece counted zero, last (is-zero count zero))) (λ some. is-some count piece counted some) called takes
-      (λ more end. before (piece ++ more) ∙ ap (λ l. piece ++ l) (sym (after more ∙ same-unread new.has_ended more end)))
+      (λ zero. (is-none count piece counted zero, last (is-zero count zero))) (λ some. is-some count piece counted some)
+      called takes
+      (λ more end. before (piece ++ more) ∙ ap (λ l. piece ++ l)
+      (sym (after more ∙ same-unread new.has_ended more end)))
       (λ more end. refl) refl (λ fresh. absurd (fresh tt)) (omega (arith, ap length empty))
       (piece, ap (λ l. l ++ piece) empty ∙ sym (ap (λ l. piece ++ l) none ∙ append-nil piece))
 
@@ -309,27 +340,47 @@ module _ {R : Type 0} (remaining : R → Option (List ℕ)) (step : R → ReadRe
   FailsToDecode-now d r r1 e was failed = record { mid = r; decodes = Decodes-none d r; unended = was; failed = failed }
 
   -- bytes that were ready are given
-  pub Decodes-ready : (ready given later held : List ℕ) (mode : Mode) (ended : Bool) (capacity : ℕ) (r : R) → IsSettled mode
-      → ready ≡ given ++ later → Decodes remaining step (record { ready = ready; held = held; mode = mode; has_ended = ended; capacity = capacity }) r given
+  pub Decodes-ready : (ready given later held : List ℕ) (mode : Mode) (ended : Bool) (capacity : ℕ) (r : R)
+      → IsSettled mode
+      → ready ≡ given ++ later → Decodes remaining step
+      (record { ready = ready; held = held; mode = mode; has_ended = ended; capacity = capacity }) r given
       (record { ready = later; held = held; mode = mode; has_ended = ended; capacity = capacity }) r
   Decodes-ready ready given later held mode ended capacity r settled same =
-      let before : DecoderState = record { ready = ready; held = held; mode = mode; has_ended = ended; capacity = capacity } in
-      let after : DecoderState = record { ready = later; held = held; mode = mode; has_ended = ended; capacity = capacity } in
+      let before : DecoderState = record {
+        ready = ready;
+        held = held;
+        mode = mode;
+        has_ended = ended;
+        capacity =
+            capacity;
+      } in
+      let after : DecoderState = record {
+        ready = later;
+        held = held;
+        mode = mode;
+        has_ended = ended;
+        capacity =
+            capacity;
+      } in
       Decodes-within before after r given refl
-      (λ rest. let text = decode_by mode (held ++ unread ended rest) in ap (λ l. l ++ text) same ∙ append_assoc given later text)
-      (λ rest. refl) settled (λ was. (refl, omega arith)) (λ passing. omega arith) (λ looks. absurd (looks-unsettled mode looks settled))
+      (λ rest. let text = decode_by mode (held ++ unread ended rest) in ap (λ l. l ++ text) same
+      ∙ append_assoc given later text)
+      (λ rest. refl) settled (λ was. (refl, omega arith)) (λ passing. omega arith)
+      (λ looks. absurd (looks-unsettled mode looks settled))
       ([], refl)
 
   -- the same of a decoder that has nothing ready
   pub Decodes-held : (ready : List ℕ) (mode : Mode) (old new : UndecodedBytes) (r r1 : R) (given : List ℕ) → ready ≡ []
       → Decodes remaining step (holding mode old) r given (holding mode new) r1
       → Decodes remaining step
-      (record { ready = ready; held = old.bytes; mode = mode; has_ended = old.has_ended; capacity = old.capacity }) r given
+      (record { ready = ready; held = old.bytes; mode = mode; has_ended = old.has_ended; capacity = old.capacity }) r
+      given
       (record { ready = ready; held = new.bytes; mode = mode; has_ended = new.has_ended; capacity = new.capacity }) r1
   Decodes-held ready mode old new r r1 given none run =
       subst (λ l. Decodes remaining step
       (record { ready = l; held = old.bytes; mode = mode; has_ended = old.has_ended; capacity = old.capacity }) r given
-      (record { ready = l; held = new.bytes; mode = mode; has_ended = new.has_ended; capacity = new.capacity }) r1) (sym none) run
+      (record { ready = l; held = new.bytes; mode = mode; has_ended = new.has_ended; capacity = new.capacity }) r1)
+      (sym none) run
 
   -- a read that failed, after others
   pub FailsToDecode-after : (d d1 d2 : DecoderState) (r r1 r2 : R) (e : Error) → Decodes remaining step d r [] d1 r1
@@ -341,13 +392,15 @@ module _ {R : Type 0} (remaining : R → Option (List ℕ)) (step : R → ReadRe
     failed = later.failed;
   }
 
-  Calls-pulls : (was is : Bool) (old new : R) (pieces : List (List ℕ)) → Calls remaining step was is old pieces new → is ≡ false
+  Calls-pulls : (was is : Bool) (old new : R) (pieces : List (List ℕ)) → Calls remaining step was is old pieces new → is
+      ≡ false
       → Pulls step old pieces new
   Calls-pulls false false old new pieces calls unended = calls
   Calls-pulls false true old new pieces calls unended = absurd (false≢true (sym unended))
   Calls-pulls true is old new pieces calls unended = absurd (false≢true (sym unended ∙ calls.0))
 
-  pub FailsToDecode-reader : (d d1 : DecoderState) (r r1 : R) (e : Error) → FailsToDecode remaining step d r e d1 r1 → FailsWith step r e r1
+  pub FailsToDecode-reader : (d d1 : DecoderState) (r r1 : R) (e : Error) → FailsToDecode remaining step d r e d1 r1
+      → FailsWith step r e r1
   FailsToDecode-reader d d1 r r1 e fails = (
     fails.decodes.pieces,
     fails.mid,
@@ -355,17 +408,20 @@ module _ {R : Type 0} (remaining : R → Option (List ℕ)) (step : R → ReadRe
     fails.failed,
   )
 
-  Calls-unended : (was is : Bool) (old new : R) (pieces : List (List ℕ)) → Calls remaining step was is old pieces new → is ≡ false
+  Calls-unended : (was is : Bool) (old new : R) (pieces : List (List ℕ)) → Calls remaining step was is old pieces new
+      → is ≡ false
       → was ≡ false
   Calls-unended false is old new pieces calls unended = refl
   Calls-unended true is old new pieces calls unended = absurd (false≢true (sym unended ∙ calls.0))
 
-  pub reads-fail : (d d1 d2 : DecoderState) (r r1 r2 : R) (given : List ℕ) (e : Error) → Decodes remaining step d r given d1 r1
+  pub reads-fail : (d d1 d2 : DecoderState) (r r1 r2 : R) (given : List ℕ) (e : Error)
+      → Decodes remaining step d r given d1 r1
       → FailsToDecode remaining step d1 r1 e d2 r2 → FailsWith step r e r2
   reads-fail d d1 d2 r r1 r2 given e first fails =
       let unended : d1.has_ended ≡ false =
       Calls-unended d1.has_ended d2.has_ended r1 fails.mid fails.decodes.pieces fails.decodes.calls fails.unended in
-      FailsWith-after step first.pieces r r1 r2 e (Calls-pulls d.has_ended d1.has_ended r r1 first.pieces first.calls unended)
+      FailsWith-after step first.pieces r r1 r2 e (Calls-pulls d.has_ended d1.has_ended r r1 first.pieces first.calls
+      unended)
       (FailsToDecode-reader d1 d2 r1 r2 e fails)
 
   -- ---- a reader that says which bytes remain
@@ -373,10 +429,13 @@ module _ {R : Type 0} (remaining : R → Option (List ℕ)) (step : R → ReadRe
   ended-gives : (d : DecoderState) (xs ys : List ℕ) → d.has_ended ≡ true → still_to_give d xs ≡ still_to_give d ys
   ended-gives d xs ys ended = rw ended refl
 
-  yet-from : (d d1 : DecoderState) (was is : Bool) (old new : R) (before after : Option (List ℕ)) (pieces : List (List ℕ)) (given : List ℕ)
+  yet-from : (d d1 : DecoderState) (was is : Bool) (old new : R) (before after : Option (List ℕ))
+      (pieces : List (List ℕ)) (given : List ℕ)
       → d.has_ended ≡ was → d1.has_ended ≡ is
-      → Calls remaining step was is old pieces new → before ≡ remaining old → after ≡ remaining new → Consumes before after (concat pieces)
-      → ((more : List ℕ) → (d1.has_ended ≡ true → more ≡ []) → still_to_give d (concat pieces ++ more) ≡ given ++ still_to_give d1 more)
+      → Calls remaining step was is old pieces new → before ≡ remaining old → after ≡ remaining new
+      → Consumes before after (concat pieces)
+      → ((more : List ℕ) → (d1.has_ended ≡ true → more ≡ []) → still_to_give d (concat pieces ++ more) ≡ given
+      ++ still_to_give d1 more)
       → Consumes (yet d before) (yet d1 after) given
   yet-from d d1 was is old new None after pieces given wasn't isn't calls first last takes gives = tt
   yet-from d d1 was is old new (Some xs) None pieces given wasn't isn't calls first last takes gives = absurd takes
@@ -392,7 +451,8 @@ module _ {R : Type 0} (remaining : R → Option (List ℕ)) (step : R → ReadRe
   pub Decodes-yet : (d d1 : DecoderState) (r r1 : R) (given : List ℕ) → Decodes remaining step d r given d1 r1
       → Consumes (yet d (remaining r)) (yet d1 (remaining r1)) given
   Decodes-yet d d1 r r1 given run =
-      yet-from d d1 d.has_ended d1.has_ended r r1 (remaining r) (remaining r1) run.pieces given refl refl run.calls refl refl
+      yet-from d d1 d.has_ended d1.has_ended r r1 (remaining r) (remaining r1) run.pieces given refl refl run.calls refl
+      refl
       run.takes run.gives
 
   Keeps-from : (a b : Option (List ℕ)) → Consumes a b [] → Keeps a b
@@ -416,7 +476,8 @@ module _ {R : Type 0} (remaining : R → Option (List ℕ)) (step : R → ReadRe
       → Keeps (yet d (remaining r)) (yet d1 (remaining r1))
   FailsToDecode-yet d d1 r r1 e fails keeps =
       keeps-then (yet d (remaining r)) (yet d1 (remaining fails.mid)) (yet d1 (remaining r1))
-      (Decodes-yet d d1 r fails.mid [] fails.decodes) (yet-kept d1 (remaining fails.mid) (remaining r1) (keeps fails.mid r1 e fails.failed))
+      (Decodes-yet d d1 r fails.mid [] fails.decodes)
+      (yet-kept d1 (remaining fails.mid) (remaining r1) (keeps fails.mid r1 e fails.failed))
 
   -- ---- the end
 
@@ -429,7 +490,8 @@ module _ {R : Type 0} (remaining : R → Option (List ℕ)) (step : R → ReadRe
   whole (Some all) None bytes takes ended = absurd takes
   whole (Some all) (Some rest) bytes takes ended = takes ∙ (ap (λ xs. bytes ++ xs) ended ∙ append-nil bytes)
 
-  all-given : (label : Option Label) (sniff : Bool) (capacity : ℕ) (d : DecoderState) (is : Bool) (r r1 : R) (given : List ℕ)
+  all-given : (label : Option Label) (sniff : Bool) (capacity : ℕ) (d : DecoderState) (is : Bool) (r r1 : R)
+      (given : List ℕ)
       (pieces : List (List ℕ)) → is ≡ true → Calls remaining step false is r pieces r1
       → Consumes (remaining r) (remaining r1) (concat pieces)
       → still_to_give (started capacity label sniff) (concat pieces ++ []) ≡ given ++ still_to_give d [] → IsDone d
@@ -445,13 +507,17 @@ module _ {R : Type 0} (remaining : R → Option (List ℕ)) (step : R → ReadRe
     whole = whole (remaining r) (remaining r1) (concat pieces) takes end;
   }
 
-  pub reads-give-all : (capacity : ℕ) (label : Option Label) (sniff : Bool) (d : DecoderState) (r r1 : R) (given : List ℕ)
-      → Decodes remaining step (started capacity label sniff) r given d r1 → IsDone d → IsDecoded remaining step label sniff r given r1
+  pub reads-give-all : (capacity : ℕ) (label : Option Label) (sniff : Bool) (d : DecoderState) (r r1 : R)
+      (given : List ℕ)
+      → Decodes remaining step (started capacity label sniff) r given d r1 → IsDone d
+      → IsDecoded remaining step label sniff r given r1
   reads-give-all capacity label sniff d r r1 given run done =
-      all-given label sniff capacity d d.has_ended r r1 given run.pieces done.ended run.calls run.takes (run.gives [] (λ ended. refl)) done
+      all-given label sniff capacity d d.has_ended r r1 given run.pieces done.ended run.calls run.takes
+      (run.gives [] (λ ended. refl)) done
 
 -- what is held if the bytes pass unchanged
-pub fits-passing : (mode : Mode) (ready held : List ℕ) → FitsMode mode ready held → mode ≡ Passing → (length ready ≤ 3) × (held ≡ [])
+pub fits-passing : (mode : Mode) (ready held : List ℕ) → FitsMode mode ready held → mode ≡ Passing → (length ready ≤ 3)
+    × (held ≡ [])
 fits-passing mode ready held fits passing = subst (λ m. FitsMode m ready held) passing fits
 
 -- what is held while a mark is looked for
@@ -466,11 +532,14 @@ module _ {R : Type 0} (remaining : R → Option (List ℕ)) (step : R → ReadRe
   pub result-decodes : (d d1 d2 : DecoderState) (r r1 r2 : R) (result : Result ℕ Error) (buffer : List ℕ)
       → Decodes remaining step d r [] d1 r1 → IfOk result (λ n. Decodes remaining step d1 r1 (take n buffer) d2 r2)
       → IfOk result (λ n. Decodes remaining step d r (take n buffer) d2 r2)
-  result-decodes d d1 d2 r r1 r2 (Ok n) buffer first later = Decodes-append remaining step d d1 d2 r r1 r2 [] (take n buffer) first later
+  result-decodes d d1 d2 r r1 r2 (Ok n) buffer first later = Decodes-append remaining step d d1 d2 r r1 r2 []
+      (take n buffer) first later
   result-decodes d d1 d2 r r1 r2 (Err e) buffer first later = tt
 
-  pub result-fails : (d d1 d2 : DecoderState) (r r1 r2 : R) (result : Result ℕ Error) → Decodes remaining step d r [] d1 r1
-      → IfErr result (λ e. FailsToDecode remaining step d1 r1 e d2 r2) → IfErr result (λ e. FailsToDecode remaining step d r e d2 r2)
+  pub result-fails : (d d1 d2 : DecoderState) (r r1 r2 : R) (result : Result ℕ Error)
+      → Decodes remaining step d r [] d1 r1
+      → IfErr result (λ e. FailsToDecode remaining step d1 r1 e d2 r2)
+      → IfErr result (λ e. FailsToDecode remaining step d r e d2 r2)
   result-fails d d1 d2 r r1 r2 (Ok n) first later = tt
   result-fails d d1 d2 r r1 r2 (Err e) first later = FailsToDecode-after remaining step d d1 d2 r r1 r2 e first later
 
@@ -494,13 +563,16 @@ module _ {R : Type 0} (remaining : R → Option (List ℕ)) (step : R → ReadRe
 
   pub result-keeps : (d d1 : DecoderState) (r r1 : R) (result : Result ℕ Error)
       → ((old new : R) (error : Error) → step old (Err error) new → Keeps (remaining old) (remaining new))
-      → IfErr result (λ e. FailsToDecode remaining step d r e d1 r1) → OnErr result (Keeps (yet d (remaining r)) (yet d1 (remaining r1)))
+      → IfErr result (λ e. FailsToDecode remaining step d r e d1 r1)
+      → OnErr result (Keeps (yet d (remaining r)) (yet d1 (remaining r1)))
   result-keeps d d1 r r1 (Ok n) keeps fails = tt
   result-keeps d d1 r r1 (Err e) keeps fails = FailsToDecode-yet remaining step d d1 r r1 e fails keeps
 
-  none-given : (d d1 : DecoderState) (known after : Option (List ℕ)) (given : List ℕ) → d.ready ≡ [] → d.held ≡ [] → known ≡ Some []
+  none-given : (d d1 : DecoderState) (known after : Option (List ℕ)) (given : List ℕ) → d.ready ≡ [] → d.held ≡ []
+      → known ≡ Some []
       → Consumes (yet d known) (yet d1 after) given → length given ≡ 0
-  none-given d d1 known None given ready held none takes = absurd (subst (λ k. Consumes (yet d k) (yet d1 None) given) none takes)
+  none-given d d1 known None given ready held none takes =
+      absurd (subst (λ k. Consumes (yet d k) (yet d1 None) given) none takes)
   none-given d d1 known (Some rest) given ready held none takes =
       let all : still_to_give d [] ≡ given ++ still_to_give d1 rest =
       subst (λ k. Consumes (yet d k) (yet d1 (Some rest)) given) none takes in
@@ -512,7 +584,8 @@ module _ {R : Type 0} (remaining : R → Option (List ℕ)) (step : R → ReadRe
       (M : List ℕ → Type 0) (P S : Type 0)
       → known ≡ remaining r → d.ready ≡ [] → d.held ≡ [] → (n ≤ length buffer) × (n ≡ length (take n buffer))
       → Consumes (yet d known) (yet d1 (remaining r1)) (take n buffer)
-      → (0 < length ready → (n ≡ min (length ready) (length buffer)) × S) → IfSome known (λ input. M input → P → ready ≡ take 3 input)
+      → (0 < length ready → (n ≡ min (length ready) (length buffer)) × S)
+      → IfSome known (λ input. M input → P → ready ≡ take 3 input)
       → IfSome known (λ input. M input → P → n ≡ min (length buffer) (min 3 (length input)))
   first-count d d1 r r1 n buffer ready None M P S is none empty bound takes given made = tt
   first-count d d1 r r1 n buffer ready (Some []) M P S is none empty bound takes given made = λ m p.
@@ -523,8 +596,10 @@ module _ {R : Type 0} (remaining : R → Option (List ℕ)) (step : R → ReadRe
       let count : n ≡ min (length ready) (length buffer) = (given (omega (arith, long))).0 in
       omega (arith, long, count)
 
-  pub result-first : (d d1 : DecoderState) (r r1 : R) (result : Result ℕ Error) (buffer ready : List ℕ) (M : List ℕ → Type 0) (P S : Type 0)
-      → d.ready ≡ [] → d.held ≡ [] → ReadsAtMost result buffer → IfOk result (λ n. Decodes remaining step d r (take n buffer) d1 r1)
+  pub result-first : (d d1 : DecoderState) (r r1 : R) (result : Result ℕ Error) (buffer ready : List ℕ)
+      (M : List ℕ → Type 0) (P S : Type 0)
+      → d.ready ≡ [] → d.held ≡ [] → ReadsAtMost result buffer
+      → IfOk result (λ n. Decodes remaining step d r (take n buffer) d1 r1)
       → (0 < length ready → IfOk result (λ n. (n ≡ min (length ready) (length buffer)) × S))
       → IfSome (remaining r) (λ input. M input → P → ready ≡ take 3 input)
       → IfOk result (λ n. IfSome (remaining r) (λ input. M input → P → n ≡ min (length buffer) (min 3 (length input))))
@@ -534,7 +609,8 @@ module _ {R : Type 0} (remaining : R → Option (List ℕ)) (step : R → ReadRe
   result-first d d1 r r1 (Err e) buffer ready M P S none empty bound run given made = tt
 
 -- what was taken at first, and then what was taken
-pub result-ahead : (P : Type 0) (before mid after : Option (List ℕ)) (most : ℕ) (result : Result ℕ Error) → TakesAtMost before mid most
+pub result-ahead : (P : Type 0) (before mid after : Option (List ℕ)) (most : ℕ) (result : Result ℕ Error)
+    → TakesAtMost before mid most
     → IfOk result (λ n. P → TakesAtMost mid after n) → IfOk result (λ n. P → TakesAtMost before after (n + most))
 result-ahead P before mid after most (Ok n) first later = λ p.
     let more = later p in (
@@ -548,13 +624,16 @@ pub takes-none : (known : Option (List ℕ)) (most : ℕ) → TakesAtMost known 
 takes-none known most = ([], omega arith, Consumes-nil known)
 
 -- the same of another state
-pub first-passes : (M : List ℕ → Type 0) (P Q : Type 0) (known : Option (List ℕ)) (ready same : List ℕ) → (P → Q) → same ≡ ready
-    → IfSome known (λ input. M input → Q → ready ≡ take 3 input) → IfSome known (λ input. M input → P → same ≡ take 3 input)
+pub first-passes : (M : List ℕ → Type 0) (P Q : Type 0) (known : Option (List ℕ)) (ready same : List ℕ) → (P → Q) → same
+    ≡ ready
+    → IfSome known (λ input. M input → Q → ready ≡ take 3 input)
+    → IfSome known (λ input. M input → P → same ≡ take 3 input)
 first-passes M P Q None ready same turn is made = tt
 first-passes M P Q (Some input) ready same turn is made = λ m p. is ∙ made m (turn p)
 
 -- only a decoder that has read nothing looks for a mark
-pub looks-fresh : (mode : Mode) → LooksForMark mode → (label : Option Label) × (sniff : Bool) × (mode ≡ Fresh label sniff)
+pub looks-fresh : (mode : Mode) → LooksForMark mode → (label : Option Label) × (sniff : Bool)
+    × (mode ≡ Fresh label sniff)
 looks-fresh (Fresh label sniff) looks = (label, sniff, refl)
 looks-fresh Passing looks = absurd looks
 looks-fresh (Decoding label) looks = absurd looks

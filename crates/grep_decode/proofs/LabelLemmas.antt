@@ -1,5 +1,6 @@
 -- Reading a label.
-use Rattle.std.proofs.Common.{◌≡◌, ℕ, ◌+◌, ◌<◌, Bool, true, false, List, [], map, length, take, get_or, ◌∙◌, sym, refl, Bor, IsTrue, Option}
+use Rattle.std.proofs.Common.{◌≡◌, ℕ, ◌+◌, ◌<◌, Bool, true, false, List, [], map, length, take, get_or, ◌∙◌, sym, refl}
+use Rattle.std.proofs.Common.{Bor, IsTrue, Option}
 use Rattle.std.proofs.Common.{Some, None, cond}
 use Rattle.std.specs.Char.{to_ascii_lowercase}
 use Rattle.std.specs.List.{list_any}
@@ -35,7 +36,8 @@ module _ (name : List ℕ) (spellings : List (Bor (List ℕ))) (i : ℕ) (inside
   pub none-more : (r : Bool) → IsTest r → r ≡ false → list_any is_name (take i spellings) ≡ false
       → list_any is_name (take (i + 1) spellings) ≡ false
   none-more r test isnt none =
-      rw (list_any_more is_name spellings i record { ref_ptr = (0, 0); now = [] } inside, none, tested r test ∙ isnt) refl
+      rw (list_any_more is_name spellings i record { ref_ptr = (0, 0); now = [] } inside, none, tested r test ∙ isnt)
+      refl
 
 module _ (text name : List ℕ) (trim : IsTrimAscii text name) where
   trimmed : without_space_after (without_space_before text) ≡ name

@@ -1,8 +1,11 @@
 -- `utf8_lossy` from the front of some bytes on.
-use Rattle.std.proofs.Common.{◌≡◌, ℕ, ◌+◌, ◌-◌, ◌<◌, ◌≤◌, List, [], ◌∷◌, ◌++◌, length, take, drop, slice_index, None, Some, unwrap_or}
-use Rattle.std.proofs.Common.{IsUtf8, encode_utf8_all, refl, sym, ap, subst, ◌∙◌, arith, length-append, length-drop, take-add, append_assoc, append-nil}
+use Rattle.std.proofs.Common.{◌≡◌, ℕ, ◌+◌, ◌-◌, ◌<◌, ◌≤◌, List, [], ◌∷◌, ◌++◌, length, take, drop, slice_index, None}
+use Rattle.std.proofs.Common.{Some, unwrap_or}
+use Rattle.std.proofs.Common.{IsUtf8, encode_utf8_all, refl, sym, ap, subst, ◌∙◌, arith, length-append, length-drop}
+use Rattle.std.proofs.Common.{take-add, append_assoc, append-nil}
 use Rattle.std.proofs.lemmas.Bool.Decides.{nat_tests}
-use Rattle.std.proofs.lemmas.List.{get_or_append_left, drop-append-le, drop-drop, length-take-le, take-append-le, take_rest}
+use Rattle.std.proofs.lemmas.List.{get_or_append_left, drop-append-le, drop-drop, length-take-le, take-append-le}
+use Rattle.std.proofs.lemmas.List.{take_rest}
 use Rattle.std.proofs.lemmas.List.{take-append-drop}
 use Rattle.std.proofs.lemmas.Str.{IsUtf8-append, encodes-append, utf8_valid_len-IsValidUpTo}
 use Rattle.grep_decode.specs.Decoded.{IsUnfinishedUtf8}
@@ -26,7 +29,8 @@ utf8_lossy-bad : (bs : List ℕ) (size : ℕ) → 0 < length bs → decoded bs �
     → utf8_lossy bs ≡ replacement_bytes ++ utf8_lossy (drop size bs)
 utf8_lossy-bad bs size some is =
     sym (lossy_chars-utf8_lossy bs)
-    ∙ ap encode_utf8_all (lossy_chars-step bs some ∙ ap (λ (p : Decoded). or_replacement p.char ∷ lossy_chars (drop p.size bs)) is)
+    ∙ ap encode_utf8_all (lossy_chars-step bs some ∙ ap
+    (λ (p : Decoded). or_replacement p.char ∷ lossy_chars (drop p.size bs)) is)
     ∙ ap (λ t. t ++ encode_utf8_all (lossy_chars (drop size bs))) unicode.replacement_bytes
     ∙ ap (λ t. replacement_bytes ++ t) (lossy_chars-utf8_lossy (drop size bs))
 
@@ -38,7 +42,8 @@ decoded-ill_formed bs more size none fault =
     let n = length bs in
     let b = slice_index bs 0 in let c = slice_index bs 1 in let d = slice_index bs 2 in let e = slice_index bs 3 in
     let all = bs ++ more in
-    let b' = slice_index all 0 in let c' = slice_index all 1 in let d' = slice_index all 2 in let e' = slice_index all 3 in
+    let b' = slice_index all 0 in let c' = slice_index all 1 in let d' = slice_index all 2 in let e' = slice_index all
+    3 in
     let longer : n ≤ length all = omega (arith, length-append bs more) in
     let size_is : (decoded bs).size ≡ size = sym (utf8_invalid_len-decoded bs none) ∙ ap (λ o. unwrap_or o n) fault in
     let at = λ (i : ℕ) (within : i < n). get_or_append_left bs more 0 i within in
@@ -52,24 +57,34 @@ decoded-ill_formed bs more size none fault =
     (λ h. let ends : utf8_error_len bs ≡ None = grind (arith, nat_tests) in cc)
     (λ h.
     let p = at 0 (omega arith) in let q = at 1 (omega arith) in
-    value-5 (length all) b' c' d' e' (omega arith, omega arith, omega arith, (λ i. second (p i) (q i)) ∙ h.3) ∙ same 1 h.4)
+    value-5 (length all) b' c' d' e' (omega arith, omega arith, omega arith, (λ i. second (p i) (q i)) ∙ h.3)
+    ∙ same 1 h.4)
     (λ h. let k = char _ h.4 in cc)
     (λ h. let ends : utf8_error_len bs ≡ None = grind (arith, nat_tests) in cc)
     (λ h.
     let p = at 0 (omega arith) in let q = at 1 (omega arith) in let r = at 2 (omega arith) in
-    value-8 (length all) b' c' d' e' (omega arith, omega arith, omega arith, (λ i. second (p i) (q i)) ∙ h.3, ap continues r ∙ h.4)
+    value-8 (length all) b' c' d' e' (
+      omega arith,
+      omega arith,
+      omega arith,
+      (λ i. second (p i) (q i))
+          ∙ h.3,
+      ap continues r ∙ h.4,
+    )
     ∙ same 2 h.5)
     (λ h. let k = char _ h.5 in cc)
     (λ h. let ends : utf8_error_len bs ≡ None = grind (arith, nat_tests) in cc)
     (λ h.
-    let p = at 0 (omega arith) in let q = at 1 (omega arith) in let r = at 2 (omega arith) in let s = at 3 (omega arith) in
+    let p = at 0 (omega arith) in let q = at 1 (omega arith) in let r = at 2 (omega arith) in let s = at 3
+    (omega arith) in
     value-11 (length all) b' c' d' e'
     (omega arith, omega arith, omega arith, (λ i. second (p i) (q i)) ∙ h.3, ap continues r ∙ h.4, ap continues s ∙ h.5)
     ∙ same 3 h.6)
     (λ h. let k = char _ h.6 in cc)
 
 -- after the longest front that is UTF-8, an ill-formed part that ends before the bytes do becomes one U+FFFD
-pub utf8_lossy-ill_formed : (bs more : List ℕ) (valid size : ℕ) → IsValidUpTo bs valid → utf8_error_len (drop valid bs) ≡ Some size
+pub utf8_lossy-ill_formed : (bs more : List ℕ) (valid size : ℕ) → IsValidUpTo bs valid → utf8_error_len (drop valid bs)
+    ≡ Some size
     → valid + size ≤ length bs
     → utf8_lossy (drop valid bs ++ more) ≡ replacement_bytes ++ utf8_lossy (drop (valid + size) bs ++ more)
 utf8_lossy-ill_formed bs more valid size front fault within =
@@ -77,12 +92,14 @@ utf8_lossy-ill_formed bs more valid size front fault within =
     let short = front.short in
     let len = length-drop valid bs in
     let some : 0 < length (rest ++ more) = omega (arith, length-append rest more) in
-    utf8_lossy-bad (rest ++ more) size some (decoded-ill_formed rest more size (unicode.none_after_valid bs valid front) fault)
+    utf8_lossy-bad (rest ++ more) size some (decoded-ill_formed rest more size (unicode.none_after_valid bs valid front)
+    fault)
     ∙ ap (λ t. replacement_bytes ++ utf8_lossy t)
     (drop-append-le size rest more (omega arith) ∙ ap (λ t. t ++ more) (drop-drop size valid bs))
 
 -- and so do the bytes after it if they end within a character, and no more follow
-pub utf8_lossy-incomplete : (bs more : List ℕ) (valid size : ℕ) → IsValidUpTo bs valid → utf8_error_len (drop valid bs) ≡ None → more ≡ []
+pub utf8_lossy-incomplete : (bs more : List ℕ) (valid size : ℕ) → IsValidUpTo bs valid → utf8_error_len (drop valid bs)
+    ≡ None → more ≡ []
     → valid + size ≡ length bs
     → utf8_lossy (drop valid bs ++ more) ≡ replacement_bytes ++ utf8_lossy (drop (valid + size) bs ++ more)
 utf8_lossy-incomplete bs more valid size front fault no_more whole =
@@ -124,7 +141,8 @@ pub unfinished-taken : (bs : List ℕ) → IsUnfinishedUtf8 (drop (length bs) bs
 unfinished-taken bs = unfinished-none (drop (length bs) bs) (omega (arith, length-drop (length bs) bs))
 
 -- bytes that are cut at `room`
-cut : (bs more : List ℕ) (room k : ℕ) → k ≤ room → room ≤ length bs → drop k bs ++ more ≡ drop k (take room bs) ++ (drop room bs ++ more)
+cut : (bs more : List ℕ) (room k : ℕ) → k ≤ room → room ≤ length bs → drop k bs ++ more ≡ drop k (take room bs)
+    ++ (drop room bs ++ more)
 cut bs more room k before within =
     let front = take room bs in
     ap (λ t. drop k t ++ more) (sym (take-append-drop room bs))
@@ -141,7 +159,8 @@ utf8_lossy-cut bs more room valid end order before within replaced =
     ∙ ap (λ t. replacement_bytes ++ utf8_lossy t) (sym (cut bs more room end before within))
 
 -- a part of what is left that was written after what was
-text-written : (whole out next new left rest : List ℕ) → whole ≡ out ++ left → left ≡ next ++ rest → new ≡ out ++ next → whole ≡ new ++ rest
+text-written : (whole out next new left rest : List ℕ) → whole ≡ out ++ left → left ≡ next ++ rest → new ≡ out ++ next
+    → whole ≡ new ++ rest
 text-written whole out next new left rest before split put =
     before ∙ ap (λ t. out ++ t) split ∙ sym (append_assoc out next rest) ∙ ap (λ t. t ++ rest) (sym put)
 
@@ -149,16 +168,19 @@ text-written whole out next new left rest before split put =
 pub text-copied : (whole input more out new : List ℕ) (taken written n : ℕ) → taken + n ≤ length input
     → IsUtf8 (take n (take (length input - taken) (drop taken input)))
     → whole ≡ out ++ utf8_lossy (drop taken input ++ more)
-    → take (written + length (take (taken + n - taken) (drop taken input))) new ≡ out ++ take (taken + n - taken) (drop taken input)
+    → take (written + length (take (taken + n - taken) (drop taken input))) new ≡ out
+    ++ take (taken + n - taken) (drop taken input)
     → whole ≡ take (written + n) new ++ utf8_lossy (drop (taken + n) input ++ more)
 text-copied whole input more out new taken written n within text before put =
     let rest = drop taken input in
     let left : n ≤ length rest = omega (arith, length-drop taken input) in
     let count : taken + n - taken ≡ n = omega arith in
-    let size : length (take (taken + n - taken) rest) ≡ n = ap (λ k. length (take k rest)) count ∙ length-take-le n rest left in
+    let size : length (take (taken + n - taken) rest) ≡ n = ap (λ k. length (take k rest)) count
+    ∙ length-take-le n rest left in
     let is : IsUtf8 (take n rest) = subst (λ t. IsUtf8 (take n t)) (take_rest input taken) text in
     let split : utf8_lossy (rest ++ more) ≡ take n rest ++ utf8_lossy (drop (taken + n) input ++ more) =
-    ap (λ t. utf8_lossy (t ++ more)) (sym (take-append-drop n rest)) ∙ ap utf8_lossy (append_assoc (take n rest) (drop n rest) more)
+    ap (λ t. utf8_lossy (t ++ more)) (sym (take-append-drop n rest))
+    ∙ ap utf8_lossy (append_assoc (take n rest) (drop n rest) more)
     ∙ utf8_lossy-front (take n rest) (drop n rest ++ more) is
     ∙ ap (λ t. take n rest ++ utf8_lossy (t ++ more)) (drop-drop n taken input) in
     let copied : take (written + n) new ≡ out ++ take n rest =
@@ -175,7 +197,8 @@ pub text-replaced : (whole input more out new : List ℕ) (taken n size : ℕ)
 text-replaced whole input more out new taken n size replaced before put =
     let all = take_rest input taken in
     let end : taken + (n + size) ≡ taken + n + size = omega arith in
-    let split : utf8_lossy (drop (taken + n) input ++ more) ≡ replacement_bytes ++ utf8_lossy (drop (taken + n + size) input ++ more) =
+    let split : utf8_lossy (drop (taken + n) input ++ more) ≡ replacement_bytes
+    ++ utf8_lossy (drop (taken + n + size) input ++ more) =
     ap (λ t. utf8_lossy (t ++ more)) (sym (ap (drop n) all ∙ drop-drop n taken input)) ∙ replaced
     ∙ ap (λ t. replacement_bytes ++ utf8_lossy (t ++ more))
     (ap (drop (n + size)) all ∙ drop-drop (n + size) taken input ∙ ap (λ k. drop k input) end) in
@@ -191,6 +214,7 @@ text-front input more new room n fits within text put =
     let first : take n (take room input) ≡ take n input =
     sym (take-append-le n (take room input) (drop room input) within) ∙ ap (take n) (take-append-drop room input) in
     let size : 0 + length (take n input) ≡ n = omega (arith, length-take-le n input (omega arith)) in
-    ap (λ t. utf8_lossy (t ++ more)) (sym (take-append-drop n input)) ∙ ap utf8_lossy (append_assoc (take n input) (drop n input) more)
+    ap (λ t. utf8_lossy (t ++ more)) (sym (take-append-drop n input))
+    ∙ ap utf8_lossy (append_assoc (take n input) (drop n input) more)
     ∙ utf8_lossy-front (take n input) (drop n input ++ more) (subst IsUtf8 first text)
     ∙ ap (λ t. t ++ utf8_lossy (drop n input ++ more)) (sym put ∙ ap (λ k. take k new) size)

@@ -1,7 +1,8 @@
 -- Lists that are read and written in pieces.
 use Rattle.std.proofs.Common.{◌≡◌, ℕ, ◌+◌, ◌-◌, ◌≤◌, List, ◌++◌, length, take, drop, sym, ap, ◌∙◌, append_assoc, arith}
 use Rattle.std.proofs.Math.Seq.{take-append-add, take-add}
-use Rattle.std.proofs.lemmas.List.{take-append-drop, take-append-le, length-take-le, length-drop, take_at, drop-drop, drop-take}
+use Rattle.std.proofs.lemmas.List.{take-append-drop, take-append-le, length-take-le, length-drop, take_at, drop-drop}
+use Rattle.std.proofs.lemmas.List.{drop-take}
 use Rattle.std.proofs.lemmas.List.Edits.{take-paste, length-paste}
 use Rattle.std.specs.List.{copy_within}
 use borrow.Rule.Slice.PartMut.{put_mid}
@@ -16,9 +17,11 @@ take-put_mid_into from size more xs ys within part =
     ∙ ap (λ l. take from xs ++ l) (take-append-le more ys _ part)
 
 -- the first elements of a window, copied out, and the rest of the window
-pub window-given : {X : Type 0} (start end count size : ℕ) (xs front zs : List X) → count ≤ end - start → end ≤ length xs → size ≡ count
+pub window-given : {X : Type 0} (start end count size : ℕ) (xs front zs : List X) → count ≤ end - start
+    → end ≤ length xs → size ≡ count
     → front ≡ take size (drop start xs)
-    → take (end - start) (drop start xs) ≡ take count (front ++ zs) ++ take (end - (start + count)) (drop (start + count) xs)
+    → take (end - start) (drop start xs) ≡ take count (front ++ zs)
+    ++ take (end - (start + count)) (drop (start + count) xs)
 window-given start end count size xs front zs fits within same copied =
     let window = drop start xs in
     let is : front ≡ take count window = copied ∙ ap (λ k. take k window) same in
@@ -41,29 +44,35 @@ zero-add : (n : ℕ) → n ≡ 0 + n
 zero-add n = omega arith
 
 -- a window that was moved to the front, and then elements that were written after it
-pub window-appended : {X : Type 0} (start end size count : ℕ) (xs moved values ys : List X) → start ≤ end → end ≤ length xs
+pub window-appended : {X : Type 0} (start end size count : ℕ) (xs moved values ys : List X) → start ≤ end
+    → end ≤ length xs
     → moved ≡ copy_within xs start end 0 → values ≡ moved → count ≤ length ys
     → take (((end - start) + count) - 0) (drop 0 (put_mid (end - start) size values ys))
     ≡ take (end - start) (drop start xs) ++ take count ys
 window-appended start end size count xs moved values ys ordered within is same part =
     let held = end - start in
     let rest : held ≤ length (drop start xs) = rw length-drop (omega arith) in
-    let long : length values ≡ length xs = ap length (same ∙ is) ∙ length-paste xs 0 (drop start xs) held (omega arith) rest in
+    let long : length values ≡ length xs = ap length (same ∙ is)
+    ∙ length-paste xs 0 (drop start xs) held (omega arith) rest in
     let front : take held values ≡ take held (drop start xs) =
     ap (take held) (same ∙ is) ∙ (ap (λ k. take k (copy_within xs start end 0)) (zero-add held)
     ∙ take-paste xs 0 (drop start xs) held (omega arith) rest) in
     let all : (held + count) - 0 ≡ held + count = omega arith in
-    ap (λ k. take k (put_mid held size values ys)) all ∙ take-put_mid_into held size count values ys (omega (arith, long)) part
+    ap (λ k. take k (put_mid held size values ys)) all
+    ∙ take-put_mid_into held size count values ys (omega (arith, long)) part
     ∙ ap (λ l. l ++ take count ys) front
 
 -- a text whose first part was written, and then the next part
-pub text-more : (text : List ℕ → List ℕ) (input output buffer more : List ℕ) (taken written next count size : ℕ) → written ≤ length output
+pub text-more : (text : List ℕ → List ℕ) (input output buffer more : List ℕ) (taken written next count size : ℕ)
+    → written ≤ length output
     → count ≤ length buffer → text (input ++ more) ≡ take written output ++ text (drop taken input ++ more)
     → text (drop taken input ++ more) ≡ take count buffer ++ text (drop next (drop taken input) ++ more)
-    → text (input ++ more) ≡ take (written + count) (put_mid written size output buffer) ++ text (drop (taken + next) input ++ more)
+    → text (input ++ more) ≡ take (written + count) (put_mid written size output buffer)
+    ++ text (drop (taken + next) input ++ more)
 text-more text input output buffer more taken written next count size within part before now =
     let rest = text (drop (taken + next) input ++ more) in
-    before ∙ (ap (λ l. take written output ++ l) (now ∙ ap (λ l. take count buffer ++ text (l ++ more)) (drop-drop next taken input))
+    before ∙ (ap (λ l. take written output ++ l) (now
+    ∙ ap (λ l. take count buffer ++ text (l ++ more)) (drop-drop next taken input))
     ∙ (sym (append_assoc (take written output) (take count buffer) rest)
     ∙ ap (λ l. l ++ rest) (sym (take-put_mid_into written size count output buffer within part))))
 

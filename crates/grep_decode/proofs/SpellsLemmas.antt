@@ -1,5 +1,6 @@
 -- The scalar values of UTF-16 are those that the relation allows, and no others.
-use Rattle.std.proofs.Common.{◌≡◌, ℕ, Bool, true, false, cond, ◌||◌, List, [], ◌∷◌, refl, sym, ap, subst, ◌∙◌, inl, inr, arith}
+use Rattle.std.proofs.Common.{◌≡◌, ℕ, Bool, true, false, cond, ◌||◌, List, [], ◌∷◌, refl, sym, ap, subst, ◌∙◌, inl, inr}
+use Rattle.std.proofs.Common.{arith}
 use Rattle.std.proofs.lemmas.Bool.Decides.{nat_tests}
 use Rattle.std.proofs.lemmas.Bool.{cases_Bool, false≢true}
 use Rattle.std.specs.Char.Utf16.{is_low_surrogate, is_high_surrogate, surrogate_pair_char}
@@ -19,23 +20,27 @@ surrogate-high u lead = ap (λ v. v || is_low_surrogate u) lead
 
 spells-end : (odd : Bool) → Spells odd [] (scalars_of odd [])
 unfolding scalars_of
-spells-end odd = elim odd as (λ b. Spells b [] (cond b (replacement ∷ []) [])) [ true ↦ at_odd refl | false ↦ at_end refl ]
+spells-end odd = elim odd as (λ b. Spells b [] (cond b (replacement ∷ []) []))
+    [ true ↦ at_odd refl | false ↦ at_end refl ]
 
 spells-waiting : (odd : Bool) (u : ℕ) → is_high_surrogate u ≡ true → Spells odd (u ∷ []) (scalars_of odd (u ∷ []))
 unfolding scalars_of
 spells-waiting odd u lead = rw lead (waiting u lead)
 
-spells-alone : (odd : Bool) (u : ℕ) (units : List ℕ) → is_high_surrogate u ≡ false → Spells odd units (scalars_of odd units)
+spells-alone : (odd : Bool) (u : ℕ) (units : List ℕ) → is_high_surrogate u ≡ false
+    → Spells odd units (scalars_of odd units)
     → Spells odd (u ∷ units) (scalars_of odd (u ∷ units))
 spells-alone odd u units not rest =
     let P : List ℕ → Type 0 = Spells odd (u ∷ units) in
     let Q : ℕ → Type 0 = λ c. Spells odd (u ∷ units) (c ∷ scalars_of odd units) in
     subst P (sym (scalars_of-alone odd u units not)) (elim (cases_Bool (is_low_surrogate u)) [
       | inl is ↦ subst Q (sym (alone-is u true (surrogate-low u true not is))) (low u units _ is rest)
-      | inr is ↦ subst Q (sym (alone-is u false (surrogate-low u false not is))) (plain u units _ (surrogate-low u false not is) rest)
+      | inr is ↦ subst Q (sym (alone-is u false (surrogate-low u false not is)))
+          (plain u units _ (surrogate-low u false not is) rest)
     ])
 
-spells-lead : (odd : Bool) (u v : ℕ) (units : List ℕ) → is_high_surrogate u ≡ true → Spells odd units (scalars_of odd units)
+spells-lead : (odd : Bool) (u v : ℕ) (units : List ℕ) → is_high_surrogate u ≡ true
+    → Spells odd units (scalars_of odd units)
     → Spells odd (v ∷ units) (scalars_of odd (v ∷ units)) → Spells odd (u ∷ v ∷ units) (scalars_of odd (u ∷ v ∷ units))
 spells-lead odd u v units lead rest next =
     let P : List ℕ → Type 0 = Spells odd (u ∷ v ∷ units) in
@@ -74,10 +79,12 @@ unfolding scalars_of
 scalars_of-Spells odd _ _ (at_end none) = rw none refl
 scalars_of-Spells odd _ _ (at_odd is) = rw is refl
 scalars_of-Spells odd _ _ (plain u units chars none rest) =
-    ap (λ l. u ∷ l) (scalars_of-Spells odd units chars rest) ∙ ap (λ k. k ∷ scalars_of odd units) (sym (alone-is u false none))
+    ap (λ l. u ∷ l) (scalars_of-Spells odd units chars rest)
+    ∙ ap (λ k. k ∷ scalars_of odd units) (sym (alone-is u false none))
     ∙ sym (scalars_of-alone odd u units (plain-not_high u none))
 scalars_of-Spells odd _ _ (pair u v units chars lead also rest) =
-    ap (λ l. surrogate_pair_char u v ∷ l) (scalars_of-Spells odd units chars rest) ∙ sym (scalars_of-pair odd u v units lead also)
+    ap (λ l. surrogate_pair_char u v ∷ l) (scalars_of-Spells odd units chars rest)
+    ∙ sym (scalars_of-pair odd u v units lead also)
 scalars_of-Spells odd _ _ (low u units chars is rest) =
     let not = low-not_high u is in
     ap (λ l. replacement ∷ l) (scalars_of-Spells odd units chars rest)

@@ -1,10 +1,12 @@
 -- What bytes of UTF-16 spell, one scalar value at a time.
-use Rattle.std.proofs.Common.{◌≡◌, ◌⊎◌, ℕ, ◌<◌, ◌≤◌, Bool, true, false, cond, ◌&&◌, List, [], ◌∷◌, ◌++◌, length, drop, slice_index}
+use Rattle.std.proofs.Common.{◌≡◌, ◌⊎◌, ℕ, ◌<◌, ◌≤◌, Bool, true, false, cond, ◌&&◌, List, [], ◌∷◌, ◌++◌, length, drop}
+use Rattle.std.proofs.Common.{slice_index}
 use Rattle.std.proofs.Common.{encode_utf8, encode_utf8_all, refl, sym, ap, inl, inr, ◌∙◌, arith}
 use Rattle.std.proofs.lemmas.Bool.Decides.{nat_tests}
 use Rattle.std.specs.Char.Utf16.{is_low_surrogate, is_high_surrogate, surrogate_pair_char}
 use Rattle.grep_decode.specs.declared.byte_order.ByteOrder.{ByteOrder}
-use Rattle.grep_decode.specs.Decoded.{IsUnfinishedUtf16, odd_scalars, replacement, unit_of, units_of, has_odd_byte, alone, scalars_of, utf16_text}
+use Rattle.grep_decode.specs.Decoded.{IsUnfinishedUtf16, odd_scalars, replacement, unit_of, units_of, has_odd_byte}
+use Rattle.grep_decode.specs.Decoded.{alone, scalars_of, utf16_text}
 
 -- a unit that begins no pair
 pub scalars_of-alone : (odd : Bool) (unit : ℕ) (units : List ℕ) → is_high_surrogate unit ≡ false
@@ -16,21 +18,25 @@ scalars_of-alone odd unit (next ∷ units) not =
     (alone unit ∷ scalars_of odd (next ∷ units))) not
 
 -- a leading surrogate with no trailing one after it
-pub scalars_of-high : (odd : Bool) (unit next : ℕ) (units : List ℕ) → is_high_surrogate unit ≡ true → is_low_surrogate next ≡ false
+pub scalars_of-high : (odd : Bool) (unit next : ℕ) (units : List ℕ) → is_high_surrogate unit ≡ true
+    → is_low_surrogate next ≡ false
     → scalars_of odd (unit ∷ next ∷ units) ≡ alone unit ∷ scalars_of odd (next ∷ units)
 unfolding scalars_of
 scalars_of-high odd unit next units lead not =
     ap (λ b. cond (b && is_low_surrogate next) (surrogate_pair_char unit next ∷ scalars_of odd units)
     (alone unit ∷ scalars_of odd (next ∷ units))) lead
-    ∙ ap (λ b. cond b (surrogate_pair_char unit next ∷ scalars_of odd units) (alone unit ∷ scalars_of odd (next ∷ units))) not
+    ∙ ap (λ b. cond b (surrogate_pair_char unit next ∷ scalars_of odd units)
+    (alone unit ∷ scalars_of odd (next ∷ units))) not
 
-pub scalars_of-pair : (odd : Bool) (unit next : ℕ) (units : List ℕ) → is_high_surrogate unit ≡ true → is_low_surrogate next ≡ true
+pub scalars_of-pair : (odd : Bool) (unit next : ℕ) (units : List ℕ) → is_high_surrogate unit ≡ true
+    → is_low_surrogate next ≡ true
     → scalars_of odd (unit ∷ next ∷ units) ≡ surrogate_pair_char unit next ∷ scalars_of odd units
 unfolding scalars_of
 scalars_of-pair odd unit next units lead also =
     ap (λ b. cond (b && is_low_surrogate next) (surrogate_pair_char unit next ∷ scalars_of odd units)
     (alone unit ∷ scalars_of odd (next ∷ units))) lead
-    ∙ ap (λ b. cond b (surrogate_pair_char unit next ∷ scalars_of odd units) (alone unit ∷ scalars_of odd (next ∷ units))) also
+    ∙ ap (λ b. cond b (surrogate_pair_char unit next ∷ scalars_of odd units)
+    (alone unit ∷ scalars_of odd (next ∷ units))) also
 
 -- what a unit is
 pub high_is : (u : ℕ) → 0xD800 ≤ u → u < 0xDC00 → is_high_surrogate u ≡ true
@@ -52,7 +58,8 @@ pub alone-surrogate : (u : ℕ) → 0xD800 ≤ u → u < 0xE000 → alone u ≡ 
 alone-surrogate u low high = grind (arith, nat_tests)
 
 -- a unit at the front that begins no pair
-pub text-alone : (order : ByteOrder) (xs more : List ℕ) (u : ℕ) → 2 ≤ length xs → u ≡ unit_of order (slice_index xs 0) (slice_index xs 1)
+pub text-alone : (order : ByteOrder) (xs more : List ℕ) (u : ℕ) → 2 ≤ length xs → u
+    ≡ unit_of order (slice_index xs 0) (slice_index xs 1)
     → is_high_surrogate u ≡ false
     → utf16_text order (xs ++ more) ≡ encode_utf8 (alone u) ++ utf16_text order (drop 2 xs ++ more)
 unfolding utf16_text units_of has_odd_byte
@@ -61,10 +68,12 @@ text-alone order (a ∷ []) more u long is not = absurd (omega arith)
 text-alone order (a ∷ b ∷ xs) more u long is not =
     let odd = has_odd_byte (xs ++ more) in
     let units = units_of order (xs ++ more) in
-    ap (λ v. encode_utf8_all (scalars_of odd (v ∷ units))) (sym is) ∙ ap encode_utf8_all (scalars_of-alone odd u units not)
+    ap (λ v. encode_utf8_all (scalars_of odd (v ∷ units))) (sym is)
+    ∙ ap encode_utf8_all (scalars_of-alone odd u units not)
 
 -- a leading surrogate, and then a unit that is no trailing one
-pub text-high : (order : ByteOrder) (xs more : List ℕ) (u v : ℕ) → 4 ≤ length xs → u ≡ unit_of order (slice_index xs 0) (slice_index xs 1)
+pub text-high : (order : ByteOrder) (xs more : List ℕ) (u v : ℕ) → 4 ≤ length xs → u
+    ≡ unit_of order (slice_index xs 0) (slice_index xs 1)
     → v ≡ unit_of order (slice_index xs 2) (slice_index xs 3) → is_high_surrogate u ≡ true → is_low_surrogate v ≡ false
     → utf16_text order (xs ++ more) ≡ encode_utf8 (alone u) ++ utf16_text order (drop 2 xs ++ more)
 unfolding utf16_text units_of has_odd_byte
@@ -79,7 +88,8 @@ text-high order (a ∷ b ∷ c ∷ d ∷ xs) more u v long is then lead not =
     ∙ ap encode_utf8_all (scalars_of-high odd u (unit_of order c d) units lead (ap is_low_surrogate (sym then) ∙ not))
 
 -- a pair
-pub text-pair : (order : ByteOrder) (xs more : List ℕ) (u v : ℕ) → 4 ≤ length xs → u ≡ unit_of order (slice_index xs 0) (slice_index xs 1)
+pub text-pair : (order : ByteOrder) (xs more : List ℕ) (u v : ℕ) → 4 ≤ length xs → u
+    ≡ unit_of order (slice_index xs 0) (slice_index xs 1)
     → v ≡ unit_of order (slice_index xs 2) (slice_index xs 3) → is_high_surrogate u ≡ true → is_low_surrogate v ≡ true
     → utf16_text order (xs ++ more) ≡ encode_utf8 (surrogate_pair_char u v) ++ utf16_text order (drop 4 xs ++ more)
 unfolding utf16_text units_of has_odd_byte

@@ -1,5 +1,6 @@
 -- The decoded bytes of an input.
-use Rattle.std.specs.Prelude.{◌≡◌, ◌⊎◌, ℕ, ◌+◌, ◌*◌, Bool, true, false, ◌&&◌, ◌||◌, not, List, [], ◌∷◌}
+use Rattle.std.specs.Prelude.{◌≡◌, ◌⊎◌, ℕ, ◌+◌, ◌*◌, Bool, true, false, ◌&&◌, ◌||◌, not, List, []}
+use Rattle.std.specs.Prelude.{◌∷◌}
 use Rattle.std.specs.Prelude.{drop, length, Option, None, Some, is_some, encode_utf8_all}
 use Rattle.std.specs.Prelude.{if◌then◌else◌}
 use Rattle.std.specs.Str.Lossy.{utf8_error_len, utf8_lossy, utf8_valid_len}
@@ -97,7 +98,8 @@ is_unchanged label sniff input = not (is_some label) && not (is_some (found_mark
 
 -- ---- bytes that wait for more
 
--- No character begins these bytes, and what is wrong there is that they end: more bytes could complete one.
+-- No character begins these bytes, and what is wrong there is that they end: more bytes could
+-- complete one.
 abbrev pub IsUnfinishedUtf8 : List ℕ → Type 0
 IsUnfinishedUtf8 bytes = (utf8_valid_len bytes ≡ 0) × (utf8_error_len bytes ≡ None)
 
@@ -106,7 +108,8 @@ abbrev pub IsUnfinishedUtf16 : ByteOrder → List ℕ → Type 0
 IsUnfinishedUtf16 order bytes = (units_of order bytes ≡ [])
     ⊎ ((unit : ℕ) × (units_of order bytes ≡ unit ∷ []) × (is_high_surrogate unit ≡ true))
 
--- There are no bytes, or they are the beginning of a character in this encoding that more bytes could complete.
+-- There are no bytes, or they are the beginning of a character in this encoding that more bytes
+-- could complete.
 abbrev pub IsUnfinished : Label → List ℕ → Type 0
 IsUnfinished Utf8 bytes = IsUnfinishedUtf8 bytes
 IsUnfinished Utf16Le bytes = IsUnfinishedUtf16 Little bytes

@@ -1,5 +1,6 @@
 -- What a decoder holds, what it has still to give, and what its reads do.
-use Rattle.std.specs.Prelude.{◌≡◌, ◌⊎◌, ℕ, ◌+◌, ◌<◌, ◌≤◌, Bool, true, false, ◌||◌, List, [], ◌++◌, length, Option}
+use Rattle.std.specs.Prelude.{◌≡◌, ◌⊎◌, ℕ, ◌+◌, ◌<◌, ◌≤◌, Bool, true, false, ◌||◌, List, [], ◌++◌}
+use Rattle.std.specs.Prelude.{length, Option}
 use Rattle.std.specs.Prelude.{None, Some, is_some, Ok, Err, IfSome, if◌then◌else◌}
 use Rattle.std.specs.List.{concat}
 use Rattle.std.specs.Option.{option_map}
@@ -83,8 +84,8 @@ LooksForMark (Fresh label sniff) = (sniff || is_some label) ≡ true
 LooksForMark Passing = ⊥
 LooksForMark (Decoding label) = ⊥
 
--- bytes that wait for more after an error: fewer than three while a mark is looked for, none if they
--- pass unchanged, and else the beginning of a character or none
+-- bytes that wait for more after an error: fewer than three while a mark is looked for, none if
+-- they pass unchanged, and else the beginning of a character or none
 abbrev pub IsWaiting : Mode → List ℕ → Type 0
 IsWaiting (Fresh label sniff) held = ((sniff || is_some label) ≡ true) × (length held < 3)
 IsWaiting Passing held = held ≡ []

@@ -1,5 +1,6 @@
 -- The defined calls across lines at some inputs, as the checker computes them.
-use Rattle.std.proofs.Common.{◌≡◌, ℕ, ◌+◌, ◌<◌, ◌≤◌, ◌&&◌, true, false, List, [], ◌∷◌, length, Option, Some, None, codes}
+use Rattle.std.proofs.Common.{◌≡◌, ℕ, ◌+◌, ◌<◌, ◌≤◌, ◌&&◌, true, false, List, [], ◌∷◌, length, Option, Some, None}
+use Rattle.std.proofs.Common.{codes}
 use Rattle.std.proofs.Common.{refl, sym, ap, subst, ◌∙◌, arith, ⊎_elim, if◌then◌else◌}
 use Rattle.std.proofs.Math.Bool.{and-false}
 use Rattle.std.proofs.lemmas.Bool.{cases_lt, le-ltb}
@@ -26,7 +27,8 @@ wide = record default_settings { multi_line = true }
 abbrev occurrence_from : List ℕ → ℕ → List ℕ → Option (ℕ × ℕ)
 occurrence_from bytes position [] = if length bytes == 0 then Some (position, position) else None
 occurrence_from bytes position (b ∷ hay) =
-    if starts_with nat_eq (b ∷ hay) bytes then Some (position, position + length bytes) else occurrence_from bytes (position + 1) hay
+    if starts_with nat_eq (b ∷ hay) bytes then Some (position, position + length bytes) else occurrence_from bytes
+    (position + 1) hay
 
 -- a matcher of a literal, which doesn't say which bytes no match contains
 abbrev literal : List ℕ → Meaning
@@ -66,7 +68,8 @@ inverted_to_limit : search_turns (record wide { invert_match = true; max_matches
 inverted_to_limit = refl
 
 -- and each byte counts also past it
-inverted_to_limit_count : search_byte_count (record wide { invert_match = true; max_matches = Some 1 }) two_lines input ≡ 28
+inverted_to_limit_count : search_byte_count (record wide { invert_match = true; max_matches = Some 1 }) two_lines input
+    ≡ 28
 inverted_to_limit_count = refl
 
 -- the turn of a line before a report of many lines ends with the report
@@ -79,12 +82,14 @@ around_report_count : search_byte_count (record wide { before_context = 1; after
 around_report_count = refl
 
 -- the limit is one of matches: the second touches a line that the first touches too, and its own line is a line after
-limit_of_matches : search_turns (record wide { max_matches = Some 1; after_context = 1; stop_on_nonmatch = true }) two_lines input
+limit_of_matches : search_turns (record wide { max_matches = Some 1; after_context = 1; stop_on_nonmatch = true })
+    two_lines input
     ≡ begun ∷ match_turn 2 4 (codes "abc\ndefxxxabc\n") 18 ∷ context_turn After 4 18 (codes "defxxx\n") 25 ∷ []
 limit_of_matches = refl
 
 -- neither it nor a line that doesn't match ends the search
-limit_of_matches_count : search_byte_count (record wide { max_matches = Some 1; after_context = 1; stop_on_nonmatch = true }) two_lines
+limit_of_matches_count : search_byte_count (record wide
+    { max_matches = Some 1; after_context = 1; stop_on_nonmatch = true }) two_lines
     input ≡ 28
 limit_of_matches_count = refl
 
@@ -111,7 +116,8 @@ empty_literal_to_limit : search_turns (record wide { max_matches = Some 2 }) (li
     ≡ begun ∷ match_turn 1 0 (codes "a\n") 2 ∷ []
 empty_literal_to_limit = refl
 
-empty_literal_to_limit_count : search_byte_count (record wide { max_matches = Some 2 }) (literal []) (codes "a\nb\n") ≡ 4
+empty_literal_to_limit_count : search_byte_count (record wide { max_matches = Some 2 }) (literal []) (codes "a\nb\n")
+    ≡ 4
 empty_literal_to_limit_count = refl
 
 -- an empty match after the last terminator touches no line
@@ -143,27 +149,33 @@ matched_terminators : search_turns wide (literal (codes "a\n")) (codes "a\na\nb\
 matched_terminators = refl
 
 -- a line between two reports is reported once, as the line after the first, and makes no break
-apart_by_a_line : search_turns (record wide { before_context = 1; after_context = 1 }) (literal (codes "a\na")) (codes "a\na\nx\na\na\n")
-    ≡ begun ∷ match_turn 1 0 (codes "a\na\n") 4 ∷ context_turn After 3 4 (codes "x\n") 6 ∷ match_turn 4 6 (codes "a\na\n") 10 ∷ []
+apart_by_a_line : search_turns (record wide { before_context = 1; after_context = 1 }) (literal (codes "a\na"))
+    (codes "a\na\nx\na\na\n")
+    ≡ begun ∷ match_turn 1 0 (codes "a\na\n") 4 ∷ context_turn After 3 4 (codes "x\n") 6
+    ∷ match_turn 4 6 (codes "a\na\n") 10 ∷ []
 apart_by_a_line = refl
 
 -- lines left out before a line before a report make a break, and its turn ends with the report
-break_before_report : search_turns (record wide { before_context = 1 }) (literal (codes "a\na")) (codes "a\na\nx\nx\na\na\n")
+break_before_report : search_turns (record wide { before_context = 1 }) (literal (codes "a\na"))
+    (codes "a\na\nx\nx\na\na\n")
     ≡ begun ∷ match_turn 1 0 (codes "a\na\n") 4 ∷ break_turn 12 ∷ context_turn Before 4 6 (codes "x\n") 12
     ∷ match_turn 5 8 (codes "a\na\n") 12 ∷ []
 break_before_report = refl
 
 -- under passthru the other lines are reported, and at limit 0 all are such lines
-passthru_at_limit_zero : search_turns (record wide { passthru = true; max_matches = Some 0 }) (literal (codes "a\nb")) (codes "a\nb\n")
+passthru_at_limit_zero : search_turns (record wide { passthru = true; max_matches = Some 0 }) (literal (codes "a\nb"))
+    (codes "a\nb\n")
     ≡ begun ∷ context_turn Other 1 0 (codes "a\n") 2 ∷ context_turn Other 2 2 (codes "b\n") 4 ∷ []
 passthru_at_limit_zero = refl
 
 -- at limit 0 each byte counts
-limit_zero_count : search_byte_count (record wide { max_matches = Some 0 }) (literal (codes "a\nb")) (codes "a\nb\n") ≡ 4
+limit_zero_count : search_byte_count (record wide { max_matches = Some 0 }) (literal (codes "a\nb")) (codes "a\nb\n")
+    ≡ 4
 limit_zero_count = refl
 
 -- under CRLF a match may end between the carriage return and the line feed, or with both
-crlf_terminator : search_turns (record wide { line_terminator = Crlf }) (literal (codes "a\r\nb\r")) (codes "a\r\nb\r\nc\r\n")
+crlf_terminator : search_turns (record wide { line_terminator = Crlf }) (literal (codes "a\r\nb\r"))
+    (codes "a\r\nb\r\nc\r\n")
     ≡ begun ∷ match_turn 1 0 (codes "a\r\nb\r\n") 6 ∷ []
 crlf_terminator = refl
 
@@ -180,7 +192,8 @@ known_present : is_across wide (literal_meaning (codes "a\nb")) ≡ true
 known_present = refl
 
 -- a stop ends a search by line, and none across lines
-stop_by_line : search_byte_count (record wide { stop_on_nonmatch = true }) (record has_a { terminator = Some (Byte 10) })
+stop_by_line : search_byte_count (record wide { stop_on_nonmatch = true })
+    (record has_a { terminator = Some (Byte 10) })
     (codes "a\nb\nc\n") ≡ 4
 stop_by_line = refl
 
@@ -210,7 +223,8 @@ touched_later j low = ⊎_elim
         is_touched wide one_letter (codes "a\nx\na\n") ((0, 1) ∷ (4, 5) ∷ []) j ≡ (nat_le 2 j && nat_lt j 3)
 
 -- the matcher is asked at the line between for what comes after the second, once the first was reported
-asked_between : IsAskedAcross wide one_letter (codes "a\nx\na\n") (codes "\n") (begun ∷ match_turn 1 0 (codes "a\n") 2 ∷ [])
+asked_between : IsAskedAcross wide one_letter (codes "a\nx\na\n") (codes "\n")
+    (begun ∷ match_turn 1 0 (codes "a\n") 2 ∷ [])
 asked_between = record {
   index = 1;
   question = record {

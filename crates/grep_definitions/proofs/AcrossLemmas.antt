@@ -47,22 +47,27 @@ module _ (k : Settings) (meaning : Meaning) (bytes : List ℕ) where
   abbrev touched_by : ℕ × ℕ → ℕ → Bool
   touched_by m i = nat_lt i n && touches k meaning bytes i m
 
-  touched_by-run : (m : ℕ × ℕ) (i j : ℕ) → i < j → begins_run (touched_by m) i ≡ true → begins_run (touched_by m) j ≡ true → ⊥
+  touched_by-run : (m : ℕ × ℕ) (i j : ℕ) → i < j → begins_run (touched_by m) i ≡ true → begins_run (touched_by m) j
+      ≡ true → ⊥
   touched_by-run m =
-      is_inside-run at n (block_start (byte_of k.line_terminator) bytes m) (block_end (byte_of k.line_terminator) bytes m)
+      is_inside-run at n (block_start (byte_of k.line_terminator) bytes m)
+      (block_end (byte_of k.line_terminator) bytes m)
       (line_start-le (byte_of k.line_terminator) bytes)
 
   -- the lines that some matches touch are no more runs than matches
-  touched-runs : (found : List (ℕ × ℕ)) (m : ℕ) → count_below (begins_run (is_touched k meaning bytes found)) m ≤ length found
+  touched-runs : (found : List (ℕ × ℕ)) (m : ℕ) → count_below (begins_run (is_touched k meaning bytes found)) m ≤ length
+      found
   touched-runs [] m =
-      let none = count_below-none (begins_run (is_touched k meaning bytes [])) m (λ j. rw (and-false (nat_lt j n)) refl) in
+      let none = count_below-none (begins_run (is_touched k meaning bytes [])) m
+      (λ j. rw (and-false (nat_lt j n)) refl) in
       omega arith
   touched-runs (x ∷ found) m =
       omega (
         arith,
         count_below-either (begins_run (touched_by x)) (begins_run (is_touched k meaning bytes found))
             (begins_run (is_touched k meaning bytes (x ∷ found))) m
-            (begins_run-either (touched_by x) (is_touched k meaning bytes found) (is_touched k meaning bytes (x ∷ found))
+            (begins_run-either (touched_by x) (is_touched k meaning bytes found)
+            (is_touched k meaning bytes (x ∷ found))
             either first second),
         count_below-once (begins_run (touched_by x)) m (touched_by-run x),
         touched-runs found m,
@@ -114,11 +119,13 @@ module _ (k : Settings) (meaning : Meaning) (bytes : List ℕ) where
 
       go : (b : Bool) → count_below
           (λ i. (if b then free k.max_matches i else held k.max_matches i)
-          && not (not b && nat_lt 0 i && (if b then free k.max_matches (i - 1) else held k.max_matches (i - 1)))) m ≤ limit
+          && not (not b && nat_lt 0 i && (if b then free k.max_matches (i - 1) else held k.max_matches (i - 1)))) m ≤
+          limit
       go true =
           let few = count_below-weaker (λ i. free k.max_matches i && not false) (free k.max_matches) m
           (λ j yes. (both_true (free k.max_matches j) _ yes).0) in
-          let same : count_below (free k.max_matches) m ≡ count_below (free (Some limit)) m = ap (λ o. count_below (free o) m) is in
+          let same : count_below (free k.max_matches) m
+          ≡ count_below (free (Some limit)) m = ap (λ o. count_below (free o) m) is in
           omega (arith, few, alone)
       go false =
           let same : count_below (begins_run (held k.max_matches)) m ≡ count_below (begins_run (held (Some limit))) m =
@@ -143,7 +150,8 @@ module _ (k : Settings) (meaning : Meaning) (bytes : List ℕ) where
   -- a line has one report at most, of its bytes or of those of the unit that begins there
   reported-line : (i : ℕ) → i < n → (report_calls (T i) ≡ []) ⊎ IsReported T at i
   reported-line i inside =
-      go (AcrossLines.kind k meaning bytes i) refl (report_calls-broken (AcrossLines.breaks_before k meaning bytes i) _ _)
+      go (AcrossLines.kind k meaning bytes i) refl (report_calls-broken (AcrossLines.breaks_before k meaning bytes i) _
+      _)
     where
       above : at i < at (i + 1)
       above = line_start-ascends AreLines-lines (byte_of k.line_terminator) bytes i inside
@@ -188,14 +196,20 @@ module _ (k : Settings) (meaning : Meaning) (bytes : List ℕ) where
 
   -- the reports ascend
   pub in_order-across : AreInOrder (report_calls (AcrossLines.turns k meaning bytes))
-  in_order-across = in_order-joined T at n (line_start-ascends AreLines-lines (byte_of k.line_terminator) bytes) reported-line
+  in_order-across = in_order-joined T at n (line_start-ascends AreLines-lines (byte_of k.line_terminator) bytes)
+      reported-line
 
   -- a line after a selected one that isn't selected itself is reported as the line after it
   pub turns_at-follows : (i j : ℕ) → selected i ≡ false → selected j ≡ true → j < i → i - j ≤ k.after_context
-      → T i ≡ record { call = context After (number k meaning bytes i) (at i) (line k meaning bytes i); end = at (i + 1) } ∷ []
+      → T i ≡ record {
+        call = context After (number k meaning bytes i) (at i) (line k meaning bytes i);
+        end = at
+            (i + 1);
+      } ∷ []
   turns_at-follows i j misses hit less close =
       let near = le-leb (i - j) k.after_context close in
-      let follows : AcrossLines.follows_selected k meaning bytes i ≡ true = some_below-some _ i j less (rw (near, hit) refl) in
+      let follows : AcrossLines.follows_selected k meaning bytes i
+      ≡ true = some_below-some _ i j less (rw (near, hit) refl) in
       let kind : AcrossLines.kind k meaning bytes i ≡ Some (in_context After) = rw (misses, follows) refl in
       rw (kind, and-false (nat_lt 0 (k.after_context + k.before_context))) refl
 

@@ -1,5 +1,6 @@
 -- Where the turns of the calls across lines end, against where lines start.
-use Rattle.std.proofs.Common.{◌≡◌, ◌⊎◌, ℕ, ◌+◌, ◌-◌, ◌<◌, ◌≤◌, Bool, true, false, ◌&&◌, List, [], ◌∷◌, ◌++◌, Option, Some, None}
+use Rattle.std.proofs.Common.{◌≡◌, ◌⊎◌, ℕ, ◌+◌, ◌-◌, ◌<◌, ◌≤◌, Bool, true, false, ◌&&◌, List, [], ◌∷◌, ◌++◌, Option}
+use Rattle.std.proofs.Common.{Some, None}
 use Rattle.std.proofs.Common.{refl, sym, ◌∙◌, ap, subst, arith, ⊎_elim, inl, inr, append-nil, if◌then◌else◌}
 use Rattle.std.proofs.Math.Bool.{and-false}
 use Rattle.std.proofs.lemmas.Bool.{ltb-true, le-leb, lt-leb, cases_lt, cases_Bool}
@@ -60,12 +61,14 @@ module _ (k : Settings) (meaning : Meaning) (bytes : List ℕ) where
           let here = both.1 in
           rw (above, here) refl
 
-      go : (o : Option ℕ) → first_below later count ≡ o → i < unwrap_or (option_map (unit_end k meaning bytes) o) (j + 1)
+      go : (o : Option ℕ) → first_below later count ≡ o
+          → i < unwrap_or (option_map (unit_end k meaning bytes) o) (j + 1)
       go None is = ⊎_elim
           (λ low. omega (arith, low))
           (λ precedes.
           let found = some_below-find nearer count precedes in
-          absurd (clash (some_below-some later count found.0 found.1 (weaker found.0 found.2)) (first_below-none later count is)))
+          absurd (clash (some_below-some later count found.0 found.1 (weaker found.0 found.2))
+          (first_below-none later count is)))
           some
       go (Some q) is =
           let found = first_below-of later count q is in
@@ -78,14 +81,16 @@ module _ (k : Settings) (meaning : Meaning) (bytes : List ℕ) where
 
   -- if the turn of a line ends after some offset, each of its calls does so
   ends-turns_at : (bound j : ℕ)
-      → ((kind : Kind) → AcrossLines.kind k meaning bytes j ≡ Some kind → bound ≤ turn_end k meaning bytes j (Some kind))
+      → ((kind : Kind) → AcrossLines.kind k meaning bytes j ≡ Some kind
+      → bound ≤ turn_end k meaning bytes j (Some kind))
       → All (λ turn. bound ≤ turn.end) (turns_at k meaning bytes j)
   ends-turns_at bound j late = go (AcrossLines.kind k meaning bytes j) refl
     where
       P : Turn → Type 0
       P turn = bound ≤ turn.end
 
-      choose : (b : Bool) (turn : Turn) (rest : List Turn) → P turn → All P rest → All P (if b then turn ∷ rest else rest)
+      choose : (b : Bool) (turn : Turn) (rest : List Turn) → P turn → All P rest
+          → All P (if b then turn ∷ rest else rest)
       choose true turn rest low all = All-cons P turn rest low all
       choose false turn rest low all = all
 
@@ -131,7 +136,11 @@ module _ (k : Settings) (meaning : Meaning) (bytes : List ℕ) where
         go matched is (inr over) =
             let here = kind-selected (selected j) (AcrossLines.follows_selected k meaning bytes j)
             (AcrossLines.precedes_selected k meaning bytes j) k.passthru is in
-            higher (i + 1) (unit_end k meaning bytes j) (omega (arith, over, (unit-lines k meaning bytes j inside here).later))
+            higher (i + 1) (unit_end k meaning bytes j) (omega (
+              arith,
+              over,
+              (unit-lines k meaning bytes j inside here).later,
+            ))
         go (in_context After) is (inr over) = after over
         go (in_context Other) is (inr over) = after over
         go (in_context Before) is (inr over) = next (inl over)
@@ -140,7 +149,8 @@ module _ (k : Settings) (meaning : Meaning) (bytes : List ℕ) where
             let alone : AcrossLines.follows_selected k meaning bytes j ≡ false = (near.passed j low less).1 in
             ⊎_elim
             (λ (precedes : AcrossLines.precedes_selected k meaning bytes j ≡ true).
-            let before : AcrossLines.kind k meaning bytes j ≡ Some (in_context Before) = rw (misses, alone, precedes) refl in
+            let before : AcrossLines.kind k meaning bytes j
+            ≡ Some (in_context Before) = rw (misses, alone, precedes) refl in
             let same : in_context c ≡ in_context Before = let e = sym is ∙ before in cc in
             subst (λ o. at (i + 1) ≤ turn_end k meaning bytes j (Some o)) (sym same) (next (inr precedes)))
             (λ (last : AcrossLines.precedes_selected k meaning bytes j ≡ false).
@@ -156,11 +166,13 @@ module _ (k : Settings) (meaning : Meaning) (bytes : List ℕ) where
     through-is inside ended =
         let split = ap (filter passes) (front-through k meaning bytes v count (omega (arith, near.low, inside)))
         ∙ filter-append passes (front k meaning bytes v) later in
-        let early = filter-all passes (front k meaning bytes v) (All-weaker (λ turn. turn.end ≤ at i) (λ turn. passes turn ≡ true)
+        let early = filter-all passes (front k meaning bytes v)
+        (All-weaker (λ turn. turn.end ≤ at i) (λ turn. passes turn ≡ true)
         (λ turn low. le-leb turn.end (at i) low) (front k meaning bytes v) ended) in
         let late = filter-none passes later
         (All-joined_from (λ turn. passes turn ≡ false) (T k meaning bytes) v (count - v)
-        (λ j low high. All-weaker (λ turn. at (i + 1) ≤ turn.end) (λ turn. passes turn ≡ false) fails (T k meaning bytes j)
+        (λ j low high. All-weaker (λ turn. at (i + 1) ≤ turn.end) (λ turn. passes turn ≡ false) fails
+        (T k meaning bytes j)
         (ends-late j low (omega (arith, high, near.low, inside))))) in
         split ∙ (ap (λ xs. xs ++ filter passes later) early
         ∙ (ap (λ xs. front k meaning bytes v ++ xs) late ∙ append-nil (front k meaning bytes v)))

@@ -1,5 +1,7 @@
--- The calls of a search across lines, as a walk over units of selected lines and over the lines between them makes them.
-use Rattle.std.proofs.Common.{◌≡◌, ℕ, suc, ◌+◌, ◌-◌, ◌<◌, ◌≤◌, Bool, true, false, not, ◌&&◌, ◌||◌, List, [], ◌∷◌, ◌++◌, length, take}
+-- The calls of a search across lines, as a walk over units of selected lines and over the lines between them makes
+-- them.
+use Rattle.std.proofs.Common.{◌≡◌, ℕ, suc, ◌+◌, ◌-◌, ◌<◌, ◌≤◌, Bool, true, false, not, ◌&&◌, ◌||◌, List, [], ◌∷◌, ◌++◌}
+use Rattle.std.proofs.Common.{length, take}
 use Rattle.std.proofs.Common.{refl, sym, ap, subst, ◌∙◌, arith, ⊎_elim, Some, None, if◌then◌else◌}
 use Rattle.std.proofs.Math.Bool.{and-false}
 use Rattle.std.proofs.Math.Seq.{take-append_seam}
@@ -83,7 +85,8 @@ module _ (k : Settings) (meaning : Meaning) (bytes : List ℕ) where
   near-skipped v i e near plain low high missed =
       let sum : i + (e - i) ≡ e = omega arith in
       subst (λ x. Near v x 0) sum
-      (SelectionLemmas.IsNear-skipped k S no_line n n plain v i (e - i) near (λ j from below. missed j from (omega (arith, below))))
+      (SelectionLemmas.IsNear-skipped k S no_line n n plain v i (e - i) near
+      (λ j from below. missed j from (omega (arith, below))))
 
   -- one such line, and its calls
   pub near-missed : Bare → (v i left : ℕ) → Near v i left → i < n → S i ≡ false
@@ -93,8 +96,10 @@ module _ (k : Settings) (meaning : Meaning) (bytes : List ℕ) where
 
   pub front-missed : Bare → (v i left : ℕ) → Near v i left → i < n → S i ≡ false
       → front (if nat_lt 0 left || k.passthru then i + 1 else v)
-      ≡ front v ++ (if nat_lt 0 left then context_turns After (number_of k i) (starts i) (starts (i + 1)) (span i (i + 1))
-      else (if k.passthru then context_turns Other (number_of k i) (starts i) (starts (i + 1)) (span i (i + 1)) else []))
+      ≡ front v ++ (if nat_lt 0 left then context_turns After (number_of k i) (starts i) (starts (i + 1))
+      (span i (i + 1))
+      else (if k.passthru then context_turns Other (number_of k i) (starts i) (starts (i + 1)) (span i (i + 1))
+      else []))
   front-missed bare v i left near inside missed =
       SelectionLemmas.headed-missed k S no_line n n v i left near (record { call = begins; end = 0 }) T _ _ after other
     where
@@ -110,7 +115,8 @@ module _ (k : Settings) (meaning : Meaning) (bytes : List ℕ) where
           SelectionLemmas.kind-after k S no_line n n v i left near missed some in
           rw (kind, and-false (nat_lt 0 (A + B)), is_number, is_line) refl
 
-      other : left ≡ 0 → k.passthru ≡ true → T i ≡ context_turns Other (number_of k i) (starts i) (starts (i + 1)) (span i (i + 1))
+      other : left ≡ 0 → k.passthru ≡ true → T i ≡ context_turns Other (number_of k i) (starts i) (starts (i + 1))
+          (span i (i + 1))
       other none is_p =
           let kind : AcrossLines.kind k meaning bytes i ≡ Some (in_context Other) =
           SelectionLemmas.kind-other k S no_line n n v i left near missed none is_p (bare is_p).1 in
@@ -123,7 +129,8 @@ module _ (k : Settings) (meaning : Meaning) (bytes : List ℕ) where
       subst (λ x. Near x x k.after_context) sum
       (SelectionLemmas.IsNear-hit k S no_line n n (e - 1) (omega arith) (hits (e - 1) (omega arith) (omega arith)))
 
-  module _ (v i left e : ℕ) (near : Near v i left) (some : i < e) (high : e ≤ n) (hits : (j : ℕ) → i ≤ j → j < e → S j ≡ true)
+  module _ (v i left e : ℕ) (near : Near v i left) (some : i < e) (high : e ≤ n)
+      (hits : (j : ℕ) → i ≤ j → j < e → S j ≡ true)
       (closed : k.invert_match ≡ false → e < n → S e ≡ false) (alone : k.invert_match ≡ true → e ≡ i + 1) where
     inside : i < n
     inside = omega arith
@@ -148,18 +155,22 @@ module _ (k : Settings) (meaning : Meaning) (bytes : List ℕ) where
         is_kind : AcrossLines.kind k meaning bytes j ≡ (if nat_le (i - j) B then Some (in_context Before) else None)
         is_kind = SelectionLemmas.kind-passed k S no_line n n v i left near inside inside hit j low less
 
-        far : B < i - j → T j ≡ before_turns k v j i (number k meaning bytes j) (starts j) (starts e) (line k meaning bytes j)
+        far : B < i - j → T j ≡ before_turns k v j i (number k meaning bytes j) (starts j) (starts e)
+            (line k meaning bytes j)
         far out =
             let test = lt-leb (i - j) B out in
-            let kind : AcrossLines.kind k meaning bytes j ≡ None = is_kind ∙ ap (λ b. if b then Some (in_context Before) else None) test in
+            let kind : AcrossLines.kind k meaning bytes j ≡ None = is_kind
+            ∙ ap (λ b. if b then Some (in_context Before) else None) test in
             rw (kind, and-false (nat_lt 0 (A + B)), test) refl
 
-        close : i - j ≤ B → T j ≡ before_turns k v j i (number k meaning bytes j) (starts j) (starts e) (line k meaning bytes j)
+        close : i - j ≤ B → T j ≡ before_turns k v j i (number k meaning bytes j) (starts j) (starts e)
+            (line k meaning bytes j)
         close inner =
             let test = le-leb (i - j) B inner in
             let kind : AcrossLines.kind k meaning bytes j ≡ Some (in_context Before) = is_kind
             ∙ ap (λ b. if b then Some (in_context Before) else None) test in
-            let gap : (nat_lt 0 (A + B) && true && not (is_reported (j - 1)) && some_below is_reported j) ≡ is_gap k v j i =
+            let gap : (nat_lt 0 (A + B) && true && not (is_reported (j - 1)) && some_below is_reported j)
+            ≡ is_gap k v j i =
             SelectionLemmas.gap-passed k S no_line n n v i left near inside inside hit j low less inner in
             let found = SelectionLemmas.next-passed k S no_line n n v i left near inside inside hit j low less in
             rw (kind, gap, found, end-is, test) refl
@@ -168,7 +179,8 @@ module _ (k : Settings) (meaning : Meaning) (bytes : List ℕ) where
     hit-is : continues_unit k meaning bytes i ≡ false → T i ≡ match_turns k v i (starts i) (starts e) (span i e)
     hit-is first =
         let kind : AcrossLines.kind k meaning bytes i ≡ Some matched = rw hit refl in
-        let gap : (nat_lt 0 (A + B) && true && not (is_reported (i - 1)) && some_below is_reported i) ≡ (nat_lt 0 A && is_gap k v i i) =
+        let gap : (nat_lt 0 (A + B) && true && not (is_reported (i - 1)) && some_below is_reported i)
+        ≡ (nat_lt 0 A && is_gap k v i i) =
         SelectionLemmas.gap-hit k S no_line n n v i left near inside inside hit in
         let is_number = number-is i inside in
         rw (kind, gap, first, is_number, end-is) refl
@@ -176,19 +188,24 @@ module _ (k : Settings) (meaning : Meaning) (bytes : List ℕ) where
     -- a later line of it has none
     later-is : (j : ℕ) → i < j → j < e → T j ≡ []
     later-is j less below =
-        let plain : k.invert_match ≡ false = ⊎_elim (λ yes. absurd (omega (arith, alone yes))) (λ no. no) (cases_Bool k.invert_match) in
-        let kind : AcrossLines.kind k meaning bytes j ≡ Some matched = let here = hits j (omega arith) below in rw here refl in
+        let plain : k.invert_match ≡ false = ⊎_elim (λ yes. absurd (omega (arith, alone yes))) (λ no. no)
+        (cases_Bool k.invert_match) in
+        let kind : AcrossLines.kind k meaning bytes j
+        ≡ Some matched = let here = hits j (omega arith) below in rw here refl in
         let before = hits (j - 1) (omega arith) (omega arith) in
         let above = lt-ltb 0 j (omega arith) in
         let goes_on : continues_unit k meaning bytes j ≡ true =
         ap (λ b. not b && nat_lt 0 j && S (j - 1)) plain ∙ rw (above, before) refl in
-        let reported : is_reported (j - 1) ≡ true = let test = lt-ltb (j - 1) n (omega arith) in rw (before, test) refl in
+        let reported : is_reported (j - 1) ≡ true = let test = lt-ltb (j - 1) n (omega arith) in rw (before, test)
+        refl in
         rw (kind, reported, and-false (nat_lt 0 (A + B) && true), goes_on) refl
 
   -- the calls of a unit: those of the lines before it, and the match at its first line
   pub front-unit : (v i left e : ℕ) → Near v i left → i < e → e ≤ n → ((j : ℕ) → i ≤ j → j < e → S j ≡ true)
-      → (k.invert_match ≡ false → e < n → S e ≡ false) → (k.invert_match ≡ true → e ≡ i + 1) → continues_unit k meaning bytes i ≡ false
-      → front e ≡ front v ++ (pending_turns k bytes v i (starts e) v (i - v) ++ match_turns k v i (starts i) (starts e) (span i e))
+      → (k.invert_match ≡ false → e < n → S e ≡ false) → (k.invert_match ≡ true → e ≡ i + 1)
+      → continues_unit k meaning bytes i ≡ false
+      → front e ≡ front v ++ (pending_turns k bytes v i (starts e) v (i - v)
+      ++ match_turns k v i (starts i) (starts e) (span i e))
   front-unit v i left e near some high hits closed alone first =
       let reach = near.low in
       let sum : e - v ≡ (i - v) + suc (e - (i + 1)) = omega (arith, reach) in
@@ -215,5 +232,6 @@ module _ (k : Settings) (meaning : Meaning) (bytes : List ℕ) where
       none : (j : ℕ) → v ≤ j → j < v + (n - v) → T j ≡ []
       none j low below =
           let kind : AcrossLines.kind k meaning bytes j ≡ None =
-          SelectionLemmas.kind-done k S no_line n n v n left near (λ q late inner. absurd (omega arith)) j low (omega (arith, near.low, below)) in
+          SelectionLemmas.kind-done k S no_line n n v n left near (λ q late inner. absurd (omega arith)) j low
+          (omega (arith, near.low, below)) in
           rw (kind, and-false (nat_lt 0 (A + B))) refl

@@ -54,7 +54,8 @@ module _ (k : Settings) (meaning other : Meaning) (bytes : List ℕ) (inverted :
       (λ j below. ap (λ b. nat_lt i j && nat_le (j - i) k.before_context && b) (same j))
 
   kind : (i : ℕ) → AcrossLines.kind k meaning bytes i ≡ LineSearch.kind k other bytes i
-  kind i = rw (same i, follows i, precedes i) (ap (λ (b : Bool). if LineSearch.is_selected k other bytes i then Some matched
+  kind i = rw (same i, follows i, precedes i) (ap (λ (b : Bool). if LineSearch.is_selected k other bytes i then Some
+      matched
       else (if LineSearch.follows_selected k other bytes i then Some (if b then matched else in_context After)
       else (if LineSearch.precedes_selected k other bytes i then Some (in_context Before)
       else (if k.passthru then Some (in_context Other) else None)))) (sym (early i)))
@@ -65,10 +66,13 @@ module _ (k : Settings) (meaning other : Meaning) (bytes : List ℕ) (inverted :
   broken : (i : ℕ) → AcrossLines.breaks_before k meaning bytes i ≡ LineSearch.breaks_before k other bytes i
   broken i =
       ap (λ x. nat_lt 0 (k.after_context + k.before_context) && LineSearch.can_break k meaning bytes x
-      && not (AcrossLines.is_reported k meaning bytes (i - 1)) && some_below (AcrossLines.is_reported k meaning bytes) i) (kind i)
-      ∙ ap₂ (λ a b. nat_lt 0 (k.after_context + k.before_context) && LineSearch.can_break k meaning bytes (LineSearch.kind k other bytes i)
+      && not (AcrossLines.is_reported k meaning bytes (i - 1))
+      && some_below (AcrossLines.is_reported k meaning bytes) i) (kind i)
+      ∙ ap₂ (λ a b. nat_lt 0 (k.after_context + k.before_context)
+      && LineSearch.can_break k meaning bytes (LineSearch.kind k other bytes i)
       && not a && b) (reported (i - 1))
-      (some_below-same (AcrossLines.is_reported k meaning bytes) (LineSearch.is_reported k other bytes) i (λ j below. reported j))
+      (some_below-same (AcrossLines.is_reported k meaning bytes) (LineSearch.is_reported k other bytes) i
+      (λ j below. reported j))
 
   -- and their turns end alike
   through : (i : ℕ) → AcrossLines.lines_through_next k meaning bytes i ≡ LineSearch.lines_through_next k other bytes i
@@ -90,7 +94,8 @@ module _ (k : Settings) (meaning other : Meaning) (bytes : List ℕ) (inverted :
   ends i (Some (in_context After)) = refl
   ends i (Some (in_context Other)) = refl
 
-  reports : (i : ℕ) (x : Option Kind) → i < n → AcrossLines.report k meaning bytes i x ≡ LineSearch.report k other bytes i x
+  reports : (i : ℕ) (x : Option Kind) → i < n → AcrossLines.report k meaning bytes i x
+      ≡ LineSearch.report k other bytes i x
   reports i None inside = refl
   reports i (Some matched) inside =
       ap (λ b. if b then [] else record {
@@ -100,14 +105,19 @@ module _ (k : Settings) (meaning other : Meaning) (bytes : List ℕ) (inverted :
       ∙ ap₂ (λ line e. record { call = matches (LineSearch.number k meaning bytes i) (at i) line; end = at e } ∷ [])
       (unit-line i inside) (unit_end-next i)
   reports i (Some (in_context c)) inside =
-      ap (λ e. record { call = context c (LineSearch.number k meaning bytes i) (at i) (LineSearch.line k meaning bytes i); end = e } ∷ [])
+      ap (λ e. record {
+        call = context c (LineSearch.number k meaning bytes i) (at i)
+            (LineSearch.line k meaning bytes i);
+        end = e;
+      } ∷ [])
       (ends i (Some (in_context c)))
 
   calls : (i : ℕ) → i < n → AcrossLines.turns_at k meaning bytes i ≡ LineSearch.turns_at k other bytes i
   calls i inside =
       ap₂ (λ b x. if b then record { call = breaks; end = AcrossLines.turn_end k meaning bytes i x }
       ∷ AcrossLines.report k meaning bytes i x else AcrossLines.report k meaning bytes i x) (broken i) (kind i)
-      ∙ ap₂ (λ e rest. if LineSearch.breaks_before k other bytes i then record { call = breaks; end = e } ∷ rest else rest)
+      ∙ ap₂ (λ e rest. if LineSearch.breaks_before k other bytes i then record { call = breaks; end = e }
+      ∷ rest else rest)
       (ends i (LineSearch.kind k other bytes i)) (reports i (LineSearch.kind k other bytes i) inside)
 
   pub turns-same : AcrossLines.turns k meaning bytes ≡ LineSearch.turns k other bytes

@@ -1,5 +1,6 @@
 -- Numbers below a bound that pass a test, bounds that may be missing, and lists joined over numbers.
-use Rattle.std.proofs.Common.{min, ◌≡◌, ◌⊎◌, ℕ, zero, suc, ◌+◌, ◌-◌, ◌<◌, ◌≤◌, Bool, true, false, not, Option, Some, None, if◌then◌else◌}
+use Rattle.std.proofs.Common.{min, ◌≡◌, ◌⊎◌, ℕ, zero, suc, ◌+◌, ◌-◌, ◌<◌, ◌≤◌, Bool, true, false, not, Option, Some}
+use Rattle.std.proofs.Common.{None, if◌then◌else◌}
 use Rattle.std.proofs.Common.{refl, sym, ◌∙◌, ap, arith, ⊎_elim}
 use Rattle.std.proofs.lemmas.Bool.{lt-ltb, le-ltb, ltb-true, eq-eqb, ne_eqb, cases_lt, cases_Bool}
 use Rattle.std.proofs.Math.Bool.{or-false, or-true}
@@ -20,13 +21,15 @@ some_below-some p (suc n) j below passes =
     (λ over. let same : n ≡ j = omega arith in rw (same, passes) (or-true (some_below p j))) (cases_lt j n)
 
 pub some_below-false : (p : ℕ → Bool) (n j : ℕ) → some_below p n ≡ false → j < n → p j ≡ false
-some_below-false p n j none below = ⊎_elim (λ yes. absurd (clash (some_below-some p n j below yes) none)) (λ no. no) (cases_Bool (p j))
+some_below-false p n j none below = ⊎_elim (λ yes. absurd (clash (some_below-some p n j below yes) none)) (λ no. no)
+    (cases_Bool (p j))
 
 pub first_below-here : (p : ℕ → Bool) (m q : ℕ) → q < m → p q ≡ true → some_below p q ≡ false → first_below p m ≡ Some q
 first_below-here p zero q below passes none = absurd (omega arith)
 first_below-here p (suc m) q below passes none = ⊎_elim
     (λ less. let some = some_below-some p m q less passes in rw (some, first_below-here p m q less passes none) refl)
-    (λ over. let same : q ≡ m = omega arith in let silent : some_below p m ≡ false = ap (some_below p) (sym same) ∙ none in
+    (λ over. let same : q ≡ m = omega arith in let silent : some_below p m ≡ false = ap (some_below p) (sym same)
+    ∙ none in
     let here : p m ≡ true = ap p (sym same) ∙ passes in rw (silent, here, same) refl)
     (cases_lt q m)
 
@@ -53,7 +56,8 @@ first_below-more p i (suc n) m le is = ⊎_elim
 
 pub first_below-late : (p : ℕ → Bool) (i n m : ℕ) → some_below p i ≡ false → first_below p n ≡ Some m → i ≤ m
 first_below-late p i n m none is = ⊎_elim
-    (λ less. let found = first_below-of p n m is in absurd (clash found.1 (some_below-false p i m none less))) (λ over. over)
+    (λ less. let found = first_below-of p n m is in absurd (clash found.1 (some_below-false p i m none less)))
+    (λ over. over)
     (cases_lt m i)
 
 pub count_below-le : (p : ℕ → Bool) (i q : ℕ) → i ≤ q → count_below p i ≤ count_below p q
@@ -63,13 +67,15 @@ count_below-le p i (suc q) le = ⊎_elim
     (λ over. let same : i ≡ suc q = omega arith in let e = ap (count_below p) same in omega (arith, e))
     (cases_lt i (suc q))
   where
-    go : (h : Bool) → count_below p i ≤ count_below p q → count_below p i ≤ (if h then count_below p q + 1 else count_below p q)
+    go : (h : Bool) → count_below p i ≤ count_below p q
+        → count_below p i ≤ (if h then count_below p q + 1 else count_below p q)
     go true before = omega arith
     go false before = before
 
 pub is_below-le : (o : Option ℕ) (n m : ℕ) → n ≤ m → is_below n o ≡ false → is_below m o ≡ false
 is_below-le None n m le is = is
-is_below-le (Some x) n m le is = ⊎_elim (λ less. let yes = lt-ltb n x (omega arith) in absurd (clash yes is)) (λ over. le-ltb m x over)
+is_below-le (Some x) n m le is = ⊎_elim (λ less. let yes = lt-ltb n x (omega arith) in absurd (clash yes is))
+    (λ over. le-ltb m x over)
     (cases_lt m x)
 
 pub below_next : (o : Option ℕ) (c : ℕ) → is_below c o ≡ true → is_below (c + 1) o ≡ not (is_at (c + 1) o)
@@ -101,7 +107,8 @@ at_most-some None i n is less = absurd (cc)
 at_most-some (Some b) i n is less = let same : b ≡ suc i = cc in omega arith
 
 -- what is joined up to a number, and from it on
-pub joined_from-add : {X : Type 0} (f : ℕ → List X) (i n m : ℕ) → joined_from f i (n + m) ≡ joined_from f i n ++ joined_from f (i + n) m
+pub joined_from-add : {X : Type 0} (f : ℕ → List X) (i n m : ℕ) → joined_from f i (n + m) ≡ joined_from f i n
+    ++ joined_from f (i + n) m
 joined_from-add f i zero m = rw (zero-add-is m, add-zero-is i) refl
   where
     zero-add-is : (m : ℕ) → zero + m ≡ m
@@ -115,7 +122,8 @@ joined_from-add f i (suc n) m =
     rw (sum) (ap (λ rest. f i ++ rest) (joined_from-add f (i + 1) n m) ∙ (rw shift (sym (append_assoc (f i) _ _))))
 
 -- one more of what is joined
-pub joined_from-more : {X : Type 0} (f : ℕ → List X) (i n : ℕ) → joined_from f i (n + 1) ≡ joined_from f i n ++ f (i + n)
+pub joined_from-more : {X : Type 0} (f : ℕ → List X) (i n : ℕ) → joined_from f i (n + 1) ≡ joined_from f i n
+    ++ f (i + n)
 joined_from-more f i n = joined_from-add f i n 1 ∙ ap (λ xs. joined_from f i n ++ xs) (append-nil (f (i + n)))
 
 -- an element, and then what is joined up to a number
@@ -149,23 +157,32 @@ module _ {X : Type 0} (first : X) (f : ℕ → List X) where
       (ap (λ m. joined_from f v m) sum ∙ (joined_from-more f v (i - v) ∙ ap (λ m. joined_from f v (i - v) ++ f m) last))
 
 -- joined lists are equal if their parts are
-pub joined_from-equal : {X : Type 0} (f h : ℕ → List X) (i n : ℕ) → ((j : ℕ) → i ≤ j → j < i + n → f j ≡ h j) → joined_from f i n
+pub joined_from-equal : {X : Type 0} (f h : ℕ → List X) (i n : ℕ) → ((j : ℕ) → i ≤ j → j < i + n → f j ≡ h j)
+    → joined_from f i n
     ≡ joined_from h i n
 joined_from-equal f h i zero same = refl
-joined_from-equal f h i (suc n) same = rw
-    (same i (omega arith) (omega arith), joined_from-equal f h (i + 1) n (λ j low high. same j (omega arith) (omega arith))) refl
+joined_from-equal f h i (suc n) same = rw (
+  same i (omega arith) (omega arith),
+  joined_from-equal f h (i + 1) n
+      (λ j low high. same j (omega arith) (omega arith)),
+) refl
 
-pub joined_from-none : {X : Type 0} (f : ℕ → List X) (i n : ℕ) → ((j : ℕ) → i ≤ j → j < i + n → f j ≡ []) → joined_from f i n ≡ []
+pub joined_from-none : {X : Type 0} (f : ℕ → List X) (i n : ℕ) → ((j : ℕ) → i ≤ j → j < i + n → f j ≡ [])
+    → joined_from f i n ≡ []
 joined_from-none f i zero none = refl
-joined_from-none f i (suc n) none = rw
-    (none i (omega arith) (omega arith), joined_from-none f (i + 1) n (λ j low high. none j (omega arith) (omega arith))) refl
+joined_from-none f i (suc n) none = rw (
+  none i (omega arith) (omega arith),
+  joined_from-none f (i + 1) n
+      (λ j low high. none j (omega arith) (omega arith)),
+) refl
 
 -- if some number passes, there is one
 pub some_below-find : (p : ℕ → Bool) (n : ℕ) → some_below p n ≡ true → (j : ℕ) × (j < n) × (p j ≡ true)
 some_below-find p zero is = absurd (cc)
 some_below-find p (suc n) is = go (p n) refl (λ h. some_below-find p n h)
   where
-    go : (b : Bool) → p n ≡ b → (some_below p n ≡ true → (j : ℕ) × (j < n) × (p j ≡ true)) → (j : ℕ) × (j < suc n) × (p j ≡ true)
+    go : (b : Bool) → p n ≡ b → (some_below p n ≡ true → (j : ℕ) × (j < n) × (p j ≡ true)) → (j : ℕ) × (j < suc n)
+        × (p j ≡ true)
     go true here later = (n, omega arith, here)
     go false here later =
         let found = later (sym (or-false (some_below p n)) ∙ rw here at is) in
@@ -176,7 +193,8 @@ pub first_below-nowhere : (p : ℕ → Bool) (n : ℕ) → some_below p n ≡ fa
 first_below-nowhere p zero none = refl
 first_below-nowhere p (suc n) none = go (some_below p n) (p n) refl refl (first_below-nowhere p n)
   where
-    go : (a b : Bool) → some_below p n ≡ a → p n ≡ b → (some_below p n ≡ false → first_below p n ≡ None) → first_below p (suc n) ≡ None
+    go : (a b : Bool) → some_below p n ≡ a → p n ≡ b → (some_below p n ≡ false → first_below p n ≡ None)
+        → first_below p (suc n) ≡ None
     go true b e f later = absurd (let at = rw e at none in cc)
     go false true e f later = absurd (let at = rw (e, f) at none in cc)
     go false false e f later = rw (e, f) refl
@@ -186,14 +204,16 @@ pub first_below-none : (p : ℕ → Bool) (n : ℕ) → first_below p n ≡ None
 first_below-none p zero none = refl
 first_below-none p (suc n) none = go (some_below p n) (p n) refl refl (first_below-none p n)
   where
-    go : (a b : Bool) → some_below p n ≡ a → p n ≡ b → (first_below p n ≡ None → some_below p n ≡ false) → some_below p (suc n) ≡ false
+    go : (a b : Bool) → some_below p n ≡ a → p n ≡ b → (first_below p n ≡ None → some_below p n ≡ false)
+        → some_below p (suc n) ≡ false
     go true b e f earlier = absurd (clash e (earlier (let at = rw e at none in at)))
     go false true e f earlier = absurd (let at = rw (e, f) at none in cc)
     go false false e f earlier = rw (e, f) refl
 
 -- no number before the first that passes does
 pub first_below-before : (p : ℕ → Bool) (n q j : ℕ) → first_below p n ≡ Some q → j < q → p j ≡ false
-first_below-before p n q j is less = ⊎_elim (λ here. absurd (go (first_below p q) refl here)) (λ none. none) (cases_Bool (p j))
+first_below-before p n q j is less = ⊎_elim (λ here. absurd (go (first_below p q) refl here)) (λ none. none)
+    (cases_Bool (p j))
   where
     go : (found : Option ℕ) → first_below p q ≡ found → p j ≡ true → ⊥
     go None none here = clash here (some_below-false p q j (first_below-none p q none) less)

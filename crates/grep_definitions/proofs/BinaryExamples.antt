@@ -1,10 +1,12 @@
 -- Where searches end at a binary byte, and what is searched of converted bytes, at some inputs, as the checker computes
 -- them.
-use Rattle.std.proofs.Common.{◌≡◌, ℕ, true, false, List, [], ◌∷◌, ◌++◌, Some, None, inl, inr, refl, codes, arith, get_or}
+use Rattle.std.proofs.Common.{◌≡◌, ℕ, true, false, List, [], ◌∷◌, ◌++◌, Some, None, inl, inr, refl, codes, arith}
+use Rattle.std.proofs.Common.{get_or}
 use Rattle.grep_matcher.specs.Lines.{lines}
 use Rattle.grep_report.specs.declared.binary_detection.BinaryDetection.TheVariants.{Quit, Convert}
 use Rattle.grep_report.specs.declared.sink_context.SinkContextKind.TheVariants.{Before, After}
-use Rattle.grep_definitions.specs.BinaryBytes.{before_quit, binary_position, stream_view, look_of, nowhere, in_contents, on_stream}
+use Rattle.grep_definitions.specs.BinaryBytes.{before_quit, binary_position, stream_view, look_of, nowhere, in_contents}
+use Rattle.grep_definitions.specs.BinaryBytes.{on_stream}
 use Rattle.grep_definitions.specs.InputFronts.{IsTooLong}
 use Rattle.grep_definitions.specs.LineSearch.{turns}
 use Rattle.grep_definitions.specs.QuitPoints.{quit_in_reports, quit_point}
@@ -29,8 +31,8 @@ quit_at_limit_zero = refl
 quit_nowhere : quit_point 0 (codes "a\nb\n") (turns default_settings has_a (codes "a\nb\n")) ≡ None
 quit_nowhere = refl
 
--- after the first bytes only reports are looked at: a line that isn't reported may hold the byte, and the search ends at
--- the next report that does
+-- after the first bytes only reports are looked at: a line that isn't reported may hold the byte, and the search ends
+-- at the next report that does
 abbrev nul_in_lines : List ℕ
 nul_in_lines = codes "a\nb" ++ 0 ∷ codes "\na" ++ 0 ∷ codes "\na\n"
 
@@ -56,7 +58,8 @@ break_not_made : quit_in_reports 0 (turns (record default_settings { after_conte
 break_not_made = refl
 
 -- one before a line that comes before it is
-break_before_context_made : quit_in_reports 0 (turns (record default_settings { before_context = 1 }) has_a nul_after_break)
+break_before_context_made : quit_in_reports 0 (turns (record default_settings { before_context = 1 }) has_a
+    nul_after_break)
     ≡ Some (record {
       before = begun ∷ match_turn 1 0 (codes "a\n") 2 ∷ break_turn 9 ∷ context_turn Before 3 4 (codes "x\n") 9 ∷ [];
       offset = 7;

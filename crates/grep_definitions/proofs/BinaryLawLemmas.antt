@@ -37,7 +37,8 @@ module _ (b : ℕ) where
   AreClear = All (λ turn. holds_byte b turn ≡ false)
 
   -- the calls before the first report that holds the byte
-  clear-before : (turns : List Turn) (n m : ℕ) → position (holds_byte b) turns ≡ Some n → m ≤ n → AreClear (take m turns)
+  clear-before : (turns : List Turn) (n m : ℕ) → position (holds_byte b) turns ≡ Some n → m ≤ n
+      → AreClear (take m turns)
   clear-before turns n m is low =
       none-passes (holds_byte b) (take m turns) (position-take-before (holds_byte b) m turns n is low)
 
@@ -77,7 +78,8 @@ module _ (b : ℕ) where
     clear-all : quit_point b bytes turns ≡ None → AreClear turns
     clear-all is = by (position_of b (take first_look bytes)) is
       where
-        reported : (o : Option ℕ) → position (holds_byte b) turns ≡ o → option_map (quit_at b turns) o ≡ None → AreClear turns
+        reported : (o : Option ℕ) → position (holds_byte b) turns ≡ o → option_map (quit_at b turns) o ≡ None
+            → AreClear turns
         reported None found is = none-passes (holds_byte b) turns found
         reported (Some n) found is = absurd (none-some (quit_at b turns n) (sym is))
 
@@ -94,10 +96,12 @@ quit_reports-clear b settings meaning bytes = go (is_across settings meaning)
         × (quit_point b bytes ((calls_if settings meaning across).turns bytes) ≡ None
         → All (λ turn. holds_byte b turn ≡ false) ((calls_if settings meaning across).turns bytes))
     go true =
-        let later = joined_from (AcrossLines.turns_at settings meaning bytes) 0 (AcrossLines.turn_count settings meaning bytes) in
+        let later = joined_from (AcrossLines.turns_at settings meaning bytes) 0
+        (AcrossLines.turn_count settings meaning bytes) in
         (clear-point b later bytes, clear-all b later bytes)
     go false =
-        let later = joined_from (LineSearch.turns_at settings meaning bytes) 0 (LineSearch.turn_count settings meaning bytes) in
+        let later = joined_from (LineSearch.turns_at settings meaning bytes) 0
+        (LineSearch.turn_count settings meaning bytes) in
         (clear-point b later bytes, clear-all b later bytes)
 
 -- a slice of bytes that end before a test passes
@@ -107,7 +111,8 @@ slice-clear p bytes s e count up low clear =
     let P : ℕ → Type 0 = λ x. p x ≡ false in
     let sum : s + (e - s) ≡ e = omega arith in
     let front = All-take P e (take count bytes) (none-passes p (take count bytes) clear) in
-    let short : take e (take count bytes) ≡ take (s + (e - s)) bytes = take-take e count bytes low ∙ ap (λ n. take n bytes) (sym sum) in
+    let short : take e (take count bytes) ≡ take (s + (e - s)) bytes = take-take e count bytes low
+    ∙ ap (λ n. take n bytes) (sym sum) in
     let piece : drop s (take e (take count bytes)) ≡ slice bytes s e = ap (drop s) short ∙ drop-take s (e - s) bytes in
     position-none p (slice bytes s e) (subst (All P) piece (All-drop P s (take e (take count bytes)) front))
 
@@ -118,7 +123,8 @@ module _ (k : Settings) (meaning : Meaning) (bytes : List ℕ) where
     line-clear i inside low =
         let up = line_start-le (byte_of k.line_terminator) bytes i (i + 1) (omega arith) in
         ap (position_of b) (sym (line-slice k meaning bytes i inside))
-        ∙ slice-clear (λ x. x == b) bytes (LineSearch.start k meaning bytes i) (LineSearch.start k meaning bytes (i + 1)) count up low
+        ∙ slice-clear (λ x. x == b) bytes (LineSearch.start k meaning bytes i)
+        (LineSearch.start k meaning bytes (i + 1)) count up low
         clear
 
     pub lines-clear : All (λ turn. turn.end ≤ count → holds_byte b turn ≡ false) (LineSearch.turns k meaning bytes)
@@ -154,7 +160,8 @@ seen_lines-clear join b k meaning bytes seen quits front clear =
     whole = sym (ap (λ d. stream_view d (byte_of k.line_terminator) bytes) quits) ∙ front.whole
 
     is_clear : position_of b (take (length seen) seen) ≡ None
-    is_clear = ap (position_of b) (take_all (length seen) seen (omega arith) ∙ (sym (take_at seen front.after (length seen) refl)
+    is_clear = ap (position_of b) (take_all (length seen) seen (omega arith)
+        ∙ (sym (take_at seen front.after (length seen) refl)
         ∙ ap (take (length seen)) (sym whole)))
         ∙ (sym (ap (λ d. binary_position d (byte_of k.line_terminator) (take (length seen) bytes)) quits) ∙ clear)
 

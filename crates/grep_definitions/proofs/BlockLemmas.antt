@@ -1,5 +1,7 @@
 -- The whole lines that matches extend over: in which order they are, and where they are in the bytes from a line on.
-use Rattle.std.proofs.Common.{◌≡◌, ℕ, ◌+◌, ◌-◌, ◌<◌, ◌≤◌, ◌==◌, Bool, true, false, ◌&&◌, List, ◌++◌, length, take, drop, slice_index, refl, sym, ◌∙◌, ap, arith, ⊎_elim, cond, if◌then◌else◌, length-append, take_all}
+use Rattle.std.proofs.Common.{◌≡◌, ℕ, ◌+◌, ◌-◌, ◌<◌, ◌≤◌, ◌==◌, Bool, true, false, ◌&&◌, List, ◌++◌, length, take, drop}
+use Rattle.std.proofs.Common.{slice_index, refl, sym, ◌∙◌, ap, arith, ⊎_elim, cond, if◌then◌else◌, length-append}
+use Rattle.std.proofs.Common.{take_all}
 use Rattle.std.proofs.lemmas.Bool.{cases_lt, le-ltb}
 use Rattle.std.proofs.lemmas.List.{get_or-drop}
 use Rattle.std.proofs.lemmas.List.Folds.{concat-append}
@@ -11,7 +13,8 @@ use Rattle.grep_matcher.specs.Lines.{lines, line_start}
 use Rattle.grep_lines.specs.Blocks.{lines_before, block_start, block_end}
 use Rattle.grep_lines.specs.Positions.{IsLineStart}
 use Rattle.grep_lines.proofs.WalkLemmas.{IsAt-start}
-use Rattle.grep_definitions.proofs.TouchLemmas.{same-tests, rises, holder, block_start-line, block_end-line, block_end-empty}
+use Rattle.grep_definitions.proofs.TouchLemmas.{same-tests, rises, holder, block_start-line, block_end-line}
+use Rattle.grep_definitions.proofs.TouchLemmas.{block_end-empty}
 use Rattle.grep_definitions.proofs.TurnEndLemmas.{line_start-le}
 
 module _ (t : ℕ) (bytes : List ℕ) where
@@ -37,13 +40,15 @@ module _ (t : ℕ) (bytes : List ℕ) where
   block_end-edge m = go (nat_lt m.0 m.1 && slice_index bytes (m.1 - 1) == t)
     where
       go : (b : Bool) → (k : ℕ) × IsLineStart t bytes
-          (if b then line_start t bytes (lines_before t bytes m.1) else line_start t bytes (lines_before t bytes m.1 + 1)) k
+          (if b then line_start t bytes (lines_before t bytes m.1) else line_start t bytes
+          (lines_before t bytes m.1 + 1)) k
       go true = edge (lines_before t bytes m.1)
       go false = edge (lines_before t bytes m.1 + 1)
 
   -- a line is within a block if it starts there
   pub within-block : (i : ℕ) (m : ℕ × ℕ) → i < length (lines t bytes)
-      → (nat_le (block_start t bytes m) (line_start t bytes i) && nat_le (line_start t bytes (i + 1)) (block_end t bytes m))
+      → (nat_le (block_start t bytes m) (line_start t bytes i)
+      && nat_le (line_start t bytes (i + 1)) (block_end t bytes m))
       ≡ (nat_le (block_start t bytes m) (line_start t bytes i) && nat_lt (line_start t bytes i) (block_end t bytes m))
   within-block i m here =
       let stop = block_end-edge m in
@@ -59,12 +64,14 @@ module _ (t : ℕ) (bytes : List ℕ) where
   lines_before-le : (p q : ℕ) → p ≤ q → lines_before t bytes p ≤ lines_before t bytes q
   lines_before-le p q low =
       let sum : p + (q - p) ≡ q = omega arith in
-      let cut : take q bytes ≡ take p bytes ++ take (q - p) (drop p bytes) = ap (λ n. take n bytes) (sym sum) ∙ take-add p (q - p) bytes in
+      let cut : take q bytes ≡ take p bytes ++ take (q - p) (drop p bytes) = ap (λ n. take n bytes) (sym sum)
+      ∙ take-add p (q - p) bytes in
       rw cut (rw (sum_by-append (λ b. cond (b == t) 1 0) (take p bytes)) (omega arith))
 
   -- so of two matches the one that starts later has no earlier block
   pub block_start-le : (m o : ℕ × ℕ) → m.0 ≤ o.0 → block_start t bytes m ≤ block_start t bytes o
-  block_start-le m o low = line_start-le t bytes (lines_before t bytes m.0) (lines_before t bytes o.0) (lines_before-le m.0 o.0 low)
+  block_start-le m o low = line_start-le t bytes (lines_before t bytes m.0) (lines_before t bytes o.0)
+      (lines_before-le m.0 o.0 low)
 
   -- a block starts no later than its match
   pub block_start-low : (m : ℕ × ℕ) → m.0 < length bytes → block_start t bytes m ≤ m.0
@@ -73,7 +80,8 @@ module _ (t : ℕ) (bytes : List ℕ) where
       omega (arith, block_start-line t bytes m line.0 line.1 line.2 line.3, line.2)
 
   -- a match that starts before a line start and ends no later has its block before it
-  pub block_end-within : (m : ℕ × ℕ) (e k : ℕ) → IsLineStart t bytes e k → e ≤ length bytes → m.0 < e → m.0 ≤ m.1 → m.1 ≤ e
+  pub block_end-within : (m : ℕ × ℕ) (e k : ℕ) → IsLineStart t bytes e k → e ≤ length bytes → m.0 < e → m.0 ≤ m.1
+      → m.1 ≤ e
       → block_end t bytes m ≤ e
   block_end-within m e k here within low order high = ⊎_elim
       (λ some.
@@ -98,7 +106,8 @@ module _ (t : ℕ) (bytes : List ℕ) where
           (cases_lt b k)
 
   -- a block that doesn't start at the end has a line
-  pub block-some : (m : ℕ × ℕ) → m.0 ≤ m.1 → block_start t bytes m ≤ m.0 → m.1 ≤ block_end t bytes m → block_start t bytes m < length bytes
+  pub block-some : (m : ℕ × ℕ) → m.0 ≤ m.1 → block_start t bytes m ≤ m.0 → m.1 ≤ block_end t bytes m
+      → block_start t bytes m < length bytes
       → block_start t bytes m < block_end t bytes m
   block-some m order low high below = ⊎_elim
       (λ some. some)
@@ -135,22 +144,26 @@ module _ (t : ℕ) (bytes : List ℕ) where
         rw (cut, sum_by-append (λ b. cond (b == t) 1 0) (take e bytes), at.counted below) refl
 
     -- the block of a match that starts there or later
-    pub block_start-part : (m o : ℕ × ℕ) → e ≤ m.0 → o.0 ≡ m.0 - e → e + block_start t (drop e bytes) o ≡ block_start t bytes m
+    pub block_start-part : (m o : ℕ × ℕ) → e ≤ m.0 → o.0 ≡ m.0 - e → e + block_start t (drop e bytes) o
+        ≡ block_start t bytes m
     block_start-part m o low is =
         sym (line_start-part (lines_before t (drop e bytes) o.0))
         ∙ (ap (λ p. line_start t bytes (a + lines_before t (drop e bytes) p)) is
         ∙ ap (line_start t bytes) (sym (lines_before-part m.0 low)))
 
     -- and of one that ends there or later
-    pub block_end-part : (m o : ℕ × ℕ) → e ≤ m.1 → (m.0 < m.1 → e < m.1) → o.1 ≡ m.1 - e → nat_lt o.0 o.1 ≡ nat_lt m.0 m.1
+    pub block_end-part : (m o : ℕ × ℕ) → e ≤ m.1 → (m.0 < m.1 → e < m.1) → o.1 ≡ m.1 - e → nat_lt o.0 o.1
+        ≡ nat_lt m.0 m.1
         → e + block_end t (drop e bytes) o ≡ block_end t bytes m
     block_end-part m o low inner is alike =
         ap (λ b. e + edge_of t (drop e bytes) o.1 b) closed ∙ moved (nat_lt m.0 m.1 && slice_index bytes (m.1 - 1) == t)
       where
         edge_of : (t : ℕ) (bytes : List ℕ) → ℕ → Bool → ℕ
-        edge_of t bytes p b = if b then line_start t bytes (lines_before t bytes p) else line_start t bytes (lines_before t bytes p + 1)
+        edge_of t bytes p b = if b then line_start t bytes (lines_before t bytes p) else line_start t bytes
+            (lines_before t bytes p + 1)
 
-        closed : (nat_lt o.0 o.1 && slice_index (drop e bytes) (o.1 - 1) == t) ≡ (nat_lt m.0 m.1 && slice_index bytes (m.1 - 1) == t)
+        closed : (nat_lt o.0 o.1 && slice_index (drop e bytes) (o.1 - 1) == t)
+            ≡ (nat_lt m.0 m.1 && slice_index bytes (m.1 - 1) == t)
         closed = ⊎_elim
             (λ some.
             let sum : e + (o.1 - 1) ≡ m.1 - 1 = omega (arith, is, inner some) in
@@ -169,4 +182,5 @@ module _ (t : ℕ) (bytes : List ℕ) where
             let sum : a + (lines_before t (drop e bytes) (m.1 - e) + 1) ≡ lines_before t bytes m.1 + 1 =
             omega (arith, lines_before-part m.1 low) in
             sym (line_start-part (lines_before t (drop e bytes) o.1 + 1))
-            ∙ (ap (λ p. line_start t bytes (a + (lines_before t (drop e bytes) p + 1))) is ∙ ap (line_start t bytes) sum)
+            ∙ (ap (λ p. line_start t bytes (a + (lines_before t (drop e bytes) p + 1))) is
+            ∙ ap (line_start t bytes) sum)

@@ -39,7 +39,8 @@ or-cases false b is = inr is
 pub above_zero : (a b : Bool) (x : ℕ) → (a && b && x == 0) ≡ false → a ≡ true → b ≡ true → 0 < x
 above_zero a b x is is_a is_b = ⊎_elim
     (λ some. some)
-    (λ none. absurd (clash (let z = eq-eqb x 0 (omega arith) in let all : (a && b && x == 0) ≡ true = rw (is_a, is_b, z) refl in all) is))
+    (λ none. absurd (clash (let z = eq-eqb x 0 (omega arith) in let all : (a && b && x == 0)
+    ≡ true = rw (is_a, is_b, z) refl in all) is))
     (cases_lt 0 x)
 
 -- a disjunction holds if one of its parts does

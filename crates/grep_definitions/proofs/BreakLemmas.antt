@@ -1,5 +1,6 @@
 -- A break is directly followed by a report, and their turns end alike.
-use Rattle.std.proofs.Common.{◌≡◌, ℕ, zero, suc, ◌+◌, ◌-◌, Bool, true, false, not, ◌&&◌, List, [], ◌∷◌, ◌++◌, Option, Some, None}
+use Rattle.std.proofs.Common.{◌≡◌, ℕ, zero, suc, ◌+◌, ◌-◌, Bool, true, false, not, ◌&&◌, List, [], ◌∷◌, ◌++◌, Option}
+use Rattle.std.proofs.Common.{Some, None}
 use Rattle.std.proofs.Common.{refl, sym, ◌∙◌, ◌<◌, ◌≤◌, ap, arith, subst, ⊎_elim, if◌then◌else◌}
 use Rattle.std.proofs.lemmas.Bool.{cases_Bool, lt-ltb, ltb-true}
 use Rattle.std.specs.Prelude.{nat_le, nat_lt, filter, is_some}
@@ -36,7 +37,8 @@ begins-append : (end : ℕ) (front back : List Turn) → BeginsWithReport end fr
 begins-append end [] back report = absurd report
 begins-append end (turn ∷ front) back report = report
 
-pub paired-append : (front back : List Turn) → AreBreaksPaired front → AreBreaksPaired back → AreBreaksPaired (front ++ back)
+pub paired-append : (front back : List Turn) → AreBreaksPaired front → AreBreaksPaired back
+    → AreBreaksPaired (front ++ back)
 paired-append [] back front_is back_is = back_is
 paired-append (turn ∷ front) back (here, front_is) back_is =
     (λ is. begins-append turn.end front back (here is), paired-append front back front_is back_is)
@@ -65,7 +67,8 @@ paired-through offset (turn ∷ later) (here, paired) =
     rest : List Turn
     rest = filter (λ turn. nat_le turn.end offset) later
 
-    go : (b : Bool) → nat_le turn.end offset ≡ b → AreBreaksPaired rest → AreBreaksPaired (if b then turn ∷ rest else rest)
+    go : (b : Bool) → nat_le turn.end offset ≡ b → AreBreaksPaired rest
+        → AreBreaksPaired (if b then turn ∷ rest else rest)
     go true low all = (λ is. begins-through offset turn.end later low (here is), all)
     go false high all = all
 
@@ -100,13 +103,15 @@ module _ (k : Settings) (meaning : Meaning) (bytes : List ℕ) where
   paired-by_line = paired-before (LineSearch.turn_count k meaning bytes)
 
   -- the calls before a question: none of them is a break that still waits for its report
-  pub paired-asked : (haystack : List ℕ) (made : List Turn) → IsAskedByLine k meaning bytes haystack made → AreBreaksPaired made
+  pub paired-asked : (haystack : List ℕ) (made : List Turn) → IsAskedByLine k meaning bytes haystack made
+      → AreBreaksPaired made
   paired-asked haystack made asked =
       subst AreBreaksPaired (sym asked.before)
       (paired-through (LineSearch.start k meaning bytes asked.index) (LineSearch.turns k meaning bytes) paired-by_line)
 
   -- across lines a selected line is reported
-  reported-selected : (i : ℕ) → i < AcrossLines.turn_count k meaning bytes → AcrossLines.is_selected k meaning bytes i ≡ true
+  reported-selected : (i : ℕ) → i < AcrossLines.turn_count k meaning bytes → AcrossLines.is_selected k meaning bytes i
+      ≡ true
       → AcrossLines.is_reported k meaning bytes i ≡ true
   reported-selected i inside selected =
       let here = lt-ltb i (AcrossLines.turn_count k meaning bytes) inside in
@@ -118,7 +123,8 @@ module _ (k : Settings) (meaning : Meaning) (bytes : List ℕ) where
       ap (λ b. b && is_some (AcrossLines.kind k meaning bytes i)) here ∙ ap is_some kind
 
   -- so a break isn't made within a unit
-  unit-unbroken : (i : ℕ) → i < AcrossLines.turn_count k meaning bytes → AcrossLines.breaks_before k meaning bytes i ≡ true
+  unit-unbroken : (i : ℕ) → i < AcrossLines.turn_count k meaning bytes → AcrossLines.breaks_before k meaning bytes i
+      ≡ true
       → AcrossLines.continues_unit k meaning bytes i ≡ false
   unit-unbroken i inside is = ⊎_elim
       (λ goes.
@@ -126,7 +132,8 @@ module _ (k : Settings) (meaning : Meaning) (bytes : List ℕ) where
       let before = reported-selected (i - 1) (omega (arith, ltb-true 0 i parts.0)) parts.1 in
       let silent = (breaks-need (nat_lt 0 (k.after_context + k.before_context))
       (LineSearch.can_break k meaning bytes (AcrossLines.kind k meaning bytes i))
-      (not (AcrossLines.is_reported k meaning bytes (i - 1))) (some_below (AcrossLines.is_reported k meaning bytes) i) is).1 in
+      (not (AcrossLines.is_reported k meaning bytes (i - 1))) (some_below (AcrossLines.is_reported k meaning bytes) i)
+      is).1 in
       absurd (clash before (not_false (AcrossLines.is_reported k meaning bytes (i - 1)) silent)))
       (λ ends. ends)
       (cases_Bool (AcrossLines.continues_unit k meaning bytes i))
@@ -156,6 +163,7 @@ module _ (k : Settings) (meaning : Meaning) (bytes : List ℕ) where
   paired-across = (
     λ is. absurd (clash is refl),
     paired-joined (AcrossLines.turns_at k meaning bytes) 0 (AcrossLines.turn_count k meaning bytes)
-        (λ j low high. report-across j (AcrossLines.kind k meaning bytes j) (AcrossLines.breaks_before k meaning bytes j)
+        (λ j low high. report-across j (AcrossLines.kind k meaning bytes j)
+        (AcrossLines.breaks_before k meaning bytes j)
         (λ is. (breaks-need _ _ _ _ is).0) (unit-unbroken j (omega (arith, high)))),
   )

@@ -1,12 +1,15 @@
 -- Calls in order, put together.
-use Rattle.std.proofs.Common.{◌≡◌, ℕ, inl, inr, List, [], ◌∷◌, ◌++◌, Bool, true, false, refl, sym, subst, ap, ◌∙◌, Option, None}
+use Rattle.std.proofs.Common.{◌≡◌, ℕ, inl, inr, List, [], ◌∷◌, ◌++◌, Bool, true, false, refl, sym, subst, ap, ◌∙◌}
+use Rattle.std.proofs.Common.{Option, None}
 use Rattle.std.specs.Prelude.{Result, Ok, Err, ◌-◌, ◌&&◌, if◌then◌else◌, nat_le, nat_lt}
 use Rattle.grep_report.specs.declared.sink_context.SinkContextKind.TheVariants.{Before}
 use Rattle.std.specs.declared.io.Error.{Error}
 use Rattle.std.proofs.lemmas.List.Elements.{All-nil, All-cons, All-append, All-head, All-tail}
 use Rattle.grep_definitions.specs.BinaryBytes.{is_detecting}
-use Rattle.grep_definitions.specs.CallOrder.{is_inner, AreInner, after_begin, EndsAt, HasCalled, HasBegunWith, HasCalledTo, HasBegunTo}
-use Rattle.grep_definitions.specs.CallOrder.{IsOrderedRun, HasFailedIn, of_call, of_question, IsOrderedFault, of_run, of_matcher, of_reading}
+use Rattle.grep_definitions.specs.CallOrder.{is_inner, AreInner, after_begin, EndsAt, HasCalled, HasBegunWith}
+use Rattle.grep_definitions.specs.CallOrder.{HasCalledTo, HasBegunTo}
+use Rattle.grep_definitions.specs.CallOrder.{IsOrderedRun, HasFailedIn, of_call, of_question, IsOrderedFault, of_run}
+use Rattle.grep_definitions.specs.CallOrder.{of_matcher, of_reading}
 use Rattle.grep_definitions.specs.CallOrder.{BeginsInOrder, EndsInOrder, GoesOnInOrder, ReadsInOrder, RunsInOrder}
 use Rattle.grep_definitions.specs.Searches.{ErrorMakers, MatcherFacts}
 use Rattle.grep_definitions.specs.Settings.{Settings}
@@ -62,8 +65,10 @@ module _ {S E : Type 0} (step : Steps S E) (k : Settings) where
       }
 
   -- those of a line before a match
-  pub called-before : (v j i : ℕ) (number : Option ℕ) (offset end : ℕ) (line : List ℕ) (old : S) (outcome : Outcome E) (new : S)
-      → AreReported step k old (before_turns k v j i number offset end line) outcome new → HasCalled step k old outcome new
+  pub called-before : (v j i : ℕ) (number : Option ℕ) (offset end : ℕ) (line : List ℕ) (old : S) (outcome : Outcome E)
+      (new : S)
+      → AreReported step k old (before_turns k v j i number offset end line) outcome new
+      → HasCalled step k old outcome new
   called-before v j i number offset end line old outcome new reported =
       record {
         turns = before_turns k v j i number offset end line;
@@ -120,7 +125,12 @@ module _ {S E : Type 0} (step : Steps S E) (k : Settings) where
   -- `begin` returned false, or true and nothing followed
   pub begun-to-0 : (old : S) (begun : Bool) (new : S) → step old k begins (Ok begun) new → HasBegunTo step k old 0 new
   begun-to-0 old true new made = record { outcome = all_true; ends = tt; called = begun-one old (Ok true) new made }
-  begun-to-0 old false new made = record { outcome = stopped 0; ends = refl; called = begun-one old (Ok false) new made }
+  begun-to-0 old false new made = record {
+    outcome = stopped 0;
+    ends = refl;
+    called = begun-one old (Ok false) new
+        made;
+  }
 
   -- `finish` follows
   finished : (outcome : Outcome E) (mid : S) (count : ℕ) (binary : Option ℕ) (result : Result (Unit {0}) E) (new : S)
@@ -170,8 +180,10 @@ module _ {S E : Type 0} (step : Steps S E) (k : Settings) where
   reported-keeps name each [] old outcome new (is, same) = ap name same
   reported-keeps name each (turn ∷ later) old outcome new (inl (mid, made, reported)) =
       reported-keeps name each later mid outcome new reported ∙ each old turn.call (Ok true) mid made
-  reported-keeps name each (turn ∷ later) old outcome new (inr (inl (is, made))) = each old turn.call (Ok false) new made
-  reported-keeps name each (turn ∷ later) old outcome new (inr (inr (e, is, made))) = each old turn.call (Err e) new made
+  reported-keeps name each (turn ∷ later) old outcome new (inr (inl (is, made))) = each old turn.call (Ok false) new
+      made
+  reported-keeps name each (turn ∷ later) old outcome new (inr (inr (e, is, made))) = each old turn.call (Err e) new
+      made
 
   module _ {F : Type 0} (errors : ErrorMakers E) (matcher : MatcherFacts F) where
     -- a part of a search that goes on or not may be its last
@@ -221,7 +233,8 @@ module _ {S E : Type 0} (step : Steps S E) (k : Settings) where
           reported-keeps name each (after_begin to.called.turns) old to.outcome new to.called.reported
       begun-keeps old (Err e) new fails =
           failed-keeps (HasBegunWith step k old) old
-          (λ outcome t called. reported-keeps name each (after_begin called.turns) old outcome t called.reported) e new fails
+          (λ outcome t called. reported-keeps name each (after_begin called.turns) old outcome t called.reported) e new
+          fails
 
       pub goes-keeps : (old : S) (result : Result Bool E) (count : ℕ) (new : S)
           → GoesOnInOrder step k errors matcher old result count new → name new ≡ name old
@@ -250,7 +263,8 @@ module _ {S E : Type 0} (step : Steps S E) (k : Settings) where
         of_reading error cause made (inr (begun-then old mid all_true new begun called))
 
     -- the errors of reading may be more, or seen otherwise
-    pub order-each : (IsOfReading IsLater : Error → Type 0) → ((error : Error) → IsOfReading error → IsLater error) → (old : S)
+    pub order-each : (IsOfReading IsLater : Error → Type 0) → ((error : Error) → IsOfReading error → IsLater error)
+        → (old : S)
         (result : Result (Unit {0}) E) (new : S) → RunsInOrder step k errors matcher IsOfReading old result new
         → RunsInOrder step k errors matcher IsLater old result new
     order-each IsOfReading IsLater each old (Ok u) new run = run
@@ -292,7 +306,8 @@ module _ {S T E : Type 0} (step : Steps S E) (around : Steps T E) (k : Settings)
       (holds, called-then step k (view old) (view mid) all_true (view new) first later)
   passed-then old mid (stopped end) new first to =
       called-then-to step k (view old) (view mid) (count_of new end) (view new) first to
-  passed-then old mid (failed e) new first later = called-then step k (view old) (view mid) (failed e) (view new) first later
+  passed-then old mid (failed e) new first later = called-then step k (view old) (view mid) (failed e) (view new) first
+      later
 
   module _ (one : (call : Call) (end : ℕ) (old : T) (result : Result Bool E) (new : T)
       → is_inner (is_detecting k.binary_detection) call ≡ true → Holds old → around old k call result new
@@ -300,7 +315,8 @@ module _ {S T E : Type 0} (step : Steps S E) (around : Steps T E) (k : Settings)
     passed-all : (turns : List Turn) (old : T) (outcome : Outcome E) (new : T) → AreInner k turns → Holds old
         → AreReported around k old turns outcome new → HasPassed old outcome new
     passed-all [] old outcome new inner holds (is, same) =
-        subst (λ o. HasPassed old o new) (sym is) (subst (λ t. HasPassed old all_true t) (sym same) (holds, called-none step k (view old)))
+        subst (λ o. HasPassed old o new) (sym is) (subst (λ t. HasPassed old all_true t) (sym same)
+        (holds, called-none step k (view old)))
     passed-all (turn ∷ later) old outcome new inner holds (inl (mid, made, reported)) =
         let here = one turn.call turn.end old (Ok true) mid (All-head (IsInner k) turn later inner) holds made in
         passed-then old mid outcome new here.1
@@ -316,7 +332,8 @@ module _ {S T E : Type 0} (step : Steps S E) (around : Steps T E) (k : Settings)
         → HasPassed old outcome new
     passed old outcome new holds called = passed-all called.turns old outcome new called.inner holds called.reported
 
-    passed-ended : (old : T) (count : ℕ) (outcome : Outcome E) (new : T) → EndsAt outcome count → HasPassed old outcome new
+    passed-ended : (old : T) (count : ℕ) (outcome : Outcome E) (new : T) → EndsAt outcome count
+        → HasPassed old outcome new
         → HasCalledTo step k (view old) (count_of new count) (view new)
     passed-ended old count all_true new ends (holds, called) = record { outcome = all_true; ends = tt; called = called }
     passed-ended old count (stopped end) new ends to =
@@ -371,7 +388,8 @@ module _ {S T E : Type 0} (step : Steps S E) (around : Steps T E) (k : Settings)
 
         pub passed-begun-to : (old : T) (count : ℕ) (new : T) → Holds old → HasBegunTo around k old count new
             → HasBegunTo step k (view old) (count_of new count) (view new)
-        passed-begun-to old count new holds to = go to.outcome to.ends to.called.turns to.called.inner to.called.reported
+        passed-begun-to old count new holds to = go to.outcome to.ends to.called.turns to.called.inner
+            to.called.reported
           where
             go : (outcome : Outcome E) → EndsAt outcome count → (turns : List Turn) → AreInner k turns
                 → AreReported around k old (after_begin turns) outcome new

@@ -45,7 +45,8 @@ module _ (k : Settings) (meaning : Meaning) (bytes : List ℕ) where
   IsNear-none = SelectionLemmas.IsNear-none k is_selected is_trailing n turned
 
   -- if no line from the i-th on is selected, the lines that were passed have no calls
-  pub turns_at-done : (v i left : ℕ) → IsNear k meaning bytes v i left → ((q : ℕ) → i ≤ q → q < n → is_selected q ≡ false)
+  pub turns_at-done : (v i left : ℕ) → IsNear k meaning bytes v i left
+      → ((q : ℕ) → i ≤ q → q < n → is_selected q ≡ false)
       → (j : ℕ) → v ≤ j → j < i → turns_at k meaning bytes j ≡ []
   turns_at-done v i left near silent j low high =
       let kind : LineSearch.kind k meaning bytes j ≡ None =
@@ -59,7 +60,8 @@ module _ (k : Settings) (meaning : Meaning) (bytes : List ℕ) where
 
   module _ (v i left : ℕ) (near : IsNear k meaning bytes v i left) (inside : i < n) (has : i < turned) where
     -- a line after a selected one
-    pub turns_at-after : (start end : ℕ) (line : List ℕ) → is_selected i ≡ false → 0 < left → LineSearch.number k meaning bytes i
+    pub turns_at-after : (start end : ℕ) (line : List ℕ) → is_selected i ≡ false → 0 < left
+        → LineSearch.number k meaning bytes i
         ≡ number_of k i → LineSearch.start k meaning bytes i ≡ start → LineSearch.start k meaning bytes (i + 1) ≡ end
         → LineSearch.line k meaning bytes i ≡ line → turns_at k meaning bytes i
         ≡ after_turns k (is_trailing i) v i start end line
@@ -68,7 +70,8 @@ module _ (k : Settings) (meaning : Meaning) (bytes : List ℕ) where
         kind : LineSearch.kind k meaning bytes i ≡ Some (if is_trailing i then matched else in_context After)
         kind = SelectionLemmas.kind-after k is_selected is_trailing n turned v i left near misses some
 
-        gap : (nat_lt 0 (A + B) && true && not (is_reported (i - 1)) && some_below is_reported i) ≡ (nat_lt 0 A && is_gap k v i i)
+        gap : (nat_lt 0 (A + B) && true && not (is_reported (i - 1)) && some_below is_reported i)
+            ≡ (nat_lt 0 A && is_gap k v i i)
         gap = SelectionLemmas.gap-after k is_selected is_trailing n turned v i left near some
 
         go : (b : Bool) → is_trailing i ≡ b → turns_at k meaning bytes i ≡ after_turns k b v i start end line
@@ -80,9 +83,11 @@ module _ (k : Settings) (meaning : Meaning) (bytes : List ℕ) where
             rw (as_context, and-false (nat_lt 0 (A + B)), is_number, is_end, is_start, is_line) refl
 
     -- a line that is reported under passthru alone
-    pub turns_at-other : (start end : ℕ) (line : List ℕ) → is_selected i ≡ false → left ≡ 0 → k.passthru ≡ true → k.before_context ≡ 0
+    pub turns_at-other : (start end : ℕ) (line : List ℕ) → is_selected i ≡ false → left ≡ 0 → k.passthru ≡ true
+        → k.before_context ≡ 0
         → LineSearch.number k meaning bytes i ≡ number_of k i → LineSearch.start k meaning bytes i ≡ start
-        → LineSearch.start k meaning bytes (i + 1) ≡ end → LineSearch.line k meaning bytes i ≡ line → turns_at k meaning bytes i
+        → LineSearch.start k meaning bytes (i + 1) ≡ end → LineSearch.line k meaning bytes i ≡ line
+        → turns_at k meaning bytes i
         ≡ context_turns Other (number_of k i) start end line
     turns_at-other start end line misses empty bare none is_number is_start is_end is_line =
         let kind : LineSearch.kind k meaning bytes i ≡ Some (in_context Other) =
@@ -98,28 +103,37 @@ module _ (k : Settings) (meaning : Meaning) (bytes : List ℕ) where
       IsNear-hit = SelectionLemmas.IsNear-hit k is_selected is_trailing n turned i has hit
 
       -- a passed line's calls
-      pub turns_at-passed : (j start end : ℕ) (line : List ℕ) → v ≤ j → j < i → LineSearch.start k meaning bytes j ≡ start
-          → LineSearch.start k meaning bytes (i + 1) ≡ end → LineSearch.line k meaning bytes j ≡ line → turns_at k meaning bytes j
+      pub turns_at-passed : (j start end : ℕ) (line : List ℕ) → v ≤ j → j < i → LineSearch.start k meaning bytes j
+          ≡ start
+          → LineSearch.start k meaning bytes (i + 1) ≡ end → LineSearch.line k meaning bytes j ≡ line
+          → turns_at k meaning bytes j
           ≡ before_turns k v j i (LineSearch.number k meaning bytes j) start end line
       turns_at-passed j start end line low less is_start is_end is_line = ⊎_elim far close (cases_lt B (i - j))
         where
           is_kind : LineSearch.kind k meaning bytes j ≡ (if nat_le (i - j) B then Some (in_context Before) else None)
-          is_kind = SelectionLemmas.kind-passed k is_selected is_trailing n turned v i left near inside has hit j low less
+          is_kind = SelectionLemmas.kind-passed k is_selected is_trailing n turned v i left near inside has hit j low
+              less
 
-          far : B < i - j → turns_at k meaning bytes j ≡ before_turns k v j i (LineSearch.number k meaning bytes j) start end line
+          far : B < i - j → turns_at k meaning bytes j ≡ before_turns k v j i (LineSearch.number k meaning bytes j)
+              start end line
           far out =
               let test = lt-leb (i - j) B out in
-              let kind : LineSearch.kind k meaning bytes j ≡ None = is_kind ∙ ap (λ b. if b then Some (in_context Before) else None) test in
+              let kind : LineSearch.kind k meaning bytes j ≡ None = is_kind
+              ∙ ap (λ b. if b then Some (in_context Before) else None) test in
               rw (kind, and-false (nat_lt 0 (A + B)), test) refl
 
-          close : i - j ≤ B → turns_at k meaning bytes j ≡ before_turns k v j i (LineSearch.number k meaning bytes j) start end line
+          close : i - j ≤ B → turns_at k meaning bytes j
+              ≡ before_turns k v j i (LineSearch.number k meaning bytes j) start end line
           close inner =
               let test = le-leb (i - j) B inner in
               let kind : LineSearch.kind k meaning bytes j ≡ Some (in_context Before) = is_kind
               ∙ ap (λ b. if b then Some (in_context Before) else None) test in
-              let gap : (nat_lt 0 (A + B) && true && not (is_reported (j - 1)) && some_below is_reported j) ≡ is_gap k v j i =
-              SelectionLemmas.gap-passed k is_selected is_trailing n turned v i left near inside has hit j low less inner in
-              let found = SelectionLemmas.next-passed k is_selected is_trailing n turned v i left near inside has hit j low less in
+              let gap : (nat_lt 0 (A + B) && true && not (is_reported (j - 1)) && some_below is_reported j)
+              ≡ is_gap k v j i =
+              SelectionLemmas.gap-passed k is_selected is_trailing n turned v i left near inside has hit j low less
+              inner in
+              let found = SelectionLemmas.next-passed k is_selected is_trailing n turned v i left near inside has hit j
+              low less in
               rw (kind, gap, found, is_start, is_end, is_line, test) refl
 
       -- the match's calls
@@ -128,6 +142,7 @@ module _ (k : Settings) (meaning : Meaning) (bytes : List ℕ) where
           → LineSearch.line k meaning bytes i ≡ line → turns_at k meaning bytes i ≡ match_turns k v i start end line
       turns_at-hit start end line is_number is_start is_end is_line =
           let kind : LineSearch.kind k meaning bytes i ≡ Some matched = rw hit refl in
-          let gap : (nat_lt 0 (A + B) && true && not (is_reported (i - 1)) && some_below is_reported i) ≡ (nat_lt 0 A && is_gap k v i i) =
+          let gap : (nat_lt 0 (A + B) && true && not (is_reported (i - 1)) && some_below is_reported i)
+          ≡ (nat_lt 0 A && is_gap k v i i) =
           SelectionLemmas.gap-hit k is_selected is_trailing n turned v i left near inside has hit in
           rw (kind, gap, is_number, is_end, is_start, is_line) refl

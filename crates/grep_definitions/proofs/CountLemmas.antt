@@ -1,5 +1,6 @@
 -- How many matches are reported, whether lines are numbered or not.
-use Rattle.std.proofs.Common.{◌≡◌, ℕ, zero, suc, ◌+◌, Bool, true, false, List, [], ◌∷◌, ◌++◌, length, refl, ◌∙◌, ap, Option, Some, None}
+use Rattle.std.proofs.Common.{◌≡◌, ℕ, zero, suc, ◌+◌, Bool, true, false, List, [], ◌∷◌, ◌++◌, length, refl, ◌∙◌, ap}
+use Rattle.std.proofs.Common.{Option, Some, None}
 use Rattle.std.proofs.Common.{if◌then◌else◌}
 use Rattle.std.proofs.lemmas.List.{map-append, length-append}
 use Rattle.std.proofs.lemmas.List.Elements.{filter-append}
@@ -52,18 +53,22 @@ module _ (k : Settings) (numbered : Bool) (meaning : Meaning) (bytes : List ℕ)
 
   -- by line
   report-count : (i : ℕ) (kind : Option Kind)
-      → match_count (LineSearch.report other meaning bytes i kind) ≡ match_count (LineSearch.report k meaning bytes i kind)
+      → match_count (LineSearch.report other meaning bytes i kind)
+      ≡ match_count (LineSearch.report k meaning bytes i kind)
   report-count i None = refl
   report-count i (Some matched) = refl
   report-count i (Some (in_context c)) = refl
 
-  line-count : (i : ℕ) → match_count (LineSearch.turns_at other meaning bytes i) ≡ match_count (LineSearch.turns_at k meaning bytes i)
+  line-count : (i : ℕ) → match_count (LineSearch.turns_at other meaning bytes i)
+      ≡ match_count (LineSearch.turns_at k meaning bytes i)
   line-count i =
-      match_count-breaks (LineSearch.breaks_before k meaning bytes i) _ _ _ (report-count i (LineSearch.kind k meaning bytes i))
+      match_count-breaks (LineSearch.breaks_before k meaning bytes i) _ _ _
+      (report-count i (LineSearch.kind k meaning bytes i))
 
   -- across lines
   unit-count : (i : ℕ) (kind : Option Kind)
-      → match_count (AcrossLines.report other meaning bytes i kind) ≡ match_count (AcrossLines.report k meaning bytes i kind)
+      → match_count (AcrossLines.report other meaning bytes i kind)
+      ≡ match_count (AcrossLines.report k meaning bytes i kind)
   unit-count i None = refl
   unit-count i (Some matched) = go (AcrossLines.continues_unit k meaning bytes i) _ _ refl refl
     where
@@ -73,11 +78,14 @@ module _ (k : Settings) (numbered : Bool) (meaning : Meaning) (bytes : List ℕ)
       go false turn turn' is is' = rw (is, is') refl
   unit-count i (Some (in_context c)) = refl
 
-  across-count : (i : ℕ) → match_count (AcrossLines.turns_at other meaning bytes i) ≡ match_count (AcrossLines.turns_at k meaning bytes i)
+  across-count : (i : ℕ) → match_count (AcrossLines.turns_at other meaning bytes i)
+      ≡ match_count (AcrossLines.turns_at k meaning bytes i)
   across-count i =
-      match_count-breaks (AcrossLines.breaks_before k meaning bytes i) _ _ _ (unit-count i (AcrossLines.kind k meaning bytes i))
+      match_count-breaks (AcrossLines.breaks_before k meaning bytes i) _ _ _
+      (unit-count i (AcrossLines.kind k meaning bytes i))
 
-  mode-count : (across : Bool) → match_count ((calls_if other meaning across).turns bytes) ≡ match_count ((calls_if k meaning across).turns bytes)
+  mode-count : (across : Bool) → match_count ((calls_if other meaning across).turns bytes)
+      ≡ match_count ((calls_if k meaning across).turns bytes)
   mode-count true = match_count-joined _ _ across-count 0 (AcrossLines.turn_count k meaning bytes)
   mode-count false = match_count-joined _ _ line-count 0 (LineSearch.turn_count k meaning bytes)
 

@@ -6,7 +6,8 @@ use Rattle.grep_decode.specs.Marks.{mark_of, marked}
 use Rattle.grep_decode.specs.declared.label.Label.{Label}
 use Rattle.grep_decode.specs.declared.label.Label.TheVariants.{Utf8}
 use Rattle.grep_definitions.specs.DecodedInputs.{searched_bytes, is_searched_unchanged, passes_after, passes_unchanged}
-use Rattle.grep_definitions.specs.SearchLaws.{MarkedPasses, UnchangedIsInput, UnchangedPasses, UnsniffedIsUnchanged, UnmarkedIsUnchanged}
+use Rattle.grep_definitions.specs.SearchLaws.{MarkedPasses, UnchangedIsInput, UnchangedPasses, UnsniffedIsUnchanged}
+use Rattle.grep_definitions.specs.SearchLaws.{UnmarkedIsUnchanged}
 
 pub unchanged-input : ((label : Option Label) (sniff : Bool) (bytes : List ℕ) → is_unchanged label sniff bytes ≡ true
     → decoded label sniff bytes ≡ bytes) → UnchangedIsInput
@@ -17,7 +18,8 @@ pub unsniffed-unchanged : UnsniffedIsUnchanged
 unfolding is_searched_unchanged
 unsniffed-unchanged settings input unlabelled unsniffed = rw (unlabelled, unsniffed) refl
 
-none-found : (sniff : Bool) (mark : Option Label) → mark ≡ None → not (is_some (if sniff || false then mark else None)) ≡ true
+none-found : (sniff : Bool) (mark : Option Label) → mark ≡ None → not (is_some (if sniff || false then mark else None))
+    ≡ true
 none-found true mark none = rw none refl
 none-found false mark none = refl
 
@@ -26,7 +28,8 @@ unfolding is_searched_unchanged
 unmarked-unchanged settings input unlabelled unmarked =
     rw unlabelled (none-found settings.bom_sniffing (marked input) unmarked)
 
-passes-without : (label mark : Option Label) → (not (is_some label) && not (is_some mark)) ≡ true → passes_after mark label ≡ true
+passes-without : (label mark : Option Label) → (not (is_some label) && not (is_some mark)) ≡ true
+    → passes_after mark label ≡ true
 passes-without None None unchanged = refl
 passes-without None (Some mark) unchanged = absurd (cc)
 passes-without (Some label) mark unchanged = absurd (cc)

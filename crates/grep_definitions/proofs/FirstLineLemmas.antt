@@ -1,5 +1,6 @@
 -- What the definitions say of the first lines does not depend on the lines after them.
-use Rattle.std.proofs.Common.{◌≡◌, ℕ, zero, suc, ◌+◌, ◌-◌, ◌<◌, ◌≤◌, Bool, true, ◌&&◌, List, [], ◌++◌, length, take, get_or, slice_index, refl, ap, ◌∙◌, arith, Some, None, length-append, if◌then◌else◌}
+use Rattle.std.proofs.Common.{◌≡◌, ℕ, zero, suc, ◌+◌, ◌-◌, ◌<◌, ◌≤◌, Bool, true, ◌&&◌, List, [], ◌++◌, length, take}
+use Rattle.std.proofs.Common.{get_or, slice_index, refl, ap, ◌∙◌, arith, Some, None, length-append, if◌then◌else◌}
 use Rattle.std.proofs.lemmas.Bool.{lt-ltb}
 use Rattle.std.proofs.lemmas.List.{get_or_append_left, take-append-le}
 use Rattle.std.specs.Prelude.{nat_eq, nat_lt, nat_le, count_by}
@@ -16,12 +17,14 @@ use Rattle.grep_definitions.proofs.LineStartLemmas.{line_start-within}
 -- as many pass if the tests agree
 pub count_below-same : (p q : ℕ → Bool) (n : ℕ) → ((j : ℕ) → j < n → p j ≡ q j) → count_below p n ≡ count_below q n
 count_below-same p q zero same = refl
-count_below-same p q (suc n) same = rw (count_below-same p q n (λ j below. same j (omega arith)), same n (omega arith)) refl
+count_below-same p q (suc n) same = rw (count_below-same p q n (λ j below. same j (omega arith)), same n (omega arith))
+    refl
 
 -- some number passes, or none, if the tests agree
 pub some_below-same : (p q : ℕ → Bool) (n : ℕ) → ((j : ℕ) → j < n → p j ≡ q j) → some_below p n ≡ some_below q n
 some_below-same p q zero same = refl
-some_below-same p q (suc n) same = rw (some_below-same p q n (λ j below. same j (omega arith)), same n (omega arith)) refl
+some_below-same p q (suc n) same = rw (some_below-same p q n (λ j below. same j (omega arith)), same n (omega arith))
+    refl
 
 -- the first that passes is the same if the tests agree
 pub first_below-same : (p q : ℕ → Bool) (n : ℕ) → ((j : ℕ) → j < n → p j ≡ q j) → first_below p n ≡ first_below q n
@@ -66,8 +69,12 @@ module _ (join : LinesJoin) (append : LinesAppend) (k : Settings) (meaning : Mea
   pub hits-same : (i : ℕ) → i < n → LineSearch.hits k meaning whole i ≡ LineSearch.hits k meaning front i
   hits-same i below =
       let here : nat_lt i n ≡ true = lt-ltb i n below in
-      let inside : i < length (lines (byte_of k.line_terminator) whole) = omega
-      (arith, ap length all_lines, length-append (lines (byte_of k.line_terminator) front) (lines (byte_of k.line_terminator) back))
+      let inside : i < length (lines (byte_of k.line_terminator) whole) = omega (
+        arith,
+        ap length all_lines,
+        length-append (lines (byte_of k.line_terminator) front)
+            (lines (byte_of k.line_terminator) back),
+      )
       in
       let there : nat_lt i (length (lines (byte_of k.line_terminator) whole))
       ≡ true = lt-ltb i (length (lines (byte_of k.line_terminator) whole)) inside in
@@ -81,42 +88,49 @@ module _ (join : LinesJoin) (append : LinesAppend) (k : Settings) (meaning : Mea
       rw (hits-same i below, before) refl
 
   -- it is trailing in both or in neither
-  pub is_trailing-same : (i : ℕ) → i < n → LineSearch.is_trailing k meaning whole i ≡ LineSearch.is_trailing k meaning front i
+  pub is_trailing-same : (i : ℕ) → i < n → LineSearch.is_trailing k meaning whole i
+      ≡ LineSearch.is_trailing k meaning front i
   is_trailing-same i below =
       let before = count_below-same (LineSearch.hits k meaning whole) (LineSearch.hits k meaning front) i
       (λ j less. hits-same j (omega arith)) in
       rw (hits-same i below, before) refl
 
   -- it ends the chosen lines in both or in neither
-  pub ends_chosen-same : (i : ℕ) → i < n → LineSearch.ends_chosen k meaning whole i ≡ LineSearch.ends_chosen k meaning front i
+  pub ends_chosen-same : (i : ℕ) → i < n → LineSearch.ends_chosen k meaning whole i
+      ≡ LineSearch.ends_chosen k meaning front i
   ends_chosen-same i below =
       let before = some_below-same (LineSearch.is_chosen k meaning whole) (LineSearch.is_chosen k meaning front) i
       (λ j less. is_chosen-same j (omega arith)) in
       rw (is_chosen-same i below, before) refl
 
   -- it is selected in both or in neither
-  pub is_selected-same : (i : ℕ) → i < n → LineSearch.is_selected k meaning whole i ≡ LineSearch.is_selected k meaning front i
+  pub is_selected-same : (i : ℕ) → i < n → LineSearch.is_selected k meaning whole i
+      ≡ LineSearch.is_selected k meaning front i
   is_selected-same i below =
       let before = some_below-same (LineSearch.ends_chosen k meaning whole) (LineSearch.ends_chosen k meaning front) i
       (λ j less. ends_chosen-same j (omega arith)) in
       rw (is_chosen-same i below, before) refl
 
   -- it follows a selected line in both or in neither
-  pub follows-same : (i : ℕ) → i < n → LineSearch.follows_selected k meaning whole i ≡ LineSearch.follows_selected k meaning front i
-  follows-same i below = some_below-same (λ j. nat_le (i - j) k.after_context && LineSearch.is_selected k meaning whole j)
+  pub follows-same : (i : ℕ) → i < n → LineSearch.follows_selected k meaning whole i
+      ≡ LineSearch.follows_selected k meaning front i
+  follows-same i below = some_below-same (λ j. nat_le (i - j) k.after_context
+      && LineSearch.is_selected k meaning whole j)
       (λ j. nat_le (i - j) k.after_context && LineSearch.is_selected k meaning front j) i
       (λ j less. ap (λ b. nat_le (i - j) k.after_context && b) (is_selected-same j (omega arith)))
 
   -- it has the same number
   pub number-same : (i : ℕ) → i ≤ n → LineSearch.number k meaning whole i ≡ LineSearch.number k meaning front i
   number-same i inside =
-      let cut : take (LineSearch.start k meaning whole i) whole ≡ take (LineSearch.start k meaning front i) front = ap (λ p. take p whole)
+      let cut : take (LineSearch.start k meaning whole i) whole
+      ≡ take (LineSearch.start k meaning front i) front = ap (λ p. take p whole)
       (start-same i inside) ∙ take-append-le (LineSearch.start k meaning front i) front back
       (line_start-within join (byte_of k.line_terminator) front i) in
       ap (λ bs. if k.line_number then Some (count_by (λ b. nat_eq b (byte_of k.line_terminator)) bs + 1) else None) cut
 
   -- it fills the limit in both or in neither
-  pub fills_limit-same : (i : ℕ) → i < n → LineSearch.fills_limit k meaning whole i ≡ LineSearch.fills_limit k meaning front i
+  pub fills_limit-same : (i : ℕ) → i < n → LineSearch.fills_limit k meaning whole i
+      ≡ LineSearch.fills_limit k meaning front i
   fills_limit-same i below =
       let before = count_below-same (LineSearch.hits k meaning whole) (LineSearch.hits k meaning front) i
       (λ j less. hits-same j (omega arith)) in

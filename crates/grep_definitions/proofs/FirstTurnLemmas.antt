@@ -1,5 +1,7 @@
 -- The calls of the first lines begin the calls of all.
-use Rattle.std.proofs.Common.{◌≡◌, ℕ, zero, suc, ◌+◌, ◌-◌, ◌<◌, ◌≤◌, min, Bool, true, false, ◌&&◌, not, List, [], ◌∷◌, ◌++◌, length, refl, sym, ap, subst, ◌∙◌, arith, inl, inr, ◌⊎◌, ⊎_elim, Option, Some, None, is_some, length-append, append-nil, if◌then◌else◌}
+use Rattle.std.proofs.Common.{◌≡◌, ℕ, zero, suc, ◌+◌, ◌-◌, ◌<◌, ◌≤◌, min, Bool, true, false, ◌&&◌, not, List, [], ◌∷◌}
+use Rattle.std.proofs.Common.{◌++◌, length, refl, sym, ap, subst, ◌∙◌, arith, inl, inr, ◌⊎◌, ⊎_elim, Option, Some, None}
+use Rattle.std.proofs.Common.{is_some, length-append, append-nil, if◌then◌else◌}
 use Rattle.std.proofs.Math.Bool.{and-false}
 use Rattle.std.proofs.lemmas.Bool.{lt-ltb, ltb-true, leb-true, le-leb, cases_lt, cases_Bool}
 use Rattle.std.specs.Prelude.{nat_lt, nat_le}
@@ -14,7 +16,8 @@ use Rattle.grep_definitions.specs.SinkCalls.{Turn, begins, breaks, matches, cont
 use Rattle.grep_definitions.specs.Below.{some_below, first_below, at_most, joined_from}
 use Rattle.grep_definitions.specs.LineSearch
 use Rattle.grep_definitions.specs.LineSearch.{can_break, Kind, matched, in_context}
-use Rattle.grep_definitions.proofs.BelowLemmas.{some_below-find, first_below-nowhere, some_below-some, first_below-of, first_below-late, joined_from-add, joined_from-equal, joined_from-none}
+use Rattle.grep_definitions.proofs.BelowLemmas.{some_below-find, first_below-nowhere, some_below-some, first_below-of}
+use Rattle.grep_definitions.proofs.BelowLemmas.{first_below-late, joined_from-add, joined_from-equal, joined_from-none}
 use Rattle.grep_definitions.proofs.FirstLineLemmas as prefix
 use Rattle.grep_definitions.proofs.FirstLineLemmas.{IsClosed, some_below-same, first_below-same}
 use Rattle.grep_definitions.proofs.BoolLemmas.{and-both, both_true}
@@ -66,7 +69,8 @@ module _ (join : LinesJoin) (append : LinesAppend) (k : Settings) (meaning : Mea
   -- what the test says
   near-from : (bytes : List ℕ) (i j : ℕ) → near_before bytes i j ≡ true → IsNearMatch bytes i j
   near-from bytes i j is =
-      let both = both_true (nat_lt i j && nat_le (j - i) k.before_context) (LineSearch.is_selected k meaning bytes j) is in
+      let both = both_true (nat_lt i j && nat_le (j - i) k.before_context) (LineSearch.is_selected k meaning bytes j)
+      is in
       let near = both_true (nat_lt i j) (nat_le (j - i) k.before_context) both.0 in
       record {
         beyond = ltb-true i j near.0;
@@ -76,11 +80,14 @@ module _ (join : LinesJoin) (append : LinesAppend) (k : Settings) (meaning : Mea
 
   -- the test, if that holds
   near-to : (bytes : List ℕ) (i j : ℕ) → IsNearMatch bytes i j → near_before bytes i j ≡ true
-  near-to bytes i j h = and-both (nat_lt i j && nat_le (j - i) k.before_context) (LineSearch.is_selected k meaning bytes j)
-      (and-both (nat_lt i j) (nat_le (j - i) k.before_context) (lt-ltb i j h.beyond) (le-leb (j - i) k.before_context h.within)) h.chosen
+  near-to bytes i j h = and-both (nat_lt i j && nat_le (j - i) k.before_context)
+      (LineSearch.is_selected k meaning bytes j)
+      (and-both (nat_lt i j) (nat_le (j - i) k.before_context) (lt-ltb i j h.beyond)
+      (le-leb (j - i) k.before_context h.within)) h.chosen
 
   -- a line before a match in the front is so in the whole
-  precedes-more : (i : ℕ) → LineSearch.precedes_selected k meaning front i ≡ true → LineSearch.precedes_selected k meaning whole i ≡ true
+  precedes-more : (i : ℕ) → LineSearch.precedes_selected k meaning front i ≡ true
+      → LineSearch.precedes_selected k meaning whole i ≡ true
   precedes-more i is =
       let found = some_below-find (near_before front i) n is in
       let near = near-from front i found.0 found.2 in
@@ -98,7 +105,8 @@ module _ (join : LinesJoin) (append : LinesAppend) (k : Settings) (meaning : Mea
 
   -- a line of the front is reported the same way in the whole, or is late
   pub kind-same : (i : ℕ) → i < n → (LineSearch.kind k meaning whole i ≡ LineSearch.kind k meaning front i) ⊎ IsLate i
-  kind-same i below = go (selected i) (LineSearch.follows_selected k meaning front i) (LineSearch.precedes_selected k meaning front i)
+  kind-same i below = go (selected i) (LineSearch.follows_selected k meaning front i)
+      (LineSearch.precedes_selected k meaning front i)
       (LineSearch.precedes_selected k meaning whole i) refl refl refl refl
     where
       s : LineSearch.is_selected k meaning whole i ≡ selected i
@@ -136,7 +144,12 @@ module _ (join : LinesJoin) (append : LinesAppend) (k : Settings) (meaning : Mea
           let far : n ≤ beyond.0 = ⊎_elim
           (λ less. absurd (let here = some_below-some (near_before front i) n beyond.0 less
           (near-to front i beyond.0
-          (record { beyond = near.beyond; within = near.within; chosen = sym (same_selected beyond.0 less) ∙ near.chosen })) in
+          (record {
+            beyond = near.beyond;
+            within = near.within;
+            chosen = sym (same_selected beyond.0 less)
+                ∙ near.chosen;
+          })) in
           let no = late.unpreceded in cc)) (λ out. out) (cases_lt beyond.0 n) in
           let here = some_below-some (near_before front i) n j below
           (near-to front i j (record { beyond = after_i; within = omega (arith, near.within, far); chosen = holds })) in
@@ -159,7 +172,8 @@ module _ (join : LinesJoin) (append : LinesAppend) (k : Settings) (meaning : Mea
           let within = leb-true (j - match.0) k.after_context both.0 in
           let chosen = both.1 in
           let earlier : match.0 < i = ⊎_elim (λ less. less)
-          (λ out. absurd (let no = late-unselected i match.0 late out (omega (arith, match.1)) in cc)) (cases_lt match.0 i) in
+          (λ out. absurd (let no = late-unselected i match.0 late out (omega (arith, match.1)) in cc))
+          (cases_lt match.0 i) in
           let here = some_below-some (near_after i) i match.0 earlier
           (and-both (nat_le (i - match.0) k.after_context) (selected match.0)
           (le-leb (i - match.0) k.after_context (omega (arith, within))) chosen) in
@@ -185,9 +199,15 @@ module _ (join : LinesJoin) (append : LinesAppend) (k : Settings) (meaning : Mea
     late-kind i j late low below =
         let near = near-from whole i _ (some_below-find (near_before whole i) all late.precedes).2 in
         let plain : k.passthru
-        ≡ false = ⊎_elim (λ holds. absurd (let none = built holds in omega (arith, none, near.within, near.beyond))) (λ no. no)
+        ≡ false = ⊎_elim (λ holds. absurd (let none = built holds in omega (arith, none, near.within, near.beyond)))
+        (λ no. no)
         (cases_Bool k.passthru) in
-        rw (late-unselected i j late low below, late-unfollowed i j late low below, late-unpreceded i j late low below, plain) refl
+        rw (
+          late-unselected i j late low below,
+          late-unfollowed i j late low below,
+          late-unpreceded i j late low below,
+          plain,
+        ) refl
 
     -- after a late line no line of the front has a call
     late-turns : (i j : ℕ) → IsLate i → i ≤ j → j < n → LineSearch.turns_at k meaning front j ≡ []
@@ -227,7 +247,8 @@ module _ (join : LinesJoin) (append : LinesAppend) (k : Settings) (meaning : Mea
           (rw (next, is) refl, rw is (omega arith))
 
   -- a line that is reported as one before a match is before one
-  kind-before : (i : ℕ) → LineSearch.kind k meaning front i ≡ Some (in_context Before) → LineSearch.precedes_selected k meaning front i
+  kind-before : (i : ℕ) → LineSearch.kind k meaning front i ≡ Some (in_context Before)
+      → LineSearch.precedes_selected k meaning front i
       ≡ true
   kind-before i is = go (selected i) (LineSearch.follows_selected k meaning front i)
       (LineSearch.precedes_selected k meaning front i) k.passthru refl refl refl refl
@@ -237,7 +258,8 @@ module _ (join : LinesJoin) (append : LinesAppend) (k : Settings) (meaning : Mea
       unlike false at = cc
 
       go : (a b c d : Bool) → selected i ≡ a → LineSearch.follows_selected k meaning front i ≡ b
-          → LineSearch.precedes_selected k meaning front i ≡ c → k.passthru ≡ d → LineSearch.precedes_selected k meaning front i ≡ true
+          → LineSearch.precedes_selected k meaning front i ≡ c → k.passthru ≡ d
+          → LineSearch.precedes_selected k meaning front i ≡ true
       go true b c d p q r t = absurd (let at = rw p at is in cc)
       go false true c d p q r t = absurd (unlike (LineSearch.is_trailing k meaning front i) (rw (p, q) at is))
       go false false true d p q r t = r
@@ -245,7 +267,8 @@ module _ (join : LinesJoin) (append : LinesAppend) (k : Settings) (meaning : Mea
       go false false false false p q r t = absurd (let at = rw (p, q, r, t) at is in cc)
 
   -- the turn of a line of the front ends at the same offset in the whole
-  end-same : (i : ℕ) → i < n → (kd : Option Kind) → LineSearch.kind k meaning front i ≡ kd → LineSearch.turn_end k meaning whole i kd
+  end-same : (i : ℕ) → i < n → (kd : Option Kind) → LineSearch.kind k meaning front i ≡ kd
+      → LineSearch.turn_end k meaning whole i kd
       ≡ LineSearch.turn_end k meaning front i kd
   end-same i below None is = prefix.start-same join append k meaning front back closed (i + 1) (omega arith)
   end-same i below (Some matched) is = prefix.start-same join append k meaning front back closed (i + 1) (omega arith)
@@ -253,11 +276,14 @@ module _ (join : LinesJoin) (append : LinesAppend) (k : Settings) (meaning : Mea
       let through = through-same i below (kind-before i is) in
       ap (LineSearch.start k meaning whole) through.0 ∙ prefix.start-same join append k meaning front back closed
       (LineSearch.lines_through_next k meaning front i) through.1
-  end-same i below (Some (in_context After)) is = prefix.start-same join append k meaning front back closed (i + 1) (omega arith)
-  end-same i below (Some (in_context Other)) is = prefix.start-same join append k meaning front back closed (i + 1) (omega arith)
+  end-same i below (Some (in_context After)) is = prefix.start-same join append k meaning front back closed (i + 1)
+      (omega arith)
+  end-same i below (Some (in_context Other)) is = prefix.start-same join append k meaning front back closed (i + 1)
+      (omega arith)
 
   -- a line of the front has the same report in the whole
-  report-same : (i : ℕ) → i < n → (kd : Option Kind) → LineSearch.kind k meaning front i ≡ kd → LineSearch.report k meaning whole i kd
+  report-same : (i : ℕ) → i < n → (kd : Option Kind) → LineSearch.kind k meaning front i ≡ kd
+      → LineSearch.report k meaning whole i kd
       ≡ LineSearch.report k meaning front i kd
   report-same i below None is = refl
   report-same i below (Some matched) is =
@@ -334,12 +360,14 @@ module _ (join : LinesJoin) (append : LinesAppend) (k : Settings) (meaning : Mea
   -- a bound by the first line that passes is such a bound
   first-bounds : (f : ℕ → ℕ) → ((u : ℕ) → u ≤ f u) → (p q : ℕ → Bool) → ((j : ℕ) → j < n → p j ≡ q j)
       → Bounds (option_map f (first_below p all)) (option_map f (first_below q n))
-  first-bounds f grows p q same = go (some_below p n) refl (first_below p (n + length (lines (byte_of k.line_terminator) back))) refl
+  first-bounds f grows p q same = go (some_below p n) refl
+      (first_below p (n + length (lines (byte_of k.line_terminator) back))) refl
     where
       sum : first_below p all ≡ first_below p (n + length (lines (byte_of k.line_terminator) back))
       sum = ap (first_below p) more_lines
 
-      go : (b : Bool) → some_below p n ≡ b → (o : Option ℕ) → first_below p (n + length (lines (byte_of k.line_terminator) back)) ≡ o
+      go : (b : Bool) → some_below p n ≡ b → (o : Option ℕ)
+          → first_below p (n + length (lines (byte_of k.line_terminator) back)) ≡ o
           → Bounds (option_map f (first_below p all)) (option_map f (first_below q n))
       go true is o at = inl (ap (option_map f) (sum ∙ first_below-far p n _ is ∙ first_below-same p q n same))
       go false is None at =
@@ -359,22 +387,26 @@ module _ (join : LinesJoin) (append : LinesAppend) (k : Settings) (meaning : Mea
           → Bounds (LineSearch.turns_by_stop k meaning whole) (LineSearch.turns_by_stop k meaning front)
       go false is = inl (rw is refl)
       go true is = rw is (first-bounds suc (λ u. omega arith) (LineSearch.ends_chosen k meaning whole)
-          (LineSearch.ends_chosen k meaning front) (λ j below. prefix.ends_chosen-same join append k meaning front back closed j below))
+          (LineSearch.ends_chosen k meaning front) (λ j below. prefix.ends_chosen-same join append k meaning front back
+          closed j below))
 
   -- so is the bound by the limit
   limit-bounds : (limit : Option ℕ)
       → Bounds (LineSearch.turns_by_limit k meaning whole limit) (LineSearch.turns_by_limit k meaning front limit)
   limit-bounds None = inl refl
   limit-bounds (Some zero) = inl refl
-  limit-bounds (Some (suc l)) = first-bounds (λ m. suc (m + k.after_context)) (λ u. omega arith) (LineSearch.fills_limit k meaning whole)
-      (LineSearch.fills_limit k meaning front) (λ j below. prefix.fills_limit-same join append k meaning front back closed j below)
+  limit-bounds (Some (suc l)) = first-bounds (λ m. suc (m + k.after_context)) (λ u. omega arith)
+      (LineSearch.fills_limit k meaning whole)
+      (LineSearch.fills_limit k meaning front) (λ j below. prefix.fills_limit-same join append k meaning front back
+      closed j below)
 
   -- so is that bound if passthru lifts it
   passthru-bounds : Bounds (if k.passthru then None else LineSearch.turns_by_limit k meaning whole k.max_matches)
       (if k.passthru then None else LineSearch.turns_by_limit k meaning front k.max_matches)
   passthru-bounds = go k.passthru refl
     where
-      go : (b : Bool) → k.passthru ≡ b → Bounds (if k.passthru then None else LineSearch.turns_by_limit k meaning whole k.max_matches)
+      go : (b : Bool) → k.passthru ≡ b → Bounds (if k.passthru then None else LineSearch.turns_by_limit k meaning whole
+          k.max_matches)
           (if k.passthru then None else LineSearch.turns_by_limit k meaning front k.max_matches)
       go true is = inl (rw is refl)
       go false is = rw is (limit-bounds k.max_matches)
@@ -398,7 +430,8 @@ module _ (join : LinesJoin) (append : LinesAppend) (k : Settings) (meaning : Mea
       let near : nat_lt j count_front ≡ true = lt-ltb j count_front (omega arith) in
       let far : nat_lt j count_whole ≡ true = lt-ltb j count_whole (omega (arith, count-same)) in
       let kinds = same j (omega arith) in
-      ap (λ b. b && is_some (LineSearch.kind k meaning whole j)) (far ∙ sym near) ∙ ap (λ o. nat_lt j count_front && is_some o) kinds
+      ap (λ b. b && is_some (LineSearch.kind k meaning whole j)) (far ∙ sym near)
+      ∙ ap (λ o. nat_lt j count_front && is_some o) kinds
 
   -- a break may come before the same kinds
   breaks-same : (o : Option Kind) → can_break k meaning whole o ≡ can_break k meaning front o
@@ -409,7 +442,8 @@ module _ (join : LinesJoin) (append : LinesAppend) (k : Settings) (meaning : Mea
   breaks-same (Some (in_context Other)) = refl
 
   -- a line up to there has the same calls
-  turns_at-same : (i : ℕ) → Same (i + 1) → i < count_front → LineSearch.turns_at k meaning whole i ≡ LineSearch.turns_at k meaning front i
+  turns_at-same : (i : ℕ) → Same (i + 1) → i < count_front → LineSearch.turns_at k meaning whole i
+      ≡ LineSearch.turns_at k meaning front i
   turns_at-same i same below =
       let inside : i < n = omega (arith, count-same) in
       let kinds = same i (omega arith) in
@@ -420,12 +454,16 @@ module _ (join : LinesJoin) (append : LinesAppend) (k : Settings) (meaning : Mea
       let report = report-same i inside (LineSearch.kind k meaning front i) refl in
       let breaks_same : LineSearch.breaks_before k meaning whole i ≡ LineSearch.breaks_before k meaning front i =
       ap (λ o. nat_lt 0 (k.after_context + k.before_context) && can_break k meaning whole o
-      && not (LineSearch.is_reported k meaning whole (i - 1)) && some_below (LineSearch.is_reported k meaning whole) i) kinds
-      ∙ ap (λ b. nat_lt 0 (k.after_context + k.before_context) && can_break k meaning whole (LineSearch.kind k meaning front i) && not b
+      && not (LineSearch.is_reported k meaning whole (i - 1)) && some_below (LineSearch.is_reported k meaning whole) i)
+      kinds
+      ∙ ap (λ b. nat_lt 0 (k.after_context + k.before_context)
+      && can_break k meaning whole (LineSearch.kind k meaning front i) && not b
       && some_below (LineSearch.is_reported k meaning whole) i) last
-      ∙ ap (λ b. nat_lt 0 (k.after_context + k.before_context) && can_break k meaning whole (LineSearch.kind k meaning front i)
+      ∙ ap (λ b. nat_lt 0 (k.after_context + k.before_context)
+      && can_break k meaning whole (LineSearch.kind k meaning front i)
       && not (LineSearch.is_reported k meaning front (i - 1)) && b) some
-      ∙ ap (λ b. nat_lt 0 (k.after_context + k.before_context) && b && not (LineSearch.is_reported k meaning front (i - 1))
+      ∙ ap (λ b. nat_lt 0 (k.after_context + k.before_context) && b
+      && not (LineSearch.is_reported k meaning front (i - 1))
       && some_below (LineSearch.is_reported k meaning front) i) (breaks-same (LineSearch.kind k meaning front i)) in
       let F : Bool → ℕ → List Turn → List Turn = λ b e ts. if b then record { call = breaks; end = e } ∷ ts else ts in
       ap (λ b. F b (LineSearch.turn_end k meaning whole i (LineSearch.kind k meaning whole i))
@@ -463,7 +501,8 @@ module _ (join : LinesJoin) (append : LinesAppend) (k : Settings) (meaning : Mea
 
   module _ (built : k.passthru ≡ true → k.before_context ≡ 0) where
     -- the calls over the front begin those over the whole
-    pub turns-begin : (later : List Turn) × (LineSearch.turns k meaning whole ≡ LineSearch.turns k meaning front ++ later)
+    pub turns-begin : (later : List Turn) × (LineSearch.turns k meaning whole ≡ LineSearch.turns k meaning front
+        ++ later)
     turns-begin = elim (split count_front (omega (arith, count-same))) [
       | inl same ↦
           let sum : count_whole ≡ count_front + (count_whole - count_front) = omega (arith, count-same) in (
@@ -471,7 +510,8 @@ module _ (join : LinesJoin) (append : LinesAppend) (k : Settings) (meaning : Mea
             ap (λ m. record { call = begins; end = 0 } ∷ joined_from (LineSearch.turns_at k meaning whole) 0 m) sum
                 ∙ ap (λ ts. record { call = begins; end = 0 } ∷ ts)
                 (joined_from-add (LineSearch.turns_at k meaning whole) 0 count_front (count_whole - count_front)
-                ∙ ap (λ ts. ts ++ joined_from (LineSearch.turns_at k meaning whole) (0 + count_front) (count_whole - count_front))
+                ∙ ap (λ ts. ts ++ joined_from (LineSearch.turns_at k meaning whole) (0 + count_front)
+                (count_whole - count_front))
                 (joined-same count_front same (omega arith))),
           )
       | inr late ↦
@@ -487,7 +527,8 @@ module _ (join : LinesJoin) (append : LinesAppend) (k : Settings) (meaning : Mea
                 ∙ ap (λ ts. record { call = begins; end = 0 } ∷ ts)
                 (joined_from-add (LineSearch.turns_at k meaning whole) 0 i (count_whole - i)
                 ∙ ap (λ ts. ts ++ joined_from (LineSearch.turns_at k meaning whole) (0 + i) (count_whole - i))
-                (here ∙ sym (append-nil _) ∙ ap (λ ts. joined_from (LineSearch.turns_at k meaning front) 0 i ++ ts) (sym empty)
+                (here ∙ sym (append-nil _) ∙ ap (λ ts. joined_from (LineSearch.turns_at k meaning front) 0 i ++ ts)
+                (sym empty)
                 ∙ sym (joined_from-add (LineSearch.turns_at k meaning front) 0 i (count_front - i))
                 ∙ ap (joined_from (LineSearch.turns_at k meaning front) 0) (sym part))),
           )

@@ -25,11 +25,22 @@ module _ {R : Type 0} (remaining : R → Option (List ℕ)) (read_step : R → R
           → (left : Option (List ℕ)) → remaining reader' ≡ left → Consumes (Some input) left (concat pieces)
           → IsInput k ended pieces (searched_bytes k input)
       go ended pieces calls None is takes = absurd takes
-      go false pieces calls (Some rest) is takes = (rest, (λ ended. absurd (false≢true ended)), ap (searched_bytes k) takes)
-      go true pieces calls (Some rest) is takes = (rest, (λ ended. subst IsAtEnd is calls.3), ap (searched_bytes k) takes)
+      go false pieces calls (Some rest) is takes = (
+        rest,
+        (λ ended. absurd (false≢true ended)),
+        ap (searched_bytes k)
+            takes,
+      )
+      go true pieces calls (Some rest) is takes = (
+        rest,
+        (λ ended. subst IsAtEnd is calls.3),
+        ap (searched_bytes k)
+            takes,
+      )
 
   pub known_readers-run : {S E F : Type 0} (step : Steps S E) (errors : ErrorMakers E) (matcher : MatcherFacts F)
       → KnownReadersRun step errors matcher remaining read_step
   known_readers-run step errors matcher state reader input old reader' new none all lawful searched =
-      let run = reader_searches-run step errors matcher remaining read_step state reader old reader' new none lawful searched in
+      let run = reader_searches-run step errors matcher remaining read_step state reader old reader' new none lawful
+      searched in
       run.run (searched_bytes state.settings input) (taken-input state.settings input reader reader' all run.taken)

@@ -1,5 +1,6 @@
 -- Limits and stops along a walk, against the last turn as it is defined.
-use Rattle.std.proofs.Common.{◌≡◌, ℕ, zero, suc, ◌+◌, ◌-◌, ◌<◌, ◌≤◌, Bool, true, false, not, ◌&&◌, length, List, refl, sym, ◌∙◌, ap, arith, ⊎_elim, Option, Some, None, if◌then◌else◌}
+use Rattle.std.proofs.Common.{◌≡◌, ℕ, zero, suc, ◌+◌, ◌-◌, ◌<◌, ◌≤◌, Bool, true, false, not, ◌&&◌, length, List, refl}
+use Rattle.std.proofs.Common.{sym, ◌∙◌, ap, arith, ⊎_elim, Option, Some, None, if◌then◌else◌}
 use Rattle.std.proofs.Math.Bool.{or-true, or-false, and-false, and-true}
 use Rattle.std.proofs.lemmas.Bool.{lt-ltb, le-ltb, eqb-true, cases_Bool}
 use Rattle.std.specs.Prelude.{nat_lt, IfSome}
@@ -11,7 +12,9 @@ use Rattle.grep_definitions.specs.Settings.{Settings}
 use Rattle.grep_definitions.specs.Below.{some_below, count_below, first_below, is_below, is_at, at_most}
 use Rattle.grep_definitions.specs.LineSearch
 use Rattle.grep_definitions.specs.LineWalks.{IsOpen}
-use Rattle.grep_definitions.proofs.BelowLemmas.{some_below-some, first_below-here, first_below-of, first_below-more, first_below-late, count_below-le, is_below-le, below_next, below_none, at_most-over, at_most-above, at_most-next, at_most-some}
+use Rattle.grep_definitions.proofs.BelowLemmas.{some_below-some, first_below-here, first_below-of, first_below-more}
+use Rattle.grep_definitions.proofs.BelowLemmas.{first_below-late, count_below-le, is_below-le, below_next, below_none}
+use Rattle.grep_definitions.proofs.BelowLemmas.{at_most-over, at_most-above, at_most-next, at_most-some}
 use Rattle.grep_definitions.proofs.BoolLemmas.{both_true, clash}
 
 module _ (k : Settings) (meaning : Meaning) (bytes : List ℕ) where
@@ -62,25 +65,30 @@ module _ (k : Settings) (meaning : Meaning) (bytes : List ℕ) where
   fills-limit : (m : ℕ) → fills m ≡ true → (x : ℕ) × (k.max_matches ≡ Some (suc x))
   fills-limit m is = go k.max_matches refl (both_true _ _ is).1
     where
-      go : (o : Option ℕ) → k.max_matches ≡ o → is_at (count_below hits m + 1) o ≡ true → (x : ℕ) × (k.max_matches ≡ Some (suc x))
+      go : (o : Option ℕ) → k.max_matches ≡ o → is_at (count_below hits m + 1) o ≡ true → (x : ℕ)
+          × (k.max_matches ≡ Some (suc x))
       go None is_o at = absurd (cc)
       go (Some zero) is_o at = let same = eqb-true _ _ at in absurd (omega arith)
       go (Some (suc x)) is_o at = (x, is_o)
 
-  by_limit-is : (m : ℕ) → k.passthru ≡ false → first_below fills n ≡ Some m → by_limit ≡ Some (suc (m + k.after_context))
+  by_limit-is : (m : ℕ) → k.passthru ≡ false → first_below fills n ≡ Some m → by_limit
+      ≡ Some (suc (m + k.after_context))
   by_limit-is m plain is =
       let limit = fills-limit m (first_below-of fills n m is).1 in
       ap (λ b. if b then None else LineSearch.turns_by_limit k meaning bytes k.max_matches) plain
-      ∙ (ap (λ o. LineSearch.turns_by_limit k meaning bytes o) limit.1 ∙ ap (option_map (λ m. suc (m + k.after_context))) is)
+      ∙ (ap (λ o. LineSearch.turns_by_limit k meaning bytes o) limit.1
+      ∙ ap (option_map (λ m. suc (m + k.after_context))) is)
 
   stop_bound : (i left c : ℕ) → IsOpen k meaning bytes i left c → IfSome by_stop (λ b. i < b)
   stop_bound i left c opened = go k.stop_on_nonmatch refl
     where
-      inner : (found : Option ℕ) → first_below ends n ≡ found → k.stop_on_nonmatch ≡ true → IfSome (option_map suc found) (λ b. i < b)
+      inner : (found : Option ℕ) → first_below ends n ≡ found → k.stop_on_nonmatch ≡ true
+          → IfSome (option_map suc found) (λ b. i < b)
       inner None is stop = tt
       inner (Some u) is stop = let late = first_below-late ends i n u (opened.unended stop) is in omega arith
 
-      go : (s : Bool) → k.stop_on_nonmatch ≡ s → IfSome (if s then option_map suc (first_below ends n) else None) (λ b. i < b)
+      go : (s : Bool) → k.stop_on_nonmatch ≡ s → IfSome (if s then option_map suc (first_below ends n) else None)
+          (λ b. i < b)
       go false is = tt
       go true is = inner (first_below ends n) refl is
 
@@ -101,25 +109,30 @@ module _ (k : Settings) (meaning : Meaning) (bytes : List ℕ) where
 
       none : k.max_matches ≡ Some zero → k.passthru ≡ false → ⊥
       none is plain =
-          let never : is_below (count_below hits i) k.max_matches ≡ false = rw is (le-ltb (count_below hits i) 0 (omega arith)) in
+          let never : is_below (count_below hits i) k.max_matches
+          ≡ false = rw is (le-ltb (count_below hits i) 0 (omega arith)) in
           ⊎_elim
           (λ full. let f = opened.filled plain full in let limit = fills-limit f.0 (first_below-of fills i f.0 f.1).1 in
           absurd (let e = sym is ∙ limit.1 in cc))
-          (λ free. let yes : is_below (count_below hits i) k.max_matches ≡ true = opened.below ∙ rw free refl in clash yes never)
+          (λ free. let yes : is_below (count_below hits i) k.max_matches ≡ true = opened.below
+          ∙ rw free refl in clash yes never)
           (cases_Bool (is_at c k.max_matches))
 
-      by : (o : Option ℕ) → k.max_matches ≡ o → k.passthru ≡ false → IfSome (LineSearch.turns_by_limit k meaning bytes o) (λ b. i < b)
+      by : (o : Option ℕ) → k.max_matches ≡ o → k.passthru ≡ false
+          → IfSome (LineSearch.turns_by_limit k meaning bytes o) (λ b. i < b)
       by None is plain = tt
       by (Some zero) is plain = absurd (none is plain)
       by (Some (suc x)) is plain = inner (first_below fills n) refl plain
 
-      go : (s : Bool) → k.passthru ≡ s → IfSome (if s then None else LineSearch.turns_by_limit k meaning bytes k.max_matches) (λ b. i < b)
+      go : (s : Bool) → k.passthru ≡ s → IfSome (if s then None else LineSearch.turns_by_limit k meaning bytes
+          k.max_matches) (λ b. i < b)
       go true is = tt
       go false is = by k.max_matches refl is
 
   -- the line that the walk is at has a turn
   pub turn_above : (i left c : ℕ) → IsOpen k meaning bytes i left c → i < n → i < turned
-  turn_above i left c opened inside = at_most-above by_limit i (at_most by_stop n) (limit_bound i left c (omega arith) opened)
+  turn_above i left c opened inside = at_most-above by_limit i (at_most by_stop n)
+      (limit_bound i left c (omega arith) opened)
       (at_most-above by_stop i n (stop_bound i left c opened) inside)
 
   -- at the end each line has one
@@ -128,14 +141,16 @@ module _ (k : Settings) (meaning : Meaning) (bytes : List ℕ) where
       let s = at_most-over by_stop n (stop_bound n left c opened) in
       ap (λ m. at_most by_limit m) s ∙ at_most-over by_limit n (limit_bound n left c (omega arith) opened)
 
-  pub selected-is : (i left c : ℕ) → IsOpen k meaning bytes i left c → LineSearch.is_selected k meaning bytes i ≡ is_chosen i
+  pub selected-is : (i left c : ℕ) → IsOpen k meaning bytes i left c → LineSearch.is_selected k meaning bytes i
+      ≡ is_chosen i
   selected-is i left c opened = go k.stop_on_nonmatch refl
     where
       go : (s : Bool) → k.stop_on_nonmatch ≡ s → (is_chosen i && not (s && some_below ends i)) ≡ is_chosen i
       go false is = and-true _
       go true is = rw (opened.unended is) (and-true _)
 
-  pub chosen-is : (i left c : ℕ) → IsOpen k meaning bytes i left c → is_chosen i ≡ (hits i && not (is_at c k.max_matches))
+  pub chosen-is : (i left c : ℕ) → IsOpen k meaning bytes i left c → is_chosen i
+      ≡ (hits i && not (is_at c k.max_matches))
   chosen-is i left c opened = ap (λ b. hits i && b) opened.below
 
   module _ (i left c : ℕ) (opened : IsOpen k meaning bytes i left c) (inside : i < n) where
@@ -170,8 +185,13 @@ module _ (k : Settings) (meaning : Meaning) (bytes : List ℕ) where
             any = rw (is, yes) (or-true _ ∙ sym (lt-ltb 0 (c + 1) (omega arith)));
             unended = λ stop. rw (is, opened.unended stop, yes) refl;
             unfilled = λ free_next. rw (is, opened.unfilled free, fills-is, free_next) refl;
-            filled = λ plain full.
-                (i, first_below-here fills j i (omega arith) (fills-is ∙ full) (opened.unfilled free), omega arith, goes plain full);
+            filled = λ plain full. (
+              i,
+              first_below-here fills j i (omega arith) (fills-is ∙ full) (opened.unfilled free),
+              omega arith,
+              goes
+                  plain full,
+            );
           }
 
       pub IsDone-chosen : k.passthru ≡ false → is_at (c + 1) k.max_matches ≡ true → k.after_context ≡ 0 → IsDone (i + 1)
@@ -182,7 +202,8 @@ module _ (k : Settings) (meaning : Meaning) (bytes : List ℕ) where
             last = at_most-some by_limit i (at_most by_stop n) (bound ∙ ap (λ m. Some (suc m)) same)
                 (at_most-above by_stop i n (stop_bound i left c opened) inside);
             silent = λ q low below. selected-none q (
-                let no = is_below-le k.max_matches (count_below hits (i + 1)) (count_below hits q) (count_below-le hits (i + 1) q low)
+                let no = is_below-le k.max_matches (count_below hits (i + 1)) (count_below hits q)
+                (count_below-le hits (i + 1) q low)
                 (ap (λ m. is_below m k.max_matches) (count_next (i + 1) (omega arith)) ∙ below_one ∙ ap not full) in
                 rw no (and-false _));
           }
@@ -209,7 +230,8 @@ module _ (k : Settings) (meaning : Meaning) (bytes : List ℕ) where
           ∙ (ap (λ m. is_below m k.max_matches) (sym (opened.counted free)) ∙ opened.below))
           (cases_Bool (is_at c k.max_matches))
 
-      pub IsOpen-missed : (k.stop_on_nonmatch ≡ true → c ≡ 0) → (k.passthru ≡ false → is_at c k.max_matches ≡ true → 1 < left)
+      pub IsOpen-missed : (k.stop_on_nonmatch ≡ true → c ≡ 0)
+          → (k.passthru ≡ false → is_at c k.max_matches ≡ true → 1 < left)
           → IsOpen k meaning bytes (i + 1) (left - 1) c
       IsOpen-missed first_of goes = at (i + 1) (omega arith)
         where
@@ -218,11 +240,16 @@ module _ (k : Settings) (meaning : Meaning) (bytes : List ℕ) where
             below = below-more j is;
             counted = λ free. count_keep free j is;
             any = rw (is, no) (or-false _ ∙ opened.any);
-            unended = λ stop. let none : some_below is_chosen i ≡ false = opened.any ∙ le-ltb 0 c (omega (arith, first_of stop)) in
+            unended = λ stop. let none : some_below is_chosen i ≡ false = opened.any
+                ∙ le-ltb 0 c (omega (arith, first_of stop)) in
                 rw (is, opened.unended stop, none) (and-false _);
             unfilled = λ free. rw (is, opened.unfilled free, none-fills) refl;
-            filled = λ plain full. let f = opened.filled plain full in
-                (f.0, first_below-more fills i j f.0 (omega arith) f.1, omega (arith, f.2, f.3), omega (arith, goes plain full));
+            filled = λ plain full. let f = opened.filled plain full in (
+              f.0,
+              first_below-more fills i j f.0 (omega arith) f.1,
+              omega (arith, f.2, f.3),
+              omega (arith, goes plain full),
+            );
           }
 
       pub IsDone-limit : k.passthru ≡ false → is_at c k.max_matches ≡ true → left ≤ 1 → IsDone (i + 1)
@@ -246,8 +273,10 @@ module _ (k : Settings) (meaning : Meaning) (bytes : List ℕ) where
           let found = first_below-here ends n i inside ended (opened.unended stop) in
           let bound : by_stop ≡ Some (suc i) = rw (stop, found) refl in
           let last = at_most-some by_stop i n bound inside in record {
-            last = ap (λ m. at_most by_limit m) last ∙ at_most-next by_limit i (limit_bound i left c (omega arith) opened);
-            silent = λ q low below. let over = some_below-some ends q i (omega arith) ended in rw (stop, over) (and-false _);
+            last = ap (λ m. at_most by_limit m) last ∙ at_most-next by_limit i
+                (limit_bound i left c (omega arith) opened);
+            silent = λ q low below. let over = some_below-some ends q i (omega arith) ended in rw (stop, over)
+                (and-false _);
           }
 
   -- limit 0 without passthru

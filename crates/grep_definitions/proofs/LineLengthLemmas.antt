@@ -21,7 +21,8 @@ pieces-within (piece ∷ later) =
 -- no line is longer than the bytes
 pub lines-within : LinesJoin → (t : ℕ) (bytes : List ℕ) → All (λ line. length line ≤ length bytes) (lines t bytes)
 lines-within join t bytes =
-    subst (λ bs. All (λ line. length line ≤ length bs) (lines t bytes)) (join t bytes).joined (pieces-within (lines t bytes))
+    subst (λ bs. All (λ line. length line ≤ length bs) (lines t bytes)) (join t bytes).joined
+    (pieces-within (lines t bytes))
 
 -- if all pieces but the last end in t, and all pieces joined do, then each piece does
 pieces-end : (t : ℕ) (pieces : List (List ℕ)) → All (λ piece. 0 < length piece) pieces → AreEnded t pieces
@@ -30,7 +31,8 @@ pieces-end : (t : ℕ) (pieces : List (List ℕ)) → All (λ piece. 0 < length 
 pieces-end t [] filled ended closed = All-nil (λ piece. slice_index piece (length piece - 1) ≡ t)
 pieces-end t (last ∷ []) filled ended closed =
     let ends = subst (λ bs. 0 < length bs → slice_index bs (length bs - 1) ≡ t) (append-nil last) closed in
-    All-cons (λ piece. slice_index piece (length piece - 1) ≡ t) last [] (ends (All-head (λ piece. 0 < length piece) last [] filled))
+    All-cons (λ piece. slice_index piece (length piece - 1) ≡ t) last []
+    (ends (All-head (λ piece. 0 < length piece) last [] filled))
     (All-nil (λ piece. slice_index piece (length piece - 1) ≡ t))
 pieces-end t (piece ∷ next ∷ later) filled ended closed =
     let rest : List ℕ = concat (next ∷ later) in
@@ -68,8 +70,10 @@ pub first-open : (t : ℕ) (tail more : List ℕ) → All (λ b. b ≢ t) tail
     × (length tail ≤ length (slice_index_or (lines t (tail ++ more)) 0 []))
 first-open t tail more lacks =
     let begins = first-begins t tail more lacks in
-    let rest : List ℕ = slice_index_or (lines t more) 0 [] in
-    (ap (take (length tail)) begins ∙ take_at tail rest (length tail) refl, omega (arith, ap length begins, length-append tail rest))
+    let rest : List ℕ = slice_index_or (lines t more) 0 [] in (
+      ap (take (length tail)) begins ∙ take_at tail rest (length tail) refl,
+      omega (arith, ap length begins, length-append tail rest),
+    )
 
 -- the second line begins where the first one ends
 pub second-start : (t : ℕ) (bytes : List ℕ) → line_start t bytes 1 ≡ length (slice_index_or (lines t bytes) 0 [])

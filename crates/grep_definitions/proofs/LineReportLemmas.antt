@@ -20,7 +20,8 @@ use Rattle.grep_definitions.proofs.TurnEndLemmas.{turn_end-late}
 module _ (k : Settings) (meaning : Meaning) (bytes : List ℕ) where
   -- what holds of a break, and of a report, whatever line it is of, holds of all calls of a line
   calls-of_line : (P : Turn → Type 0) (i : ℕ) → ((end : ℕ) → P (record { call = breaks; end = end }))
-      → ((o : Option Kind) → All P (LineSearch.report k meaning bytes i o)) → All P (LineSearch.turns_at k meaning bytes i)
+      → ((o : Option Kind) → All P (LineSearch.report k meaning bytes i o))
+      → All P (LineSearch.turns_at k meaning bytes i)
   calls-of_line P i of_break of_report = go (LineSearch.breaks_before k meaning bytes i)
     where
       report : List Turn
@@ -30,7 +31,8 @@ module _ (k : Settings) (meaning : Meaning) (bytes : List ℕ) where
       end = LineSearch.turn_end k meaning bytes i (LineSearch.kind k meaning bytes i)
 
       go : (c : Bool) → All P (if c then record { call = breaks; end = end } ∷ report else report)
-      go true = All-cons P (record { call = breaks; end = end }) report (of_break end) (of_report (LineSearch.kind k meaning bytes i))
+      go true = All-cons P (record { call = breaks; end = end }) report (of_break end)
+          (of_report (LineSearch.kind k meaning bytes i))
       go false = of_report (LineSearch.kind k meaning bytes i)
 
   -- the calls of a line report its bytes, or none
@@ -51,7 +53,8 @@ module _ (k : Settings) (meaning : Meaning) (bytes : List ℕ) where
   line-ends i = ⊎_elim
       (λ inside. omega (arith, line_start-more (byte_of k.line_terminator) bytes i inside))
       (λ past.
-      let none : LineSearch.line k meaning bytes i ≡ [] = get_or_past (lines (byte_of k.line_terminator) bytes) i [] past in
+      let none : LineSearch.line k meaning bytes i ≡ [] = get_or_past (lines (byte_of k.line_terminator) bytes) i []
+      past in
       omega (arith, ap length none, line_start-next (byte_of k.line_terminator) bytes i))
       (cases_lt i (length (lines (byte_of k.line_terminator) bytes)))
 

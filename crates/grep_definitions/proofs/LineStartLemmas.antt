@@ -1,5 +1,6 @@
 -- Where lines start, by the laws of the lines of some bytes.
-use Rattle.std.proofs.Common.{◌≡◌, ℕ, ◌+◌, ◌<◌, ◌≤◌, List, [], ◌∷◌, ◌++◌, length, take, drop, get_or, ap, sym, ◌∙◌, arith, ⊎_elim, length-append, take-append-drop}
+use Rattle.std.proofs.Common.{◌≡◌, ℕ, ◌+◌, ◌<◌, ◌≤◌, List, [], ◌∷◌, ◌++◌, length, take, drop, get_or, ap, sym, ◌∙◌}
+use Rattle.std.proofs.Common.{arith, ⊎_elim, length-append, take-append-drop}
 use Rattle.std.proofs.lemmas.Bool.{cases_lt}
 use Rattle.std.proofs.lemmas.List.{take_more, take_all, append-nil}
 use Rattle.std.proofs.lemmas.List.Elements.{All-get_or}
@@ -33,7 +34,8 @@ module _ (join : LinesJoin) (t : ℕ) (bytes : List ℕ) where
   -- a line begins before the next one
   pub line_start-ascends : (i : ℕ) → i < length (lines t bytes) → line_start t bytes i < line_start t bytes (i + 1)
   line_start-ascends i below =
-      let filled : 0 < length (get_or (lines t bytes) i []) = All-get_or (λ line. 0 < length line) (lines t bytes) i [] below
+      let filled : 0 < length (get_or (lines t bytes) i []) = All-get_or (λ line. 0 < length line) (lines t bytes) i []
+      below
       (join t bytes).filled in
       omega (arith, line_start-more t bytes i below, filled)
 

@@ -1,6 +1,7 @@
 -- The matches that are reported, and the matched lines: those that are selected, or trailing after a selected one.
 use Rattle.std.proofs.Math.Bool.{and-false}
-use Rattle.std.proofs.Common.{◌≡◌, ℕ, zero, suc, ◌+◌, ◌-◌, ◌<◌, ◌≤◌, Bool, true, false, not, ◌&&◌, ◌||◌, List, [], ◌∷◌, ◌++◌, length, refl, sym}
+use Rattle.std.proofs.Common.{◌≡◌, ℕ, zero, suc, ◌+◌, ◌-◌, ◌<◌, ◌≤◌, Bool, true, false, not, ◌&&◌, ◌||◌, List, [], ◌∷◌}
+use Rattle.std.proofs.Common.{◌++◌, length, refl, sym}
 use Rattle.std.proofs.Common.{◌∙◌, ap, arith, ⊎_elim, Option, Some, None, if◌then◌else◌}
 use Rattle.std.proofs.lemmas.Bool.{ltb-true, eqb-true, cases_lt}
 use Rattle.std.proofs.lemmas.List.{map-append, length-append, length-map}
@@ -20,7 +21,8 @@ use Rattle.grep_definitions.specs.LineSearch
 use Rattle.grep_definitions.specs.LineSearch.{in_context}
 use Rattle.grep_definitions.proofs.BoolLemmas.{both_true, not_false}
 use Rattle.grep_definitions.proofs.BelowLemmas.{first_below-before, first_below-here, first_below-of, first_below-late}
-use Rattle.grep_definitions.proofs.BelowLemmas.{first_below-more, first_below-none, first_below-nowhere, some_below-false, some_below-none}
+use Rattle.grep_definitions.proofs.BelowLemmas.{first_below-more, first_below-none, first_below-nowhere}
+use Rattle.grep_definitions.proofs.BelowLemmas.{some_below-false, some_below-none}
 use Rattle.grep_definitions.proofs.BelowLemmas.{count_below-le, at_most-above, joined_from-more}
 use Rattle.grep_definitions.proofs.BelowLemmas.{joined_from-equal}
 use Rattle.grep_definitions.proofs.SearchLawLemmas.{turn_count-le}
@@ -39,7 +41,8 @@ length-passing p (suc n) =
     ∙ length-append (joined_from (passing p) 0 n) (passing p (0 + n))
     ∙ (rw (sum, length-passing p n) (go (p n)))
   where
-    go : (b : Bool) → count_below p n + length (if b then n ∷ [] else []) ≡ (if b then count_below p n + 1 else count_below p n)
+    go : (b : Bool) → count_below p n + length (if b then n ∷ [] else [])
+        ≡ (if b then count_below p n + 1 else count_below p n)
     go true = refl
     go false = omega arith
 
@@ -57,7 +60,8 @@ first-passing p zero = refl
 first-passing p (suc n) =
     let next : suc n ≡ n + 1 = omega arith in
     let sum : 0 + n ≡ n = omega arith in
-    ap (λ m. slice_get (joined_from (passing p) 0 m) 0) next ∙ ap (λ xs. slice_get xs 0) (joined_from-more (passing p) 0 n)
+    ap (λ m. slice_get (joined_from (passing p) 0 m) 0) next
+    ∙ ap (λ xs. slice_get xs 0) (joined_from-more (passing p) 0 n)
     ∙ (rw sum (go (first_below p n) refl (first-passing p n)))
   where
     last : (b : Bool) → slice_get (if b then n ∷ [] else []) 0 ≡ (if b then Some n else None)
@@ -88,12 +92,15 @@ map-passing f p i (suc n) =
 -- the matches of joined calls
 match_calls-append : (front back : List Turn) → match_calls (front ++ back) ≡ match_calls front ++ match_calls back
 match_calls-append front back =
-    rw (map-append (λ turn. turn.call) front back) (filter-append is_match (map (λ turn. turn.call) front) (map (λ turn. turn.call) back))
+    rw (map-append (λ turn. turn.call) front back) (filter-append is_match (map (λ turn. turn.call) front)
+    (map (λ turn. turn.call) back))
 
-match_calls-joined : (f : ℕ → List Turn) (i n : ℕ) → match_calls (joined_from f i n) ≡ joined_from (λ j. match_calls (f j)) i n
+match_calls-joined : (f : ℕ → List Turn) (i n : ℕ) → match_calls (joined_from f i n)
+    ≡ joined_from (λ j. match_calls (f j)) i n
 match_calls-joined f i zero = refl
 match_calls-joined f i (suc n) =
-    match_calls-append (f i) (joined_from f (i + 1) n) ∙ ap (λ xs. match_calls (f i) ++ xs) (match_calls-joined f (i + 1) n)
+    match_calls-append (f i) (joined_from f (i + 1) n)
+    ∙ ap (λ xs. match_calls (f i) ++ xs) (match_calls-joined f (i + 1) n)
 
 module _ (numbered : LinesAreNumbered) (k : Settings) (meaning : Meaning) (bytes : List ℕ) where
   abbrev n : ℕ
@@ -115,11 +122,13 @@ module _ (numbered : LinesAreNumbered) (k : Settings) (meaning : Meaning) (bytes
   stop-bound : (i : ℕ) → selected i ≡ true → IfSome (LineSearch.turns_by_stop k meaning bytes) (λ b. i < b)
   stop-bound i taken = go k.stop_on_nonmatch (both_true (LineSearch.is_chosen k meaning bytes i) _ taken).1
     where
-      inner : (found : Option ℕ) → first_below ends n ≡ found → some_below ends i ≡ false → IfSome (option_map suc found) (λ b. i < b)
+      inner : (found : Option ℕ) → first_below ends n ≡ found → some_below ends i ≡ false
+          → IfSome (option_map suc found) (λ b. i < b)
       inner None is none = tt
       inner (Some u) is none = let late = first_below-late ends i n u none is in omega arith
 
-      go : (s : Bool) → not (s && some_below ends i) ≡ true → IfSome (if s then option_map suc (first_below ends n) else None)
+      go : (s : Bool) → not (s && some_below ends i) ≡ true
+          → IfSome (if s then option_map suc (first_below ends n) else None)
           (λ b. i < b)
       go false is = tt
       go true is = inner (first_below ends n) refl (not_false (some_below ends i) is)
@@ -140,7 +149,8 @@ module _ (numbered : LinesAreNumbered) (k : Settings) (meaning : Meaning) (bytes
           let less = ltb-true _ _ below in
           let hit : hits m ≡ true = (both_true (hits m) _ parts.0).0 in
           let next : count_below hits (suc m) ≡ count_below hits m + 1 = rw hit refl in
-          ⊎_elim (λ before. let more = count_below-le hits (suc m) i (omega arith) in absurd (omega arith)) (λ over. over) (cases_lt m i)
+          ⊎_elim (λ before. let more = count_below-le hits (suc m) i (omega arith) in absurd (omega arith))
+          (λ over. over) (cases_lt m i)
 
       inner : (limit : ℕ) (found : Option ℕ) → k.max_matches ≡ Some limit → first_below fills n ≡ found
           → IfSome (option_map (λ m. suc (m + k.after_context)) found) (λ b. i < b)
@@ -154,7 +164,8 @@ module _ (numbered : LinesAreNumbered) (k : Settings) (meaning : Meaning) (bytes
           let less = ltb-true _ _ below in absurd (omega arith)
       by (Some (suc x)) is = inner (suc x) (first_below fills n) is refl
 
-      go : (s : Bool) → IfSome (if s then None else LineSearch.turns_by_limit k meaning bytes k.max_matches) (λ b. i < b)
+      go : (s : Bool) → IfSome (if s then None else LineSearch.turns_by_limit k meaning bytes k.max_matches)
+          (λ b. i < b)
       go true = tt
       go false = by k.max_matches refl
 
@@ -168,7 +179,8 @@ module _ (numbered : LinesAreNumbered) (k : Settings) (meaning : Meaning) (bytes
   pub selected-turned : (i : ℕ) → selected i ≡ true → i < LineSearch.turn_count k meaning bytes
   selected-turned i taken =
       let chosen = both_true (LineSearch.is_chosen k meaning bytes i) _ taken in
-      at_most-above (if k.passthru then None else LineSearch.turns_by_limit k meaning bytes k.max_matches) i _ (limit-bound i chosen.0)
+      at_most-above (if k.passthru then None else LineSearch.turns_by_limit k meaning bytes k.max_matches) i _
+      (limit-bound i chosen.0)
       (at_most-above (LineSearch.turns_by_stop k meaning bytes) i n (stop-bound i taken) (selected-inside i taken))
 
   -- how many lines have a turn
@@ -185,7 +197,8 @@ module _ (numbered : LinesAreNumbered) (k : Settings) (meaning : Meaning) (bytes
       go (selected i) (LineSearch.follows_selected k meaning bytes i) (LineSearch.is_trailing k meaning bytes i)
       (LineSearch.precedes_selected k meaning bytes i) k.passthru
     where
-      one : matches (LineSearch.number k meaning bytes i) (LineSearch.start k meaning bytes i) (LineSearch.line k meaning bytes i) ∷ []
+      one : matches (LineSearch.number k meaning bytes i) (LineSearch.start k meaning bytes i)
+          (LineSearch.line k meaning bytes i) ∷ []
           ≡ match_of k meaning bytes i ∷ []
       one = ap (λ number. matches number (LineSearch.start k meaning bytes i) (LineSearch.line k meaning bytes i) ∷ [])
           (rw (numbered (byte_of k.line_terminator) bytes i inside) refl)
@@ -207,20 +220,25 @@ module _ (numbered : LinesAreNumbered) (k : Settings) (meaning : Meaning) (bytes
 
   match_calls-line : (i : ℕ) → i < n → match_calls (LineSearch.turns_at k meaning bytes i) ≡ match_at i
   match_calls-line i inside =
-      go (LineSearch.breaks_before k meaning bytes i) (LineSearch.turn_end k meaning bytes i (LineSearch.kind k meaning bytes i))
+      go (LineSearch.breaks_before k meaning bytes i)
+      (LineSearch.turn_end k meaning bytes i (LineSearch.kind k meaning bytes i))
     where
-      go : (b : Bool) (end : ℕ) → match_calls (if b then record { call = breaks; end = end } ∷ report i else report i) ≡ match_at i
+      go : (b : Bool) (end : ℕ) → match_calls (if b then record { call = breaks; end = end } ∷ report i else report i)
+          ≡ match_at i
       go true end = match_calls-kind i inside
       go false end = match_calls-kind i inside
 
   -- the matches are those of the matched lines
-  pub match_calls-turns : match_calls (LineSearch.turns k meaning bytes) ≡ map (match_of k meaning bytes) (matched_lines k meaning bytes)
+  pub match_calls-turns : match_calls (LineSearch.turns k meaning bytes)
+      ≡ map (match_of k meaning bytes) (matched_lines k meaning bytes)
   match_calls-turns =
       match_calls-joined (LineSearch.turns_at k meaning bytes) 0 turned
-      ∙ joined_from-equal _ match_at 0 turned (λ j low high. match_calls-line j (omega (arith, high, turn_count-le k meaning bytes)))
+      ∙ joined_from-equal _ match_at 0 turned (λ j low high. match_calls-line j
+      (omega (arith, high, turn_count-le k meaning bytes)))
       ∙ sym (map-passing (match_of k meaning bytes) (is_matched k meaning bytes) 0 turned)
 
-  pub length-match_calls : length (match_calls (LineSearch.turns k meaning bytes)) ≡ count_below (is_matched k meaning bytes) turned
+  pub length-match_calls : length (match_calls (LineSearch.turns k meaning bytes))
+      ≡ count_below (is_matched k meaning bytes) turned
   length-match_calls =
       ap length match_calls-turns ∙ length-map (matched_lines k meaning bytes) (match_of k meaning bytes)
       ∙ length-passing (is_matched k meaning bytes) turned
@@ -233,14 +251,16 @@ module _ (numbered : LinesAreNumbered) (k : Settings) (meaning : Meaning) (bytes
       unmatched : (j : ℕ) → ((i : ℕ) → i ≤ j → selected i ≡ false) → is_matched k meaning bytes j ≡ false
       unmatched j none =
           let follows : LineSearch.follows_selected k meaning bytes j ≡ false =
-          some_below-none _ j (λ i less. let no = none i (omega arith) in rw no (and-false (nat_le (j - i) k.after_context))) in
+          some_below-none _ j (λ i less. let no = none i (omega arith) in rw no
+          (and-false (nat_le (j - i) k.after_context))) in
           rw (none j (omega arith), follows) refl
 
       go : (found : Option ℕ) → first_below selected n ≡ found → first_below (is_matched k meaning bytes) turned ≡ found
       go None is =
           let none = first_below-none selected n is in
           first_below-nowhere (is_matched k meaning bytes) turned (some_below-none _ turned
-          (λ j less. unmatched j (λ i low. some_below-false selected n i none (omega (arith, less, turn_count-le k meaning bytes)))))
+          (λ j less. unmatched j (λ i low. some_below-false selected n i none
+          (omega (arith, less, turn_count-le k meaning bytes)))))
       go (Some q) is =
           let taken = (first_below-of selected n q is).1 in
           first_below-here (is_matched k meaning bytes) turned q (selected-turned q taken) (rw taken refl)
@@ -249,7 +269,8 @@ module _ (numbered : LinesAreNumbered) (k : Settings) (meaning : Meaning) (bytes
   pub first-match_calls : slice_get (match_calls (LineSearch.turns k meaning bytes)) 0
       ≡ option_map (match_of k meaning bytes) (first_below selected n)
   first-match_calls =
-      ap (λ xs. slice_get xs 0) match_calls-turns ∙ slice_get-map (match_of k meaning bytes) (matched_lines k meaning bytes) 0
+      ap (λ xs. slice_get xs 0) match_calls-turns ∙ slice_get-map (match_of k meaning bytes)
+      (matched_lines k meaning bytes) 0
       ∙ ap (option_map (match_of k meaning bytes)) (first-passing (is_matched k meaning bytes) turned ∙ first-matched)
 
 -- no more numbers pass than there are

@@ -1,5 +1,6 @@
 -- The planned calls are those of the turns.
-use Rattle.std.proofs.Common.{◌≡◌, ℕ, zero, suc, ◌+◌, ◌-◌, Bool, true, false, not, ◌&&◌, List, [], ◌∷◌, ◌++◌, Option, Some, None}
+use Rattle.std.proofs.Common.{◌≡◌, ℕ, zero, suc, ◌+◌, ◌-◌, Bool, true, false, not, ◌&&◌, List, [], ◌∷◌, ◌++◌, Option}
+use Rattle.std.proofs.Common.{Some, None}
 use Rattle.std.proofs.Common.{refl, sym, ap, ◌∙◌, arith, length, ⊎_elim, if◌then◌else◌}
 use Rattle.std.proofs.lemmas.Bool.{cases_lt}
 use Rattle.std.proofs.lemmas.List.{map-append, get_or_past, take_all}
@@ -56,7 +57,8 @@ module _ (k : Settings) (meaning : Meaning) (bytes : List ℕ) where
       (λ past.
       let all : List (List ℕ) = lines (byte_of k.line_terminator) bytes in
       let none : LineSearch.line k meaning bytes i ≡ [] = get_or_past all i [] past in
-      let same : at (i + 1) ≡ at i = ap (λ ls. length (concat ls)) (take_all (i + 1) all (omega arith) ∙ sym (take_all i all past)) in
+      let same : at (i + 1) ≡ at i = ap (λ ls. length (concat ls))
+      (take_all (i + 1) all (omega arith) ∙ sym (take_all i all past)) in
       let nothing : at (i + 1) - at i ≡ 0 = omega (arith, same) in
       ap (λ m. take m (drop (at i) bytes)) nothing ∙ sym none)
       (cases_lt i n)
@@ -100,8 +102,10 @@ module _ (k : Settings) (meaning : Meaning) (bytes : List ℕ) where
   unit-end : (i : ℕ) → Reports.report_end k bytes across i ≡ AcrossLines.unit_end k meaning bytes i
   unit-end i = go k.invert_match
     where
-      go : (b : Bool) → (if not b then unwrap_or (first_below (λ j. nat_lt i j && not (AcrossLines.is_selected k meaning bytes j)) n) n else i + 1)
-          ≡ (if b then i + 1 else unwrap_or (first_below (λ j. nat_lt i j && not (AcrossLines.is_selected k meaning bytes j)) n) n)
+      go : (b : Bool) → (if not b then unwrap_or (first_below
+          (λ j. nat_lt i j && not (AcrossLines.is_selected k meaning bytes j)) n) n else i + 1)
+          ≡ (if b then i + 1 else unwrap_or (first_below
+          (λ j. nat_lt i j && not (AcrossLines.is_selected k meaning bytes j)) n) n)
       go true = refl
       go false = refl
 
@@ -126,7 +130,9 @@ module _ (k : Settings) (meaning : Meaning) (bytes : List ℕ) where
   unit-report i (Some matched) = go (AcrossLines.continues_unit k meaning bytes i)
     where
       go : (b : Bool) → (if b then [] else planned
-          (matches (LineSearch.number k meaning bytes i) (at i) (slice bytes (at i) (at (Reports.report_end k bytes across i)))) (Reports.count_at k bytes across i (Some matched)) ∷ [])
+          (matches (LineSearch.number k meaning bytes i) (at i)
+          (slice bytes (at i) (at (Reports.report_end k bytes across i))))
+          (Reports.count_at k bytes across i (Some matched)) ∷ [])
           ≡ planned_turns (if b then [] else record {
             call = matches (LineSearch.number k meaning bytes i) (at i) (AcrossLines.unit k meaning bytes i);
             end = AcrossLines.turn_end k meaning bytes i (Some matched);
@@ -148,11 +154,21 @@ module _ (k : Settings) (meaning : Meaning) (bytes : List ℕ) where
         finish = counted ((calls_if k meaning b).byte_count bytes);
       }
   plan-in false =
-      ap (λ calls. record { calls = planned begins 0 ∷ calls; finish = counted (LineSearch.byte_count k meaning bytes) })
-      (joined-planned (LineSearch.turns_at k meaning bytes) (Reports.calls_at k bytes by_line) line-calls 0 (LineSearch.turn_count k meaning bytes))
+      ap (λ calls. record {
+        calls = planned begins 0
+            ∷ calls;
+        finish = counted (LineSearch.byte_count k meaning bytes);
+      })
+      (joined-planned (LineSearch.turns_at k meaning bytes) (Reports.calls_at k bytes by_line) line-calls 0
+      (LineSearch.turn_count k meaning bytes))
   plan-in true =
-      ap (λ calls. record { calls = planned begins 0 ∷ calls; finish = counted (AcrossLines.byte_count k meaning bytes) })
-      (joined-planned (AcrossLines.turns_at k meaning bytes) (Reports.calls_at k bytes across) unit-calls 0 (AcrossLines.turn_count k meaning bytes))
+      ap (λ calls. record {
+        calls = planned begins 0
+            ∷ calls;
+        finish = counted (AcrossLines.byte_count k meaning bytes);
+      })
+      (joined-planned (AcrossLines.turns_at k meaning bytes) (Reports.calls_at k bytes across) unit-calls 0
+      (AcrossLines.turn_count k meaning bytes))
 
 pub plans-turns : PlansAreTurns
 plans-turns k meaning bytes = plan-in k meaning bytes (is_across k meaning)

@@ -7,7 +7,8 @@ use Rattle.grep_report.specs.declared.binary_detection.BinaryDetection.{BinaryDe
 use Rattle.grep_report.specs.declared.binary_detection.BinaryDetection.TheVariants.{None as no_detection, Quit, Convert}
 use Rattle.grep_definitions.specs.Asking.{IsAskedWith, IsQuestionIn, search_plan}
 use Rattle.grep_definitions.specs.BinaryBytes.{nowhere, in_contents, look_at, look_of}
-use Rattle.grep_definitions.specs.BinaryPlans.{BinaryPoint, with_offset, contents_point, calls_with, plan_with, quits, IsPoint, told}
+use Rattle.grep_definitions.specs.BinaryPlans.{BinaryPoint, with_offset, contents_point, calls_with, plan_with, quits}
+use Rattle.grep_definitions.specs.BinaryPlans.{IsPoint, told}
 use Rattle.grep_definitions.specs.DecodedInputs.{searched_bytes, is_searched_unchanged}
 use Rattle.grep_definitions.specs.LineTurns.{one_turn}
 use Rattle.grep_definitions.specs.Modes.{is_across}
@@ -45,7 +46,8 @@ module _ {S E : Type 0} (step : Steps S E) (k : Settings) where
   made-back binary (turn ∷ later) old outcome new (inr (inr (e, is, fails))) =
       record { back = SinkRuns.failed e; is = is; reported = inr (inr (e, refl, fails)) }
 
-  pub finished-back : (binary other : Option ℕ) (back : SinkRuns.Outcome E) → (back ≡ SinkRuns.all_true → binary ≡ other)
+  pub finished-back : (binary other : Option ℕ) (back : SinkRuns.Outcome E)
+      → (back ≡ SinkRuns.all_true → binary ≡ other)
       → (old : S) (count : ℕ) (result : Result (Unit {0}) E) (new : S)
       → IsFinished step k (outcome_by binary back) old (record { count = count; binary = other }) result new
       → SinkRuns.IsFinished step k back old count binary result new
@@ -56,7 +58,11 @@ module _ {S E : Type 0} (step : Steps S E) (k : Settings) where
   finished-back binary other (SinkRuns.failed e) same old count result new finished = finished
 
   pub run-back : (binary : Option ℕ) (turns : List Turn) (old : S) (count : ℕ) (result : Result (Unit {0}) E) (new : S)
-      → IsRun step k old (record { calls = map (planned_by binary) turns; finish = record { count = count; binary = binary } }) result new
+      → IsRun step k old (record {
+        calls = map (planned_by binary) turns;
+        finish =
+            record { count = count; binary = binary };
+      }) result new
       → SinkRuns.IsRun step k old turns count binary result new
   run-back binary turns old count result new run =
       let turned = made-back binary turns old run.outcome run.mid run.made in
@@ -65,12 +71,14 @@ module _ {S E : Type 0} (step : Steps S E) (k : Settings) where
         mid = run.mid;
         reported = turned.reported;
         finished = finished-back binary binary turned.back (λ all. refl) run.mid count result new
-            (subst (λ o. IsFinished step k o run.mid (record { count = count; binary = binary }) result new) turned.is run.finished);
+            (subst (λ o. IsFinished step k o run.mid (record { count = count; binary = binary }) result new) turned.is
+            run.finished);
       }
 
   -- calls that were made, in two parts
   pub data IsSplit (front back : List Planned) (old : S) (outcome : Outcome E) (new : S) : Type 0 where
-    both : (mid : S) → AreMade step k old front all_true mid → AreMade step k mid back outcome new → IsSplit front back old outcome new
+    both : (mid : S) → AreMade step k old front all_true mid → AreMade step k mid back outcome new
+        → IsSplit front back old outcome new
     early : (outcome ≡ all_true → ⊥) → AreMade step k old front outcome new → IsSplit front back old outcome new
 
   split : (front back : List Planned) (old : S) (outcome : Outcome E) (new : S)
@@ -82,17 +90,20 @@ module _ {S E : Type 0} (step : Steps S E) (k : Settings) where
       go (both mid first later) = both mid (inl (next, goes, first)) later
       go (early ended first) = early ended (inl (next, goes, first))
   split (call ∷ front) back old outcome new (inr (inl (is, stops))) = early (λ all. absurd (cc)) (inr (inl (is, stops)))
-  split (call ∷ front) back old outcome new (inr (inr (e, is, fails))) = early (λ all. absurd (cc)) (inr (inr (e, is, fails)))
+  split (call ∷ front) back old outcome new (inr (inr (e, is, fails))) = early (λ all. absurd (cc))
+      (inr (inr (e, is, fails)))
 
   -- a run to a binary byte
   quit-back : (quit : QuitPoint) (old : S) (result : Result (Unit {0}) E) (new : S)
       → IsRun step k old (record {
-        calls = planned_turns quit.before ++ told (record { position = 0; offset = quit.offset; count = quit.count }) ∷ [];
+        calls = planned_turns quit.before ++ told (record { position = 0; offset = quit.offset; count = quit.count })
+            ∷ [];
         finish = with_offset quit.offset (counted quit.count);
       }) result new
       → IsQuitRun step k old quit result new
   quit-back quit old result new run =
-      go (split (planned_turns quit.before) (told (record { position = 0; offset = quit.offset; count = quit.count }) ∷ []) old run.outcome run.mid run.made)
+      go (split (planned_turns quit.before) (told (record { position = 0; offset = quit.offset; count = quit.count })
+      ∷ []) old run.outcome run.mid run.made)
     where
       early-ended : (back : SinkRuns.Outcome E) → (back ≡ SinkRuns.all_true → ⊥) → (r : Result (Unit {0}) E)
           → IsFinished step k (outcome_by None back) run.mid (with_offset quit.offset (counted quit.count)) r new
@@ -102,11 +113,13 @@ module _ {S E : Type 0} (step : Steps S E) (k : Settings) where
       early-ended (SinkRuns.stopped end) ended (Err e) finished = finished
       early-ended (SinkRuns.failed e) ended r finished = finished
 
-      go : IsSplit (planned_turns quit.before) (told (record { position = 0; offset = quit.offset; count = quit.count }) ∷ []) old run.outcome run.mid
+      go : IsSplit (planned_turns quit.before) (told (record { position = 0; offset = quit.offset; count = quit.count })
+          ∷ []) old run.outcome run.mid
           → IsQuitRun step k old quit result new
       go (both mid first later) =
           let turned = made-back None quit.before old all_true mid first in
-          let told_run = run-back (Some quit.offset) (one_turn (binary_data quit.offset) quit.count) mid quit.count result new
+          let told_run = run-back (Some quit.offset) (one_turn (binary_data quit.offset) quit.count) mid quit.count
+          result new
           (record { outcome = run.outcome; mid = run.mid; made = later; finished = run.finished }) in
           record {
             outcome = SinkRuns.all_true;
@@ -128,7 +141,8 @@ module _ {S E : Type 0} (step : Steps S E) (k : Settings) where
             mid = run.mid;
             reported = turned.reported;
             ended = early-ended turned.back (λ all. ended (turned.is ∙ ap (outcome_by None) all)) result
-                (subst (λ o. IsFinished step k o run.mid (with_offset quit.offset (counted quit.count)) result new) turned.is run.finished);
+                (subst (λ o. IsFinished step k o run.mid (with_offset quit.offset (counted quit.count)) result new)
+                turned.is run.finished);
           }
 
 -- ---- questions
@@ -147,7 +161,8 @@ module _ (k : Settings) (meaning : Meaning) (bytes : List ℕ) where
   asks-in true haystack index asks =
       record { index = index; question = asks.question; room = asks.room; before = refl }
 
-  asks-turns : (haystack : List ℕ) (calls : List Planned) → IsAskedWith k meaning bytes haystack calls → AsksTurns haystack calls
+  asks-turns : (haystack : List ℕ) (calls : List Planned) → IsAskedWith k meaning bytes haystack calls
+      → AsksTurns haystack calls
   asks-turns haystack calls asks =
       record {
         made = filter (λ turn. nat_le turn.end (start k bytes asks.index)) (search_turns k meaning bytes);
@@ -157,9 +172,11 @@ module _ (k : Settings) (meaning : Meaning) (bytes : List ℕ) where
       }
 
 -- no point is none by either definition
-none-same : (b : ℕ) (bytes : List ℕ) (turns : List Turn) → contents_point b bytes (planned_turns turns) ≡ None → quit_point b bytes turns ≡ None
+none-same : (b : ℕ) (bytes : List ℕ) (turns : List Turn) → contents_point b bytes (planned_turns turns) ≡ None
+    → quit_point b bytes turns ≡ None
 none-same b bytes turns is =
-    go (quit_point b bytes turns) (subst (λ p. IsSamePoint b bytes turns (quit_point b bytes turns) p) is (same-point b bytes turns))
+    go (quit_point b bytes turns) (subst (λ p. IsSamePoint b bytes turns (quit_point b bytes turns) p) is
+    (same-point b bytes turns))
   where
     go : (quit : Option QuitPoint) → IsSamePoint b bytes turns quit None → quit ≡ None
     go None same = refl
@@ -174,52 +191,67 @@ module _ {S E F : Type 0} (step : Steps S E) (errors : ErrorMakers E) (matcher :
     abbrev count : ℕ
     count = search_byte_count k matcher.meaning bytes
 
-    pub listed-back : (result : Result (Unit {0}) E) (new : S) → IsRun step k old (search_plan k matcher.meaning bytes) result new
+    pub listed-back : (result : Result (Unit {0}) E) (new : S)
+        → IsRun step k old (search_plan k matcher.meaning bytes) result new
         → SinkRuns.IsRun step k old turns count None result new
     listed-back result new run =
         run-back step k None turns old count result new
         (subst (λ (p : Plan). IsRun step k old p result new) (plans-turns k matcher.meaning bytes) run)
 
     -- the calls before a question
-    pub calls-back : (point : Option BinaryPoint) → point ≡ None → (calls : List Planned) (made : List Turn) → calls ≡ planned_turns made
+    pub calls-back : (point : Option BinaryPoint) → point ≡ None → (calls : List Planned) (made : List Turn) → calls
+        ≡ planned_turns made
         → (new : S) → AreMade step k old (calls_with point calls) all_true new
         → SinkRuns.AreReported step k old made SinkRuns.all_true new
     calls-back point none calls made is new reported =
-        let plain : AreMade step k old calls all_true new = subst (λ (p : Option BinaryPoint). AreMade step k old (calls_with p calls) all_true new) none reported in
-        let turned = made-back step k None made old all_true new (subst (λ (cs : List Planned). AreMade step k old cs all_true new) is plain) in
+        let plain : AreMade step k old calls all_true new = subst
+        (λ (p : Option BinaryPoint). AreMade step k old (calls_with p calls) all_true new) none reported in
+        let turned = made-back step k None made old all_true new
+        (subst (λ (cs : List Planned). AreMade step k old cs all_true new) is plain) in
         go turned.back turned.is turned.reported
       where
-        go : (back : SinkRuns.Outcome E) → all_true ≡ outcome_by None back → SinkRuns.AreReported step k old made back new
+        go : (back : SinkRuns.Outcome E) → all_true ≡ outcome_by None back
+            → SinkRuns.AreReported step k old made back new
             → SinkRuns.AreReported step k old made SinkRuns.all_true new
         go SinkRuns.all_true is reported = reported
         go (SinkRuns.stopped end) is reported = absurd (cc)
         go (SinkRuns.failed e) is reported = absurd (cc)
 
     pub plain-back : (n : ℕ) (result : Result (Unit {0}) E) (new : S)
-        → IsSearchOf step errors matcher k (IsPoint k matcher.meaning bytes nowhere n) (λ plan outcome. Unit {0}) bytes old result new
+        → IsSearchOf step errors matcher k (IsPoint k matcher.meaning bytes nowhere n) (λ plan outcome. Unit {0}) bytes
+        old result new
         → Searches.IsSearchedAlong step errors matcher k bytes old result new
     plain-back n result new (ran point at run read) =
-        go result (listed-back result new (subst (λ (p : Option BinaryPoint). IsRun step k old (plan_with k.binary_detection p (search_plan k matcher.meaning bytes)) result new) at run))
+        go result (listed-back result new (subst (λ (p : Option BinaryPoint). IsRun step k old
+        (plan_with k.binary_detection p (search_plan k matcher.meaning bytes)) result new) at run))
       where
-        go : (r : Result (Unit {0}) E) → SinkRuns.IsRun step k old turns count None r new → Searches.IsSearchedAlong step errors matcher k bytes old r new
+        go : (r : Result (Unit {0}) E) → SinkRuns.IsRun step k old turns count None r new
+            → Searches.IsSearchedAlong step errors matcher k bytes old r new
         go (Ok u) along = along
         go (Err e) along = Searches.of_sink along
     plain-back n (Err e) new (asked haystack error calls asks fails message (point, at, goes, made)) =
         let before = asks-turns k matcher.meaning bytes haystack calls asks in
-        Searches.of_matcher haystack error before.made before.asks fails message (calls-back point at calls before.made before.is new made)
+        Searches.of_matcher haystack error before.made before.asks fails message
+        (calls-back point at calls before.made before.is new made)
 
     until-back : (b : ℕ) → k.binary_detection ≡ Quit b → (result : Result (Unit {0}) E) (new : S)
         → (point : Option BinaryPoint) → point ≡ contents_point b bytes (search_plan k matcher.meaning bytes).calls
         → IsRun step k old (plan_with k.binary_detection point (search_plan k matcher.meaning bytes)) result new
         → Searches.IsRunUntil step errors matcher (search_calls k matcher.meaning) b k bytes old result new
     until-back b detects result new point at run =
-        go (ap quits detects) (contents_point b bytes (planned_turns turns)) (quit_point b bytes turns) (same-point b bytes turns)
-        (subst (λ (p : Option BinaryPoint). IsRun step k old (plan_with k.binary_detection p (record { calls = planned_turns turns; finish = counted count })) result new)
+        go (ap quits detects) (contents_point b bytes (planned_turns turns)) (quit_point b bytes turns)
+        (same-point b bytes turns)
+        (subst (λ (p : Option BinaryPoint). IsRun step k old
+        (plan_with k.binary_detection p (record { calls = planned_turns turns; finish = counted count })) result
+        new)
         (at ∙ ap (λ (p : Plan). contents_point b bytes p.calls) (plans-turns k matcher.meaning bytes))
-        (subst (λ (p : Plan). IsRun step k old (plan_with k.binary_detection point p) result new) (plans-turns k matcher.meaning bytes) run))
+        (subst (λ (p : Plan). IsRun step k old (plan_with k.binary_detection point p) result new)
+        (plans-turns k matcher.meaning bytes) run))
       where
-        go : quits k.binary_detection ≡ true → (point : Option BinaryPoint) (quit : Option QuitPoint) → IsSamePoint b bytes turns quit point
-            → IsRun step k old (plan_with k.binary_detection point (record { calls = planned_turns turns; finish = counted count })) result new
+        go : quits k.binary_detection ≡ true → (point : Option BinaryPoint) (quit : Option QuitPoint)
+            → IsSamePoint b bytes turns quit point
+            → IsRun step k old (plan_with k.binary_detection point
+            (record { calls = planned_turns turns; finish = counted count })) result new
             → IsRunTo step k quit old turns count result new
         go ends None None same run = run-back step k None turns old count result new run
         go ends None (Some quit) same run = absurd same
@@ -231,41 +263,51 @@ module _ {S E F : Type 0} (step : Steps S E) (errors : ErrorMakers E) (matcher :
               finish = with_offset quit.offset (counted quit.count);
             }) result new) before
             (subst (λ o. IsRun step k old (record {
-              calls = take point.position (planned_turns turns) ++ told (record { position = 0; offset = o; count = quit.count }) ∷ [];
+              calls = take point.position (planned_turns turns)
+                  ++ told (record { position = 0; offset = o; count = quit.count }) ∷ [];
               finish = with_offset o (counted quit.count);
             }) result new) offset
             (subst (λ c. IsRun step k old (record {
-              calls = take point.position (planned_turns turns) ++ told (record { position = 0; offset = point.offset; count = c }) ∷ [];
+              calls = take point.position (planned_turns turns)
+                  ++ told (record { position = 0; offset = point.offset; count = c }) ∷ [];
               finish = with_offset point.offset (counted c);
             }) result new) counts
             (rw ends at run))))
 
     abbrev IsSearchedUntil : ℕ → Result (Unit {0}) E → S → Type 0
-    IsSearchedUntil b (Ok u) new = Searches.IsRunUntil step errors matcher (search_calls k matcher.meaning) b k bytes old (Ok u) new
-    IsSearchedUntil b (Err e) new = Searches.IsQuitFault step errors matcher (search_calls k matcher.meaning) b k bytes old e new
+    IsSearchedUntil b (Ok u) new = Searches.IsRunUntil step errors matcher (search_calls k matcher.meaning) b k bytes
+        old (Ok u) new
+    IsSearchedUntil b (Err e) new = Searches.IsQuitFault step errors matcher (search_calls k matcher.meaning) b k bytes
+        old e new
 
     contents-back : (b : ℕ) → k.binary_detection ≡ Quit b → (n : ℕ) (result : Result (Unit {0}) E) (new : S)
-        → IsSearchOf step errors matcher k (IsPoint k matcher.meaning bytes (in_contents b) n) (λ plan outcome. Unit {0}) bytes old result new
+        → IsSearchOf step errors matcher k (IsPoint k matcher.meaning bytes (in_contents b) n)
+        (λ plan outcome. Unit {0}) bytes old result new
         → IsSearchedUntil b result new
-    contents-back b detects n result new (ran point at run read) = go result (until-back b detects result new point at run)
+    contents-back b detects n result new (ran point at run read) = go result
+        (until-back b detects result new point at run)
       where
-        go : (r : Result (Unit {0}) E) → Searches.IsRunUntil step errors matcher (search_calls k matcher.meaning) b k bytes old r new → IsSearchedUntil b r new
+        go : (r : Result (Unit {0}) E) → Searches.IsRunUntil step errors matcher (search_calls k matcher.meaning) b k
+            bytes old r new → IsSearchedUntil b r new
         go (Ok u) along = along
         go (Err e) along = Searches.of_quit_sink along
     contents-back b detects n (Err e) new (asked haystack error calls asks fails message (point, at, goes, made)) =
         let before = asks-turns k matcher.meaning bytes haystack calls asks in
         let none = goes (ap quits detects) in
         Searches.of_quit_matcher haystack error before.made before.asks fails message
-        (none-same b bytes before.made (sym (ap (λ (cs : List Planned). contents_point b bytes cs) before.is) ∙ sym at ∙ none))
+        (none-same b bytes before.made (sym (ap (λ (cs : List Planned). contents_point b bytes cs) before.is) ∙ sym at
+        ∙ none))
         (calls-back point none calls before.made before.is new made)
 
   -- what was the contract of a slice that is searched as it is
-  pub slice-back : UnchangedIsInput → (state : SearcherState) (input : List ℕ) → is_searched_unchanged state.settings input ≡ true
+  pub slice-back : UnchangedIsInput → (state : SearcherState) (input : List ℕ)
+      → is_searched_unchanged state.settings input ≡ true
       → (old : S) (result : Result (Unit {0}) E) (new : S)
       → IsSliceSearch step errors matcher state.settings input old result new
       → Searches.IsInputSearched step errors matcher state input old result new
   slice-back law state input unchanged old result new searched =
-      subst (λ as_it_is. Searches.IsSearchedAt step errors matcher (look_of state.settings matcher.meaning as_it_is) state input old result new)
+      subst (λ as_it_is. Searches.IsSearchedAt step errors matcher (look_of state.settings matcher.meaning as_it_is)
+      state input old result new)
       (sym unchanged) (go state.settings.binary_detection refl result searched)
     where
       k : Settings
@@ -274,18 +316,25 @@ module _ {S E F : Type 0} (step : Steps S E) (errors : ErrorMakers E) (matcher :
       same : searched_bytes state.settings input ≡ input
       same = law state.settings input unchanged
 
-      plain : (n : ℕ) (r : Result (Unit {0}) E) → Searches.IsSearchedAlong step errors matcher state.settings input old r new
+      plain : (n : ℕ) (r : Result (Unit {0}) E) → Searches.IsSearchedAlong step errors matcher state.settings input old
+          r new
           → Searches.IsPlainlySearched step errors matcher state input old r new
-      plain n (Ok u) along = subst (λ bs. Searches.IsSearchedAlong step errors matcher state.settings bs old (Ok u) new) (sym same) along
-      plain n (Err e) along = inl (subst (λ bs. Searches.IsFault step errors matcher state.settings bs old e new) (sym same) along)
+      plain n (Ok u) along = subst (λ bs. Searches.IsSearchedAlong step errors matcher state.settings bs old (Ok u) new)
+          (sym same) along
+      plain n (Err e) along = inl (subst (λ bs. Searches.IsFault step errors matcher state.settings bs old e new)
+          (sym same) along)
 
       until : (b : ℕ) (r : Result (Unit {0}) E) → IsSearchedUntil state.settings input old b r new
           → Searches.IsContentsSearched step errors matcher b state input old r new
-      until b (Ok u) along = subst (λ bs. Searches.IsRunUntil step errors matcher (search_calls state.settings matcher.meaning) b state.settings bs old (Ok u) new) (sym same) along
-      until b (Err e) along = inl (subst (λ bs. Searches.IsQuitFault step errors matcher (search_calls state.settings matcher.meaning) b state.settings bs old e new) (sym same) along)
+      until b (Ok u) along = subst (λ bs. Searches.IsRunUntil step errors matcher
+          (search_calls state.settings matcher.meaning) b state.settings bs old (Ok u) new) (sym same) along
+      until b (Err e) along = inl (subst (λ bs. Searches.IsQuitFault step errors matcher
+          (search_calls state.settings matcher.meaning) b state.settings bs old e new) (sym same) along)
 
       go : (d : BinaryDetection) → state.settings.binary_detection ≡ d → (r : Result (Unit {0}) E)
-          → IsSearchOf step errors matcher state.settings (IsPoint state.settings matcher.meaning input (look_at d false) (length input)) (λ plan outcome. Unit {0}) input old r new
+          → IsSearchOf step errors matcher state.settings
+          (IsPoint state.settings matcher.meaning input (look_at d false) (length input)) (λ plan outcome. Unit {0})
+          input old r new
           → Searches.IsSearchedAt step errors matcher (look_at d false) state input old r new
       go no_detection is r searched = plain 0 r (plain-back state.settings input old (length input) r new searched)
       go (Quit b) is r searched = until b r (contents-back state.settings input old b is (length input) r new searched)

@@ -11,7 +11,8 @@ use Rattle.grep_definitions.proofs.BoolLemmas.{clash}
 use Rattle.grep_definitions.specs.Asking.{search_plan, selection_in}
 use Rattle.grep_definitions.specs.BinaryBytes.{Look, nowhere, in_contents, view_of, before_quit}
 use Rattle.grep_definitions.specs.BinaryPlans.{BinaryPoint, IsPoint}
-use Rattle.grep_definitions.specs.DecodedInputs.{IsDecodedSoFar, IsInput, searched_bytes, passes_after, passes_unchanged}
+use Rattle.grep_definitions.specs.DecodedInputs.{IsDecodedSoFar, IsInput, searched_bytes, passes_after}
+use Rattle.grep_definitions.specs.DecodedInputs.{passes_unchanged}
 use Rattle.grep_decode.specs.Decoded.{found_mark}
 use Rattle.grep_decode.specs.declared.label.Label.{Label}
 use Rattle.grep_decode.specs.declared.label.Label.TheVariants.{Utf8, Utf16Le, Utf16Be}
@@ -20,12 +21,14 @@ use Rattle.grep_definitions.specs.Readings.{IsBelowLimit, CutsShort, IsComeSoFar
 use Rattle.grep_definitions.specs.Modes.{is_across}
 use Rattle.grep_definitions.specs.Parties.{ErrorMakers, MatcherFacts}
 use Rattle.grep_definitions.specs.PlannedSearches.{Points, IsSearchOf, IsReaderSearch, IsCutSearch, IsRead, ran, asked}
-use Rattle.grep_definitions.specs.Plans.{Steps, Planned, Plan, Outcome, all_true, finish_after, AreMade, IsFinished, IsRun}
+use Rattle.grep_definitions.specs.Plans.{Steps, Planned, Plan, Outcome, all_true, finish_after, AreMade, IsFinished}
+use Rattle.grep_definitions.specs.Plans.{IsRun}
 use Rattle.grep_definitions.specs.ReaderSearches
 use Rattle.grep_definitions.specs.Readings.{Taken, IsCut}
 use Rattle.grep_definitions.specs.Readings
 use Rattle.grep_definitions.specs.Reports.{line_count}
-use Rattle.grep_definitions.specs.SearchTurns.{calls_across, calls_if, search_calls, search_turns, search_byte_count, search_turn_count}
+use Rattle.grep_definitions.specs.SearchTurns.{calls_across, calls_if, search_calls, search_turns, search_byte_count}
+use Rattle.grep_definitions.specs.SearchTurns.{search_turn_count}
 use Rattle.grep_definitions.specs.Searches
 use Rattle.grep_definitions.specs.Settings.{Settings, SearcherState}
 use Rattle.grep_definitions.specs.SinkRuns
@@ -50,7 +53,8 @@ pub end-is : (k : Settings) (meaning : Meaning) (bytes : List ℕ)
     → search_turn_count k meaning bytes ≡ (selection_in k meaning bytes (is_across k meaning)).end
 end-is k meaning bytes = end-in k meaning bytes (is_across k meaning)
 
-pub all-by : {E : Type 0} (binary : Option ℕ) (o : SinkRuns.Outcome E) → outcome_by binary o ≡ all_true → o ≡ SinkRuns.all_true
+pub all-by : {E : Type 0} (binary : Option ℕ) (o : SinkRuns.Outcome E) → outcome_by binary o ≡ all_true → o
+    ≡ SinkRuns.all_true
 all-by binary SinkRuns.all_true is = refl
 all-by binary (SinkRuns.stopped end) is = absurd (cc)
 all-by binary (SinkRuns.failed e) is = absurd (cc)
@@ -61,7 +65,8 @@ count-by SinkRuns.all_true count plan is = is
 count-by (SinkRuns.stopped end) count plan is = refl
 count-by (SinkRuns.failed e) count plan is = is
 
-so-far : {k : Settings} {pieces : List (List ℕ)} {came : List ℕ} → IsDecodedSoFar k pieces came → IsComeSoFar k pieces came
+so-far : {k : Settings} {pieces : List (List ℕ)} {came : List ℕ} → IsDecodedSoFar k pieces came
+    → IsComeSoFar k pieces came
 so-far decoded = record { none = decoded.none; all = decoded.all }
 
 passes-after : (mark label : Option Label) → encoding_after mark label ≡ None → passes_after mark label ≡ true
@@ -85,7 +90,8 @@ module _ {R : Type 0} (remaining : R → Option (List ℕ)) (read_step : R → R
   IsReadAt = IsRead remaining read_step step errors matcher
 
   -- the calls over the lines that were seen, up to the first false or the last, and `finish`
-  abbrev planned-run : (k : Settings) (seen : List ℕ) (old : S) (outcome : SinkRuns.Outcome E) (mid : S) (result : Result (Unit {0}) E) (new : S)
+  abbrev planned-run : (k : Settings) (seen : List ℕ) (old : S) (outcome : SinkRuns.Outcome E) (mid : S)
+      (result : Result (Unit {0}) E) (new : S)
       → SinkRuns.AreReported step k old (search_turns k matcher.meaning seen) outcome mid
       → SinkRuns.IsFinished step k outcome mid (search_byte_count k matcher.meaning seen) None result new
       → IsRun step k old (search_plan k matcher.meaning seen) result new
@@ -96,7 +102,8 @@ module _ {R : Type 0} (remaining : R → Option (List ℕ)) (read_step : R → R
         mid = mid;
         made = subst (λ (p : Plan). AreMade step k old p.calls (outcome_by None outcome) mid) (sym listed)
             (made-turns step k None (search_turns k matcher.meaning seen) old outcome mid reported);
-        finished = subst (λ (p : Plan). IsFinished step k (outcome_by None outcome) mid p.finish result new) (sym listed)
+        finished = subst (λ (p : Plan). IsFinished step k (outcome_by None outcome) mid p.finish result new)
+            (sym listed)
             (finished-turns step k None outcome mid (search_byte_count k matcher.meaning seen) result new finished);
       }
 
@@ -112,20 +119,21 @@ module _ {R : Type 0} (remaining : R → Option (List ℕ)) (read_step : R → R
         seen = run.seen;
         front = run.front;
         over_seen = ran None (λ bytes input. refl)
-            (planned-run k run.seen old run.outcome run.mid (Ok tt) new run.reported run.finished)
-            ((λ all goes_on bytes input. subst (λ n. n ≤ line_count k run.seen) (end-is k meaning bytes)
-            (run.all bytes input (all-by None run.outcome all))),
-            (λ by_line. record {
-              begun = run.begun;
-              first = run.first;
-              begin = run.begin;
-              unread = run.unread (same ∙ by_line);
-              ahead = λ limit limited passes.
-                  subst (λ n. length (concat run.taken.pieces) ≤ n + limit + 3)
-                  (sym (count-by run.outcome (search_byte_count k meaning run.seen) (search_plan k meaning run.seen)
-                  (ap (λ (p : Plan). p.finish.count) (plans-turns k meaning run.seen))))
-                  (run.ahead (same ∙ by_line) limit limited (passes-unchanged k (concat run.taken.pieces) passes));
-            }));
+            (planned-run k run.seen old run.outcome run.mid (Ok tt) new run.reported run.finished) (
+              (λ all goes_on bytes input. subst (λ n. n ≤ line_count k run.seen) (end-is k meaning bytes)
+                  (run.all bytes input (all-by None run.outcome all))),
+              (λ by_line. record {
+                begun = run.begun;
+                first = run.first;
+                begin = run.begin;
+                unread = run.unread (same ∙ by_line);
+                ahead = λ limit limited passes.
+                    subst (λ n. length (concat run.taken.pieces) ≤ n + limit + 3)
+                    (sym (count-by run.outcome (search_byte_count k meaning run.seen) (search_plan k meaning run.seen)
+                    (ap (λ (p : Plan). p.finish.count) (plans-turns k meaning run.seen))))
+                    (run.ahead (same ∙ by_line) limit limited (passes-unchanged k (concat run.taken.pieces) passes));
+              }),
+            );
         each = λ bytes input. ran None refl
             (run-planned step k (search_turns k meaning bytes) (search_byte_count k meaning bytes)
             (search_plan k meaning bytes) (plans-turns k meaning bytes) old (Ok tt) new (run.run bytes input)) tt;
@@ -150,7 +158,8 @@ module _ {R : Type 0} (remaining : R → Option (List ℕ)) (read_step : R → R
         front = λ bytes input. (each bytes input).0;
         over_seen = plain-fault step errors matcher _ (λ calls bytes input. refl) _ k seen old e new fault;
         each = λ bytes input. plain-fault step errors matcher
-            (IsPoint k matcher.meaning bytes nowhere (length seen)) (λ calls. refl) (λ plan outcome. Unit {0}) k bytes old e new (each bytes input).1;
+            (IsPoint k matcher.meaning bytes nowhere (length seen)) (λ calls. refl) (λ plan outcome. Unit {0}) k bytes
+            old e new (each bytes input).1;
         whole = λ across. (ended (same ∙ across), λ bytes input. (each bytes input).2 (same ∙ across));
       }
 
@@ -168,7 +177,8 @@ module _ {R : Type 0} (remaining : R → Option (List ℕ)) (read_step : R → R
       → ReaderSearches.IsUnreadIn remaining read_step across view state matcher.meaning reader None error reader'
       → errors.is_io error e → new ≡ old
       → IsCutSearch remaining read_step step errors matcher state look reader old e reader' new
-  cut-none look across view state mode reader old e reader' new error (ReaderSearches.of_contents is taken each) made same =
+  cut-none look across view state mode reader old e reader' new error (ReaderSearches.of_contents is taken each) made
+      same =
       record {
         mid = reader';
         taken = taken;
@@ -209,16 +219,20 @@ module _ {R : Type 0} (remaining : R → Option (List ℕ)) (read_step : R → R
   plain-cut : (state : SearcherState)
       → (is_across state.settings matcher.meaning ≡ false → view_of state.settings ≡ (λ bytes. bytes))
       → (reader : R) (old : S) (e : E) (reader' : R) (new : S) (seen : Option (List ℕ)) (error : Error)
-      → ReaderSearches.IsUnreadIn remaining read_step (search_calls state.settings matcher.meaning).across (λ bytes. bytes)
+      → ReaderSearches.IsUnreadIn remaining read_step (search_calls state.settings matcher.meaning).across
+      (λ bytes. bytes)
       state matcher.meaning reader seen error reader'
       → errors.is_io error e
-      → Searches.HasReportedIn step errors matcher (search_calls state.settings matcher.meaning) state.settings seen old new
+      → Searches.HasReportedIn step errors matcher (search_calls state.settings matcher.meaning) state.settings seen old
+      new
       → IsCutSearch remaining read_step step errors matcher state nowhere reader old e reader' new
-  plain-cut state plain reader old e reader' new (Some seen) error (ReaderSearches.of_cut by_line before taken each) made reported =
+  plain-cut state plain reader old e reader' new (Some seen) error (ReaderSearches.of_cut by_line before taken each)
+      made reported =
       let k = state.settings in
       let same = across-is k matcher.meaning in
       let view = sym (plain (sym same ∙ by_line)) in
-      let as_read : (bytes : List ℕ) → GoesOnAfter k matcher.meaning bytes seen → GoesOnAfter k matcher.meaning (view_of k bytes) seen =
+      let as_read : (bytes : List ℕ) → GoesOnAfter k matcher.meaning bytes seen
+      → GoesOnAfter k matcher.meaning (view_of k bytes) seen =
       λ bytes goes_on. subst (λ (v : List ℕ → List ℕ). GoesOnAfter k matcher.meaning (v bytes) seen) view goes_on in
       record {
         mid = reader';
@@ -227,7 +241,8 @@ module _ {R : Type 0} (remaining : R → Option (List ℕ)) (read_step : R → R
         begun = true;
         error = error;
         cause = Readings.of_lines (sym same ∙ by_line, before, λ bytes input. as_read bytes (each bytes input).0) refl
-            (λ bytes input. subst (λ (v : List ℕ → List ℕ). CutsShort k matcher.meaning (before_quit k.binary_detection (v bytes)) seen error)
+            (λ bytes input. subst (λ (v : List ℕ → List ℕ). CutsShort k matcher.meaning
+            (before_quit k.binary_detection (v bytes)) seen error)
             view (each bytes input).1);
         made = made;
         calls = λ is. (None, (λ bytes input. refl), (λ ends. refl), made-seen state.settings seen old new reported);
@@ -238,7 +253,8 @@ module _ {R : Type 0} (remaining : R → Option (List ℕ)) (read_step : R → R
       let k = state.settings in
       let same = across-is k matcher.meaning in
       let view = sym (plain (sym same ∙ by_line)) in
-      let as_read : (bytes : List ℕ) → GoesOnAfter k matcher.meaning bytes seen → GoesOnAfter k matcher.meaning (view_of k bytes) seen =
+      let as_read : (bytes : List ℕ) → GoesOnAfter k matcher.meaning bytes seen
+      → GoesOnAfter k matcher.meaning (view_of k bytes) seen =
       λ bytes goes_on. subst (λ (v : List ℕ → List ℕ). GoesOnAfter k matcher.meaning (v bytes) seen) view goes_on in
       record {
         mid = mid;
@@ -246,7 +262,8 @@ module _ {R : Type 0} (remaining : R → Option (List ℕ)) (read_step : R → R
         seen = seen;
         begun = true;
         error = error;
-        cause = Readings.of_reader (sym same ∙ by_line, before, λ bytes input. as_read bytes (each bytes input)) (unended, fails) came (so-far decoded)
+        cause = Readings.of_reader (sym same ∙ by_line, before, λ bytes input. as_read bytes (each bytes input))
+            (unended, fails) came (so-far decoded)
             (subst (λ (v : List ℕ → List ℕ). HasOpenLine k (v came) seen) view open_line);
         made = made;
         calls = λ is. (None, (λ bytes input. refl), (λ ends. refl), made-seen state.settings seen old new reported);
@@ -271,10 +288,12 @@ module _ {R : Type 0} (remaining : R → Option (List ℕ)) (read_step : R → R
   search-map : {k : Settings} (IsAt IsAt2 : Points) (HasRead : Plan → Outcome E → Type 0) (bytes : List ℕ)
       (old : S) (result : Result (Unit {0}) E) (new : S)
       → ((calls : List Planned) (point : Option BinaryPoint) → IsAt calls point → IsAt2 calls point)
-      → IsSearchOf step errors matcher k IsAt HasRead bytes old result new → IsSearchOf step errors matcher k IsAt2 HasRead bytes old result new
+      → IsSearchOf step errors matcher k IsAt HasRead bytes old result new
+      → IsSearchOf step errors matcher k IsAt2 HasRead bytes old result new
   search-map {k} IsAt IsAt2 HasRead bytes old result new maps (ran point at run read) =
       ran point (maps (search_plan k matcher.meaning bytes).calls point at) run read
-  search-map IsAt IsAt2 HasRead bytes old (Err e) new maps (asked haystack error calls asks fails message (point, at, goes, made)) =
+  search-map IsAt IsAt2 HasRead bytes old (Err e) new maps
+      (asked haystack error calls asks fails message (point, at, goes, made)) =
       asked haystack error calls asks fails message (point, maps calls point at, goes, made)
 
   -- ---- whole contents that end at a byte
@@ -284,32 +303,43 @@ module _ {R : Type 0} (remaining : R → Option (List ℕ)) (read_step : R → R
     k = state.settings
 
     -- what was taken is all of the one input
-    contents-search : (reader : R) (old : S) (result : Result (Unit {0}) E) (reader' : R) (new : S) (Ends : List ℕ → Type 0)
-        → ((HasRead : Plan → Outcome E → Type 0) → ((p : Plan) (o : Outcome E) → HasRead p o) → (n : ℕ) (bytes : List ℕ) → Ends bytes
-        → IsSearchOf step errors matcher k (IsPoint k matcher.meaning bytes (in_contents b) n) HasRead bytes old result new)
+    contents-search : (reader : R) (old : S) (result : Result (Unit {0}) E) (reader' : R) (new : S)
+        (Ends : List ℕ → Type 0)
+        → ((HasRead : Plan → Outcome E → Type 0) → ((p : Plan) (o : Outcome E) → HasRead p o) → (n : ℕ) (bytes : List ℕ)
+        → Ends bytes
+        → IsSearchOf step errors matcher k (IsPoint k matcher.meaning bytes (in_contents b) n) HasRead bytes old result
+        new)
         → ReaderSearches.IsContentsRun remaining read_step step errors matcher k reader reader' Ends
         → IsReaderSearch remaining read_step step errors matcher state (in_contents b) reader old result reader' new
     contents-search reader old result reader' new Ends planned_by run =
         let all : List ℕ = searched_bytes k (concat run.taken.pieces ++ []) in
         let one : (bytes : List ℕ) → IsInput k run.taken.ended run.taken.pieces bytes → all ≡ bytes =
-        λ bytes input. sym (input.2 ∙ ap (λ more. searched_bytes k (concat run.taken.pieces ++ more)) (input.1 run.whole)) in
+        λ bytes input. sym (input.2 ∙ ap (λ more. searched_bytes k (concat run.taken.pieces ++ more))
+        (input.1 run.whole)) in
         let is_one : IsInput k run.taken.ended run.taken.pieces all = ([], (λ ended. refl), refl) in
         record {
           taken = run.taken;
           seen = all;
           front = one;
           over_seen = search-map (IsPoint k matcher.meaning all (in_contents b) (length all)) _ _ all old result new
-              (λ calls point at bytes input. subst (λ (bs : List ℕ). IsPoint k matcher.meaning bs (in_contents b) (length all) calls point)
+              (λ calls point at bytes input. subst (λ (bs : List ℕ). IsPoint k matcher.meaning bs (in_contents b)
+              (length all) calls point)
               (one bytes input) at)
-              (planned_by _ (λ p o. ((λ all_is goes_on bytes input. subst (λ (bs : List ℕ).
-              (selection_in k matcher.meaning bs (is_across k matcher.meaning)).end ≤ line_count k all) (one bytes input) (whole-lines all)),
-              (λ by_line. absurd (clash across by_line)))) (length all) all (run.run all is_one));
-          each = λ bytes input. planned_by (λ plan outcome. Unit {0}) (λ p o. tt) (length all) bytes (run.run bytes input);
+              (planned_by _ (λ p o. (
+                (λ all_is goes_on bytes input. subst (λ (bs : List ℕ).
+                    (selection_in k matcher.meaning bs (is_across k matcher.meaning)).end ≤ line_count k all)
+                    (one bytes input) (whole-lines all)),
+                (λ by_line. absurd (clash across by_line)),
+              )) (length all) all (run.run all is_one));
+          each = λ bytes input. planned_by (λ plan outcome. Unit {0}) (λ p o. tt) (length all) bytes
+              (run.run bytes input);
           whole = λ is. (run.whole, run.below);
         }
       where
-        whole-lines : (bytes : List ℕ) → (selection_in k matcher.meaning bytes (is_across k matcher.meaning)).end ≤ line_count k bytes
-        whole-lines bytes = subst (λ m. (selection_in k matcher.meaning bytes m).end ≤ line_count k bytes) (sym across) (omega arith)
+        whole-lines : (bytes : List ℕ) → (selection_in k matcher.meaning bytes (is_across k matcher.meaning)).end ≤
+            line_count k bytes
+        whole-lines bytes = subst (λ m. (selection_in k matcher.meaning bytes m).end ≤ line_count k bytes) (sym across)
+            (omega arith)
 
     mode : (P : Bool → Type 0) → P true → P (is_across k matcher.meaning)
     mode P p = subst P (sym across) p
@@ -322,15 +352,19 @@ module _ {R : Type 0} (remaining : R → Option (List ℕ)) (read_step : R → R
         Searches.of_quit_matcher haystack error made asks fails message clear reported
 
     pub contents-planned : (reader : R) (old : S) (result : Result (Unit {0}) E) (reader' : R) (new : S)
-        → ReaderSearches.IsContentsSearched remaining read_step step errors matcher b state reader old result reader' new
+        → ReaderSearches.IsContentsSearched remaining read_step step errors matcher b state reader old result reader'
+        new
         → IsReadAt state (in_contents b) reader old result reader' new
     contents-planned reader old (Ok u) reader' new run =
         contents-search reader old (Ok u) reader' new _
         (λ HasRead read n bytes ends. until-planned step errors matcher HasRead read b k detects n bytes old (Ok u) new
-        (mode (λ m. Searches.IsRunUntil step errors matcher (calls_if k matcher.meaning m) b k bytes old (Ok u) new) ends)) run
+        (mode (λ m. Searches.IsRunUntil step errors matcher (calls_if k matcher.meaning m) b k bytes old (Ok u) new)
+        ends)) run
     contents-planned reader old (Err e) reader' new (inl run) =
         inl (contents-search reader old (Err e) reader' new _
         (λ HasRead read n bytes ends. quit-fault step errors matcher HasRead read b k detects n bytes old e new
-        (mode (λ m. Searches.IsQuitFault step errors matcher (calls_if k matcher.meaning m) b k bytes old e new) (across-fault bytes old e new ends))) run)
+        (mode (λ m. Searches.IsQuitFault step errors matcher (calls_if k matcher.meaning m) b k bytes old e new)
+        (across-fault bytes old e new ends))) run)
     contents-planned reader old (Err e) reader' new (inr (error, unread, made, same)) =
-        inr (cut-none (in_contents b) true (view_of k) state (λ is. across) reader old e reader' new error unread made same)
+        inr (cut-none (in_contents b) true (view_of k) state (λ is. across) reader old e reader' new error unread made
+        same)

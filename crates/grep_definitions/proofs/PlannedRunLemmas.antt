@@ -26,11 +26,13 @@ module _ {S E : Type 0} (step : Steps S E) (k : Settings) where
   made-turns binary [] old outcome new (is, same) = (ap (outcome_by binary) is, same)
   made-turns binary (turn ∷ later) old outcome new (inl (mid, goes, reported)) =
       inl (mid, goes, made-turns binary later mid outcome new reported)
-  made-turns binary (turn ∷ later) old outcome new (inr (inl (is, stops))) = inr (inl (ap (outcome_by binary) is, stops))
+  made-turns binary (turn ∷ later) old outcome new (inr (inl (is, stops))) = inr
+      (inl (ap (outcome_by binary) is, stops))
   made-turns binary (turn ∷ later) old outcome new (inr (inr (e, is, fails))) =
       inr (inr (e, ap (outcome_by binary) is, fails))
 
-  pub finished-turns : (binary : Option ℕ) (outcome : SinkRuns.Outcome E) (old : S) (count : ℕ) (result : Result (Unit {0}) E) (new : S)
+  pub finished-turns : (binary : Option ℕ) (outcome : SinkRuns.Outcome E) (old : S) (count : ℕ)
+      (result : Result (Unit {0}) E) (new : S)
       → SinkRuns.IsFinished step k outcome old count binary result new
       → IsFinished step k (outcome_by binary outcome) old (record { count = count; binary = binary }) result new
   finished-turns binary SinkRuns.all_true old count (Ok u) new finished = finished
@@ -80,7 +82,8 @@ through-turns offset (turn ∷ later) = go (through-turns offset later) (nat_le 
   where
     go : through offset (planned_turns later) ≡ planned_turns (filter (λ turn. nat_le turn.end offset) later)
         → (b : Bool) → nat_le turn.end offset ≡ b
-        → through offset (planned_turns (turn ∷ later)) ≡ planned_turns (filter (λ turn. nat_le turn.end offset) (turn ∷ later))
+        → through offset (planned_turns (turn ∷ later))
+        ≡ planned_turns (filter (λ turn. nat_le turn.end offset) (turn ∷ later))
     go rest true is = rw (is, rest) refl
     go rest false is = rw (is, rest) refl
 

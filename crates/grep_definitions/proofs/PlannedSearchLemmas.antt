@@ -1,6 +1,7 @@
--- What was promised of a reader is a search along its plan, if that is so of a stream under detection that didn't end at
--- the first binary byte.
-use Rattle.std.proofs.Common.{◌≡◌, ℕ, Bool, true, false, not, ◌&&◌, ◌⊎◌, inl, inr, List, Option, Some, None, Result, Ok, Err}
+-- What was promised of a reader is a search along its plan, if that is so of a stream under detection that didn't end
+-- at the first binary byte.
+use Rattle.std.proofs.Common.{◌≡◌, ℕ, Bool, true, false, not, ◌&&◌, ◌⊎◌, inl, inr, List, Option, Some, None, Result, Ok}
+use Rattle.std.proofs.Common.{Err}
 use Rattle.std.proofs.Common.{refl, sym, ap, subst}
 use Rattle.grep_decode.specs.Source.{ReadResult}
 use Rattle.grep_matcher.specs.Terminators.{byte_of}
@@ -35,19 +36,25 @@ module _ {R : Type 0} (remaining : R → Option (List ℕ)) (read_step : R → R
         → ReaderSearches.IsNotedReaderFault remaining read_step step errors matcher state reader old e reader' new
         → IsRead remaining read_step step errors matcher state on_stream reader old (Err e) reader' new
 
-  stream-planned : GoesOnAlong → is_across k matcher.meaning ≡ false → (reader : R) (old : S) (result : Result (Unit {0}) E) (reader' : R) (new : S)
+  stream-planned : GoesOnAlong → is_across k matcher.meaning ≡ false
+      → (reader : R) (old : S) (result : Result (Unit {0}) E) (reader' : R) (new : S)
       → ReaderSearches.IsStreamSearched remaining read_step step errors matcher state reader old result reader' new
       → IsRead remaining read_step step errors matcher state on_stream reader old result reader' new
-  stream-planned goes_on by_line reader old (Ok u) reader' new (inl run) = goes_on.run by_line reader old reader' new run
+  stream-planned goes_on by_line reader old (Ok u) reader' new (inl run) = goes_on.run by_line reader old reader' new
+      run
   stream-planned goes_on by_line reader old (Ok u) reader' new (inr cut) =
       cut-planned remaining read_step step errors matcher begin state built by_line reader old (Ok u) reader' new cut
-  stream-planned goes_on by_line reader old (Err e) reader' new (inl fault) = goes_on.fault by_line reader old e reader' new fault
+  stream-planned goes_on by_line reader old (Err e) reader' new (inl fault) = goes_on.fault by_line reader old e reader'
+      new fault
   stream-planned goes_on by_line reader old (Err e) reader' new (inr cut) =
-      inl (cut-planned remaining read_step step errors matcher begin state built by_line reader old (Err e) reader' new cut)
+      inl (cut-planned remaining read_step step errors matcher begin state built by_line reader old (Err e) reader' new
+      cut)
 
-  source-by : GoesOnAlong → (d : BinaryDetection) → k.binary_detection ≡ d → (a : Bool) → is_across k matcher.meaning ≡ a
+  source-by : GoesOnAlong → (d : BinaryDetection) → k.binary_detection ≡ d → (a : Bool) → is_across k matcher.meaning
+      ≡ a
       → (reader : R) (old : S) (result : Result (Unit {0}) E) (reader' : R) (new : S)
-      → ReaderSearches.IsSearchedAt remaining read_step step errors matcher (look_at d (not a)) state reader old result reader' new
+      → ReaderSearches.IsSearchedAt remaining read_step step errors matcher (look_at d (not a)) state reader old result
+      reader' new
       → IsRead remaining read_step step errors matcher state (look_at d (not a)) reader old result reader' new
   source-by goes_on no_detection is a mode reader old result reader' new searched =
       plain-planned remaining read_step step errors matcher state
@@ -64,22 +71,27 @@ module _ {R : Type 0} (remaining : R → Option (List ℕ)) (read_step : R → R
 
   pub source-planned : GoesOnAlong → (reader : R) (old : S) (result : Result (Unit {0}) E) (reader' : R) (new : S)
       → ReaderSearches.IsSourceSearched remaining read_step step errors matcher state reader old result reader' new
-      → IsRead remaining read_step step errors matcher state (look_of k matcher.meaning false) reader old result reader' new
+      → IsRead remaining read_step step errors matcher state (look_of k matcher.meaning false) reader old result reader'
+      new
   source-planned goes_on reader old result reader' new searched =
-      source-by goes_on k.binary_detection refl (is_across k matcher.meaning) refl reader old result reader' new searched
+      source-by goes_on k.binary_detection refl (is_across k matcher.meaning) refl reader old result reader' new
+      searched
 
   pub reader-planned : GoesOnAlong → (reader : R) (old : S) (result : Result (Unit {0}) E) (reader' : R) (new : S)
       → ReaderSearches.IsReaderSearched remaining read_step step errors matcher state reader old result reader' new
       → IsReaderSearched remaining read_step step errors matcher state reader old result reader' new
   reader-planned goes_on reader old (Ok u) reader' new (allowed, searched) =
       subst (λ refusal. IsUnlessThis errors matcher k old (Ok u) new (reader' ≡ reader)
-      (IsRead remaining read_step step errors matcher state (look_of k matcher.meaning false) reader old (Ok u) reader' new) refusal)
+      (IsRead remaining read_step step errors matcher state (look_of k matcher.meaning false) reader old (Ok u) reader'
+      new) refusal)
       (sym allowed) (λ lawful. source-planned goes_on reader old (Ok u) reader' new (searched lawful))
   reader-planned goes_on reader old (Err e) reader' new searched = go (refusal_of k matcher.meaning) searched
     where
       go : (refusal : Option ConfigError)
-          → ReaderSearches.IsReaderFaultUnless remaining read_step step errors matcher refusal state reader old e reader' new
+          → ReaderSearches.IsReaderFaultUnless remaining read_step step errors matcher refusal state reader old e
+          reader' new
           → IsUnlessThis errors matcher k old (Err e) new (reader' ≡ reader)
-          (IsRead remaining read_step step errors matcher state (look_of k matcher.meaning false) reader old (Err e) reader' new) refusal
+          (IsRead remaining read_step step errors matcher state (look_of k matcher.meaning false) reader old (Err e)
+          reader' new) refusal
       go None searched = λ lawful. source-planned goes_on reader old (Err e) reader' new (searched lawful)
       go (Some refusal) (made, same, left) = (e, refl, made, same, left)

@@ -1,7 +1,9 @@
 -- Where the first element of a list is that passes a test, in parts of the list and in lists that are joined, and bytes
 -- in which one is replaced.
-use Rattle.std.proofs.Common.{◌≡◌, ℕ, ◌+◌, ◌-◌, ◌<◌, ◌≤◌, Bool, true, false, List, [], ◌∷◌, ◌++◌, length, map, take, get_or}
-use Rattle.std.proofs.Common.{Option, None, Some, refl, sym, ap, ap₂, ◌∙◌, arith, ⊎_elim, if◌then◌else◌, ◌==◌, length-take}
+use Rattle.std.proofs.Common.{◌≡◌, ℕ, ◌+◌, ◌-◌, ◌<◌, ◌≤◌, Bool, true, false, List, [], ◌∷◌, ◌++◌, length, map, take}
+use Rattle.std.proofs.Common.{get_or}
+use Rattle.std.proofs.Common.{Option, None, Some, refl, sym, ap, ap₂, ◌∙◌, arith, ⊎_elim, if◌then◌else◌, ◌==◌}
+use Rattle.std.proofs.Common.{length-take}
 use Rattle.std.proofs.lemmas.Bool.{cases_lt, eqb-true, le-ltb, lt-ltb}
 use Rattle.std.proofs.lemmas.List.{get_or-append_right, get_or-take, get_or_append_left, length-append}
 use Rattle.std.proofs.lemmas.List.Elements.{All-append, All-take}
@@ -31,7 +33,8 @@ module _ {X : Type 0} (p : X → Bool) where
   pub position-none : (xs : List X) → All (λ x. p x ≡ false) xs → position p xs ≡ None
   position-none [] all = refl
   position-none (x ∷ xs) all =
-      let past = position_or_len_is p (x ∷ xs) (length (x ∷ xs)) x (omega arith) (λ k below. all k x below) (λ less. absurd (omega arith)) in
+      let past = position_or_len_is p (x ∷ xs) (length (x ∷ xs)) x (omega arith) (λ k below. all k x below)
+      (λ less. absurd (omega arith)) in
       position-past (x ∷ xs) (omega (arith, past))
 
   pub none-passes : (xs : List X) → position p xs ≡ None → All (λ x. p x ≡ false) xs
@@ -47,7 +50,8 @@ module _ {X : Type 0} (p : X → Bool) where
       let found = position-Some p (x ∷ xs) i x is in
       let front : (k : ℕ) → k < length (x ∷ xs) → get_or ((x ∷ xs) ++ ys) k x ≡ get_or (x ∷ xs) k x = λ k below.
       get_or_append_left (x ∷ xs) ys x k below in
-      position-is ((x ∷ xs) ++ ys) i x (omega (arith, found.0, length-append (x ∷ xs) ys)) (ap p (front i found.0) ∙ found.1)
+      position-is ((x ∷ xs) ++ ys) i x (omega (arith, found.0, length-append (x ∷ xs) ys))
+      (ap p (front i found.0) ∙ found.1)
       (λ k below. ap p (front k (omega (arith, below, found.0))) ∙ found.2 k below)
 
   pub position-append-none : (xs ys : List X) → position p xs ≡ None
@@ -64,7 +68,8 @@ module _ {X : Type 0} (p : X → Bool) where
           later [] i is = absurd (none-some i is)
           later (z ∷ zs) i is =
               let found = position-Some p (z ∷ zs) i z is in
-              let back : (k : ℕ) → length xs ≤ k → get_or (xs ++ z ∷ zs) k z ≡ get_or (z ∷ zs) (k - length xs) z = λ k low.
+              let back : (k : ℕ) → length xs ≤ k → get_or (xs ++ z ∷ zs) k z
+              ≡ get_or (z ∷ zs) (k - length xs) z = λ k low.
               get_or-append_right xs (z ∷ zs) (length xs) k z refl low in
               let at : length xs + i - length xs ≡ i = omega arith in
               position-is (xs ++ z ∷ zs) (length xs + i) z (omega (arith, found.0, length-append xs (z ∷ zs)))
@@ -78,7 +83,8 @@ module _ {X : Type 0} (p : X → Bool) where
   pub position-take-none : (n : ℕ) (xs : List X) → position p xs ≡ None → position p (take n xs) ≡ None
   position-take-none n xs none = position-none (take n xs) (All-take (λ x. p x ≡ false) n xs (none-passes xs none))
 
-  pub position-take-some : (n : ℕ) (xs : List X) (i : ℕ) → position p xs ≡ Some i → i < n → position p (take n xs) ≡ Some i
+  pub position-take-some : (n : ℕ) (xs : List X) (i : ℕ) → position p xs ≡ Some i → i < n → position p (take n xs)
+      ≡ Some i
   position-take-some n [] i is below = absurd (none-some i is)
   position-take-some n (x ∷ xs) i is below =
       let found = position-Some p (x ∷ xs) i x is in
@@ -86,7 +92,8 @@ module _ {X : Type 0} (p : X → Bool) where
       (ap p (get_or-take n (x ∷ xs) i x below) ∙ found.1)
       (λ k low. ap p (get_or-take n (x ∷ xs) k x (omega (arith, low, below))) ∙ found.2 k low)
 
-  pub position-take-before : (n : ℕ) (xs : List X) (i : ℕ) → position p xs ≡ Some i → n ≤ i → position p (take n xs) ≡ None
+  pub position-take-before : (n : ℕ) (xs : List X) (i : ℕ) → position p xs ≡ Some i → n ≤ i → position p (take n xs)
+      ≡ None
   position-take-before n xs i is low =
       position-none (take n xs) (λ k d below.
       let short : k < n = omega (arith, below, length-take n xs) in
@@ -103,7 +110,8 @@ module _ {X : Type 0} (p : X → Bool) where
   position_or_len-none [] none = refl
   position_or_len-none (x ∷ xs) none =
       let all = none-passes (x ∷ xs) none in
-      position_or_len_is p (x ∷ xs) (length (x ∷ xs)) x (omega arith) (λ k below. all k x below) (λ less. absurd (omega arith))
+      position_or_len_is p (x ∷ xs) (length (x ∷ xs)) x (omega arith) (λ k below. all k x below)
+      (λ less. absurd (omega arith))
 
   -- before the first that passes none does
   pub none-before-first : (xs : List X) → position p (take (position_or_len p xs) xs) ≡ None
@@ -114,7 +122,8 @@ module _ {X : Type 0} (p : X → Bool) where
       ap p (get_or-take n xs k d short) ∙ fails_before_first p xs k d short)
 
 -- bytes without the one that is replaced stay as they are
-pub replaced-none : (b t : ℕ) (xs : List ℕ) → position (λ x. x == b) xs ≡ None → map (λ x. if x == b then t else x) xs ≡ xs
+pub replaced-none : (b t : ℕ) (xs : List ℕ) → position (λ x. x == b) xs ≡ None → map (λ x. if x == b then t else x) xs
+    ≡ xs
 replaced-none b t xs none = map-none b t xs (λ k below. none-passes (λ x. x == b) xs none k 0 below)
 
 -- and so do bytes in which one is replaced by itself

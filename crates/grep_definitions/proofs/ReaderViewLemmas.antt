@@ -1,6 +1,7 @@
 -- A reader that is seen through another that refers to it: if each call of the one is a call of the other, and the
 -- reference stays the same, a search of the one is a search of the other.
-use Rattle.std.proofs.Common.{◌≡◌, ◌⊎◌, ◌∙◌, ℕ, Bool, true, false, List, [], ◌∷◌, Option, Some, None, ap, inl, inr, refl, sym, subst}
+use Rattle.std.proofs.Common.{◌≡◌, ◌⊎◌, ◌∙◌, ℕ, Bool, true, false, List, [], ◌∷◌, Option, Some, None, ap, inl, inr}
+use Rattle.std.proofs.Common.{refl, sym, subst}
 use Rattle.std.specs.Prelude.{Result, Ok, Err}
 use Rattle.std.specs.declared.io.Error.{Error}
 use Rattle.grep_decode.specs.DecoderStates.{Calls}
@@ -8,13 +9,15 @@ use Rattle.grep_decode.specs.Source.{ReadResult, Pulls}
 use Rattle.grep_matcher.specs.Matching.{Meaning}
 use Rattle.grep_report.specs.declared.config_error.ConfigError.{ConfigError}
 use Rattle.grep_definitions.specs.BinaryBytes.{Look, nowhere, in_contents, on_stream, look_of, view_of}
-use Rattle.grep_definitions.specs.ReaderSearches.{Taken, Came, IsUnread, IsUnreadIn, IsReaderFaultIn, IsReaderFaultUnless}
+use Rattle.grep_definitions.specs.ReaderSearches.{Taken, Came, IsUnread, IsUnreadIn, IsReaderFaultIn}
+use Rattle.grep_definitions.specs.ReaderSearches.{IsReaderFaultUnless}
 use Rattle.grep_definitions.specs.ReaderSearches.{IsContentsRun, IsNotedReaderRun, IsPlainlySearched, IsReaderCut}
 use Rattle.grep_definitions.specs.ReaderSearches.{IsReaderRunIn, IsReaderSearched, IsSearchedAt}
 use Rattle.grep_definitions.specs.CallOrder.{IsReadingError}
 use Rattle.grep_definitions.specs.NotedSinks.{noted}
 use Rattle.grep_definitions.specs.StreamSearches.{stream_calls}
-use Rattle.grep_definitions.specs.ReaderSearches.{of_cut, of_reader, of_contents, of_failed_read, of_buffers, of_search, of_reading}
+use Rattle.grep_definitions.specs.ReaderSearches.{of_cut, of_reader, of_contents, of_failed_read, of_buffers, of_search}
+use Rattle.grep_definitions.specs.ReaderSearches.{of_reading}
 use Rattle.grep_definitions.specs.Refusals.{refusal_of}
 use Rattle.grep_definitions.specs.Searches.{ErrorMakers, MatcherFacts}
 use Rattle.grep_definitions.specs.SearchTurns.{SearchCalls, search_calls}
@@ -55,7 +58,8 @@ module _ {R T N : Type 0} (view : R → T) (name : R → N) (remaining : T → O
   }
 
   -- one more call, if it failed, is one of the other too
-  Then-seen : (ended : Bool) (mid new : R) → (mid ≡ new) ⊎ ((error : Error) × (ended ≡ false) × read mid (Err error) new)
+  Then-seen : (ended : Bool) (mid new : R) → (mid ≡ new)
+      ⊎ ((error : Error) × (ended ≡ false) × read mid (Err error) new)
       → (name mid ≡ name new)
       × ((view mid ≡ view new) ⊎ ((error : Error) × (ended ≡ false) × seen_read (view mid) (Err error) (view new)))
   Then-seen ended mid new (inl same) = (ap name same, inl (ap view same))
@@ -76,7 +80,8 @@ module _ {R T N : Type 0} (view : R → T) (name : R → N) (remaining : T → O
               (sym (ends (Taken-named reader came.mid came.taken ∙ then_seen.0))) then_seen.1;
         }
 
-    IsUnreadIn-seen : (across : Bool) (shown : List ℕ → List ℕ) (meaning : Meaning) (lines : Option (List ℕ)) (error : Error)
+    IsUnreadIn-seen : (across : Bool) (shown : List ℕ → List ℕ) (meaning : Meaning) (lines : Option (List ℕ))
+        (error : Error)
         → IsUnreadIn (λ s. remaining (view s)) read across shown state meaning reader lines error reader'
         → IsUnreadIn remaining seen_read across shown state meaning (view reader) lines error last
     IsUnreadIn-seen across shown meaning lines error unread =
@@ -84,9 +89,11 @@ module _ {R T N : Type 0} (view : R → T) (name : R → N) (remaining : T → O
         (sym (ends (named lines error reader' unread))) (whole lines error reader' unread)
       where
         named : (lines : Option (List ℕ)) (error : Error) (after : R)
-            → IsUnreadIn (λ s. remaining (view s)) read across shown state meaning reader lines error after → name reader ≡ name after
+            → IsUnreadIn (λ s. remaining (view s)) read across shown state meaning reader lines error after
+            → name reader ≡ name after
         named (Some lines) error after (of_cut by_line unquit taken cut) = Taken-named reader after taken
-        named (Some lines) error after (of_reader by_line unquit mid taken unended failed goes_on came so_far unended_line) =
+        named (Some lines) error after (of_reader by_line unquit mid taken unended failed goes_on came so_far
+            unended_line) =
             Taken-named reader mid taken ∙ sym (seen mid (Err error) after failed).0
         named None error after (of_contents is_across taken cut) = Taken-named reader after taken
         named None error after (of_failed_read is_across mid taken unended failed came so_far below) =
@@ -96,13 +103,18 @@ module _ {R T N : Type 0} (view : R → T) (name : R → N) (remaining : T → O
         whole : (lines : Option (List ℕ)) (error : Error) (after : R)
             → IsUnreadIn (λ s. remaining (view s)) read across shown state meaning reader lines error after
             → IsUnreadIn remaining seen_read across shown state meaning (view reader) lines error (view after)
-        whole (Some lines) error after (of_cut by_line unquit taken cut) = of_cut by_line unquit (Taken-seen reader after taken) cut
-        whole (Some lines) error after (of_reader by_line unquit mid taken unended failed goes_on came so_far unended_line) =
-            of_reader by_line unquit (view mid) (Taken-seen reader mid taken) unended (seen mid (Err error) after failed).1 goes_on came
+        whole (Some lines) error after (of_cut by_line unquit taken cut) = of_cut by_line unquit
+            (Taken-seen reader after taken) cut
+        whole (Some lines) error after (of_reader by_line unquit mid taken unended failed goes_on came so_far
+            unended_line) =
+            of_reader by_line unquit (view mid) (Taken-seen reader mid taken) unended
+            (seen mid (Err error) after failed).1 goes_on came
             so_far unended_line
-        whole None error after (of_contents is_across taken cut) = of_contents is_across (Taken-seen reader after taken) cut
+        whole None error after (of_contents is_across taken cut) = of_contents is_across (Taken-seen reader after taken)
+            cut
         whole None error after (of_failed_read is_across mid taken unended failed came so_far below) =
-            of_failed_read is_across (view mid) (Taken-seen reader mid taken) unended (seen mid (Err error) after failed).1
+            of_failed_read is_across (view mid) (Taken-seen reader mid taken) unended
+            (seen mid (Err error) after failed).1
             came so_far below
         whole None error after (of_buffers none memory) = of_buffers none memory
 
@@ -121,22 +133,27 @@ module _ {R T N : Type 0} (view : R → T) (name : R → N) (remaining : T → O
     pub IsUnread-seen : (meaning : Meaning) (lines : Option (List ℕ)) (error : Error)
         → IsUnread (λ s. remaining (view s)) read state meaning reader lines error reader'
         → IsUnread remaining seen_read state meaning (view reader) lines error last
-    IsUnread-seen meaning = IsUnreadIn-seen (search_calls state.settings meaning).across (view_of state.settings) meaning
+    IsUnread-seen meaning = IsUnreadIn-seen (search_calls state.settings meaning).across (view_of state.settings)
+        meaning
 
-    module _ {S E F : Type 0} (step : Steps S E) (errors : ErrorMakers E) (matcher : MatcherFacts F) (calls : SearchCalls) where
+    module _ {S E F : Type 0} (step : Steps S E) (errors : ErrorMakers E) (matcher : MatcherFacts F)
+        (calls : SearchCalls) where
       IsReaderFaultIn-seen : (old : S) (e : E) (new : S)
           → IsReaderFaultIn (λ s. remaining (view s)) read step errors matcher calls state reader old e reader' new
           → IsReaderFaultIn remaining seen_read step errors matcher calls state (view reader) old e last new
       IsReaderFaultIn-seen old e new (of_search taken lines ended fault all) =
-          subst (λ after. IsReaderFaultIn remaining seen_read step errors matcher calls state (view reader) old e after new)
+          subst (λ after. IsReaderFaultIn remaining seen_read step errors matcher calls state (view reader) old e after
+          new)
           (sym (ends (Taken-named reader reader' taken)))
           (of_search (Taken-seen reader reader' taken) lines ended fault all)
       IsReaderFaultIn-seen old e new (of_reading lines error unread made reported) =
-          of_reading lines error (IsUnreadIn-seen calls.across calls.view matcher.meaning lines error unread) made reported
+          of_reading lines error (IsUnreadIn-seen calls.across calls.view matcher.meaning lines error unread) made
+          reported
 
       abbrev IsReaderRunIn-view : (old new : S)
           → IsReaderRunIn (λ s. remaining (view s)) read step errors matcher calls state.settings reader old reader' new
-          → IsReaderRunIn remaining seen_read step errors matcher calls state.settings (view reader) old (view reader') new
+          → IsReaderRunIn remaining seen_read step errors matcher calls state.settings (view reader) old (view reader')
+          new
       IsReaderRunIn-view old new run = record {
         taken = Taken-seen reader reader' run.taken;
         seen = run.seen;
@@ -169,7 +186,8 @@ module _ {R T N : Type 0} (view : R → T) (name : R → N) (remaining : T → O
           → IsReaderCut (λ s. remaining (view s)) read step errors matcher state.settings reader old result reader' new
           → IsReaderCut remaining seen_read step errors matcher state.settings (view reader) old result last new
       cut-seen old result new cut =
-          subst (λ after. IsReaderCut remaining seen_read step errors matcher state.settings (view reader) old result after new)
+          subst (λ after. IsReaderCut remaining seen_read step errors matcher state.settings (view reader) old result
+          after new)
           (sym (ends (Taken-named reader reader' cut.taken)))
           (record { taken = Taken-seen reader reader' cut.taken; run = cut.run; ahead = cut.ahead })
 
@@ -177,7 +195,8 @@ module _ {R T N : Type 0} (view : R → T) (name : R → N) (remaining : T → O
           → IsSearchedAt (λ s. remaining (view s)) read step errors matcher look state reader old result reader' new
           → IsSearchedAt remaining seen_read step errors matcher look state (view reader) old result last new
       at-seen nowhere old (Ok u) new run =
-          subst (λ after. IsPlainlySearched remaining seen_read step errors matcher state (view reader) old (Ok u) after new)
+          subst (λ after. IsPlainlySearched remaining seen_read step errors matcher state (view reader) old (Ok u) after
+          new)
           (sym (ends (Taken-named reader reader' run.taken)))
           (IsReaderRunIn-view step errors matcher (search_calls state.settings matcher.meaning) old new run)
       at-seen nowhere old (Err e) new fault =
@@ -187,7 +206,8 @@ module _ {R T N : Type 0} (view : R → T) (name : R → N) (remaining : T → O
       at-seen (in_contents b) old (Err e) new (inr (error, unread, made, same)) =
           inr (error, IsUnreadIn-seen true (view_of state.settings) matcher.meaning None error unread, made, same)
       at-seen on_stream old (Ok u) new (inl run) = inl (
-          subst (λ after. IsNotedReaderRun remaining seen_read step errors matcher state.settings (view reader) old after new)
+          subst (λ after. IsNotedReaderRun remaining seen_read step errors matcher state.settings (view reader) old
+          after new)
           (sym (ends (Taken-named reader reader' run.run.taken))) (record {
             found = run.found;
             run = IsReaderRunIn-view (noted step) errors matcher (stream_calls state.settings matcher.meaning)
@@ -215,8 +235,10 @@ module _ {R T N : Type 0} (view : R → T) (name : R → N) (remaining : T → O
       IsReaderSearched-seen old (Err e) new searched = fault (refusal_of state.settings matcher.meaning) searched
         where
           fault : (refusal : Option ConfigError)
-              → IsReaderFaultUnless (λ s. remaining (view s)) read step errors matcher refusal state reader old e reader' new
+              → IsReaderFaultUnless (λ s. remaining (view s)) read step errors matcher refusal state reader old e
+              reader' new
               → IsReaderFaultUnless remaining seen_read step errors matcher refusal state (view reader) old e last new
           fault (Some refusal) (made, same, untouched) =
               (made, same, ends (ap name (sym untouched)) ∙ ap view untouched)
-          fault None fails = λ lawful. at-seen (look_of state.settings matcher.meaning false) old (Err e) new (fails lawful)
+          fault None fails = λ lawful. at-seen (look_of state.settings matcher.meaning false) old (Err e) new
+              (fails lawful)

@@ -1,5 +1,6 @@
 -- The reports of lines ascend: each ends by the offset of each later one.
-use Rattle.std.proofs.Common.{◌≡◌, ℕ, zero, suc, ◌+◌, ◌<◌, ◌≤◌, Bool, true, false, List, [], ◌∷◌, ◌++◌, length, refl, sym, ap, subst, ◌∙◌, arith, ◌⊎◌, ⊎_elim, if◌then◌else◌}
+use Rattle.std.proofs.Common.{◌≡◌, ℕ, zero, suc, ◌+◌, ◌<◌, ◌≤◌, Bool, true, false, List, [], ◌∷◌, ◌++◌, length, refl}
+use Rattle.std.proofs.Common.{sym, ap, subst, ◌∙◌, arith, ◌⊎◌, ⊎_elim, if◌then◌else◌}
 use Rattle.std.proofs.lemmas.Bool.{cases_lt}
 use Rattle.std.proofs.lemmas.List.{map-append}
 use Rattle.std.proofs.lemmas.List.Elements.{All-nil, All-cons, All-weaker, filter-append}
@@ -23,7 +24,11 @@ pub record InOrderFrom (low : ℕ) (reports : List Call) : Type 0 where
 
 in_order-none : (low : ℕ) → InOrderFrom low []
 in_order-none low = record {
-  in_order = (All-nil (λ report. 0 < length (reported_bytes report)), λ i j d less inside. absurd (omega (arith, inside)));
+  in_order = (
+    All-nil (λ report. 0 < length (reported_bytes report)),
+    λ i j d less inside.
+        absurd (omega (arith, inside)),
+  );
   after = All-nil (λ report. low ≤ reported_from report);
 }
 
@@ -36,7 +41,8 @@ in_order-lower low high reports le follow = record {
 
 -- a report in front of those after it
 in_order-cons : (low : ℕ) (report : Call) (later : List Call) → low ≤ reported_from report
-    → reported_from report < reported_to report → InOrderFrom (reported_to report) later → InOrderFrom low (report ∷ later)
+    → reported_from report < reported_to report → InOrderFrom (reported_to report) later
+    → InOrderFrom low (report ∷ later)
 in_order-cons low report later above some follow = record {
   in_order = (
     All-cons (λ r. 0 < length (reported_bytes r)) report later (omega (arith, some)) follow.in_order.0,
@@ -82,9 +88,11 @@ module _ (f : ℕ → List Turn) (start : ℕ → ℕ) where
         subst (λ x. InOrderFrom (start x) (report_calls (f i) ++ rest)) (sym same) (⊎_elim
         (λ silent. subst (λ calls. InOrderFrom (start i) (calls ++ rest)) (sym silent)
         (in_order-lower (start i) (start (i + 1)) rest (let up = rises i (omega arith) in omega (arith, up))
-        (in_order-from m (i + 1) (i + 1) (omega arith) (omega arith) (λ j above below. absurd (omega (arith, above, below))))))
+        (in_order-from m (i + 1) (i + 1) (omega arith) (omega arith)
+        (λ j above below. absurd (omega (arith, above, below))))))
         (λ (reported : IsReported i). subst (λ calls. InOrderFrom (start i) (calls ++ rest)) (sym reported.reports)
-        (in_order-cons (start i) reported.call rest (omega (arith, reported.from)) (omega (arith, reported.from, reported.to, reported.above))
+        (in_order-cons (start i) reported.call rest (omega (arith, reported.from))
+        (omega (arith, reported.from, reported.to, reported.above))
         (subst (λ x. InOrderFrom x rest) (sym reported.to)
         (in_order-from m (i + 1) reported.next (omega arith) (omega (arith, reported.later))
         (λ j above below. reported.alone j (omega (arith, above)) below)))))
@@ -92,4 +100,5 @@ module _ (f : ℕ → List Turn) (start : ℕ → ℕ) where
         (cases_lt i q))
 
     pub in_order-joined : AreInOrder (report_calls (joined_from f 0 n))
-    in_order-joined = (in_order-from n 0 0 (omega arith) (omega arith) (λ j low below. absurd (omega (arith, below)))).in_order
+    in_order-joined = (in_order-from n 0 0 (omega arith) (omega arith)
+        (λ j low below. absurd (omega (arith, below)))).in_order

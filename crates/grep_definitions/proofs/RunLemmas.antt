@@ -1,12 +1,14 @@
 -- Longest runs of numbers that pass a test, and lists joined over them.
-use Rattle.std.proofs.Common.{◌≡◌, ℕ, zero, suc, ◌+◌, ◌-◌, ◌<◌, ◌≤◌, Bool, true, false, not, ◌&&◌, List, [], ◌∷◌, ◌++◌, if◌then◌else◌}
+use Rattle.std.proofs.Common.{◌≡◌, ℕ, zero, suc, ◌+◌, ◌-◌, ◌<◌, ◌≤◌, Bool, true, false, not, ◌&&◌, List, [], ◌∷◌, ◌++◌}
+use Rattle.std.proofs.Common.{if◌then◌else◌}
 use Rattle.std.proofs.Common.{refl, sym, ap, ◌∙◌, arith, ◌⊎◌, ⊎_elim, inl, inr, Option, Some, None}
 use Rattle.std.proofs.lemmas.Bool.{lt-ltb, ltb-true, le-leb, leb-true, cases_Bool, cases_lt}
 use Rattle.std.specs.Prelude.{nat_lt, nat_le}
 use Rattle.std.specs.Option.{unwrap_or}
 use Rattle.std.specs.List.Sorted.{IsStrictlyIncreasing}
 use Rattle.grep_definitions.specs.Below.{first_below, joined_from}
-use Rattle.grep_definitions.proofs.BelowLemmas.{some_below-false, first_below-of, first_below-before, first_below-none, joined_from-add}
+use Rattle.grep_definitions.proofs.BelowLemmas.{some_below-false, first_below-of, first_below-before, first_below-none}
+use Rattle.grep_definitions.proofs.BelowLemmas.{joined_from-add}
 use Rattle.grep_definitions.proofs.BoolLemmas.{both_true, and-both, not_false, clash}
 use Rattle.grep_definitions.proofs.SearchLawLemmas.{AscendFrom, IsStrictlyIncreasing-cons}
 
@@ -49,7 +51,8 @@ is_inside-run f n low high rises i j less first second =
     le-leb (f ((j - 1) + 1)) high (rw back (omega (arith, rises j (j + 1) (omega arith)))) in
     let here : is_inside f n low high (j - 1) ≡ true =
     and-both (nat_lt (j - 1) n) _ (lt-ltb (j - 1) n (omega arith)) (and-both (nat_le low (f (j - 1))) _ starts ends) in
-    clash (and-both (nat_lt 0 j) _ (lt-ltb 0 j (omega arith)) here) (not_false _ (both_true (is_inside f n low high j) _ second).1)
+    clash (and-both (nat_lt 0 j) _ (lt-ltb 0 j (omega arith)) here)
+    (not_false _ (both_true (is_inside f n low high j) _ second).1)
 
 module _ (p : ℕ → Bool) (n : ℕ) where
   -- a run from number i on ends before number e: those from i on pass, and e doesn't, if it is below n
@@ -80,7 +83,8 @@ module _ (p : ℕ → Bool) (n : ℕ) where
         low = omega arith;
         high = omega arith;
         inner = λ j low below.
-            passes j low (some_below-false (λ j. nat_lt i j && not (p j)) n j (first_below-none (λ j. nat_lt i j && not (p j)) n is) below);
+            passes j low (some_below-false (λ j. nat_lt i j && not (p j)) n j
+            (first_below-none (λ j. nat_lt i j && not (p j)) n is) below);
         closed = λ below. absurd (omega arith);
       }
       go (Some q) is =
@@ -145,11 +149,13 @@ module _ (p : ℕ → Bool) (n : ℕ) where
               let next = IsRunEnd-next i (run_end i) (omega arith) yes run in
               let cut : suc m ≡ (run_end i - i) + (n - run_end i) = omega (arith, run.low, run.high) in
               let on : i + (run_end i - i) ≡ run_end i = omega (arith, run.low) in
-              let split : joined_from each i (suc m) ≡ joined_from each i (run_end i - i) ++ joined_from each (run_end i) (n - run_end i) =
+              let split : joined_from each i (suc m) ≡ joined_from each i (run_end i - i)
+              ++ joined_from each (run_end i) (n - run_end i) =
               ap (joined_from each i) cut ∙ joined_from-add each i (run_end i - i) (n - run_end i)
               ∙ ap (λ x. joined_from each i (run_end i - i) ++ joined_from each x (n - run_end i)) on in
               rw (first i (omega arith) yes begins, rest.1 (run_end i) next (continues-next i ∙ yes)) (sym split),
-          λ e run goes_on. rw (later i yes goes_on) (rest.1 e (IsRunEnd-next i e (omega arith) yes run) (continues-next i ∙ yes)),
+          λ e run goes_on. rw (later i yes goes_on) (rest.1 e (IsRunEnd-next i e (omega arith) yes run)
+              (continues-next i ∙ yes)),
         ))
         (λ no.
         let same : joined_from whole i (suc m) ≡ joined_from each i (suc m) =
@@ -197,7 +203,8 @@ module _ (p : ℕ → Bool) (n : ℕ) where
                     (λ some. wide),
                 λ some. omega arith,
               ),
-          λ e run goes_on. rw (here, goes_on) (rest.1 e (IsRunEnd-next i e (omega arith) here run) (continues-next i ∙ here)),
+          λ e run goes_on. rw (here, goes_on) (rest.1 e (IsRunEnd-next i e (omega arith) here run)
+              (continues-next i ∙ here)),
         ))
         (λ none.
         let later = rest.0 (continues-next i ∙ none) in (

@@ -1,5 +1,7 @@
 -- What the calls of a line, and of the lines together, tell.
-use Rattle.std.proofs.Common.{◌≡◌, ℕ, zero, suc, ◌+◌, ◌-◌, ◌<◌, ◌≤◌, Bool, true, false, List, [], ◌∷◌, length, slice_index, refl, sym, ap, subst, ◌∙◌, arith, ◌⊎◌, inl, inr, ⊎_elim, Option, Some, None, if◌then◌else◌}
+use Rattle.std.proofs.Common.{◌≡◌, ℕ, zero, suc, ◌+◌, ◌-◌, ◌<◌, ◌≤◌, Bool, true, false, List, [], ◌∷◌, length}
+use Rattle.std.proofs.Common.{slice_index, refl, sym, ap, subst, ◌∙◌, arith, ◌⊎◌, inl, inr, ⊎_elim, Option, Some, None}
+use Rattle.std.proofs.Common.{if◌then◌else◌}
 use Rattle.std.proofs.Math.Bool.{and-false}
 use Rattle.std.proofs.lemmas.Bool.{le-leb, leb-true, lt-ltb, ltb-true, cases_Bool, cases_lt}
 use Rattle.std.proofs.lemmas.List.Sums.{sum_by-append}
@@ -15,8 +17,10 @@ use Rattle.grep_definitions.specs.SearchLaws.{AreInOrder, is_match, is_matched, 
 use Rattle.grep_definitions.specs.Below.{count_below, first_below, at_most, joined_from}
 use Rattle.grep_definitions.specs.LineSearch
 use Rattle.grep_definitions.specs.LineSearch.{turns_at, Kind, matched, in_context}
-use Rattle.grep_definitions.proofs.BelowLemmas.{some_below-some, some_below-false, some_below-find, first_below-before, first_below-none}
-use Rattle.grep_definitions.proofs.BelowLemmas.{first_below-of, count_below-either, count_below-le, count_below-none, count_below-within}
+use Rattle.grep_definitions.proofs.BelowLemmas.{some_below-some, some_below-false, some_below-find, first_below-before}
+use Rattle.grep_definitions.proofs.BelowLemmas.{first_below-none}
+use Rattle.grep_definitions.proofs.BelowLemmas.{first_below-of, count_below-either, count_below-le, count_below-none}
+use Rattle.grep_definitions.proofs.BelowLemmas.{count_below-within}
 use Rattle.grep_definitions.proofs.BelowLemmas.{is_below-le, joined_from-more}
 use Rattle.grep_definitions.proofs.LineStartLemmas.{line_start-ascends, line_start-more}
 use Rattle.grep_definitions.proofs.BoolLemmas.{both_true, clash, not_false, or-cases}
@@ -28,7 +32,8 @@ at_most-le None n = omega arith
 at_most-le (Some m) n = omega arith
 
 -- as many numbers pass as pass the weaker test, or fewer
-pub count_below-weaker : (p q : ℕ → Bool) (n : ℕ) → ((j : ℕ) → p j ≡ true → q j ≡ true) → count_below p n ≤ count_below q n
+pub count_below-weaker : (p q : ℕ → Bool) (n : ℕ) → ((j : ℕ) → p j ≡ true → q j ≡ true)
+    → count_below p n ≤ count_below q n
 count_below-weaker p q zero weaker = omega arith
 count_below-weaker p q (suc n) weaker = go (p n) (q n) (weaker n) (count_below-weaker p q n weaker)
   where
@@ -56,7 +61,8 @@ matches_in = count_by (λ turn. is_match turn.call)
 
 -- some first lines report no more matches than numbers pass, if a line reports one at most, and only if its number
 -- passes
-pub matches-joined : (f : ℕ → List Turn) (p : ℕ → Bool) → ((i : ℕ) → matches_in (f i) ≤ (if p i then 1 else 0)) → (m : ℕ)
+pub matches-joined : (f : ℕ → List Turn) (p : ℕ → Bool) → ((i : ℕ) → matches_in (f i) ≤ (if p i then 1 else 0))
+    → (m : ℕ)
     → matches_in (joined_from f 0 m) ≤ count_below p m
 matches-joined f p one zero = omega arith
 matches-joined f p one (suc m) =
@@ -75,7 +81,8 @@ matches-joined f p one (suc m) =
     go false here before = omega arith
 
 -- no more numbers pass than a limit has, if each passes only while fewer before it do
-pub count_below-limited : (p : ℕ → Bool) (limit m : ℕ) → count_below (λ i. p i && nat_lt (count_below p i) limit) m ≤ limit
+pub count_below-limited : (p : ℕ → Bool) (limit m : ℕ)
+    → count_below (λ i. p i && nat_lt (count_below p i) limit) m ≤ limit
 count_below-limited p limit zero = omega arith
 count_below-limited p limit (suc m) =
     go (p m) (nat_lt (count_below p m) limit) refl (count_below-limited p limit m)
@@ -109,9 +116,11 @@ kind-matched false false t false false is = absurd (cc)
 pub kind-selected : (a b c d : Bool)
     → (if a then Some matched
     else (if b then Some (in_context After)
-    else (if c then Some (in_context Before) else (if d then Some (in_context Other) else None)))) ≡ Some matched → a ≡ true
+    else (if c then Some (in_context Before) else (if d then Some (in_context Other) else None)))) ≡ Some matched → a
+    ≡ true
 kind-selected a b c d is =
-    ⊎_elim (λ yes. yes) (λ no. absurd (clash no (and-false b))) (or-cases a (b && false) (kind-matched a b false c d is))
+    ⊎_elim (λ yes. yes) (λ no. absurd (clash no (and-false b)))
+    (or-cases a (b && false) (kind-matched a b false c d is))
 
 module _ (k : Settings) (meaning : Meaning) (bytes : List ℕ) where
   -- how many lines there are, where each starts, whether it is chosen, and its calls
@@ -144,15 +153,20 @@ module _ (k : Settings) (meaning : Meaning) (bytes : List ℕ) where
       )
 
   -- a line after a selected one follows it
-  follows-near : (i j : ℕ) → selected j ≡ true → j < i → i - j ≤ k.after_context → LineSearch.follows_selected k meaning bytes i ≡ true
-  follows-near i j hit less close = let near = le-leb (i - j) k.after_context close in some_below-some _ i j less (rw (near, hit) refl)
+  follows-near : (i j : ℕ) → selected j ≡ true → j < i → i - j ≤ k.after_context
+      → LineSearch.follows_selected k meaning bytes i ≡ true
+  follows-near i j hit less close = let near = le-leb (i - j) k.after_context close in some_below-some _ i j less
+      (rw (near, hit) refl)
 
   -- and so is reported, if it has a turn
-  shown-near : (i j : ℕ) → i < LineSearch.turn_count k meaning bytes → selected j ≡ true → j ≤ i → i - j ≤ k.after_context
+  shown-near : (i j : ℕ) → i < LineSearch.turn_count k meaning bytes → selected j ≡ true → j ≤ i
+      → i - j ≤ k.after_context
       → LineSearch.is_reported k meaning bytes i ≡ true
   shown-near i j has hit low close = ⊎_elim
-      (λ less. let here = lt-ltb i _ has in let follows = follows-near i j hit less close in rw (here, follows) (some (selected i)))
-      (λ same. let here = lt-ltb i _ has in let own : selected i ≡ true = ap selected (one same) ∙ hit in rw (here, own) refl)
+      (λ less. let here = lt-ltb i _ has in let follows = follows-near i j hit less close in rw (here, follows)
+      (some (selected i)))
+      (λ same. let here = lt-ltb i _ has in let own : selected i ≡ true = ap selected (one same)
+      ∙ hit in rw (here, own) refl)
       (cases_lt j i)
     where
       one : i ≤ j → i ≡ j
@@ -175,7 +189,8 @@ module _ (k : Settings) (meaning : Meaning) (bytes : List ℕ) where
       } ∷ []
   turns_at-follows i j has misses hit less close = go (LineSearch.is_trailing k meaning bytes i) refl
     where
-      is_kind : LineSearch.kind k meaning bytes i ≡ Some (if LineSearch.is_trailing k meaning bytes i then matched else in_context After)
+      is_kind : LineSearch.kind k meaning bytes i ≡ Some
+          (if LineSearch.is_trailing k meaning bytes i then matched else in_context After)
       is_kind = let follows = follows-near i j hit less close in rw (misses, follows) refl
 
       shown : LineSearch.is_reported k meaning bytes (i - 1) ≡ true
@@ -196,7 +211,8 @@ module _ (k : Settings) (meaning : Meaning) (bytes : List ℕ) where
 
   -- a line has one report at most, of its bytes
   reported-line : LinesJoin → (i : ℕ) → i < n → (report_calls (T i) ≡ []) ⊎ IsReported T start i
-  reported-line join i inside = go (LineSearch.kind k meaning bytes i) (report_calls-broken (LineSearch.breaks_before k meaning bytes i) _ _)
+  reported-line join i inside = go (LineSearch.kind k meaning bytes i)
+      (report_calls-broken (LineSearch.breaks_before k meaning bytes i) _ _)
     where
       one : (call : Call) → report_calls (T i) ≡ call ∷ [] → reported_from call ≡ start i
           → reported_bytes call ≡ LineSearch.line k meaning bytes i → IsReported T start i
@@ -232,7 +248,8 @@ module _ (k : Settings) (meaning : Meaning) (bytes : List ℕ) where
       → matches_in (LineSearch.report k meaning bytes i kind) ≤ (if is_matched k meaning bytes i then 1 else 0)
   matches-report i None is = omega arith
   matches-report i (Some matched) is =
-      let here = kind-matched (selected i) (LineSearch.follows_selected k meaning bytes i) (LineSearch.is_trailing k meaning bytes i)
+      let here = kind-matched (selected i) (LineSearch.follows_selected k meaning bytes i)
+      (LineSearch.is_trailing k meaning bytes i)
       (LineSearch.precedes_selected k meaning bytes i) k.passthru is in
       rw here (omega arith)
   matches-report i (Some (in_context c)) is = omega arith
@@ -242,8 +259,13 @@ module _ (k : Settings) (meaning : Meaning) (bytes : List ℕ) where
   matches-line i = go (LineSearch.breaks_before k meaning bytes i)
     where
       go : (b : Bool) → matches_in
-          (if b then record { call = breaks; end = LineSearch.turn_end k meaning bytes i (LineSearch.kind k meaning bytes i) }
-          ∷ LineSearch.report k meaning bytes i (LineSearch.kind k meaning bytes i) else LineSearch.report k meaning bytes i
+          (if b then record {
+            call = breaks;
+            end = LineSearch.turn_end k meaning bytes i
+                (LineSearch.kind k meaning bytes i);
+          }
+          ∷ LineSearch.report k meaning bytes i (LineSearch.kind k meaning bytes i) else LineSearch.report k meaning
+          bytes i
           (LineSearch.kind k meaning bytes i)) ≤ (if is_matched k meaning bytes i then 1 else 0)
       go true = matches-report i (LineSearch.kind k meaning bytes i) refl
       go false = matches-report i (LineSearch.kind k meaning bytes i) refl
@@ -262,7 +284,8 @@ module _ (k : Settings) (meaning : Meaning) (bytes : List ℕ) where
 
   late-is : (i : ℕ) → late i ≡ true → IsLate i
   late-is i is =
-      let parts = both_true (LineSearch.follows_selected k meaning bytes i) (LineSearch.is_trailing k meaning bytes i) is in
+      let parts = both_true (LineSearch.follows_selected k meaning bytes i) (LineSearch.is_trailing k meaning bytes i)
+      is in
       let found = some_below-find (λ j. nat_le (i - j) k.after_context && selected j) i parts.0 in
       let near = both_true (nat_le (i - found.0) k.after_context) (selected found.0) found.2 in
       let chosen = (both_true (chosen found.0) _ near.1).0 in
@@ -300,7 +323,8 @@ module _ (k : Settings) (meaning : Meaning) (bytes : List ℕ) where
             count_below-within late first k.after_context m (λ i less yes.
                 let late = late-is i yes in
                 let low : first ≤ i = ⊎_elim
-                (λ early. absurd (clash (ap not late.shut) (first_below-before (λ i. not (has_room i)) m first i is early)))
+                (λ early. absurd (clash (ap not late.shut)
+                (first_below-before (λ i. not (has_room i)) m first i is early)))
                 (λ over. over)
                 (cases_lt i first) in
                 let high : late.line < first = ⊎_elim
@@ -310,7 +334,8 @@ module _ (k : Settings) (meaning : Meaning) (bytes : List ℕ) where
                 (low, omega (arith, high, late.near, late.before))),
           )
 
-  -- the calls tell no more matches than the limit has and those in the context after the last of them, and none at limit 0
+  -- the calls tell no more matches than the limit has and those in the context after the last of them, and none at
+  -- limit 0
   pub matches-few : (limit m : ℕ) → k.max_matches ≡ Some limit
       → matches_in (joined_from T 0 m) ≤ (if nat_lt 0 limit then limit + k.after_context else 0)
   matches-few limit m is = go limit is (omega (
@@ -320,14 +345,16 @@ module _ (k : Settings) (meaning : Meaning) (bytes : List ℕ) where
   ))
     where
       either : (i : ℕ) → is_matched k meaning bytes i ≡ true → (chosen i ≡ true) ⊎ (late i ≡ true)
-      either i here = ⊎_elim (λ taken. inl (both_true (chosen i) _ taken).0) (λ after. inr after) (or-cases (selected i) (late i) here)
+      either i here = ⊎_elim (λ taken. inl (both_true (chosen i) _ taken).0) (λ after. inr after)
+          (or-cases (selected i) (late i) here)
 
       unchosen : (i : ℕ) → chosen i ≡ true → count_below chosen (suc i) ≡ 0 → ⊥
       unchosen i taken none =
           let some : count_below chosen (suc i) ≡ count_below chosen i + 1 = rw taken refl in
           absurd (omega (arith, sym some ∙ none))
 
-      go : (limit : ℕ) → k.max_matches ≡ Some limit → matches_in (joined_from T 0 m) ≤ count_below chosen m + count_below late m
+      go : (limit : ℕ) → k.max_matches ≡ Some limit → matches_in (joined_from T 0 m) ≤ count_below chosen m +
+          count_below late m
           → matches_in (joined_from T 0 m) ≤ (if nat_lt 0 limit then limit + k.after_context else 0)
       go zero is few =
           let none : (n : ℕ) → count_below chosen n ≡ 0 = λ n. omega (arith, chosen-few 0 n is) in

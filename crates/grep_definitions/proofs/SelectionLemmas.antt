@@ -2,7 +2,8 @@
 use Rattle.std.proofs.Common.{◌≡◌, ℕ, zero, suc, ◌+◌, ◌-◌, ◌<◌, ◌≤◌, Bool, true, false, not, ◌&&◌, ◌||◌, List, [], ◌++◌}
 use Rattle.std.proofs.Common.{refl, sym, ◌∙◌, ap, subst, arith, ⊎_elim, Some, None, is_some, if◌then◌else◌}
 use Rattle.std.proofs.Math.Bool.{or-false, and-false, and-true}
-use Rattle.std.proofs.lemmas.Bool.{lt-ltb, lt-leb, le-leb, le-ltb, eq-eqb, cases_lt, cases_Bool, ne_eqb, ltb-true, ltb-false}
+use Rattle.std.proofs.lemmas.Bool.{lt-ltb, lt-leb, le-leb, le-ltb, eq-eqb, cases_lt, cases_Bool, ne_eqb, ltb-true}
+use Rattle.std.proofs.lemmas.Bool.{ltb-false}
 use Rattle.std.proofs.lemmas.List.{append-nil}
 use Rattle.std.specs.Prelude.{nat_eq, nat_lt, nat_le}
 use Rattle.grep_report.specs.declared.sink_context.SinkContextKind.TheVariants.{Before, After, Other}
@@ -62,7 +63,8 @@ module _ (k : Settings) (selected trailing : ℕ → Bool) (n turned : ℕ) wher
         ∙ sym (le-ltb (x - (i + 1)) A over))
         (cases_lt (x - (i + 1)) A);
     passed = λ j low high. absurd (omega arith);
-    shown = λ above. let back : (i + 1) - 1 ≡ i = omega arith in let test = lt-ltb i turned has in rw (back, hit, test) refl;
+    shown = λ above. let back : (i + 1) - 1 ≡ i = omega arith in let test = lt-ltb i turned has in rw (back, hit, test)
+        refl;
     bare = λ _. refl;
   }
 
@@ -81,7 +83,8 @@ module _ (k : Settings) (selected trailing : ℕ → Bool) (n turned : ℕ) wher
         rw (out.0, out.1, alone) (ap (λ p. if p then Some (in_context Other) else None) plain)
       where
         miss : (q : ℕ) → q < n → nat_lt j q ≡ true → selected q ≡ false
-        miss q below is = ⊎_elim (λ early. (near.passed q (omega (arith, ltb-true j q is)) early).0) (λ late. silent q late below)
+        miss q below is = ⊎_elim (λ early. (near.passed q (omega (arith, ltb-true j q is)) early).0)
+            (λ late. silent q late below)
             (cases_lt q i)
 
         none : (q : ℕ) → q < n → (nat_lt j q && nat_le (q - j) B && selected q) ≡ false
@@ -93,11 +96,13 @@ module _ (k : Settings) (selected trailing : ℕ → Bool) (n turned : ℕ) wher
 
     -- line i follows a selected line just if some of the window is left
     pub follows-here : follows i ≡ nat_lt 0 left
-    follows-here = let zero_off : i - i ≡ 0 = omega arith in near.window i (omega arith) ∙ ap (λ d. nat_lt d left) zero_off
+    follows-here = let zero_off : i - i ≡ 0 = omega arith in near.window i (omega arith)
+        ∙ ap (λ d. nat_lt d left) zero_off
 
     -- the next line's window
     window-more : (next : ℕ)
-        → ((x : ℕ) → i + 1 ≤ x → (nat_lt (x - i) left || (nat_le (x - i) A && selected i)) ≡ nat_lt (x - (i + 1)) next) → (x : ℕ)
+        → ((x : ℕ) → i + 1 ≤ x → (nat_lt (x - i) left || (nat_le (x - i) A && selected i)) ≡ nat_lt (x - (i + 1)) next)
+        → (x : ℕ)
         → i + 1 ≤ x → some_below (λ j. nat_le (x - j) A && selected j) (i + 1) ≡ nat_lt (x - (i + 1)) next
     window-more next goes x low = unfolded (i + 1) (omega arith)
       where
@@ -111,7 +116,8 @@ module _ (k : Settings) (selected trailing : ℕ → Bool) (n turned : ℕ) wher
       few = omega arith;
       close = λ above. absurd (omega arith);
       window = window-more 0
-          (λ x low. let ended = le-ltb (x - i) left (omega arith) in let ended_next = le-ltb (x - (i + 1)) 0 (omega arith) in
+          (λ x low. let ended = le-ltb (x - i) left (omega arith) in let ended_next = le-ltb (x - (i + 1)) 0
+          (omega arith) in
           rw (ended, misses, and-false (nat_le (x - i) A), ended_next) refl);
       passed = λ j low high. ⊎_elim (λ less. near.passed j low less)
           (λ over. let same : j ≡ i = omega arith in let out = le-ltb 0 left (omega arith) in
@@ -127,13 +133,15 @@ module _ (k : Settings) (selected trailing : ℕ → Bool) (n turned : ℕ) wher
 
     -- no break comes before it, since the line before it is reported
     pub gap-after : 0 < left
-        → (nat_lt 0 (A + B) && true && not (is_reported (i - 1)) && some_below is_reported i) ≡ (nat_lt 0 A && is_gap k v i i)
+        → (nat_lt 0 (A + B) && true && not (is_reported (i - 1)) && some_below is_reported i)
+        ≡ (nat_lt 0 A && is_gap k v i i)
     gap-after some =
         let same = near.close some in
         let first : 0 < i = ⊎_elim (λ less. less) (λ none. absurd (begins (omega (arith, none)))) (cases_lt 0 i) in
         let shown : is_reported (i - 1) ≡ true = ap (λ x. is_reported (x - 1)) (sym same) ∙ near.shown (omega arith) in
         let late = le-ltb v i (omega arith) in
-        rw (shown, late) (unbroken (nat_lt 0 (A + B)) (some_below is_reported i) ∙ sym (joined (nat_lt 0 A) (nat_lt 0 v) (nat_eq (i - i) B)))
+        rw (shown, late) (unbroken (nat_lt 0 (A + B)) (some_below is_reported i)
+        ∙ sym (joined (nat_lt 0 A) (nat_lt 0 v) (nat_eq (i - i) B)))
       where
         begins : i ≡ 0 → ⊥
         begins none = clash (lt-ltb 0 left some) (sym follows-here ∙ ap follows none)
@@ -152,7 +160,8 @@ module _ (k : Settings) (selected trailing : ℕ → Bool) (n turned : ℕ) wher
       low = omega arith;
       few = omega (arith, near.few);
       close = λ above. refl;
-      window = window-more rest (λ x low. rw (misses, and-false (nat_le (x - i) A)) (or-false (nat_lt (x - i) left) ∙ shifted x low));
+      window = window-more rest (λ x low. rw (misses, and-false (nat_le (x - i) A))
+          (or-false (nat_lt (x - i) left) ∙ shifted x low));
       passed = λ j low high. absurd (omega arith);
       shown = λ above. let back : (i + 1) - 1 ≡ i = omega arith in let kind = kind-after misses (omega arith) in
           let test = lt-ltb i turned has in rw (back, kind, test) refl;
@@ -166,23 +175,28 @@ module _ (k : Settings) (selected trailing : ℕ → Bool) (n turned : ℕ) wher
     precedes-bare : k.before_context ≡ 0 → precedes i ≡ false
     precedes-bare none = some_below-none _ n (λ q below. go q (nat_lt i q) refl)
       where
-        go : (q : ℕ) (less : Bool) → nat_lt i q ≡ less → (nat_lt i q && nat_le (q - i) k.before_context && selected q) ≡ false
+        go : (q : ℕ) (less : Bool) → nat_lt i q ≡ less → (nat_lt i q && nat_le (q - i) k.before_context && selected q)
+            ≡ false
         go q false is = rw is refl
-        go q true is = let high = ltb-true i q is in let out = lt-leb (q - i) k.before_context (omega arith) in rw (is, out) refl
+        go q true is = let high = ltb-true i q is in let out = lt-leb (q - i) k.before_context (omega arith) in
+            rw (is, out) refl
 
     -- a line that is reported under passthru alone
     pub kind-other : selected i ≡ false → left ≡ 0 → k.passthru ≡ true → k.before_context ≡ 0
         → Selections.kind k selected trailing n turned i ≡ Some (in_context Other)
-    kind-other misses empty bare none = let follows_it = follows-here ∙ le-ltb 0 left (omega arith) in let ahead = precedes-bare none in
+    kind-other misses empty bare none = let follows_it = follows-here
+        ∙ le-ltb 0 left (omega arith) in let ahead = precedes-bare none in
         rw (misses, follows_it, ahead, bare) refl
 
-    pub IsNear-other : i < turned → selected i ≡ false → left ≡ 0 → k.passthru ≡ true → k.before_context ≡ 0 → Near (i + 1) (i + 1) 0
+    pub IsNear-other : i < turned → selected i ≡ false → left ≡ 0 → k.passthru ≡ true → k.before_context ≡ 0
+        → Near (i + 1) (i + 1) 0
     IsNear-other has misses empty bare none = record {
       low = omega arith;
       few = omega arith;
       close = λ above. refl;
       window = window-more 0
-          (λ x low. let ended = le-ltb (x - i) left (omega arith) in let ended_next = le-ltb (x - (i + 1)) 0 (omega arith) in
+          (λ x low. let ended = le-ltb (x - i) left (omega arith) in let ended_next = le-ltb (x - (i + 1)) 0
+          (omega arith) in
           rw (ended, misses, and-false (nat_le (x - i) A), ended_next) refl);
       passed = λ j low high. absurd (omega arith);
       shown = λ above. let back : (i + 1) - 1 ≡ i = omega arith in let kind = kind-other misses empty bare none in
@@ -214,7 +228,8 @@ module _ (k : Settings) (selected trailing : ℕ → Bool) (n turned : ℕ) wher
     headed-missed first f after other is_after is_other = go (nat_lt 0 left) k.passthru refl refl
       where
         go : (b p : Bool) → nat_lt 0 left ≡ b → k.passthru ≡ p
-            → headed first f (if b || p then i + 1 else v) ≡ headed first f v ++ (if b then after else (if p then other else []))
+            → headed first f (if b || p then i + 1 else v) ≡ headed first f v
+            ++ (if b then after else (if p then other else []))
         go true p is_b is_p =
             let some = ltb-true 0 left is_b in
             headed-one first f v i (near.close some) ∙ ap (λ xs. headed first f v ++ xs) (is_after some)
@@ -233,7 +248,8 @@ module _ (k : Settings) (selected trailing : ℕ → Bool) (n turned : ℕ) wher
       precedes-passed j low less = ⊎_elim is_far is_close (cases_lt B (i - j))
         where
           is_close : i - j ≤ B → precedes j ≡ nat_le (i - j) B
-          is_close close = some_below-some _ n i inside (let a = lt-ltb j i less in let b = le-leb (i - j) B close in rw (a, b, hit) refl)
+          is_close close = some_below-some _ n i inside
+              (let a = lt-ltb j i less in let b = le-leb (i - j) B close in rw (a, b, hit) refl)
               ∙ sym (le-leb (i - j) B close)
 
           is_far : B < i - j → precedes j ≡ nat_le (i - j) B
@@ -247,7 +263,8 @@ module _ (k : Settings) (selected trailing : ℕ → Bool) (n turned : ℕ) wher
                   (cases_lt q i)
 
       pub kind-passed : (j : ℕ) → v ≤ j → j < i
-          → Selections.kind k selected trailing n turned j ≡ (if nat_le (i - j) B then Some (in_context Before) else None)
+          → Selections.kind k selected trailing n turned j
+          ≡ (if nat_le (i - j) B then Some (in_context Before) else None)
       kind-passed j low less = let out = near.passed j low less in let p = precedes-passed j low less in
           let plain = never_bare j low less in rw (out.0, out.1, p, plain) refl
 
@@ -260,12 +277,14 @@ module _ (k : Settings) (selected trailing : ℕ → Bool) (n turned : ℕ) wher
           settled false = refl
 
       -- whether a break comes before line j, which is reported
-      break-here : (j : ℕ) → v ≤ j → j ≤ i → i - j ≤ B → is_reported j ≡ true → (not (is_reported (j - 1)) && some_below is_reported j)
+      break-here : (j : ℕ) → v ≤ j → j ≤ i → i - j ≤ B → is_reported j ≡ true
+          → (not (is_reported (j - 1)) && some_below is_reported j)
           ≡ is_gap k v j i
       break-here j low high close shown = ⊎_elim after_report first_report (cases_lt 0 v)
         where
           -- the line before is reported
-          joined : is_reported (j - 1) ≡ true → is_gap k v j i ≡ false → (not (is_reported (j - 1)) && some_below is_reported j)
+          joined : is_reported (j - 1) ≡ true → is_gap k v j i ≡ false
+              → (not (is_reported (j - 1)) && some_below is_reported j)
               ≡ is_gap k v j i
           joined shown unbroken = rw (shown, unbroken) refl
 
@@ -275,7 +294,8 @@ module _ (k : Settings) (selected trailing : ℕ → Bool) (n turned : ℕ) wher
               let unbroken : is_gap k v j i ≡ false = rw out refl in
               ⊎_elim
               (λ above. ⊎_elim
-              (λ inner. joined (reported-passed (j - 1) (omega arith) (omega arith) ∙ le-leb (i - (j - 1)) B (omega arith)) unbroken)
+              (λ inner. joined (reported-passed (j - 1) (omega arith) (omega arith)
+              ∙ le-leb (i - (j - 1)) B (omega arith)) unbroken)
               (λ outer. let silent = some_below-none is_reported j
               (λ q below. reported-passed q (omega arith) (omega arith) ∙ lt-leb (i - q) B (omega arith)) in
               rw (silent, unbroken) (and-false _))
@@ -291,8 +311,10 @@ module _ (k : Settings) (selected trailing : ℕ → Bool) (n turned : ℕ) wher
               let a = lt-ltb 0 v some in
               let b = lt-ltb v j above in
               rw (prior, earlier, a, b) (and-true _ ∙ ⊎_elim
-              (λ inner. let p = le-leb (i - (j - 1)) B (omega arith) in let q = ne_eqb (i - j) B (λ e. omega arith) in rw (p, q) refl)
-              (λ outer. let p = lt-leb (i - (j - 1)) B (omega arith) in let q = eq-eqb (i - j) B (omega arith) in rw (p, q) refl)
+              (λ inner. let p = le-leb (i - (j - 1)) B (omega arith) in let q = ne_eqb (i - j) B (λ e. omega arith) in
+              rw (p, q) refl)
+              (λ outer. let p = lt-leb (i - (j - 1)) B (omega arith) in let q = eq-eqb (i - j) B (omega arith) in
+              rw (p, q) refl)
               (cases_lt (i - j) B)))
               (λ at. let same : v - 1 ≡ j - 1 = omega arith in let b = le-ltb v j at in
               joined (ap is_reported (sym same) ∙ near.shown some) (rw (b, and-false (nat_lt 0 v)) refl))
@@ -306,16 +328,19 @@ module _ (k : Settings) (selected trailing : ℕ → Bool) (n turned : ℕ) wher
           let gap = break-here j low (omega arith) close (reported-passed j low less ∙ le-leb (i - j) B close) in
           rw wide gap
 
-      pub gap-hit : (nat_lt 0 (A + B) && true && not (is_reported (i - 1)) && some_below is_reported i) ≡ (nat_lt 0 A && is_gap k v i i)
+      pub gap-hit : (nat_lt 0 (A + B) && true && not (is_reported (i - 1)) && some_below is_reported i)
+          ≡ (nat_lt 0 A && is_gap k v i i)
       gap-hit = guard (not (is_reported (i - 1))) (some_below is_reported i)
           (break-here i near.low (omega arith) (omega arith) reported-here)
         where
-          guard : (r s : Bool) → (r && s) ≡ is_gap k v i i → (((nat_lt 0 (A + B) && true) && r) && s) ≡ (nat_lt 0 A && is_gap k v i i)
+          guard : (r s : Bool) → (r && s) ≡ is_gap k v i i → (((nat_lt 0 (A + B) && true) && r) && s)
+              ≡ (nat_lt 0 A && is_gap k v i i)
           guard r s same = ⊎_elim
               (λ some. let a = lt-ltb 0 A some in let w = lt-ltb 0 (A + B) (omega arith) in rw (a, w) same)
               (λ none. ⊎_elim
               (λ some. let a = le-ltb 0 A none in let w = lt-ltb 0 (A + B) (omega arith) in
-              let apart = ne_eqb (i - i) B (λ e. omega arith) in rw (a, w) (same ∙ rw (apart) (and-false (nat_lt 0 v && nat_lt v i))))
+              let apart = ne_eqb (i - i) B (λ e. omega arith) in rw (a, w)
+              (same ∙ rw (apart) (and-false (nat_lt 0 v && nat_lt v i))))
               (λ both. let a = le-ltb 0 A none in let w = le-ltb 0 (A + B) (omega arith) in rw (a, w) refl)
               (cases_lt 0 B))
               (cases_lt 0 A)
@@ -324,7 +349,8 @@ module _ (k : Settings) (selected trailing : ℕ → Bool) (n turned : ℕ) wher
       pub next-passed : (j : ℕ) → v ≤ j → j < i → first_below (λ q. nat_lt j q && selected q) n ≡ Some i
       next-passed j low less =
           first_below-here (λ q. nat_lt j q && selected q) n i inside (let a = lt-ltb j i less in rw (a, hit) refl)
-          (some_below-none _ i (λ q below. ⊎_elim (λ follows_it. let c = (near.passed q (omega arith) below).0 in rw c (and-false _))
+          (some_below-none _ i (λ q below. ⊎_elim (λ follows_it. let c = (near.passed q (omega arith) below).0 in rw c
+          (and-false _))
           (λ ahead. let c = le-ltb j q ahead in rw c refl) (cases_lt j q)))
 
   -- lines that aren't selected are passed unreported, if none is left to be reported after a match

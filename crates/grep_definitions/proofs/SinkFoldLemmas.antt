@@ -1,5 +1,6 @@
 -- Runs of sinks whose steps are functions.
-use Rattle.std.proofs.Common.{◌≡◌, ℕ, Bool, true, false, not, ◌&&◌, List, [], ◌∷◌, Option, refl, sym, ◌∙◌, ap, subst, inl, inr}
+use Rattle.std.proofs.Common.{◌≡◌, ℕ, Bool, true, false, not, ◌&&◌, List, [], ◌∷◌, Option, refl, sym, ◌∙◌, ap, subst}
+use Rattle.std.proofs.Common.{inl, inr}
 use Rattle.std.specs.Prelude.{◌⊎◌, Ok, Err, None, map}
 use Rattle.std.specs.declared.io.Error.{Error}
 use Rattle.std.specs.List.{fold}
@@ -9,7 +10,8 @@ use Rattle.grep_definitions.specs.SinkCalls.{Call, Turn, begins, matches, contex
 use Rattle.grep_definitions.specs.SinkRuns.{Steps, Outcome, AreReported, IsFinished, IsRun}
 use Rattle.grep_definitions.specs.SearchLaws.{is_match, match_calls}
 use Rattle.grep_definitions.specs.SearchTurns.{search_calls, search_turns, search_byte_count}
-use Rattle.grep_definitions.specs.Searches.{ErrorMakers, MatcherFacts, IsFault, of_sink, of_matcher, IsFaultUnless, IsSearchedAt}
+use Rattle.grep_definitions.specs.Searches.{ErrorMakers, MatcherFacts, IsFault, of_sink, of_matcher, IsFaultUnless}
+use Rattle.grep_definitions.specs.Searches.{IsSearchedAt}
 use Rattle.grep_definitions.specs.DecodedInputs.{searched_bytes, is_searched_unchanged}
 use Rattle.grep_definitions.specs.BinaryBytes.{look_at, nowhere}
 use Rattle.grep_definitions.specs.Modes.{is_across}
@@ -17,7 +19,8 @@ use Rattle.grep_definitions.specs.ReadingFaults.{IsUndecoded}
 use Rattle.grep_definitions.specs.SinkFolds.{fold_while, run_fold, AreTaken, IsTakenOk, IsTakenBy, StepsBy}
 use Rattle.grep_definitions.specs.SinkFolds.{RunsFold, RunsFoldAll, RunsFoldMatches}
 use Rattle.grep_definitions.specs.SinkFolds.{SearchesRun, ReaderSearchesRun, SearchesFail, ReaderSearchesFail}
-use Rattle.grep_definitions.specs.ReaderSearches.{IsReaderFaultUnless, IsReaderFault, IsUnread, IsUnreadIn, of_search, of_reading}
+use Rattle.grep_definitions.specs.ReaderSearches.{IsReaderFaultUnless, IsReaderFault, IsUnread, IsUnreadIn, of_search}
+use Rattle.grep_definitions.specs.ReaderSearches.{of_reading}
 use Rattle.grep_definitions.specs.ReaderSearches.{IsSearchedAt as reader_at}
 use Rattle.grep_definitions.proofs.PlainStreamLemmas.{view-none}
 use Rattle.grep_decode.specs.Source.{ReadResult}
@@ -43,11 +46,13 @@ module _ {V : Type 0} (taken : V → Call → Bool → V → Type 0) where
   other-step old (finishes count binary) b new is h = h
 
   -- some calls of which the first is a match, or isn't
-  taken-match : (old mid : V) (turn : Turn) (later : List Turn) (new : V) → is_match turn.call ≡ true → taken old turn.call true mid
+  taken-match : (old mid : V) (turn : Turn) (later : List Turn) (new : V) → is_match turn.call ≡ true
+      → taken old turn.call true mid
       → AreTaken taken mid (match_calls later) new → AreTaken taken old (match_calls (turn ∷ later)) new
   taken-match old mid turn later new is here rest = rw is (inl (mid, here, rest))
 
-  taken-last : (old : V) (turn : Turn) (later : List Turn) (new : V) → is_match turn.call ≡ true → taken old turn.call false new
+  taken-last : (old : V) (turn : Turn) (later : List Turn) (new : V) → is_match turn.call ≡ true
+      → taken old turn.call false new
       → AreTaken taken old (match_calls (turn ∷ later)) new
   taken-last old turn later new is here = rw is (inr here)
 
@@ -58,7 +63,8 @@ module _ {V : Type 0} (taken : V → Call → Bool → V → Type 0) where
 module _ {S E : Type 0} (step : Steps S E) (settings : Settings) (count : ℕ) (binary : Option ℕ) (new : S) where
   module _ (goes : S → Call → Bool) (next : S → Call → S) where
     reported-fold : StepsBy step goes next → (turns : List Turn) (old : S) (outcome : Outcome E) (mid : S)
-        → AreReported step settings old turns outcome mid → IsFinished step settings outcome mid count binary (Ok tt) new
+        → AreReported step settings old turns outcome mid
+        → IsFinished step settings outcome mid count binary (Ok tt) new
         → new ≡ run_fold goes next old turns count binary
     reported-fold by [] old outcome mid (is, same) finished =
         let last = subst (λ o. IsFinished step settings o mid count binary (Ok tt) new) is finished in
@@ -70,9 +76,11 @@ module _ {S E : Type 0} (step : Steps S E) (settings : Settings) (count : ℕ) (
     reported-fold by (turn ∷ later) old outcome mid (inr (inl (is, made))) finished =
         let here = by old settings turn.call false mid made in
         let last = subst (λ o. IsFinished step settings o mid count binary (Ok tt) new) is finished in
-        rw (← here.0) ((by mid settings (finishes turn.end binary) true new last).1 ∙ ap (λ s. next s (finishes turn.end binary)) here.1)
+        rw (← here.0) ((by mid settings (finishes turn.end binary) true new last).1
+        ∙ ap (λ s. next s (finishes turn.end binary)) here.1)
     reported-fold by (turn ∷ later) old outcome mid (inr (inr (e, is, made))) finished =
-        let last = subst (λ o. IsFinished step settings o mid count binary (Ok tt) new) is finished in absurd (let never = last.0 in cc)
+        let last = subst (λ o. IsFinished step settings o mid count binary (Ok tt) new) is finished in
+        absurd (let never = last.0 in cc)
 
 -- A run of a sink that takes matches alone, as seen through a view of its state.
 module _ {S E V : Type 0} (step : Steps S E) (settings : Settings) (count : ℕ) (binary : Option ℕ) (new : S)
@@ -91,10 +99,12 @@ module _ {S E V : Type 0} (step : Steps S E) (settings : Settings) (count : ℕ)
       go : (b : Bool) → is_match turn.call ≡ b → AreTaken taken (view between) (match_calls later) (view new)
           → AreTaken taken (view old) (match_calls (turn ∷ later)) (view new)
       go true is rest =
-          let here = matched-step taken (view old) turn.call true (view between) is (by old turn.call true between made) in
+          let here = matched-step taken (view old) turn.call true (view between) is
+          (by old turn.call true between made) in
           taken-match taken (view old) (view between) turn later (view new) is here rest
       go false is rest =
-          let here = other-step taken (view old) turn.call true (view between) is (by old turn.call true between made) in
+          let here = other-step taken (view old) turn.call true (view between) is
+          (by old turn.call true between made) in
           taken-other taken (view old) turn later (view new) is
           (subst (λ v. AreTaken taken v (match_calls later) (view new)) here.1 rest)
   reported-taken (turn ∷ later) old outcome mid (inr (inl (is, made))) finished =
@@ -114,7 +124,8 @@ module _ {S E V : Type 0} (step : Steps S E) (settings : Settings) (count : ℕ)
           let here = other-step taken (view old) turn.call false (view mid) is_b (by old turn.call false mid made) in
           absurd (let never = here.0 in cc)
   reported-taken (turn ∷ later) old outcome mid (inr (inr (e, is, made))) finished =
-      let last = subst (λ o. IsFinished step settings o mid count binary (Ok tt) new) is finished in absurd (let never = last.0 in cc)
+      let last = subst (λ o. IsFinished step settings o mid count binary (Ok tt) new) is finished in
+      absurd (let never = last.0 in cc)
 
   pub runs-take_matches : (old : S) (turns : List Turn) → IsRun step settings old turns count binary (Ok tt) new
       → AreTaken taken (view old) (match_calls turns) (view new)
@@ -130,7 +141,8 @@ taken-fold goes next (call ∷ later) old new (inr here) = rw (← here.0) here.
 
 -- a fold that always goes on is std's
 run_fold-all : {S : Type 0} (next : S → Call → S) (old : S) (turns : List Turn) (count : ℕ) (binary : Option ℕ)
-    → run_fold (λ s call. true) next old turns count binary ≡ next (fold next old (map (λ turn. turn.call) turns)) (finishes count binary)
+    → run_fold (λ s call. true) next old turns count binary
+    ≡ next (fold next old (map (λ turn. turn.call) turns)) (finishes count binary)
 run_fold-all next old [] count binary = refl
 run_fold-all next old (turn ∷ later) count binary = run_fold-all next (next old turn.call) later count binary
 
@@ -141,7 +153,8 @@ module _ {S E : Type 0} (step : Steps S E) where
 
   pub runs-fold_all : RunsFoldAll step
   runs-fold_all next by settings old turns count binary new run =
-      runs-fold (λ s call. true) next by settings old turns count binary new run ∙ run_fold-all next old turns count binary
+      runs-fold (λ s call. true) next by settings old turns count binary new run
+      ∙ run_fold-all next old turns count binary
 
   pub runs-fold_matches : RunsFoldMatches step
   runs-fold_matches goes next by settings old turns count binary new run =
@@ -169,7 +182,8 @@ module _ {S E : Type 0} (step : Steps S E) where
 module _ {S E F : Type 0} (step : Steps S E) (errors : ErrorMakers E) (matcher : MatcherFacts F) where
   -- a fault is the matcher's, or that of a step of the sink
   fault-fails : (settings : Settings) (bytes : List ℕ) (old : S) (e : E) (new : S) → IsInfallible matcher.fails
-      → IsFault step errors matcher settings bytes old e new → (mid : S) × (call : Call) × step mid settings call (Err e) new
+      → IsFault step errors matcher settings bytes old e new → (mid : S) × (call : Call)
+      × step mid settings call (Err e) new
   fault-fails settings bytes old e new infallible (of_sink run) =
       reported-fails step settings (search_byte_count settings matcher.meaning bytes) None e new
       (search_turns settings matcher.meaning bytes) old
@@ -198,7 +212,8 @@ module _ {S E F : Type 0} (step : Steps S E) (errors : ErrorMakers E) (matcher :
     where
       go : IsSearchedAt step errors matcher nowhere state input old (Err e) new
           → ((mid : S) × (call : Call) × step mid state.settings call (Err e) new)
-          ⊎ ((seen : Option (List ℕ)) × (error : Error) × IsUndecoded state matcher.meaning input seen error × errors.is_io error e)
+          ⊎ ((seen : Option (List ℕ)) × (error : Error) × IsUndecoded state matcher.meaning input seen error
+          × errors.is_io error e)
       go (inl fault) = inl (fault-fails state.settings (searched_bytes state.settings input) old e new infallible fault)
       go (inr unsearched) = inr (unsearched.seen, unsearched.error, unsearched.cause, unsearched.made)
 
@@ -206,8 +221,10 @@ module _ {S E F : Type 0} (step : Steps S E) (errors : ErrorMakers E) (matcher :
       → ReaderSearchesFail step errors matcher remaining read_step
   reader_searches-fail {R} remaining read_step state reader old e reader' new none infallible lawful allowed searched =
       go (subst (λ d. reader_at remaining read_step step errors matcher
-      (look_at d (not false && not (is_across state.settings matcher.meaning))) state reader old (Err e) reader' new) none
-      (subst (λ refusal. IsReaderFaultUnless remaining read_step step errors matcher refusal state reader old e reader' new)
+      (look_at d (not false && not (is_across state.settings matcher.meaning))) state reader old (Err e) reader' new)
+      none
+      (subst (λ refusal. IsReaderFaultUnless remaining read_step step errors matcher refusal state reader old e reader'
+      new)
       allowed searched lawful))
     where
       go : IsReaderFault remaining read_step step errors matcher state reader old e reader' new
@@ -218,7 +235,8 @@ module _ {S E F : Type 0} (step : Steps S E) (errors : ErrorMakers E) (matcher :
       go (of_reading seen error cause made reported) = inr (
         seen,
         error,
-        subst (λ v. IsUnreadIn remaining read_step (search_calls state.settings matcher.meaning).across v state matcher.meaning
+        subst (λ v. IsUnreadIn remaining read_step (search_calls state.settings matcher.meaning).across v state
+            matcher.meaning
             reader seen error reader') (sym (view-none state.settings none)) cause,
         made,
       )

@@ -3,7 +3,8 @@ use Rattle.std.proofs.Common.{◌≡◌, ◌⊎◌, ℕ, inl, inr, List, [], ◌
 use Rattle.std.specs.declared.io.Error.{Error}
 use Rattle.grep_decode.specs.Source.{ReadResult}
 use Rattle.grep_definitions.specs.ReaderSearches.{IsReaderRunIn, IsReaderFaultIn, of_search, of_reading}
-use Rattle.grep_definitions.specs.Searches.{ErrorMakers, MatcherFacts, IsClearFault, IsFaultIn, IsLineFault, HasReportedIn}
+use Rattle.grep_definitions.specs.Searches.{ErrorMakers, MatcherFacts, IsClearFault, IsFaultIn, IsLineFault}
+use Rattle.grep_definitions.specs.Searches.{HasReportedIn}
 use Rattle.grep_definitions.specs.Searches.{of_sink, of_matcher}
 use Rattle.grep_definitions.specs.SearchTurns.{SearchCalls, calls_by_line}
 use Rattle.grep_definitions.specs.Settings.{Settings, SearcherState}
@@ -16,43 +17,50 @@ IsSeen {T} {U} {E} f step seen =
     (old : T) (k : Settings) (call : Call) (result : Result Bool E) (new : T)
     → step old k call result new → seen (f old) k call result (f new)
 
-module _ {T U E : Type 0} (f : T → U) (step : Steps T E) (seen : Steps U E) (along : IsSeen f step seen) (k : Settings) where
-  pub AreReported-seen : (turns : List Turn) (old : T) (outcome : Outcome E) (new : T)
-      → AreReported step k old turns outcome new → AreReported seen k (f old) turns outcome (f new)
-  AreReported-seen [] old outcome new (is, same) = (is, ap f same)
-  AreReported-seen (turn ∷ later) old outcome new (inl (mid, goes, reported)) =
-      inl (f mid, along old k turn.call (Ok true) mid goes, AreReported-seen later mid outcome new reported)
-  AreReported-seen (turn ∷ later) old outcome new (inr (inl (is, stops))) = inr (inl (is, along old k turn.call _ new stops))
-  AreReported-seen (turn ∷ later) old outcome new (inr (inr (e, is, fails))) =
-      inr (inr (e, is, along old k turn.call (Err e) new fails))
+module _ {T U E : Type 0} (f : T → U) (step : Steps T E) (seen : Steps U E) (along : IsSeen f step seen) (k : Settings)
+  where
+    pub AreReported-seen : (turns : List Turn) (old : T) (outcome : Outcome E) (new : T)
+        → AreReported step k old turns outcome new → AreReported seen k (f old) turns outcome (f new)
+    AreReported-seen [] old outcome new (is, same) = (is, ap f same)
+    AreReported-seen (turn ∷ later) old outcome new (inl (mid, goes, reported)) =
+        inl (f mid, along old k turn.call (Ok true) mid goes, AreReported-seen later mid outcome new reported)
+    AreReported-seen (turn ∷ later) old outcome new (inr (inl (is, stops))) = inr
+        (inl (is, along old k turn.call _ new stops))
+    AreReported-seen (turn ∷ later) old outcome new (inr (inr (e, is, fails))) =
+        inr (inr (e, is, along old k turn.call (Err e) new fails))
 
-  pub IsFinished-seen : (outcome : Outcome E) (old : T) (count : ℕ) (binary : Option ℕ) (result : Result (Unit {0}) E) (new : T)
-      → IsFinished step k outcome old count binary result new → IsFinished seen k outcome (f old) count binary result (f new)
-  IsFinished-seen all_true old count binary result new finish = along old k _ _ new finish
-  IsFinished-seen (stopped end) old count binary result new finish = along old k _ _ new finish
-  IsFinished-seen (failed e) old count binary result new (is, same) = (is, ap f same)
+    pub IsFinished-seen : (outcome : Outcome E) (old : T) (count : ℕ) (binary : Option ℕ) (result : Result (Unit {0}) E)
+        (new : T)
+        → IsFinished step k outcome old count binary result new
+        → IsFinished seen k outcome (f old) count binary result (f new)
+    IsFinished-seen all_true old count binary result new finish = along old k _ _ new finish
+    IsFinished-seen (stopped end) old count binary result new finish = along old k _ _ new finish
+    IsFinished-seen (failed e) old count binary result new (is, same) = (is, ap f same)
 
-  pub IsRun-seen : (turns : List Turn) (old : T) (count : ℕ) (binary : Option ℕ) (result : Result (Unit {0}) E) (new : T)
-      → IsRun step k old turns count binary result new → IsRun seen k (f old) turns count binary result (f new)
-  IsRun-seen turns old count binary result new run = record {
-    outcome = run.outcome;
-    mid = f run.mid;
-    reported = AreReported-seen turns old run.outcome run.mid run.reported;
-    finished = IsFinished-seen run.outcome run.mid count binary result new run.finished;
-  }
+    pub IsRun-seen : (turns : List Turn) (old : T) (count : ℕ) (binary : Option ℕ) (result : Result (Unit {0}) E)
+        (new : T)
+        → IsRun step k old turns count binary result new → IsRun seen k (f old) turns count binary result (f new)
+    IsRun-seen turns old count binary result new run = record {
+      outcome = run.outcome;
+      mid = f run.mid;
+      reported = AreReported-seen turns old run.outcome run.mid run.reported;
+      finished = IsFinished-seen run.outcome run.mid count binary result new run.finished;
+    }
 
-  module _ {F : Type 0} (errors : ErrorMakers E) (matcher : MatcherFacts F) (calls : SearchCalls) where
-    pub IsFaultIn-seen : (bytes : List ℕ) (old : T) (e : E) (new : T) → IsFaultIn step errors matcher calls k bytes old e new
-        → IsFaultIn seen errors matcher calls k bytes (f old) e (f new)
-    IsFaultIn-seen bytes old e new (of_sink run) = of_sink
-        (IsRun-seen (calls.turns bytes) old (calls.byte_count bytes) None (Err e) new run)
-    IsFaultIn-seen bytes old e new (of_matcher haystack error made asked fails message reported) =
-        of_matcher haystack error made asked fails message (AreReported-seen made old all_true new reported)
+    module _ {F : Type 0} (errors : ErrorMakers E) (matcher : MatcherFacts F) (calls : SearchCalls) where
+      pub IsFaultIn-seen : (bytes : List ℕ) (old : T) (e : E) (new : T)
+          → IsFaultIn step errors matcher calls k bytes old e new
+          → IsFaultIn seen errors matcher calls k bytes (f old) e (f new)
+      IsFaultIn-seen bytes old e new (of_sink run) = of_sink
+          (IsRun-seen (calls.turns bytes) old (calls.byte_count bytes) None (Err e) new run)
+      IsFaultIn-seen bytes old e new (of_matcher haystack error made asked fails message reported) =
+          of_matcher haystack error made asked fails message (AreReported-seen made old all_true new reported)
 
-    pub HasReportedIn-seen : (lines : Option (List ℕ)) (old new : T) → HasReportedIn step errors matcher calls k lines old new
-        → HasReportedIn seen errors matcher calls k lines (f old) (f new)
-    HasReportedIn-seen None old new same = ap f same
-    HasReportedIn-seen (Some lines) old new reported = AreReported-seen (calls.turns lines) old all_true new reported
+      pub HasReportedIn-seen : (lines : Option (List ℕ)) (old new : T)
+          → HasReportedIn step errors matcher calls k lines old new
+          → HasReportedIn seen errors matcher calls k lines (f old) (f new)
+      HasReportedIn-seen None old new same = ap f same
+      HasReportedIn-seen (Some lines) old new reported = AreReported-seen (calls.turns lines) old all_true new reported
 
 module _ {T U E F : Type 0} (f : T → U) (step : Steps T E) (seen : Steps U E) (along : IsSeen f step seen)
     (errors : ErrorMakers E) (matcher : MatcherFacts F) (calls : SearchCalls)
@@ -66,9 +74,11 @@ module _ {T U E F : Type 0} (f : T → U) (step : Steps T E) (seen : Steps U E) 
     outcome = run.outcome;
     mid = f run.mid;
     reported = AreReported-seen f step seen along k (calls.turns run.seen) old run.outcome run.mid run.reported;
-    finished = IsFinished-seen f step seen along k run.outcome run.mid (calls.byte_count run.seen) None (Ok tt) new run.finished;
+    finished = IsFinished-seen f step seen along k run.outcome run.mid (calls.byte_count run.seen) None (Ok tt) new
+        run.finished;
     front = run.front;
-    run = λ bytes input. IsRun-seen f step seen along k (calls.turns (calls.view bytes)) old (calls.byte_count (calls.view bytes))
+    run = λ bytes input. IsRun-seen f step seen along k (calls.turns (calls.view bytes)) old
+        (calls.byte_count (calls.view bytes))
         None (Ok tt) new (run.run bytes input);
     all = run.all;
     begun = run.begun;
@@ -84,12 +94,17 @@ module _ {T U E F : Type 0} (f : T → U) (step : Steps T E) (seen : Steps U E) 
       → IsReaderFaultIn remaining read_step step errors matcher calls state reader old e reader' new
       → IsReaderFaultIn remaining read_step seen errors matcher calls state reader (f old) e reader' (f new)
   IsReaderFaultIn-seen state reader old e reader' new (of_search taken lines ended fault each) =
-      of_search taken lines ended (IsFaultIn-seen f step seen along state.settings errors matcher calls lines old e new fault)
+      of_search taken lines ended (IsFaultIn-seen f step seen along state.settings errors matcher calls lines old e new
+      fault)
       (λ bytes input.
-      let both = each bytes input in
-      (both.0, IsFaultIn-seen f step seen along state.settings errors matcher calls (calls.view bytes) old e new both.1, both.2))
+      let both = each bytes input in (
+        both.0,
+        IsFaultIn-seen f step seen along state.settings errors matcher calls (calls.view bytes) old e new both.1,
+        both.2,
+      ))
   IsReaderFaultIn-seen state reader old e reader' new (of_reading lines error unread made reported) =
-      of_reading lines error unread made (HasReportedIn-seen f step seen along state.settings errors matcher calls lines old new reported)
+      of_reading lines error unread made (HasReportedIn-seen f step seen along state.settings errors matcher calls lines
+      old new reported)
 
 -- a search that ended in an error without `binary_data`
 module _ {T U E F : Type 0} (f : T → U) (step : Steps T E) (seen : Steps U E) (along : IsSeen f step seen)
@@ -111,10 +126,12 @@ module _ {T U E F : Type 0} (f : T → U) (step : Steps T E) (seen : Steps U E) 
           × (AreReported seen k (f old) ((calls_by_line k matcher.meaning).turns fault.seen) all_true (f new)
           ⊎ (f new ≡ f old)))
       go (inl ended) =
-          inl (IsFaultIn-seen f step seen along k errors matcher (calls_by_line k matcher.meaning) fault.seen old e new ended)
+          inl (IsFaultIn-seen f step seen along k errors matcher (calls_by_line k matcher.meaning) fault.seen old e new
+          ended)
       go (inr (error, io, inl reported)) = inr (
         error,
         io,
-        inl (AreReported-seen f step seen along k ((calls_by_line k matcher.meaning).turns fault.seen) old all_true new reported),
+        inl (AreReported-seen f step seen along k ((calls_by_line k matcher.meaning).turns fault.seen) old all_true new
+            reported),
       )
       go (inr (error, io, inr same)) = inr (error, io, inr (ap f same))

@@ -15,7 +15,8 @@ skipping step old settings call result new = go old.1
 
 module _ {S E : Type 0} (step : Steps S E) (k : Settings) where
   -- some calls that are passed over
-  pub skip-front : (turns : List Turn) (now : S) → AreReported (skipping step) k (now, length turns) turns all_true (now, 0)
+  pub skip-front : (turns : List Turn) (now : S) → AreReported (skipping step) k (now, length turns) turns all_true
+      (now, 0)
   skip-front [] now = (refl, refl)
   skip-front (turn ∷ later) now = inl ((now, length later), (refl, refl, refl), skip-front later now)
 
@@ -23,14 +24,19 @@ module _ {S E : Type 0} (step : Steps S E) (k : Settings) where
       → AreReported (skipping step) k (now, 0) turns outcome new → AreReported step k now turns outcome new.0
   unskip [] now outcome new (is, same) = (is, ap (λ s. s.0) same)
   unskip (turn ∷ later) now outcome new (inl (mid, (goes, none), reported)) =
-      inl (mid.0, goes, unskip later mid.0 outcome new
-      (subst (λ n. AreReported (skipping step) k (mid.0, n) later outcome new) none reported))
+      inl (
+        mid.0,
+        goes,
+        unskip later mid.0 outcome new
+            (subst (λ n. AreReported (skipping step) k (mid.0, n) later outcome new) none reported),
+      )
   unskip (turn ∷ later) now outcome new (inr (inl (is, (stops, none)))) = inr (inl (is, stops))
   unskip (turn ∷ later) now outcome new (inr (inr (e, is, (fails, none)))) = inr (inr (e, is, fails))
 
   -- the calls after those that are passed over are made from the state before
   pub skip-back : (front back : List Turn) (now : S) (outcome : Outcome E) (new : S × ℕ)
-      → AreReported (skipping step) k (now, length front) (front ++ back) outcome new → AreReported step k now back outcome new.0
+      → AreReported (skipping step) k (now, length front) (front ++ back) outcome new
+      → AreReported step k now back outcome new.0
   skip-back [] back now outcome new reported = unskip back now outcome new reported
   skip-back (turn ∷ front) back now outcome new (inl (mid, (is, same, left), reported)) =
       skip-back front back now outcome new

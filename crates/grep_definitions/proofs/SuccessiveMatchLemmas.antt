@@ -1,5 +1,6 @@
 -- The successive matches: how many there are, in which order, and which are left after some of them.
-use Rattle.std.proofs.Common.{◌≡◌, ℕ, zero, suc, ◌+◌, ◌-◌, ◌<◌, ◌≤◌, Bool, true, false, List, [], ◌∷◌, ◌++◌, length, take, drop, refl, ap, sym, ◌∙◌, arith, ⊎_elim}
+use Rattle.std.proofs.Common.{◌≡◌, ℕ, zero, suc, ◌+◌, ◌-◌, ◌<◌, ◌≤◌, Bool, true, false, List, [], ◌∷◌, ◌++◌, length}
+use Rattle.std.proofs.Common.{take, drop, refl, ap, sym, ◌∙◌, arith, ⊎_elim}
 use Rattle.std.proofs.Common.{Option, Some, None, if◌then◌else◌, length-drop}
 use Rattle.std.proofs.Math.Seq.{take-nil}
 use Rattle.std.proofs.lemmas.List.Elements.{All-nil, All-cons, All-take}
@@ -24,12 +25,14 @@ pub position_after-start : (m : ℕ × ℕ) → m.0 ≤ m.1 → m.0 ≤ position
 position_after-start m order = let after = position_after-later m.0 m (omega arith) order in omega (arith, after)
 
 -- the last of some matches decides
-pub position_past-last : (p : ℕ) (found : List (ℕ × ℕ)) (m : ℕ × ℕ) → position_past p (found ++ m ∷ []) ≡ position_after m
+pub position_past-last : (p : ℕ) (found : List (ℕ × ℕ)) (m : ℕ × ℕ) → position_past p (found ++ m ∷ [])
+    ≡ position_after m
 position_past-last p [] m = refl
 position_past-last p (x ∷ found) m = position_past-last (position_after x) found m
 
 -- a match that is within its haystack is kept, and no other is
-pub if_within-same : (haystack : List ℕ) (found : Option (ℕ × ℕ)) → IsWithin haystack found → if_within haystack found ≡ found
+pub if_within-same : (haystack : List ℕ) (found : Option (ℕ × ℕ)) → IsWithin haystack found → if_within haystack found
+    ≡ found
 if_within-same haystack None inside = refl
 if_within-same haystack (Some m) inside =
     let both = and-both _ _ (le-leb m.0 m.1 inside.0) (le-leb m.1 (length haystack) inside.1) in rw both refl
@@ -38,13 +41,15 @@ if_within-is : (haystack : List ℕ) (found : Option (ℕ × ℕ)) → IsWithin 
 if_within-is haystack None = tt
 if_within-is haystack (Some m) = go _ refl
   where
-    go : (b : Bool) → (nat_le m.0 m.1 && nat_le m.1 (length haystack)) ≡ b → IsWithin haystack (if b then Some m else None)
+    go : (b : Bool) → (nat_le m.0 m.1 && nat_le m.1 (length haystack)) ≡ b
+        → IsWithin haystack (if b then Some m else None)
     go true is = let parts = both_true _ _ is in (leb-true _ _ parts.0, leb-true _ _ parts.1)
     go false is = tt
 
 module _ (meaning : Meaning) (bytes : List ℕ) where
   -- a match that is found starts at the position or after it, ends no earlier than it starts, and is within the bytes
-  pub match_from-order : (p : ℕ) → IfSome {T = ℕ × ℕ} (match_from meaning bytes p) (λ m. (p ≤ m.0) × (m.0 ≤ m.1) × (m.1 ≤ length bytes))
+  pub match_from-order : (p : ℕ) → IfSome {T = ℕ × ℕ} (match_from meaning bytes p)
+      (λ m. (p ≤ m.0) × (m.0 ≤ m.1) × (m.1 ≤ length bytes))
   match_from-order p = go (nat_lt p (length bytes)) refl (if_within (drop p bytes) (meaning.first (drop p bytes)))
       (if_within-is (drop p bytes) (meaning.first (drop p bytes)))
     where
@@ -65,16 +70,26 @@ module _ (meaning : Meaning) (bytes : List ℕ) where
   pub matches_from-enough : (p n m : ℕ) → length bytes ≤ p + n → length bytes ≤ p + m
       → matches_from meaning bytes p n ≡ matches_from meaning bytes p m
   matches_from-enough p zero zero some more = refl
-  matches_from-enough p zero (suc m) some more = let none = match_from-end p (omega arith) in rw (none, matches_from) refl
-  matches_from-enough p (suc n) zero some more = let none = match_from-end p (omega arith) in rw (none, matches_from) refl
+  matches_from-enough p zero (suc m) some more = let none = match_from-end p (omega arith) in rw (none, matches_from)
+      refl
+  matches_from-enough p (suc n) zero some more = let none = match_from-end p (omega arith) in rw (none, matches_from)
+      refl
   matches_from-enough p (suc n) (suc m) some more =
       go (match_from meaning bytes p) (match_from-order p)
       (λ q later. matches_from-enough q n m (omega arith) (omega arith))
     where
       go : (found : Option (ℕ × ℕ)) → IfSome {T = ℕ × ℕ} found (λ m. (p ≤ m.0) × (m.0 ≤ m.1) × (m.1 ≤ length bytes))
           → ((q : ℕ) → p < q → matches_from meaning bytes q n ≡ matches_from meaning bytes q m)
-          → elim found as (λ x. List (ℕ × ℕ)) [ None ↦ [] | Some x ↦ x ∷ matches_from meaning bytes (position_after x) n ]
-          ≡ elim found as (λ x. List (ℕ × ℕ)) [ None ↦ [] | Some x ↦ x ∷ matches_from meaning bytes (position_after x) m ]
+          → elim found as (λ x. List (ℕ × ℕ)) [
+            | None ↦ []
+            | Some x ↦ x
+                ∷ matches_from meaning bytes (position_after x) n
+          ]
+          ≡ elim found as (λ x. List (ℕ × ℕ)) [
+            | None ↦ []
+            | Some x ↦ x
+                ∷ matches_from meaning bytes (position_after x) m
+          ]
       go None order later = refl
       go (Some x) order later = ap (λ xs. x ∷ xs) (later (position_after x) (position_after-later p x order.0 order.1))
 
@@ -109,15 +124,21 @@ module _ (meaning : Meaning) (bytes : List ℕ) where
       go : (found : Option (ℕ × ℕ)) → IfSome {T = ℕ × ℕ} found (λ m. (p ≤ m.0) × (m.0 ≤ m.1) × (m.1 ≤ length bytes))
           → ((q : ℕ) → p < q → All (λ m. low ≤ m.0) (matches_from meaning bytes q n))
           → All (λ m. low ≤ m.0)
-          (elim found as (λ x. List (ℕ × ℕ)) [ None ↦ [] | Some x ↦ x ∷ matches_from meaning bytes (position_after x) n ])
+          (elim found as (λ x. List (ℕ × ℕ)) [
+            | None ↦ []
+            | Some x ↦ x
+                ∷ matches_from meaning bytes (position_after x) n
+          ])
       go None order later = All-nil (λ m. low ≤ m.0)
       go (Some x) order later =
           All-cons (λ m. low ≤ m.0) x _ (omega (arith, order.0))
           (later (position_after x) (position_after-later p x order.0 order.1))
 
   -- the same of those that count
-  pub matches_left-found : (p : ℕ) (left : Option ℕ) (m : ℕ × ℕ) → match_from meaning bytes p ≡ Some m → is_below 0 left ≡ true
-      → matches_left meaning bytes p left ≡ m ∷ matches_left meaning bytes (position_after m) (option_map (λ n. n - 1) left)
+  pub matches_left-found : (p : ℕ) (left : Option ℕ) (m : ℕ × ℕ) → match_from meaning bytes p ≡ Some m → is_below 0 left
+      ≡ true
+      → matches_left meaning bytes p left ≡ m ∷ matches_left meaning bytes (position_after m)
+      (option_map (λ n. n - 1) left)
   matches_left-found p None m is room = matches_from-found p m is
   matches_left-found p (Some zero) m is room = absurd (let no : is_below 0 (Some 0) ≡ false = refl in clash room no)
   matches_left-found p (Some (suc left)) m is room =
@@ -125,7 +146,8 @@ module _ (meaning : Meaning) (bytes : List ℕ) where
       ap (take (suc left)) (matches_from-found p m is)
       ∙ ap (λ n. m ∷ take n (matches_from meaning bytes (position_after m) (length bytes))) (sym one)
 
-  pub matches_left-none : (p : ℕ) (left : Option ℕ) → match_from meaning bytes p ≡ None → matches_left meaning bytes p left ≡ []
+  pub matches_left-none : (p : ℕ) (left : Option ℕ) → match_from meaning bytes p ≡ None
+      → matches_left meaning bytes p left ≡ []
   matches_left-none p None is = matches_from-none p (length bytes) is
   matches_left-none p (Some left) is = ap (take left) (matches_from-none p (length bytes) is) ∙ take-nil left
 
@@ -140,7 +162,8 @@ module _ (meaning : Meaning) (bytes : List ℕ) where
   pub matches_left-after : (p : ℕ) (left : Option ℕ) → All (λ m. p ≤ m.0) (matches_left meaning bytes p left)
   matches_left-after p None = matches_from-after p p (length bytes) (omega arith)
   matches_left-after p (Some left) =
-      All-take (λ m. p ≤ m.0) left (matches_from meaning bytes p (length bytes)) (matches_from-after p p (length bytes) (omega arith))
+      All-take (λ m. p ≤ m.0) left (matches_from meaning bytes p (length bytes))
+      (matches_from-after p p (length bytes) (omega arith))
 
   -- at the start they are those that the limit has
   pub matches_left-start : (limit : Option ℕ) → matches_up_to meaning bytes limit ≡ matches_left meaning bytes 0 limit

@@ -1,5 +1,6 @@
 -- Which lines a match touches: those that it has a byte of, and an empty match the line that holds its position.
-use Rattle.std.proofs.Common.{◌≡◌, ◌≢◌, ℕ, zero, suc, ◌+◌, ◌-◌, ◌<◌, ◌≤◌, ◌==◌, Bool, true, ◌&&◌, List, length, slice_index}
+use Rattle.std.proofs.Common.{◌≡◌, ◌≢◌, ℕ, zero, suc, ◌+◌, ◌-◌, ◌<◌, ◌≤◌, ◌==◌, Bool, true, ◌&&◌, List, length}
+use Rattle.std.proofs.Common.{slice_index}
 use Rattle.std.proofs.Common.{refl, sym, ap, ◌∙◌, arith, ⊎_elim, inl, inr, take_all}
 use Rattle.std.proofs.lemmas.Bool.{le-leb, lt-leb, leb-true, lt-ltb, le-ltb, cases_lt, cases_eq, ne_eqb}
 use Rattle.std.proofs.lemmas.List.Sums.{count_by_more_no}
@@ -60,9 +61,11 @@ module _ (t : ℕ) (bytes : List ℕ) where
           (cases_lt p (from k))
 
   -- the block of a match that starts in a line starts with the line
-  pub block_start-line : (m : ℕ × ℕ) (a : ℕ) → a < n → from a ≤ m.0 → m.0 < from (a + 1) → from a ≡ block_start t bytes m
+  pub block_start-line : (m : ℕ × ℕ) (a : ℕ) → a < n → from a ≤ m.0 → m.0 < from (a + 1) → from a
+      ≡ block_start t bytes m
   block_start-line m a inside low below =
-      block_start-is t bytes m m.0 (from a) (omega (arith, high (a + 1))) refl (IsLastStart-line t bytes a m.0 inside low below)
+      block_start-is t bytes m m.0 (from a) (omega (arith, high (a + 1))) refl
+      (IsLastStart-line t bytes a m.0 inside low below)
 
   -- so many lines come before a position in a line
   pub lines_before-line : (p a : ℕ) → a < n → from a ≤ p → p < from (a + 1) → lines_before t bytes p ≡ a
@@ -76,18 +79,26 @@ module _ (t : ℕ) (bytes : List ℕ) where
         line_start-le t bytes (lines_before t bytes p + 1) a (omega (arith, less)),
       )))
       (λ over. ⊎_elim
-      (λ more. absurd (omega (arith, same, rises a inside, line_start-le t bytes (a + 1) (lines_before t bytes p) (omega (arith, more)))))
+      (λ more. absurd (omega (
+        arith,
+        same,
+        rises a inside,
+        line_start-le t bytes (a + 1) (lines_before t bytes p)
+            (omega (arith, more)),
+      )))
       (λ few. omega (arith, over, few))
       (cases_lt a (lines_before t bytes p)))
       (cases_lt (lines_before t bytes p) a)
 
   -- the block of a match that isn't empty and ends in a line ends with the line
-  pub block_end-line : (m : ℕ × ℕ) (b : ℕ) → m.0 < m.1 → b < n → from b < m.1 → m.1 ≤ from (b + 1) → from (b + 1) ≡ block_end t bytes m
+  pub block_end-line : (m : ℕ × ℕ) (b : ℕ) → m.0 < m.1 → b < n → from b < m.1 → m.1 ≤ from (b + 1) → from (b + 1)
+      ≡ block_end t bytes m
   block_end-line m b some inside low below = ⊎_elim
       (λ less.
       let open_end : slice_index bytes (m.1 - 1) ≢ t =
       (IsLastStart-line t bytes b m.1 inside (omega arith) less).inner (m.1 - 1) (omega arith) (omega arith) in
-      block_end-open t bytes m (from (b + 1)) (λ _. open_end) (next (lines_before-line m.1 b inside (omega arith) less)))
+      block_end-open t bytes m (from (b + 1)) (λ _. open_end)
+      (next (lines_before-line m.1 b inside (omega arith) less)))
       (λ over. ⊎_elim
       (λ same. let whole : from (b + 1) ≡ m.1 = omega arith in whole ∙ block_end-closed t bytes m some within same)
       (λ other. block_end-open t bytes m (from (b + 1)) (λ _. other) (next (before other)))
@@ -119,7 +130,8 @@ module _ (t : ℕ) (bytes : List ℕ) where
   is_within i m = nat_le (block_start t bytes m) (from i) && nat_le (from (i + 1)) (block_end t bytes m)
 
   -- a line's start and the next one's against those of the lines that a match starts and ends in
-  starts-late : (s a i : ℕ) → a < n → i < n → from a ≤ s → s < from (a + 1) → nat_le (from a) (from i) ≡ nat_lt s (from (i + 1))
+  starts-late : (s a i : ℕ) → a < n → i < n → from a ≤ s → s < from (a + 1) → nat_le (from a) (from i)
+      ≡ nat_lt s (from (i + 1))
   starts-late s a i inside here low below = same-tests (from a) (from i) s (from (i + 1))
       (λ early over. ⊎_elim
       (λ less. omega (arith, early, over, rises i here, line_start-le t bytes (i + 1) a (omega (arith, less))))
@@ -130,7 +142,8 @@ module _ (t : ℕ) (bytes : List ℕ) where
       (λ more. omega (arith, late, line_start-le t bytes a i more))
       (cases_lt i a))
 
-  ends-early : (e b i : ℕ) → b < n → i < n → from b < e → e ≤ from (b + 1) → nat_le (from (i + 1)) (from (b + 1)) ≡ nat_lt (from i) e
+  ends-early : (e b i : ℕ) → b < n → i < n → from b < e → e ≤ from (b + 1) → nat_le (from (i + 1)) (from (b + 1))
+      ≡ nat_lt (from i) e
   ends-early e b i inside here low below = same-tests (from (i + 1)) (from (b + 1)) (from i) e
       (λ early over. ⊎_elim
       (λ less. omega (arith, early, over, below, rises i here, line_start-le t bytes (b + 1) i (omega (arith, less))))
@@ -150,7 +163,8 @@ module _ (t : ℕ) (bytes : List ℕ) where
       let start = block_start-line m first.0 first.1 first.2 first.3 in
       let stop = block_end-line m last.0 some last.1 (omega (arith, last.2)) (omega (arith, last.3)) in
       rw (← start, ← stop, starts-late m.0 first.0 i first.1 here first.2 first.3)
-      (ap (λ b. nat_lt m.0 (from (i + 1)) && b) (ends-early m.1 last.0 i last.1 here (omega (arith, last.2)) (omega (arith, last.3))))
+      (ap (λ b. nat_lt m.0 (from (i + 1)) && b) (ends-early m.1 last.0 i last.1 here (omega (arith, last.2))
+      (omega (arith, last.3))))
 
 -- an empty match touches the line that holds its position
 module _ (terminator : LineTerminator) (meaning : Meaning) (bytes : List ℕ) (p i : ℕ) (inside : p ≤ length bytes)
@@ -169,14 +183,16 @@ module _ (terminator : LineTerminator) (meaning : Meaning) (bytes : List ℕ) (p
   all-before over = ap (count (byte_of terminator)) (take_all p bytes over)
 
   -- the line of the end is the last one, if that has no terminator
-  last-before : length bytes ≤ p → slice_index bytes (length bytes - 1) ≢ byte_of terminator → lines_before t bytes p + 1 ≡ n t bytes
+  last-before : length bytes ≤ p → slice_index bytes (length bytes - 1) ≢ byte_of terminator
+      → lines_before t bytes p + 1 ≡ n t bytes
   last-before over other = ⊎_elim
       (λ some. omega (arith, all-before over, lines-unclosed t bytes some other))
       (λ none. absurd (omega (arith, here, none, rises t bytes i here, high t bytes (i + 1))))
       (cases_lt 0 (length bytes))
 
   -- a touched line holds it
-  pub is_within-holds : is_within (byte_of terminator) bytes i (p, p) ≡ true → HoldsPosition terminator meaning bytes i p
+  pub is_within-holds : is_within (byte_of terminator) bytes i (p, p) ≡ true
+      → HoldsPosition terminator meaning bytes i p
   is_within-holds is = ⊎_elim
       (λ below.
       let line = holder t bytes p below in
@@ -220,12 +236,17 @@ module _ (terminator : LineTerminator) (meaning : Meaning) (bytes : List ℕ) (p
         rises t bytes i here,
         line_start-le t bytes (i + 1) (lines_before t bytes p) (omega (arith, less)),
       )))
-      (λ more. (omega (arith, high t bytes i, over), inr (omega (arith, more, last, here), omega (arith, inside, over), other)))
+      (λ more. (
+        omega (arith, high t bytes i, over),
+        inr
+            (omega (arith, more, last, here), omega (arith, inside, over), other),
+      ))
       (cases_lt i (lines_before t bytes p)))
       (cases_eq (slice_index bytes (length bytes - 1)) t))
       (cases_lt p (length bytes))
     where
-      parts : (nat_le (block_start t bytes (p, p)) (starts i) ≡ true) × (nat_le (starts (i + 1)) (block_end t bytes (p, p)) ≡ true)
+      parts : (nat_le (block_start t bytes (p, p)) (starts i) ≡ true)
+          × (nat_le (starts (i + 1)) (block_end t bytes (p, p)) ≡ true)
       parts = both_true _ _ is
 
       first : block_start t bytes (p, p) ≤ starts i
@@ -235,9 +256,11 @@ module _ (terminator : LineTerminator) (meaning : Meaning) (bytes : List ℕ) (p
       second = leb-true _ _ parts.1
 
   -- a line that holds it is touched
-  pub holds-is_within : HoldsPosition terminator meaning bytes i p → is_within (byte_of terminator) bytes i (p, p) ≡ true
+  pub holds-is_within : HoldsPosition terminator meaning bytes i p → is_within (byte_of terminator) bytes i (p, p)
+      ≡ true
   holds-is_within (low, inl below) =
-      and-both _ _ (le-leb (block_start t bytes (p, p)) (starts i) (omega (arith, block_start-line t bytes (p, p) i here low below)))
+      and-both _ _ (le-leb (block_start t bytes (p, p)) (starts i)
+      (omega (arith, block_start-line t bytes (p, p) i here low below)))
       (le-leb (starts (i + 1)) (block_end t bytes (p, p)) (omega (arith, block_end-empty t bytes p i here low below)))
   holds-is_within (low, inr (last, over, other)) =
       let before = last-before (omega (arith, over)) other in

@@ -14,7 +14,8 @@ use Rattle.grep_definitions.specs.SinkCalls.{Call, Turn, matches, context, break
 use Rattle.grep_definitions.specs.Below.{first_below}
 use Rattle.grep_definitions.specs.LineSearch
 use Rattle.grep_definitions.specs.LineSearch.{turns_at, Kind, matched, in_context}
-use Rattle.grep_definitions.specs.LineTurns.{one_turn, broken_turns, pending_turns, match_turns, listed_turns, listed_number, number_of, is_gap}
+use Rattle.grep_definitions.specs.LineTurns.{one_turn, broken_turns, pending_turns, match_turns, listed_turns}
+use Rattle.grep_definitions.specs.LineTurns.{listed_number, number_of, is_gap}
 use Rattle.grep_definitions.proofs.BelowLemmas.{some_below-some, some_below-find, first_below-of, first_below-none}
 use Rattle.grep_definitions.proofs.LineStartLemmas.{line_start-next}
 use Rattle.grep_definitions.specs.LineWalks.{IsNear}
@@ -60,7 +61,8 @@ module _ (k : Settings) (bytes : List ℕ) (v i end : ℕ) where
   ends-pending j n = All-joined_from (λ x. x.end ≡ end) (listed_turns k bytes v i end) j n (λ q low high. ends-listed q)
 
   pub ends-match : (offset : ℕ) (line : List ℕ) → EndThere (match_turns k v i offset end line)
-  ends-match offset line = ends-broken (nat_lt 0 k.after_context && is_gap k v i i) (matches (number_of k i) offset line) end
+  ends-match offset line = ends-broken (nat_lt 0 k.after_context && is_gap k v i i)
+      (matches (number_of k i) offset line) end
 
 module _ (k : Settings) (meaning : Meaning) (bytes : List ℕ) where
   abbrev start : ℕ → ℕ
@@ -87,7 +89,8 @@ module _ (k : Settings) (meaning : Meaning) (bytes : List ℕ) where
 
   -- if the turn of a line ends no earlier than some offset, each of its calls does so
   ends-turns_at : (bound j : ℕ)
-      → ((kind : Kind) → LineSearch.kind k meaning bytes j ≡ Some kind → bound ≤ LineSearch.turn_end k meaning bytes j (Some kind))
+      → ((kind : Kind) → LineSearch.kind k meaning bytes j ≡ Some kind
+      → bound ≤ LineSearch.turn_end k meaning bytes j (Some kind))
       → All (λ turn. bound ≤ turn.end) (turns_at k meaning bytes j)
   ends-turns_at bound j late = go (LineSearch.kind k meaning bytes j) refl
     where
@@ -101,7 +104,8 @@ module _ (k : Settings) (meaning : Meaning) (bytes : List ℕ) where
       report matched low = All-cons P _ [] low (All-nil P)
       report (in_context c) low = All-cons P _ [] low (All-nil P)
 
-      choose : (b : Bool) (turn : Turn) (rest : List Turn) → P turn → All P rest → All P (if b then turn ∷ rest else rest)
+      choose : (b : Bool) (turn : Turn) (rest : List Turn) → P turn → All P rest
+          → All P (if b then turn ∷ rest else rest)
       choose true turn rest low all = All-cons P turn rest low all
       choose false turn rest low all = all
 
@@ -109,7 +113,8 @@ module _ (k : Settings) (meaning : Meaning) (bytes : List ℕ) where
       go None is = rw (is, and-false (nat_lt 0 (k.after_context + k.before_context))) (All-nil P)
       go (Some kind) is =
           let low = late kind is in
-          rw is (choose _ (record { call = breaks; end = end kind }) (LineSearch.report k meaning bytes j (Some kind)) low
+          rw is (choose _ (record { call = breaks; end = end kind }) (LineSearch.report k meaning bytes j (Some kind))
+          low
           (report kind low))
 
   -- the calls of a line end no earlier than the line
@@ -144,7 +149,8 @@ module _ (k : Settings) (meaning : Meaning) (bytes : List ℕ) where
 
       nearer-later : (q : ℕ) → nearer q ≡ true → later q ≡ true
       nearer-later q is =
-          let both = both_true (nat_lt j q && nat_le (q - j) k.before_context) (LineSearch.is_selected k meaning bytes q) is in
+          let both = both_true (nat_lt j q && nat_le (q - j) k.before_context)
+          (LineSearch.is_selected k meaning bytes q) is in
           let above = (both_true (nat_lt j q) (nat_le (q - j) k.before_context) both.0).0 in
           let chosen = both.1 in
           rw (above, chosen) refl
@@ -153,7 +159,8 @@ module _ (k : Settings) (meaning : Meaning) (bytes : List ℕ) where
           → start (i + 1) ≤ start (LineSearch.lines_through_next k meaning bytes j)
       next None is precedes =
           let found = some_below-find nearer n precedes in
-          absurd (clash (some_below-some later n found.0 found.1 (nearer-later found.0 found.2)) (first_below-none later n is))
+          absurd (clash (some_below-some later n found.0 found.1 (nearer-later found.0 found.2))
+          (first_below-none later n is))
       next (Some q) is precedes =
           let passes = (first_below-of later n q is).1 in
           let far : i ≤ q = ⊎_elim (λ less. absurd (clash passes (missed q less))) (λ le. le) (cases_lt q i) in
@@ -172,8 +179,10 @@ module _ (k : Settings) (meaning : Meaning) (bytes : List ℕ) where
           go : (b : Bool) → LineSearch.precedes_selected k meaning bytes j ≡ b
               → start (i + 1) ≤ LineSearch.turn_end k meaning bytes j (Some kind)
           go false alone = absurd
-              (let none : LineSearch.kind k meaning bytes j ≡ None = rw (out.0, out.1, alone, plain) refl in let e = sym none ∙ is in cc)
+              (let none : LineSearch.kind k meaning bytes j
+              ≡ None = rw (out.0, out.1, alone, plain) refl in let e = sym none ∙ is in cc)
           go true precedes =
-              let before : LineSearch.kind k meaning bytes j ≡ Some (in_context Before) = rw (out.0, out.1, precedes) refl in
+              let before : LineSearch.kind k meaning bytes j
+              ≡ Some (in_context Before) = rw (out.0, out.1, precedes) refl in
               let same : kind ≡ in_context Before = cc in
               rw same (next (first_below later n) refl precedes)

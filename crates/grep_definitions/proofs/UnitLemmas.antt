@@ -1,5 +1,6 @@
 -- The bytes that the match reports across lines have.
-use Rattle.std.proofs.Common.{◌≡◌, ℕ, zero, suc, ◌+◌, ◌-◌, ◌<◌, ◌≤◌, Bool, true, false, not, ◌&&◌, List, [], ◌∷◌, ◌++◌, length, take, drop}
+use Rattle.std.proofs.Common.{◌≡◌, ℕ, zero, suc, ◌+◌, ◌-◌, ◌<◌, ◌≤◌, Bool, true, false, not, ◌&&◌, List, [], ◌∷◌, ◌++◌}
+use Rattle.std.proofs.Common.{length, take, drop}
 use Rattle.std.proofs.Common.{refl, sym, ap, subst, ◌∙◌, arith, ⊎_elim, Option, Some, None, if◌then◌else◌}
 use Rattle.std.proofs.Math.Seq.{take-add}
 use Rattle.std.proofs.lemmas.Bool.{cases_Bool, cases_lt, lt-ltb}
@@ -43,7 +44,8 @@ flat_map-joined : (g : Turn → List ℕ) (f : ℕ → List Turn) (i n : ℕ)
     → flat_map g (joined_from f i n) ≡ joined_from (λ j. flat_map g (f j)) i n
 flat_map-joined g f i zero = refl
 flat_map-joined g f i (suc n) =
-    flat_map-append g (f i) (joined_from f (i + 1) n) ∙ ap (λ xs. flat_map g (f i) ++ xs) (flat_map-joined g f (i + 1) n)
+    flat_map-append g (f i) (joined_from f (i + 1) n)
+    ∙ ap (λ xs. flat_map g (f i) ++ xs) (flat_map-joined g f (i + 1) n)
 
 -- two slices, one after the other, are one
 slice-join : (bytes : List ℕ) (a b c : ℕ) → a ≤ b → b ≤ c → slice bytes a b ++ slice bytes b c ≡ slice bytes a c
@@ -92,7 +94,12 @@ module _ (k : Settings) (meaning : Meaning) (bytes : List ℕ) where
       ∙ sym (slice-join bytes (at i) (at (i + 1)) (at ((i + 1) + m))
       (line_start-le (byte_of k.line_terminator) bytes i (i + 1) (omega arith))
       (line_start-le (byte_of k.line_terminator) bytes (i + 1) ((i + 1) + m) (omega arith)))
-      ∙ (rw (line-slice i (omega arith), lines-slice (i + 1) m (omega arith) (λ j low below. all j (omega arith) (omega arith)), here) refl)
+      ∙ (rw (
+        line-slice i (omega arith),
+        lines-slice (i + 1) m (omega arith)
+            (λ j low below. all j (omega arith) (omega arith)),
+        here,
+      ) refl)
 
   -- the match report of the unit that begins at a line
   abbrev report_at : ℕ → Call
@@ -128,12 +135,14 @@ module _ (k : Settings) (meaning : Meaning) (bytes : List ℕ) where
         (AcrossLines.turn_end k meaning bytes i (AcrossLines.kind k meaning bytes i))
       where
         go : (b : Bool) (end : ℕ) → flat_map (λ turn. g turn.call)
-            (if b then record { call = breaks; end = end } ∷ AcrossLines.report k meaning bytes i (AcrossLines.kind k meaning bytes i)
+            (if b then record { call = breaks; end = end }
+            ∷ AcrossLines.report k meaning bytes i (AcrossLines.kind k meaning bytes i)
             else AcrossLines.report k meaning bytes i (AcrossLines.kind k meaning bytes i)) ≡ gathered i
         go true end = rw in_breaks_none (gathered-report i (AcrossLines.kind k meaning bytes i) refl)
         go false end = gathered-report i (AcrossLines.kind k meaning bytes i) refl
 
-    gathered-lines : flat_map (λ turn. g turn.call) (joined_from (turns_at k meaning bytes) 0 n) ≡ joined_from gathered 0 n
+    gathered-lines : flat_map (λ turn. g turn.call) (joined_from (turns_at k meaning bytes) 0 n)
+        ≡ joined_from gathered 0 n
     gathered-lines =
         flat_map-joined (λ turn. g turn.call) (turns_at k meaning bytes) 0 n
         ∙ joined_from-equal (λ j. flat_map (λ turn. g turn.call) (turns_at k meaning bytes j)) gathered 0 n
@@ -160,7 +169,8 @@ module _ (k : Settings) (meaning : Meaning) (bytes : List ℕ) where
       let sum : i + (run_end selected n i - i) ≡ run_end selected n i = omega (arith, run.low) in
       let unit : AcrossLines.unit k meaning bytes i ≡ joined_from each i (run_end selected n i - i) =
       ap (λ e. slice bytes (at i) (at e)) (end ∙ sym sum)
-      ∙ lines-slice i (run_end selected n i - i) (omega (arith, sum, run.high)) (λ j low below. run.inner j low (omega (arith, sum))) in
+      ∙ lines-slice i (run_end selected n i - i) (omega (arith, sum, run.high))
+      (λ j low below. run.inner j low (omega (arith, sum))) in
       rw (here, fresh) unit)
     where
       same : (i : ℕ) → k.invert_match ≡ false → goes_on i ≡ continues selected n i
@@ -200,7 +210,8 @@ module _ (k : Settings) (meaning : Meaning) (bytes : List ℕ) where
   pub unit-lines : (i : ℕ) → i < n → selected i ≡ true → IsUnitOf i
   unit-lines i inside here = ⊎_elim
       (λ (inverted : k.invert_match ≡ true).
-      let end : AcrossLines.unit_end k meaning bytes i ≡ i + 1 = ap (λ b. if b then i + 1 else run_end selected n i) inverted in
+      let end : AcrossLines.unit_end k meaning bytes i
+      ≡ i + 1 = ap (λ b. if b then i + 1 else run_end selected n i) inverted in
       record {
         later = omega (arith, end);
         size = omega (
@@ -252,11 +263,13 @@ module _ (k : Settings) (meaning : Meaning) (bytes : List ℕ) where
       on : (i : ℕ) → goes_on i ≡ continues selected n i
       on i = ap (λ b. not b && nat_lt 0 i && selected (i - 1)) plain
 
-      same : (i : ℕ) → i < n → gathered report_edges (λ c o offset bytes. refl) refl i ≡ edges selected n at rises higher i
+      same : (i : ℕ) → i < n → gathered report_edges (λ c o offset bytes. refl) refl i
+          ≡ edges selected n at rises higher i
       same i inside = ⊎_elim
           (λ (here : selected i ≡ true). ⊎_elim
           (λ (later : goes_on i ≡ true). let run = sym (on i) ∙ later in rw (here, later, run) refl)
-          (λ (first : goes_on i ≡ false). let run = sym (on i) ∙ first in rw (here, first, run, unit-end i inside here plain) refl)
+          (λ (first : goes_on i ≡ false). let run = sym (on i)
+          ∙ first in rw (here, first, run, unit-end i inside here plain) refl)
           (cases_Bool (goes_on i)))
           (λ (none : selected i ≡ false). rw none refl)
           (cases_Bool (selected i))

@@ -14,7 +14,8 @@ use Rattle.grep_definitions.specs.Below.{joined_from}
 use Rattle.grep_definitions.specs.LineSearch
 use Rattle.grep_definitions.specs.LineSearch.{line_count, line, number, start}
 use Rattle.grep_definitions.specs.AcrossLines
-use Rattle.grep_definitions.specs.AcrossLines.{turns, turns_at, turn_count, byte_count, is_selected, touches}
+use Rattle.grep_definitions.specs.AcrossLines.{turns, turns_at, turn_count, byte_count, is_selected}
+use Rattle.grep_definitions.specs.AcrossLines.{touches}
 use Rattle.grep_definitions.specs.SuccessiveMatches.{matches_from, all_matches}
 use Rattle.grep_definitions.specs.SearchLaws.{AreInOrder, is_match, report_calls}
 use Rattle.grep_definitions.specs.SearchTurns.{search_turns, search_turn_count, search_byte_count}
@@ -52,8 +53,8 @@ MatchTouchesItsLines =
     ≡ (nat_lt m.0 (start settings meaning bytes (i + 1))
     && nat_lt (start settings meaning bytes i) m.1)
 
--- an empty match touches the line that holds its position, and no other line: at the end of the bytes the last line,
--- unless that has its terminator
+-- an empty match touches the line that holds its position, and no other line: at the end of the
+-- bytes the last line, unless that has its terminator
 abbrev pub EmptyMatchTouchesItsLine : Type 0
 EmptyMatchTouchesItsLine =
     (settings : Settings) (meaning : Meaning) (bytes : List ℕ) (position i : ℕ)
@@ -77,8 +78,8 @@ ReportsAscend =
     (settings : Settings) (meaning : Meaning) (bytes : List ℕ)
     → AreInOrder (report_calls (turns settings meaning bytes))
 
--- a line that isn't selected and is in reach of an earlier selected line is reported as the line after it, even if it
--- is also before a later one
+-- a line that isn't selected and is in reach of an earlier selected line is reported as the line
+-- after it, even if it is also before a later one
 abbrev pub AfterWins : Type 0
 AfterWins =
     (settings : Settings) (meaning : Meaning) (bytes : List ℕ) (i j : ℕ)
@@ -116,7 +117,8 @@ report_edges breaks = []
 report_edges (binary_data offset) = []
 report_edges (finishes count binary) = []
 
--- the match reports, joined, are the selected lines, joined: each selected line is in one report, and no other line is
+-- the match reports, joined, are the selected lines, joined: each selected line is in one report,
+-- and no other line is
 abbrev pub SelectedAreReported : Type 0
 SelectedAreReported =
     (settings : Settings) (meaning : Meaning) (bytes : List ℕ)
@@ -125,15 +127,17 @@ SelectedAreReported =
     (λ i. if is_selected settings meaning bytes i then line settings meaning bytes i else [])
     0 (line_count settings meaning bytes)
 
--- without inversion each match report ends before the next one begins: a line that isn't selected is between them
+-- without inversion each match report ends before the next one begins: a line that isn't selected
+-- is between them
 abbrev pub ReportsAreApart : Type 0
 ReportsAreApart =
     (settings : Settings) (meaning : Meaning) (bytes : List ℕ) → settings.invert_match ≡ false
     → IsStrictlyIncreasing
     (flat_map (λ turn. report_edges turn.call) (turns settings meaning bytes))
 
--- lines are reported as by line: if a search under inversion, in which a unit is one line, selects the lines that some
--- search by line does, and in that too each line has a turn and none is trailing, then the calls are the same
+-- lines are reported as by line: if a search under inversion, in which a unit is one line, selects
+-- the lines that some search by line does, and in that too each line has a turn and none is
+-- trailing, then the calls are the same
 abbrev pub ReportsAreAsByLine : Type 0
 ReportsAreAsByLine =
     (settings : Settings) (meaning other : Meaning) (bytes : List ℕ) → settings.invert_match ≡ true

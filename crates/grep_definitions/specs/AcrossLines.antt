@@ -1,6 +1,6 @@
--- Which calls a search across lines makes, said of the successive matches and of the whole list of lines, by offsets
--- and distances alone. The lines are those of a search by line. They are counted from 0 here, and the numbers that are
--- reported from 1.
+-- Which calls a search across lines makes, said of the successive matches and of the whole list of
+-- lines, by offsets and distances alone. The lines are those of a search by line. They are counted
+-- from 0 here, and the numbers that are reported from 1.
 use Rattle.std.specs.Prelude.{ℕ, ◌+◌, ◌-◌, Bool, not, ◌&&◌, if◌then◌else◌, nat_lt, nat_le}
 use Rattle.std.specs.Prelude.{List, [], ◌∷◌, filter, Option, Some, None, is_some}
 use Rattle.std.specs.List.{list_any}
@@ -9,7 +9,8 @@ use Rattle.grep_matcher.specs.Terminators.{byte_of}
 use Rattle.grep_matcher.specs.Matching.{Meaning}
 use Rattle.grep_lines.specs.Blocks.{block_start, block_end}
 use Rattle.grep_lines.specs.Positions.{slice}
-use Rattle.grep_report.specs.declared.sink_context.SinkContextKind.TheVariants.{Before, After, Other}
+use Rattle.grep_report.specs.declared.sink_context.SinkContextKind.TheVariants.{Before, After}
+use Rattle.grep_report.specs.declared.sink_context.SinkContextKind.TheVariants.{Other}
 use Rattle.grep_definitions.specs.Settings.{Settings}
 use Rattle.grep_definitions.specs.SinkCalls.{Turn, begins, matches, context, breaks}
 use Rattle.grep_definitions.specs.SuccessiveMatches.{all_matches, matches_up_to}
@@ -22,8 +23,9 @@ module _ (settings : Settings) (meaning : Meaning) (bytes : List ℕ) where
   abbrev pub terminator : ℕ
   terminator = byte_of settings.line_terminator
 
-  -- whether a line is within the block of a match: the whole lines that it extends over, as `locate` returns them. The
-  -- block of an empty match at the end of bytes that end in a terminator has no line
+  -- whether a line is within the block of a match: the whole lines that it extends over, as
+  -- `locate` returns them. The block of an empty match at the end of bytes that end in a terminator
+  -- has no line
   abbrev pub touches : ℕ → ℕ × ℕ → Bool
   touches i m =
       nat_le (block_start terminator bytes m) (start settings meaning bytes i)
@@ -39,8 +41,8 @@ module _ (settings : Settings) (meaning : Meaning) (bytes : List ℕ) where
       nat_lt i (line_count settings meaning bytes)
       && not (is_touched (all_matches meaning bytes) i)
 
-  -- the lines that the first matches touch, as many matches as the limit has; under inversion the first free lines, as
-  -- many lines
+  -- the lines that the first matches touch, as many matches as the limit has; under inversion the
+  -- first free lines, as many lines
   abbrev pub is_selected : ℕ → Bool
   is_selected i =
       if settings.invert_match
@@ -51,8 +53,8 @@ module _ (settings : Settings) (meaning : Meaning) (bytes : List ℕ) where
   abbrev pub turn_count : ℕ
   turn_count = line_count settings meaning bytes
 
-  -- a unit is a longest run of selected lines, and under inversion one selected line: whether a selected line is in the
-  -- unit of the line before it
+  -- a unit is a longest run of selected lines, and under inversion one selected line: whether a
+  -- selected line is in the unit of the line before it
   abbrev pub continues_unit : ℕ → Bool
   continues_unit i = not settings.invert_match && nat_lt 0 i && is_selected (i - 1)
 
@@ -90,8 +92,8 @@ module _ (settings : Settings) (meaning : Meaning) (bytes : List ℕ) where
       (option_map unit_end (first_below (λ j. nat_lt i j && is_selected j) turn_count))
       (i + 1)
 
-  -- where the turn of line i ends: with the line, or with its unit; a line before a match belongs to the turn of that
-  -- match
+  -- where the turn of line i ends: with the line, or with its unit; a line before a match belongs
+  -- to the turn of that match
   abbrev pub turn_end : ℕ → Option Kind → ℕ
   turn_end i None = start settings meaning bytes (i + 1)
   turn_end i (Some matched) = start settings meaning bytes (unit_end i)

@@ -1,4 +1,5 @@
--- What a search across lines asks a matcher: for the next match, in the bytes after those that it found.
+-- What a search across lines asks a matcher: for the next match, in the bytes after those that it
+-- found.
 use Rattle.std.specs.Prelude.{◌≡◌, ℕ, true}
 use Rattle.std.specs.Prelude.{List}
 use Rattle.grep_matcher.specs.Matching.{Meaning}
@@ -9,11 +10,10 @@ use Rattle.grep_definitions.specs.Settings.{Settings}
 use Rattle.grep_definitions.specs.SinkCalls.{Turn}
 pub use Rattle.grep_definitions.specs.Asking.{match_limit, counted_matches, IsAskedAfter, IsAskedAt}
 
-
 module _ (settings : Settings) (meaning : Meaning) (bytes : List ℕ) where
-  -- what a matcher is asked across lines, and the calls that were made before: just those whose turn ends at or before
-  -- the start of the line at which it is asked. Under inversion fewer lines before that line are free than the limit
-  -- has
+  -- what a matcher is asked across lines, and the calls that were made before: just those whose
+  -- turn ends at or before the start of the line at which it is asked. Under inversion fewer lines
+  -- before that line are free than the limit has
   pub record IsAskedAcross (haystack : List ℕ) (made : List Turn) : Type 0 where
     pub index : ℕ
     pub question : IsAskedAt settings meaning bytes index haystack

@@ -1,6 +1,8 @@
--- What a search asks a matcher, and which calls it made before. By line it asks about one line, or about many lines at
--- once; across lines for the next match, in the bytes after those that it found.
-use Rattle.std.specs.Prelude.{◌≡◌, ◌≢◌, ◌⊎◌, ℕ, ◌-◌, ◌<◌, ◌≤◌, ◌&&◌, ◌||◌, ◌==◌, Bool, true, false, not, if◌then◌else◌}
+-- What a search asks a matcher, and which calls it made before. By line it asks about one line, or
+-- about many lines at once; across lines for the next match, in the bytes after those that it
+-- found.
+use Rattle.std.specs.Prelude.{◌≡◌, ◌≢◌, ◌⊎◌, ℕ, ◌-◌, ◌<◌, ◌≤◌, ◌&&◌, ◌||◌, ◌==◌, Bool, true, false}
+use Rattle.std.specs.Prelude.{not, if◌then◌else◌}
 use Rattle.std.specs.Prelude.{nat_lt, nat_le, List, ◌++◌, length, drop, Option, None, Some}
 use Rattle.grep_lines.specs.Slices.{slice}
 use Rattle.grep_matcher.specs.declared.line_terminator.LineTerminator.{LineTerminator}
@@ -14,7 +16,8 @@ use Rattle.grep_definitions.specs.Plans.{Planned, Plan}
 use Rattle.grep_definitions.specs.Reports.{Selection, line, line_count, start, follows_selected}
 use Rattle.grep_definitions.specs.Reports.{reports_plan, through}
 use Rattle.grep_definitions.specs.Settings.{Settings}
-use Rattle.grep_definitions.specs.SelectedLines.{matches_up_to, position_past, is_free, is_touched, touched_lines}
+use Rattle.grep_definitions.specs.SelectedLines.{matches_up_to, position_past, is_free, is_touched}
+use Rattle.grep_definitions.specs.SelectedLines.{touched_lines}
 
 -- whether two terminators are the same; the byte LF and CRLF are two
 abbrev pub is_same : LineTerminator → LineTerminator → Bool
@@ -28,22 +31,23 @@ abbrev pub is_declared : Option LineTerminator → LineTerminator → Bool
 is_declared None terminator = false
 is_declared (Some declared) terminator = is_same declared terminator
 
--- across lines if `multi_line` is set, and the matcher doesn't say that no match contains the line terminator: it
--- doesn't declare it, and its byte isn't one that no match contains
+-- across lines if `multi_line` is set, and the matcher doesn't say that no match contains the line
+-- terminator: it doesn't declare it, and its byte isn't one that no match contains
 abbrev pub is_across : Settings → Meaning → Bool
 is_across settings meaning =
     settings.multi_line && not (is_declared meaning.terminator settings.line_terminator)
     && not (meaning.absent (byte_of settings.line_terminator))
 
--- A search may ask about many lines at once: it doesn't report every line, and the matcher says that no match contains
--- the line terminator. If the terminator that it declares is the byte 0, the search asks about each line alone, as
--- grep-searcher does.
+-- A search may ask about many lines at once: it doesn't report every line, and the matcher says
+-- that no match contains the line terminator. If the terminator that it declares is the byte 0, the
+-- search asks about each line alone, as grep-searcher does.
 pub record AsksAhead (settings : Settings) (meaning : Meaning) : Type 0 where
   pub selects : settings.passthru ≡ false
   pub excludes : ExcludesTerminator settings.line_terminator meaning
   pub declares : meaning.terminator ≢ Some (Byte 0)
 
--- what a matcher has to be lawful for: the search's terminator, if the search may ask about many lines at once
+-- what a matcher has to be lawful for: the search's terminator, if the search may ask about many
+-- lines at once
 abbrev pub IsLawfulFor : Settings → Meaning → (LineTerminator → Type 0) → Type 0
 IsLawfulFor settings meaning is_lawful =
     AsksAhead settings meaning → is_lawful settings.line_terminator
@@ -54,8 +58,8 @@ match_limit settings =
     if settings.invert_match && is_below 0 settings.max_matches then None else settings.max_matches
 
 module _ (settings : Settings) (meaning : Meaning) (bytes : List ℕ) where
-  -- a question about the lines from line i up to another, while the limit has room. Once a line was chosen, a search
-  -- that stops at the next line that isn't asks about each line alone
+  -- a question about the lines from line i up to another, while the limit has room. Once a line was
+  -- chosen, a search that stops at the next line that isn't asks about each line alone
   pub record IsAskedAhead (i : ℕ) (haystack : List ℕ) : Type 0 where
     pub allowed : AsksAhead settings meaning
     pub room : is_open_at settings meaning bytes i ≡ true
@@ -66,7 +70,8 @@ module _ (settings : Settings) (meaning : Meaning) (bytes : List ℕ) where
     pub within : end ≤ line_count settings bytes
     pub lines : haystack ≡ slice bytes (start settings bytes i) (start settings bytes end)
 
-  -- a question at line i: about that line without its terminator, or about whole lines from that line on
+  -- a question at line i: about that line without its terminator, or about whole lines from that
+  -- line on
   abbrev pub IsAsked : ℕ → List ℕ → Type 0
   IsAsked i haystack =
       (haystack ≡ strip settings.line_terminator (line settings bytes i)) ⊎ IsAskedAhead i haystack
@@ -90,8 +95,9 @@ module _ (settings : Settings) (meaning : Meaning) (bytes : List ℕ) where
     pub inside : position_past 0 found < length bytes
     pub rest : haystack ≡ drop (position_past 0 found) bytes
 
-  -- A question at line i: that is the first line, or the line after a run of lines that the matches so far touch. From
-  -- it on they touch one run of lines, and where that ends is what the next match says
+  -- A question at line i: that is the first line, or the line after a run of lines that the matches
+  -- so far touch. From it on they touch one run of lines, and where that ends is what the next
+  -- match says
   pub record IsAskedAt (i : ℕ) (haystack : List ℕ) : Type 0 where
     pub found : List (ℕ × ℕ)
     pub question : IsAskedAfter found haystack
@@ -123,8 +129,8 @@ module _ (settings : Settings) (meaning : Meaning) (bytes : List ℕ) where
   abbrev pub search_plan : Plan
   search_plan = reports_plan settings bytes (selection_in (is_across settings meaning))
 
-  -- what a matcher is asked, and the calls before: just those whose count, if they return false, is at most the start of
-  -- the line at which it is asked
+  -- what a matcher is asked, and the calls before: just those whose count, if they return false, is
+  -- at most the start of the line at which it is asked
   pub record IsAskedWith (haystack : List ℕ) (calls : List Planned) : Type 0 where
     pub index : ℕ
     pub question : IsQuestionIn (is_across settings meaning) index haystack

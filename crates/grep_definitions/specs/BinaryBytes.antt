@@ -1,11 +1,13 @@
--- Where binary bytes are, and what detection makes of an input that is searched line by line as it is read.
+-- Where binary bytes are, and what detection makes of an input that is searched line by line as it
+-- is read.
 use Rattle.std.specs.Prelude.{ℕ, Bool, true, false, not, ◌&&◌, ◌==◌, if◌then◌else◌}
 use Rattle.std.specs.Prelude.{List, map, take, Option, None}
 use Rattle.std.specs.List.{position, position_or_len}
 use Rattle.grep_matcher.specs.Meanings.{Meaning}
 use Rattle.grep_matcher.specs.Terminators.{byte_of}
 use Rattle.grep_report.specs.declared.binary_detection.BinaryDetection.{BinaryDetection}
-use Rattle.grep_report.specs.declared.binary_detection.BinaryDetection.TheVariants.{None as no_detection, Quit, Convert}
+use Rattle.grep_report.specs.declared.binary_detection.BinaryDetection.TheVariants.{None as no_detection}
+use Rattle.grep_report.specs.declared.binary_detection.BinaryDetection.TheVariants.{Quit, Convert}
 use Rattle.grep_definitions.specs.Asking.{is_across}
 use Rattle.grep_definitions.specs.Settings.{Settings}
 
@@ -13,7 +15,8 @@ use Rattle.grep_definitions.specs.Settings.{Settings}
 abbrev pub position_of : ℕ → List ℕ → Option ℕ
 position_of b bytes = position (λ x. x == b) bytes
 
--- where the first binary byte is in an input, if its lines end with the byte t. A byte that ends lines isn't converted
+-- where the first binary byte is in an input, if its lines end with the byte t. A byte that ends
+-- lines isn't converted
 abbrev pub binary_position : BinaryDetection → ℕ → List ℕ → Option ℕ
 binary_position no_detection t bytes = None
 binary_position (Quit b) t bytes = position_of b bytes
@@ -37,7 +40,8 @@ stream_view no_detection t bytes = bytes
 stream_view (Quit b) t bytes = bytes
 stream_view (Convert b) t bytes = map (λ x. if x == b then t else x) bytes
 
--- where a search looks for binary bytes: nowhere; in whole contents, to end at the byte; or in an input as it is read
+-- where a search looks for binary bytes: nowhere; in whole contents, to end at the byte; or in an
+-- input as it is read
 pub data Look : Type 0 where
   nowhere : Look
   in_contents : ℕ → Look
@@ -51,8 +55,8 @@ look_at (Quit b) true = on_stream
 look_at (Convert b) false = nowhere
 look_at (Convert b) true = on_stream
 
--- by whether the input is a slice that is searched as it is: by line any other input is searched as it is read, and
--- across lines none is
+-- by whether the input is a slice that is searched as it is: by line any other input is searched as
+-- it is read, and across lines none is
 abbrev pub look_of : Settings → Meaning → Bool → Look
 look_of settings meaning unchanged =
     look_at settings.binary_detection (not unchanged && not (is_across settings meaning))

@@ -11,8 +11,8 @@ use Rattle.grep_definitions.specs.Settings.{Settings}
 use Rattle.grep_definitions.specs.SinkCalls.{Turn}
 use Rattle.grep_definitions.specs.StreamSearches.{IsCutAt}
 
--- no report before the point at which a search of contents ends holds the byte, and no report at all if there is no
--- such point
+-- no report before the point at which a search of contents ends holds the byte, and no report at
+-- all if there is no such point
 abbrev pub QuitReportsAreClear : Type 0
 QuitReportsAreClear =
     (b : ℕ) (settings : Settings) (meaning : Meaning) (bytes : List ℕ)
@@ -38,8 +38,8 @@ SeenLinesAreClear =
     → binary_of settings (take (length seen) bytes) ≡ None
     → All (λ turn. holds_byte b turn ≡ false) (LineSearch.turns settings meaning seen)
 
--- the calls over the lines that were seen before a binary byte begin the calls over the whole view of an input, under
--- settings as built
+-- the calls over the lines that were seen before a binary byte begin the calls over the whole view
+-- of an input, under settings as built
 abbrev pub SeenLinesBegin : Type 0
 SeenLinesBegin =
     (settings : Settings) (meaning : Meaning) (bytes seen : List ℕ) (offset : ℕ)

@@ -6,16 +6,20 @@ use Rattle.std.specs.List.{position, position_or_len}
 use Rattle.std.specs.Option.{option_map}
 use Rattle.grep_matcher.specs.Meanings.{Meaning}
 use Rattle.grep_report.specs.declared.binary_detection.BinaryDetection.{BinaryDetection}
-use Rattle.grep_report.specs.declared.binary_detection.BinaryDetection.TheVariants.{None as no_detection, Quit, Convert}
+use Rattle.grep_report.specs.declared.binary_detection.BinaryDetection.TheVariants.{None as no_detection}
+use Rattle.grep_report.specs.declared.binary_detection.BinaryDetection.TheVariants.{Quit, Convert}
 use Rattle.grep_definitions.specs.Asking.{search_plan}
-use Rattle.grep_definitions.specs.BinaryBytes.{Look, nowhere, in_contents, on_stream, binary_of, position_of, view_of}
+use Rattle.grep_definitions.specs.BinaryBytes.{Look, nowhere, in_contents, on_stream, binary_of}
+use Rattle.grep_definitions.specs.BinaryBytes.{position_of, view_of}
 use Rattle.grep_definitions.specs.Readings.{GoesOnAfter}
 use Rattle.grep_definitions.specs.Plans.{Finish, Planned, Plan}
 use Rattle.grep_definitions.specs.Reports.{counted, planned}
 use Rattle.grep_definitions.specs.Settings.{Settings}
-use Rattle.grep_definitions.specs.Plans.{begins, binary_data, is_break, reported_bytes, reported_from}
+use Rattle.grep_definitions.specs.Plans.{begins, binary_data, is_break, reported_bytes}
+use Rattle.grep_definitions.specs.Plans.{reported_from}
 
--- `binary_data` comes after so many calls, with the offset of the byte; and the byte count if the search ends there
+-- `binary_data` comes after so many calls, with the offset of the byte; and the byte count if the
+-- search ends there
 pub record BinaryPoint : Type 0 where
   pub position : ℕ
   pub offset : ℕ
@@ -97,8 +101,8 @@ module _ (b : ℕ) (bytes : List ℕ) (calls : List Planned) where
 
 -- ---- a stream: each read's bytes are looked at before its lines are searched
 
--- the lines that were seen are whole lines before the first binary byte. There are fewer bytes between than the heap
--- limit has
+-- the lines that were seen are whole lines before the first binary byte. There are fewer bytes
+-- between than the heap limit has
 pub record IsCutAt (settings : Settings) (meaning : Meaning) (bytes seen : List ℕ)
     (offset : ℕ) : Type 0 where
   pub front : GoesOnAfter settings meaning (view_of settings bytes) seen

@@ -17,4 +17,5 @@ NumbersChangeNoCount =
 abbrev pub NumbersChangeNoBytes : Type 0
 NumbersChangeNoBytes =
     (settings : Settings) (numbered : Bool) (input : List ℕ)
-    → searched_bytes (record settings { line_number = numbered }) input ≡ searched_bytes settings input
+    → searched_bytes (record settings { line_number = numbered }) input
+    ≡ searched_bytes settings input

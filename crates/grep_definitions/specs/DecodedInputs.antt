@@ -6,10 +6,15 @@ use Rattle.grep_decode.specs.declared.label.Label.{Label}
 use Rattle.grep_decode.specs.declared.label.Label.TheVariants.{Utf8, Utf16Le, Utf16Be}
 use Rattle.grep_decode.specs.Decoded.{by_label, found_mark}
 use Rattle.grep_definitions.specs.Settings.{Settings}
-unfoldable pub use Rattle.grep_definitions.specs.Readings.{searched_bytes, is_searched_unchanged, encoding_of}
+unfoldable pub use Rattle.grep_definitions.specs.Readings.{
+  searched_bytes,
+  is_searched_unchanged,
+  encoding_of,
+}
 pub use Rattle.grep_definitions.specs.Readings.{looks_for_mark, encoding_after, AreWaiting, IsInput}
 
--- whether the bytes after this mark, or without one, pass unchanged: after that of UTF-8, or without a label too
+-- whether the bytes after this mark, or without one, pass unchanged: after that of UTF-8, or
+-- without a label too
 abbrev pub passes_after : Option Label → Option Label → Bool
 passes_after None label = not (is_some label)
 passes_after (Some Utf8) label = true
@@ -26,8 +31,9 @@ pub record IsDecodedSoFar (settings : Settings) (pieces : List (List ℕ)) (came
     : Type 0 where
   pub begins : (bytes : List ℕ) → IsInput settings false pieces bytes
       → (after : List ℕ) × (bytes ≡ came ++ after)
-  -- nothing while a mark is looked for in fewer than three bytes. Else all but the last bytes that came if they wait:
-  -- whatever else comes, the text goes on with theirs and its own. Of bytes that pass unchanged it is all
+  -- nothing while a mark is looked for in fewer than three bytes. Else all but the last bytes that
+  -- came if they wait: whatever else comes, the text goes on with theirs and its own. Of bytes that
+  -- pass unchanged it is all
   pub none : looks_for_mark settings ≡ true → length (concat pieces) < 3 → came ≡ []
   pub all : (looks_for_mark settings ≡ true → 3 ≤ length (concat pieces))
       → (front waiting : List ℕ) × (concat pieces ≡ front ++ waiting)

@@ -8,7 +8,8 @@ use Rattle.grep_definitions.specs.Searches.{ErrorMakers, MatcherFacts}
 use Rattle.grep_definitions.specs.Settings.{SearcherState}
 use Rattle.grep_definitions.specs.SinkRuns.{Steps}
 
--- a read of a file, if it says which bytes remain: what it returned was their front, and an error took none
+-- a read of a file, if it says which bytes remain: what it returned was their front, and an error
+-- took none
 abbrev pub IsFileRead : {F : Type 0} → (F → Option (List ℕ)) → F → ReadResult → F → Type 0
 IsFileRead remaining old (Ok bytes) new = Consumes (remaining old) (remaining new) bytes
 IsFileRead remaining old (Err e) new = Keeps (remaining old) (remaining new)

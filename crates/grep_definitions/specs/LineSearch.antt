@@ -1,14 +1,18 @@
--- Which calls a search by line makes, said of the whole list of lines by offsets and distances alone. Lines are counted
--- from 0 here, and the numbers that are reported from 1.
-use Rattle.std.specs.Prelude.{ℕ, zero, suc, ◌+◌, ◌-◌, Bool, true, false, not, ◌&&◌, if◌then◌else◌, ◌==◌, nat_lt, nat_le, List, [], ◌∷◌, length, take, slice_index_or, count_by, filter, Option, Some, None, is_some}
+-- Which calls a search by line makes, said of the whole list of lines by offsets and distances
+-- alone. Lines are counted from 0 here, and the numbers that are reported from 1.
+use Rattle.std.specs.Prelude.{ℕ, zero, suc, ◌+◌, ◌-◌, Bool, true, false, not, ◌&&◌, if◌then◌else◌}
+use Rattle.std.specs.Prelude.{◌==◌, nat_lt, nat_le, List, [], ◌∷◌, length, take, slice_index_or}
+use Rattle.std.specs.Prelude.{count_by, filter, Option, Some, None, is_some}
 use Rattle.std.specs.Option.{option_map}
 use Rattle.grep_matcher.specs.Terminators.{byte_of}
 use Rattle.grep_matcher.specs.Lines.{lines, line_start, strip}
 use Rattle.grep_matcher.specs.Matching.{Meaning}
-use Rattle.grep_report.specs.declared.sink_context.SinkContextKind.TheVariants.{Before, After, Other}
+use Rattle.grep_report.specs.declared.sink_context.SinkContextKind.TheVariants.{Before, After}
+use Rattle.grep_report.specs.declared.sink_context.SinkContextKind.TheVariants.{Other}
 use Rattle.grep_definitions.specs.Settings.{Settings}
 use Rattle.grep_definitions.specs.SinkCalls.{Turn, begins, matches, context, breaks}
-use Rattle.grep_definitions.specs.Below.{some_below, count_below, first_below, at_most, is_below, is_at, joined_from}
+use Rattle.grep_definitions.specs.Below.{some_below, count_below, first_below, at_most, is_below}
+use Rattle.grep_definitions.specs.Below.{is_at, joined_from}
 pub use Rattle.grep_definitions.specs.Reports.{Kind, matched, in_context}
 
 -- whether the two differ
@@ -34,7 +38,8 @@ module _ (settings : Settings) (meaning : Meaning) (bytes : List ℕ) where
   abbrev pub hits : ℕ → Bool
   hits i =
       nat_lt i line_count
-      && differ (is_some (meaning.first (strip settings.line_terminator (line i)))) settings.invert_match
+      && differ (is_some (meaning.first (strip settings.line_terminator (line i))))
+      settings.invert_match
 
   -- fewer lines before it hit than the limit has
   abbrev pub is_open_at : ℕ → Bool
@@ -62,7 +67,8 @@ module _ (settings : Settings) (meaning : Meaning) (bytes : List ℕ) where
   -- one more than the last turn's line, by each of its bounds
   abbrev pub turns_by_stop : Option ℕ
   turns_by_stop =
-      if settings.stop_on_nonmatch then option_map suc (first_below ends_chosen line_count) else None
+      if settings.stop_on_nonmatch then option_map suc (first_below ends_chosen line_count)
+      else None
 
   abbrev pub turns_by_limit : Option ℕ → Option ℕ
   turns_by_limit None = None

@@ -1,7 +1,8 @@
--- The calls of one line as a walk from line to line makes them, by what it knows at that line. Of these definitions the
--- contracts of grep_searcher cite only `one_turn` and `number_of`.
+-- The calls of one line as a walk from line to line makes them, by what it knows at that line. Of
+-- these definitions the contracts of grep_searcher cite only `one_turn` and `number_of`.
 use Rattle.std.specs.Prelude.{ℕ, ◌+◌, ◌-◌, Bool, ◌&&◌, ◌==◌, if◌then◌else◌, nat_lt, nat_le}
-use Rattle.std.specs.Prelude.{List, [], ◌∷◌, take, slice_index_or, count_by, Option, Some, None, is_some}
+use Rattle.std.specs.Prelude.{List, [], ◌∷◌, take, slice_index_or, count_by, Option, Some, None}
+use Rattle.std.specs.Prelude.{is_some}
 use Rattle.grep_matcher.specs.Terminators.{byte_of}
 use Rattle.grep_matcher.specs.Lines.{lines, line_start, strip}
 use Rattle.grep_matcher.specs.Matching.{Meaning}
@@ -32,7 +33,8 @@ abbrev pub broken_turns : Bool → Call → ℕ → List Turn
 broken_turns gap call end =
     if gap then record { call = breaks; end = end } ∷ one_turn call end else one_turn call end
 
--- whether lines were left out before line j, if the lines up to v were the last ones reported and line i is selected
+-- whether lines were left out before line j, if the lines up to v were the last ones reported and
+-- line i is selected
 abbrev pub is_gap : Settings → ℕ → ℕ → ℕ → Bool
 is_gap settings v j i = nat_lt 0 v && nat_lt v j && (i - j) == settings.before_context
 

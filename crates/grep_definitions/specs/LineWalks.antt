@@ -1,5 +1,5 @@
--- What a walk from line to line knows of the lines before it, by the definition of the calls. The contracts of private
--- functions cite these definitions; no public contract does.
+-- What a walk from line to line knows of the lines before it, by the definition of the calls. The
+-- contracts of private functions cite these definitions; no public contract does.
 use Rattle.std.specs.Prelude.{◌≡◌, ℕ, ◌+◌, ◌<◌, true, false, not, nat_lt, List, Some}
 use Rattle.grep_matcher.specs.Matching.{Meaning}
 use Rattle.grep_definitions.specs.Settings.{Settings}
@@ -9,7 +9,8 @@ use Rattle.grep_definitions.specs.LineSearch.{is_selected, is_trailing, line_cou
 use Rattle.grep_definitions.specs.Selections
 
 module _ (settings : Settings) (meaning : Meaning) (bytes : List ℕ) where
-  -- what a walk knows of the lines before it, by the lines that are selected and by how many there are
+  -- what a walk knows of the lines before it, by the lines that are selected and by how many there
+  -- are
   abbrev pub IsNear : ℕ → ℕ → ℕ → Type 0
   IsNear v i left =
       Selections.IsNear settings (is_selected settings meaning bytes)
@@ -17,8 +18,8 @@ module _ (settings : Settings) (meaning : Meaning) (bytes : List ℕ) where
       (line_count settings meaning bytes)
       (turn_count settings meaning bytes) v i left
 
-  -- what a walk that goes on at line i knows of limit and stop, if c lines were chosen and `left` lines are still to be
-  -- reported after a match
+  -- what a walk that goes on at line i knows of limit and stop, if c lines were chosen and `left`
+  -- lines are still to be reported after a match
   pub record IsOpen (i left c : ℕ) : Type 0 where
     pub below : is_below (count_below (hits settings meaning bytes) i) settings.max_matches
         ≡ not (is_at c settings.max_matches)

@@ -1,7 +1,8 @@
--- A sink that is called with the first binary byte of an input that is searched as it is read, in between its other
--- calls.
+-- A sink that is called with the first binary byte of an input that is searched as it is read, in
+-- between its other calls.
 use Rattle.std.specs.Prelude.{◌≡◌, ℕ, ◌+◌, ◌≤◌, true, false, length, Option, None, Some, Ok}
-use Rattle.grep_definitions.specs.SinkCalls.{Call, begins, matches, context, breaks, binary_data, finishes}
+use Rattle.grep_definitions.specs.SinkCalls.{Call, begins, matches, context, breaks, binary_data}
+use Rattle.grep_definitions.specs.SinkCalls.{finishes}
 use Rattle.grep_definitions.specs.SinkCalls.{is_break, is_finish, reported_bytes, reported_from}
 use Rattle.grep_definitions.specs.SinkRuns.{Steps}
 
@@ -18,9 +19,9 @@ with_binary offset (finishes count binary) = finishes count (Some offset)
 abbrev pub reported_to : Call → ℕ
 reported_to call = reported_from call + length (reported_bytes call)
 
--- A sink, and the offset with which `binary_data` was called, if it was. That is once at most: after
--- a call, neither `finish` nor a break, that returned true and reported only bytes before the offset.
--- `binary_data` returned true as well. From then on `finish` has the offset.
+-- A sink, and the offset with which `binary_data` was called, if it was. That is once at most:
+-- after a call, neither `finish` nor a break, that returned true and reported only bytes before the
+-- offset. `binary_data` returned true as well. From then on `finish` has the offset.
 abbrev pub noted : {S E : Type 0} → Steps S E → Steps (S × Option ℕ) E
 noted step old settings call result new = noted_by old.1 new.1
   where

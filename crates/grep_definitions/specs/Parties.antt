@@ -4,27 +4,29 @@ use Rattle.std.specs.declared.io.Error.{Error}
 use Rattle.grep_matcher.specs.declared.line_terminator.LineTerminator.{LineTerminator}
 use Rattle.grep_matcher.specs.Meanings.{Meaning}
 use Rattle.grep_report.specs.declared.config_error.ConfigError.{ConfigError}
-use Rattle.grep_report.specs.declared.config_error.ConfigError.TheVariants.{SearchUnavailable, MismatchedLineTerminators}
+use Rattle.grep_report.specs.declared.config_error.ConfigError.TheVariants.{SearchUnavailable}
+use Rattle.grep_report.specs.declared.config_error.ConfigError.TheVariants.{MismatchedLineTerminators}
 use Rattle.grep_definitions.specs.Asking.{IsLawfulFor, is_same}
 use Rattle.grep_definitions.specs.Reports.{is_at}
 use Rattle.grep_definitions.specs.Settings.{Settings}
 
--- how a sink's errors are made: of a message, by its text if that is known, of an io error, of a fault of the
--- configuration
+-- how a sink's errors are made: of a message, by its text if that is known, of an io error, of a
+-- fault of the configuration
 pub record ErrorMakers (E : Type 0) : Type 1 where
   pub is_message : Option (List ℕ) → E → Type 0
   pub is_io : Error → E → Type 0
   pub is_config : ConfigError → E → Type 0
 
--- what is known of a matcher: what it means, which errors a haystack may get, for which terminators what it finds in
--- many lines can be trusted, and the text of an error if that is known
+-- what is known of a matcher: what it means, which errors a haystack may get, for which terminators
+-- what it finds in many lines can be trusted, and the text of an error if that is known
 pub record MatcherFacts (F : Type 0) : Type 1 where
   pub meaning : Meaning
   pub fails : List ℕ → F → Type 0
   pub is_lawful : LineTerminator → Type 0
   pub text_of : F → Option (List ℕ)
 
--- a matcher is lawful for the search's terminator, if the search may ask it about many lines at once
+-- a matcher is lawful for the search's terminator, if the search may ask it about many lines at
+-- once
 abbrev pub IsLawful : {F : Type 0} → MatcherFacts F → Settings → Type 0
 IsLawful matcher settings = IsLawfulFor settings matcher.meaning matcher.is_lawful
 

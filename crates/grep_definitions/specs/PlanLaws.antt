@@ -40,7 +40,8 @@ module _ {S : Type 0} (goes : S → Call → Bool) (next : S → Call → S) whe
 abbrev pub PlansFold : {S E : Type 0} → Steps S E → Type 0
 PlansFold {S} {E} step =
     (goes : S → Call → Bool) (next : S → Call → S) → StepsBy step goes next
-    → (settings : Settings) (old : S) (plan : Plan) (new : S) → IsRun step settings old plan (Ok tt) new
+    → (settings : Settings) (old : S) (plan : Plan) (new : S)
+    → IsRun step settings old plan (Ok tt) new
     → new ≡ plan_fold goes next old plan.calls plan.finish
 
 -- without detection, a search of a slice as it is that ended in `Ok` is a run along its plan

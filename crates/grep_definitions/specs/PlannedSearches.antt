@@ -1,5 +1,6 @@
 -- What a search does to its sink, and what it returns.
-use Rattle.std.specs.Prelude.{◌≡◌, ◌⊎◌, ◌≤◌, ◌+◌, ◌&&◌, ℕ, Bool, true, false, List, ◌∷◌, length, All}
+use Rattle.std.specs.Prelude.{◌≡◌, ◌⊎◌, ◌≤◌, ◌+◌, ◌&&◌, ℕ, Bool, true, false, List, ◌∷◌, length}
+use Rattle.std.specs.Prelude.{All}
 use Rattle.std.specs.Prelude.{Option, None, Some, Result, Ok, Err, OnOk}
 use Rattle.std.specs.List.{concat}
 use Rattle.std.specs.declared.io.Error.{Error}
@@ -9,11 +10,14 @@ use Rattle.grep_definitions.specs.Asking.{IsAskedWith, search_plan, selection_in
 use Rattle.grep_definitions.specs.BinaryBytes.{Look, look_of, is_detecting}
 use Rattle.grep_definitions.specs.BinaryPlans.{BinaryPoint, IsPoint, calls_with, plan_with, quits}
 use Rattle.grep_definitions.specs.Parties.{ErrorMakers, MatcherFacts, IsLawful, refusal_of}
-use Rattle.grep_definitions.specs.Plans.{Steps, Planned, Plan, Outcome, all_true, finish_after, AreMade, IsRun}
-use Rattle.grep_definitions.specs.Readings.{Taken, IsBelowLimit, IsCut, IsInput, IsSeenOf, encoding_of, reads_lines, view_in}
+use Rattle.grep_definitions.specs.Plans.{Steps, Planned, Plan, Outcome, all_true, finish_after}
+use Rattle.grep_definitions.specs.Plans.{AreMade, IsRun}
+use Rattle.grep_definitions.specs.Readings.{Taken, IsBelowLimit, IsCut, IsInput, IsSeenOf}
+use Rattle.grep_definitions.specs.Readings.{encoding_of, reads_lines, view_in}
 use Rattle.grep_definitions.specs.Reports.{line_count}
 use Rattle.grep_definitions.specs.Settings.{Settings, SearcherState}
-use Rattle.grep_definitions.specs.Plans.{Call, begins, matches, context, breaks, binary_data, finishes}
+use Rattle.grep_definitions.specs.Plans.{Call, begins, matches, context, breaks, binary_data}
+use Rattle.grep_definitions.specs.Plans.{finishes}
 
 -- where `binary_data` comes among some calls, if it does
 abbrev pub Points : Type 1
@@ -28,9 +32,10 @@ module _ {S E F : Type 0} (step : Steps S E) (errors : ErrorMakers E) (matcher :
       × (quits settings.binary_detection ≡ true → point ≡ None)
       × AreMade step settings old (calls_with point calls) all_true new
 
-  -- How a search of some bytes ends: it ran along their plan, up to the sink's own error if there was one; or in the
-  -- matcher's error at a question
-  pub data IsSearchOf (IsAt : Points) (HasRead : Plan → Outcome E → Type 0) (bytes : List ℕ) (old : S)
+  -- How a search of some bytes ends: it ran along their plan, up to the sink's own error if there
+  -- was one; or in the matcher's error at a question
+  pub data IsSearchOf (IsAt : Points) (HasRead : Plan → Outcome E → Type 0) (bytes : List ℕ)
+      (old : S)
       : Result (Unit {0}) E → S → Type 0 where
     ran : {result : Result (Unit {0}) E} {new : S} (point : Option BinaryPoint)
         → IsAt (search_plan settings matcher.meaning bytes).calls point
@@ -49,7 +54,8 @@ module _ {S E F : Type 0} (step : Steps S E) (errors : ErrorMakers E) (matcher :
   abbrev pub IsSliceSearch : List ℕ → S → Result (Unit {0}) E → S → Type 0
   IsSliceSearch bytes =
       IsSearchOf
-      (IsPoint settings matcher.meaning bytes (look_of settings matcher.meaning true) (length bytes))
+      (IsPoint settings matcher.meaning bytes (look_of settings matcher.meaning true)
+      (length bytes))
       (λ plan outcome. Unit {0}) bytes
 
 -- a search of a reader
@@ -59,26 +65,29 @@ module _ {R : Type 0} (remaining : R → Option (List ℕ)) (read_step : R → R
   abbrev pub settings : Settings
   settings = state.settings
 
-  -- how far a search by line that ended in `Ok` has read: not at all unless `begin` returned true and it reads lines
-  pub record HasReadLines (reader : R) (old : S) (reader' : R) (taken : Taken remaining read_step reader reader')
+  -- how far a search by line that ended in `Ok` has read: not at all unless `begin` returned true
+  -- and it reads lines
+  pub record HasReadLines (reader : R) (old : S) (reader' : R)
+      (taken : Taken remaining read_step reader reader')
       (plan : Plan) (outcome : Outcome E) : Type 0 where
     pub begun : Bool
     pub first : S
     pub begin : step old settings begins (Ok begun) first
     pub unread : (begun && reads_lines settings) ≡ false → reader' ≡ reader
-    -- under a heap limit, if what came passes unchanged: the three bytes are those that are read to look for a mark, or
-    -- a mark that is dropped
+    -- under a heap limit, if what came passes unchanged: the three bytes are those that are read to
+    -- look for a mark, or a mark that is dropped
     pub ahead : (limit : ℕ) → settings.heap_limit ≡ Some limit
         → encoding_of settings (concat taken.pieces) ≡ None
         → length (concat taken.pieces) ≤ (finish_after outcome plan.finish).count + limit + 3
 
-  -- where `binary_data` comes, whichever of these inputs it is, of which so many first bytes were seen
+  -- where `binary_data` comes, whichever of these inputs it is, of which so many first bytes were
+  -- seen
   abbrev pub EachPoint : (List ℕ → Type 0) → ℕ → Points
   EachPoint IsOne n calls point =
       (bytes : List ℕ) → IsOne bytes → IsPoint settings matcher.meaning bytes look n calls point
 
-  -- The search of an input of which so much was taken: of the lines that were seen, and of the whole input, whatever
-  -- follows what was taken.
+  -- The search of an input of which so much was taken: of the lines that were seen, and of the
+  -- whole input, whatever follows what was taken.
   pub record IsReaderSearch (reader : R) (old : S) (result : Result (Unit {0}) E) (reader' : R)
       (new : S) : Type 0 where
     pub taken : Taken remaining read_step reader reader'
@@ -88,7 +97,8 @@ module _ {R : Type 0} (remaining : R → Option (List ℕ)) (read_step : R → R
     pub over_seen : IsSearchOf step errors matcher settings
         (EachPoint (IsInput settings taken.ended taken.pieces) (length seen))
         (λ plan outcome.
-        -- unless a call returned false, or a byte ended the search, each line that may be reported was seen
+        -- unless a call returned false, or a byte ended the search, each line that may be reported
+        -- was seen
         (outcome ≡ all_true → (quits settings.binary_detection ≡ true → plan.finish.binary ≡ None)
         → (bytes : List ℕ) → IsInput settings taken.ended taken.pieces bytes
         → (selection_in settings matcher.meaning (view_in settings look bytes)
@@ -105,14 +115,16 @@ module _ {R : Type 0} (remaining : R → Option (List ℕ)) (read_step : R → R
         × ((bytes : List ℕ) → IsInput settings taken.ended taken.pieces bytes
         → IsBelowLimit settings bytes)
 
-  -- reading ended before the search did, after the calls for the lines that were seen, or before `begin`
+  -- reading ended before the search did, after the calls for the lines that were seen, or before
+  -- `begin`
   pub record IsCutSearch (reader : R) (old : S) (e : E) (reader' : R) (new : S) : Type 0 where
     pub mid : R
     pub taken : Taken remaining read_step reader mid
     pub seen : List ℕ
     pub begun : Bool
     pub error : Error
-    pub cause : IsCut remaining read_step state matcher.meaning reader mid reader' taken seen begun error
+    pub cause : IsCut remaining read_step state matcher.meaning reader mid reader' taken seen begun
+        error
     pub made : errors.is_io error e
     pub calls : begun ≡ true → GoesOnWith step errors matcher settings
         (EachPoint (IsInput settings taken.ended taken.pieces) (length seen))
@@ -124,8 +136,8 @@ module _ {R : Type 0} (remaining : R → Option (List ℕ)) (read_step : R → R
   IsRead reader old (Err e) reader' new =
       IsReaderSearch reader old (Err e) reader' new ⊎ IsCutSearch reader old e reader' new
 
--- A search ends in the error of its refusal, which leaves the sink as it was, and the reader; or it isn't refused, and
--- this is what it comes to if the matcher is lawful.
+-- A search ends in the error of its refusal, which leaves the sink as it was, and the reader; or it
+-- isn't refused, and this is what it comes to if the matcher is lawful.
 module _ {S E F : Type 0} (errors : ErrorMakers E) (matcher : MatcherFacts F) (settings : Settings)
     (old : S) (result : Result (Unit {0}) E) (new : S) (IsSame IsSearched : Type 0) where
   abbrev pub IsUnlessThis : Option ConfigError → Type 0
@@ -147,7 +159,8 @@ IsReaderSearched remaining read_step step errors matcher state reader old result
 
 -- ---- in which order a search that isn't refused calls its sink, whatever the matcher finds and the reader gives
 
--- whether a call may come between `begin` and `finish`: `binary_data` may if the search looks for binary bytes
+-- whether a call may come between `begin` and `finish`: `binary_data` may if the search looks for
+-- binary bytes
 abbrev pub comes_between : Bool → Call → Bool
 comes_between detecting begins = false
 comes_between detecting (matches number offset bytes) = true
@@ -172,14 +185,17 @@ module _ {S E F : Type 0} (step : Steps S E) (errors : ErrorMakers E) (matcher :
 
   -- some calls in this order that all returned true
   abbrev pub HasBegun : S → S → Type 0
-  HasBegun old new = (calls : List Planned) × AreInOrder calls × AreMade step settings old calls all_true new
+  HasBegun old new = (calls : List Planned) × AreInOrder calls
+      × AreMade step settings old calls all_true new
 
   -- it runs along some calls in this order; or it ends in the matcher's error, or in one of reading
-  pub data IsInOrder (IsOfReading : Error → Type 0) (old : S) : Result (Unit {0}) E → S → Type 0 where
+  pub data IsInOrder (IsOfReading : Error → Type 0) (old : S) : Result (Unit {0}) E → S
+      → Type 0 where
     ran_in_order : {result : Result (Unit {0}) E} {new : S} (plan : Plan) → AreInOrder plan.calls
         → (detecting ≡ false → plan.finish.binary ≡ None)
         → IsRun step settings old plan result new → IsInOrder IsOfReading old result new
-    asked_in_order : {e : E} {new : S} (haystack : List ℕ) (error : F) → matcher.fails haystack error
+    asked_in_order : {e : E} {new : S} (haystack : List ℕ) (error : F)
+        → matcher.fails haystack error
         → errors.is_message (matcher.text_of error) e
         → HasBegun old new → IsInOrder IsOfReading old (Err e) new
     read_in_order : {e : E} {new : S} (error : Error) → IsOfReading error → errors.is_io error e

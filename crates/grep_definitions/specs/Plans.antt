@@ -1,5 +1,6 @@
 -- A plan: the calls that a search makes of its sink. And what a sink makes of a plan.
-use Rattle.std.specs.Prelude.{◌≡◌, ◌⊎◌, ℕ, Bool, true, false, List, [], ◌∷◌, Option, Result, Ok, Err}
+use Rattle.std.specs.Prelude.{◌≡◌, ◌⊎◌, ℕ, Bool, true, false, List, [], ◌∷◌, Option, Result, Ok}
+use Rattle.std.specs.Prelude.{Err}
 use Rattle.grep_report.specs.declared.sink_context.SinkContextKind.{SinkContextKind}
 use Rattle.grep_definitions.specs.Settings.{Settings}
 
@@ -16,7 +17,8 @@ pub data Call : Type 0 where
   -- byte count, and that offset if there was the call before
   finishes : ℕ → Option ℕ → Call
 
--- the bytes of the line or the lines that a call reports, and the offset of the first; other calls have none
+-- the bytes of the line or the lines that a call reports, and the offset of the first; other calls
+-- have none
 abbrev pub reported_bytes : Call → List ℕ
 reported_bytes begins = []
 reported_bytes (matches number offset bytes) = bytes
@@ -41,7 +43,8 @@ is_break breaks = true
 is_break (binary_data offset) = false
 is_break (finishes count binary) = false
 
--- what `finish` has: the byte count, and the offset of the first binary byte if the sink was told of it
+-- what `finish` has: the byte count, and the offset of the first binary byte if the sink was told
+-- of it
 pub record Finish : Type 0 where
   pub count : ℕ
   pub binary : Option ℕ
@@ -56,7 +59,8 @@ pub record Plan : Type 0 where
   pub calls : List Planned
   pub finish : Finish
 
--- a sink's meaning: the state before a call, the settings, the call, what it returned, the state after
+-- a sink's meaning: the state before a call, the settings, the call, what it returned, the state
+-- after
 abbrev pub Steps : Type 0 → Type 0 → Type 1
 Steps S E = S → Settings → Call → Result Bool E → S → Type 0
 

@@ -6,8 +6,10 @@ use Rattle.std.specs.Option.{option_map}
 use Rattle.grep_definitions.specs.BinaryBytes.{position_of}
 use Rattle.grep_definitions.specs.LineTurns.{one_turn}
 use Rattle.grep_definitions.specs.Settings.{Settings}
-use Rattle.grep_definitions.specs.SinkCalls.{Turn, begins, binary_data, is_break, reported_bytes, reported_from}
-use Rattle.grep_definitions.specs.SinkRuns.{Steps, Outcome, all_true, stopped, failed, AreReported, IsFinished, IsRun}
+use Rattle.grep_definitions.specs.SinkCalls.{Turn, begins, binary_data, is_break, reported_bytes}
+use Rattle.grep_definitions.specs.SinkCalls.{reported_from}
+use Rattle.grep_definitions.specs.SinkRuns.{Steps, Outcome, all_true, stopped, failed, AreReported}
+use Rattle.grep_definitions.specs.SinkRuns.{IsFinished, IsRun}
 
 -- how many bytes are looked at before the first line
 abbrev pub first_look : ℕ
@@ -60,8 +62,8 @@ module _ (b : ℕ) where
   quit_point bytes turns = quit_unless turns (position_of b (take first_look bytes))
 
 module _ {S E : Type 0} (step : Steps S E) (settings : Settings) where
-  -- `binary_data` follows calls that all returned true, and `finish` has the offset then. A false or an error before it
-  -- ends the run as ever
+  -- `binary_data` follows calls that all returned true, and `finish` has the offset then. A false
+  -- or an error before it ends the run as ever
   abbrev pub IsEndedAt : ℕ → ℕ → Outcome E → S → Result (Unit {0}) E → S → Type 0
   IsEndedAt offset count all_true mid result new =
       IsRun step settings mid (one_turn (binary_data offset) count) count (Some offset) result new

@@ -1,5 +1,6 @@
--- What a search of a reader does: it makes the calls for the decoded bytes of what the reader gives. By line it reads
--- no more than it needs, and across lines all. What it promises holds whatever would follow what it read.
+-- What a search of a reader does: it makes the calls for the decoded bytes of what the reader
+-- gives. By line it reads no more than it needs, and across lines all. What it promises holds
+-- whatever would follow what it read.
 use Rattle.std.specs.Prelude.{◌≡◌, ◌⊎◌, ◌≤◌, ◌+◌, ◌&&◌, ℕ, Bool, true, false, List, length}
 use Rattle.std.specs.Prelude.{Option, Some, None, Result, Ok, Err}
 use Rattle.std.specs.List.{concat}
@@ -18,13 +19,17 @@ use Rattle.grep_definitions.specs.InputFronts.{GoesOnAfter, HasOpenLine, IsFront
 use Rattle.grep_definitions.specs.NotedSinks.{noted}
 use Rattle.grep_definitions.specs.ReadingFaults.{CutsShort, CutsContents, IsBelowLimit}
 use Rattle.grep_definitions.specs.Refusals.{refusal_of}
-use Rattle.grep_definitions.specs.Searches.{ErrorMakers, MatcherFacts, IsFaultIn, HasReportedIn, IsLawful}
+use Rattle.grep_definitions.specs.Searches.{ErrorMakers, MatcherFacts, IsFaultIn, HasReportedIn}
+use Rattle.grep_definitions.specs.Searches.{IsLawful}
 use Rattle.grep_definitions.specs.Searches.{IsClearFault, IsQuitFault, IsRunUntil}
-use Rattle.grep_definitions.specs.SearchTurns.{SearchCalls, search_calls, calls_by_line, calls_across}
+use Rattle.grep_definitions.specs.SearchTurns.{SearchCalls, search_calls, calls_by_line}
+use Rattle.grep_definitions.specs.SearchTurns.{calls_across}
 use Rattle.grep_definitions.specs.Settings.{Settings, SearcherState}
 use Rattle.grep_definitions.specs.SinkCalls.{begins}
-use Rattle.grep_definitions.specs.StreamSearches.{IsClear, IsCutRun, IsNotedFor, IsNotedRun, stream_calls}
-use Rattle.grep_definitions.specs.SinkRuns.{Steps, Outcome, all_true, AreReported, IsFinished, IsRun, count_of}
+use Rattle.grep_definitions.specs.StreamSearches.{IsClear, IsCutRun, IsNotedFor, IsNotedRun}
+use Rattle.grep_definitions.specs.StreamSearches.{stream_calls}
+use Rattle.grep_definitions.specs.SinkRuns.{Steps, Outcome, all_true, AreReported, IsFinished}
+use Rattle.grep_definitions.specs.SinkRuns.{IsRun, count_of}
 pub use Rattle.grep_definitions.specs.Readings.{reads_lines, reports_nothing, Taken}
 
 module _ {R : Type 0} (remaining : R → Option (List ℕ))
@@ -36,22 +41,23 @@ module _ {R : Type 0} (remaining : R → Option (List ℕ))
     pub then_failed : (mid ≡ new)
         ⊎ ((error : Error) × (taken.ended ≡ false) × read_step mid (Err error) new)
 
-  -- why a reader's input wasn't searched to its end, by line or across lines: after the lines that were seen, or
-  -- before `begin`. By line it is searched as detection makes it, in a view of it, and no byte of the
-  -- lines that were seen ends the search
+  -- why a reader's input wasn't searched to its end, by line or across lines: after the lines that
+  -- were seen, or before `begin`. By line it is searched as detection makes it, in a view of it,
+  -- and no byte of the lines that were seen ends the search
   pub data IsUnreadIn (across : Bool) (view : List ℕ → List ℕ) (state : SearcherState)
       (meaning : Meaning) (reader : R)
       : Option (List ℕ) → Error → R → Type 0 where
     -- what cuts it short does so before a byte that ends the search
     of_cut : {seen : List ℕ} {error : Error} {reader' : R} → across ≡ false
-        → before_quit state.settings.binary_detection seen ≡ seen → (taken : Taken remaining read_step reader reader')
+        → before_quit state.settings.binary_detection seen ≡ seen
+        → (taken : Taken remaining read_step reader reader')
         → ((bytes : List ℕ) → IsInput state.settings taken.ended taken.pieces bytes
         → GoesOnAfter state.settings meaning (view bytes) seen
         × CutsShort state.settings meaning
         (before_quit state.settings.binary_detection (view bytes)) seen error)
         → IsUnreadIn across view state meaning reader (Some seen) error reader'
-    -- the reader's last call failed. Of what was decoded before, all lines that came whole were seen, fewer bytes than
-    -- the heap limit came after them, and none ends the search
+    -- the reader's last call failed. Of what was decoded before, all lines that came whole were
+    -- seen, fewer bytes than the heap limit came after them, and none ends the search
     of_reader : {seen : List ℕ} {error : Error} {reader' : R} → across ≡ false
         → before_quit state.settings.binary_detection seen ≡ seen
         → (mid : R) (taken : Taken remaining read_step reader mid)
@@ -61,9 +67,10 @@ module _ {R : Type 0} (remaining : R → Option (List ℕ))
         → (came : List ℕ) → IsDecodedSoFar state.settings taken.pieces came
         → HasOpenLine state.settings (view came) seen
         → IsUnreadIn across view state meaning reader (Some seen) error reader'
-    -- across lines all is read before `begin`: there was no room for it, or the reader's last call failed, and fewer
-    -- bytes were decoded before than the heap limit
-    of_contents : {error : Error} {reader' : R} → across ≡ true → (taken : Taken remaining read_step reader reader')
+    -- across lines all is read before `begin`: there was no room for it, or the reader's last call
+    -- failed, and fewer bytes were decoded before than the heap limit
+    of_contents : {error : Error} {reader' : R} → across ≡ true
+        → (taken : Taken remaining read_step reader reader')
         → ((bytes : List ℕ) → IsInput state.settings taken.ended taken.pieces bytes
         → CutsContents state.settings bytes error)
         → IsUnreadIn across view state meaning reader None error reader'
@@ -87,9 +94,10 @@ module _ {R : Type 0} (remaining : R → Option (List ℕ))
 
   module _ {S E F : Type 0} (step : Steps S E) (errors : ErrorMakers E)
       (matcher : MatcherFacts F) where
-    -- A search with these calls that ended in `Ok`: they were made over the lines that were seen, up to the first false
-    -- or the last, and `finish` followed. Whatever follows what was taken, they are those for the whole input, and
-    -- unless one returned false, each line with a turn was seen.
+    -- A search with these calls that ended in `Ok`: they were made over the lines that were seen,
+    -- up to the first false or the last, and `finish` followed. Whatever follows what was taken,
+    -- they are those for the whole input, and unless one returned false, each line with a turn was
+    -- seen.
     pub record IsReaderRunIn (calls : SearchCalls) (settings : Settings) (reader : R) (old : S)
         (reader' : R) (new : S)
         : Type 0 where
@@ -119,8 +127,9 @@ module _ {R : Type 0} (remaining : R → Option (List ℕ))
       pub below : calls.across ≡ true → (bytes : List ℕ)
           → IsInput settings taken.ended taken.pieces bytes
           → IsBelowLimit settings bytes
-      -- how far the reader is ahead of the byte count, under a heap limit, if what came passes unchanged: the three
-      -- bytes are those that are read to look for a mark, or a mark that is dropped
+      -- how far the reader is ahead of the byte count, under a heap limit, if what came passes
+      -- unchanged: the three bytes are those that are read to look for a mark, or a mark that is
+      -- dropped
       pub ahead : calls.across ≡ false → (limit : ℕ) → settings.heap_limit ≡ Some limit
           → passes_unchanged settings (concat taken.pieces) ≡ true
           → length (concat taken.pieces) ≤ count_of outcome (calls.byte_count seen) + limit + 3
@@ -128,9 +137,10 @@ module _ {R : Type 0} (remaining : R → Option (List ℕ))
     -- how a search with these calls that isn't refused ends in an error
     pub data IsReaderFaultIn (calls : SearchCalls) (state : SearcherState) (reader : R) (old : S)
         : E → R → S → Type 0 where
-      -- the sink's own error or the matcher's, over the lines that were seen, and whatever follows what was taken.
-      -- Across lines all was read, and it is shorter than the heap limit
-      of_search : {e : E} {reader' : R} {new : S} (taken : Taken remaining read_step reader reader') (seen : List ℕ)
+      -- the sink's own error or the matcher's, over the lines that were seen, and whatever follows
+      -- what was taken. Across lines all was read, and it is shorter than the heap limit
+      of_search : {e : E} {reader' : R} {new : S} (taken : Taken remaining read_step reader reader')
+          (seen : List ℕ)
           → (calls.across ≡ true → taken.ended ≡ true)
           → IsFaultIn step errors matcher calls state.settings seen old e new
           → ((bytes : List ℕ) → IsInput state.settings taken.ended taken.pieces bytes
@@ -161,8 +171,8 @@ module _ {R : Type 0} (remaining : R → Option (List ℕ))
 -- how a search of a reader under binary detection ends
 module _ {R : Type 0} (remaining : R → Option (List ℕ)) (read_step : R → ReadResult → R → Type 0)
     {S E F : Type 0} (step : Steps S E) (errors : ErrorMakers E) (matcher : MatcherFacts F) where
-  -- across lines under `Quit`: all was read, it is shorter than the heap limit, and that is what the search of it
-  -- comes to
+  -- across lines under `Quit`: all was read, it is shorter than the heap limit, and that is what
+  -- the search of it comes to
   pub record IsContentsRun (settings : Settings) (reader reader' : R)
       (Ends : List ℕ → Type 0) : Type 0 where
     pub taken : Taken remaining read_step reader reader'
@@ -203,7 +213,8 @@ module _ {R : Type 0} (remaining : R → Option (List ℕ)) (read_step : R → R
     pub each : (bytes : List ℕ) → IsInput settings run.taken.ended run.taken.pieces bytes
         → IsNotedRun step settings matcher.meaning bytes old new
 
-  -- such a search that ended in an error; this holds whatever would have followed the bytes that came
+  -- such a search that ended in an error; this holds whatever would have followed the bytes that
+  -- came
   pub record IsNotedReaderFault (state : SearcherState) (reader : R) (old : S) (e : E)
       (reader' : R) (new : S)
       : Type 0 where
@@ -253,16 +264,16 @@ module _ {R : Type 0} (remaining : R → Option (List ℕ)) (read_step : R → R
   abbrev pub IsSourceSearched : SearcherState → R → S → Result (Unit {0}) E → R → S → Type 0
   IsSourceSearched state = IsSearchedAt (look_of state.settings matcher.meaning false) state
 
-  -- an error: that of the refusal, which leaves the reader and the sink as they were, or that of the search, which is
-  -- said if the matcher is lawful
+  -- an error: that of the refusal, which leaves the reader and the sink as they were, or that of
+  -- the search, which is said if the matcher is lawful
   abbrev pub IsReaderFaultUnless : Option ConfigError → SearcherState → R → S → E → R → S → Type 0
   IsReaderFaultUnless (Some refusal) state reader old e reader' new =
       errors.is_config refusal e × (new ≡ old) × (reader' ≡ reader)
   IsReaderFaultUnless None state reader old e reader' new =
       IsLawful matcher state.settings → IsSourceSearched state reader old (Err e) reader' new
 
-  -- a search of a reader: it isn't refused and, if the matcher is lawful, runs along the calls for its input, or it
-  -- ends in an error
+  -- a search of a reader: it isn't refused and, if the matcher is lawful, runs along the calls for
+  -- its input, or it ends in an error
   abbrev pub IsReaderSearched : SearcherState → R → S → Result (Unit {0}) E → R → S → Type 0
   IsReaderSearched state reader old (Ok u) reader' new =
       (refusal_of state.settings matcher.meaning ≡ None)

@@ -9,12 +9,14 @@ use Rattle.grep_definitions.specs.Settings.{SearcherState}
 use Rattle.grep_definitions.specs.InputFronts.{GoesOnAfter}
 use Rattle.grep_definitions.specs.DecodedInputs.{searched_bytes, is_searched_unchanged}
 use Rattle.grep_definitions.specs.SearchTurns.{search_calls}
-pub use Rattle.grep_definitions.specs.Readings.{buffer_capacity, CutsShort, of_limit, of_offset, of_memory}
+pub use Rattle.grep_definitions.specs.Readings.{buffer_capacity, CutsShort, of_limit, of_offset}
+pub use Rattle.grep_definitions.specs.Readings.{of_memory}
 pub use Rattle.grep_definitions.specs.Readings.{IsBelowLimit, CutsContents, of_full, of_no_memory}
 
--- why an input that is decoded wasn't searched to its end, by line or across lines: after the lines that were seen, or
--- before `begin`. By line it is searched as detection makes it, in a view of it, and no byte of the
--- lines that were seen ends the search. What cuts it short does so before such a byte
+-- why an input that is decoded wasn't searched to its end, by line or across lines: after the lines
+-- that were seen, or before `begin`. By line it is searched as detection makes it, in a view of it,
+-- and no byte of the lines that were seen ends the search. What cuts it short does so before such a
+-- byte
 pub data IsUndecodedIn (across : Bool) (view : List ℕ → List ℕ) (state : SearcherState)
     (meaning : Meaning)
     (input : List ℕ) : Option (List ℕ) → Error → Type 0 where

@@ -1,6 +1,9 @@
--- What is read for a search, which lines of it are seen, and why reading ends before the search does.
-use Rattle.std.specs.Prelude.{◌≡◌, ◌≢◌, ◌⊎◌, ℕ, ◌+◌, ◌-◌, ◌^◌, ◌<◌, ◌≤◌, ◌==◌, ◌&&◌, ◌||◌, Bool, true, false, not}
-use Rattle.std.specs.Prelude.{List, [], ◌++◌, length, slice_index, All, Option, None, Some, is_some, IfSome, Ok, Err}
+-- What is read for a search, which lines of it are seen, and why reading ends before the search
+-- does.
+use Rattle.std.specs.Prelude.{◌≡◌, ◌≢◌, ◌⊎◌, ℕ, ◌+◌, ◌-◌, ◌^◌, ◌<◌, ◌≤◌, ◌==◌, ◌&&◌, ◌||◌, Bool}
+use Rattle.std.specs.Prelude.{true, false, not}
+use Rattle.std.specs.Prelude.{List, [], ◌++◌, length, slice_index, All, Option, None, Some, is_some}
+use Rattle.std.specs.Prelude.{IfSome, Ok, Err}
 use Rattle.std.specs.List.{concat}
 use Rattle.std.specs.Io.KnownBytes.{Consumes, IsAtEnd}
 use Rattle.std.specs.IoError.{error_kind}
@@ -14,7 +17,8 @@ use Rattle.grep_matcher.specs.LineLists.{lines}
 use Rattle.grep_matcher.specs.Meanings.{Meaning}
 use Rattle.grep_matcher.specs.Terminators.{byte_of}
 use Rattle.grep_definitions.specs.Reports.{is_at, line, line_count, start}
-use Rattle.grep_definitions.specs.BinaryBytes.{Look, nowhere, in_contents, on_stream, before_quit, is_detecting, view_of}
+use Rattle.grep_definitions.specs.BinaryBytes.{Look, nowhere, in_contents, on_stream, before_quit}
+use Rattle.grep_definitions.specs.BinaryBytes.{is_detecting, view_of}
 use Rattle.grep_definitions.specs.SelectedLines.{line_end}
 use Rattle.grep_definitions.specs.Asking.{is_across}
 use Rattle.grep_definitions.specs.Settings.{Settings, SearcherState}
@@ -43,8 +47,8 @@ unfoldable pub encoding_of : Settings → List ℕ → Option Label
 encoding_of settings input =
     encoding_after (found_mark settings.encoding settings.bom_sniffing input) settings.encoding
 
--- bytes that wait for more: the beginning of a character that more could complete, or none, and none if they pass
--- unchanged
+-- bytes that wait for more: the beginning of a character that more could complete, or none, and
+-- none if they pass unchanged
 abbrev pub AreWaiting : Option Label → List ℕ → Type 0
 AreWaiting None bytes = bytes ≡ []
 AreWaiting (Some label) bytes = IsUnfinished label bytes
@@ -58,8 +62,9 @@ IsInput settings ended pieces bytes =
 -- what is decoded of an input of which these pieces came, whatever else would come
 pub record IsComeSoFar (settings : Settings) (pieces : List (List ℕ)) (came : List ℕ)
     : Type 0 where
-  -- nothing while a mark is looked for in fewer than three bytes. Else all but the last bytes that came if they wait:
-  -- whatever else comes, the text goes on with theirs and its own. Of bytes that pass unchanged it is all
+  -- nothing while a mark is looked for in fewer than three bytes. Else all but the last bytes that
+  -- came if they wait: whatever else comes, the text goes on with theirs and its own. Of bytes that
+  -- pass unchanged it is all
   pub none : looks_for_mark settings ≡ true → length (concat pieces) < 3 → came ≡ []
   pub all : (looks_for_mark settings ≡ true → 3 ≤ length (concat pieces))
       → (front waiting : List ℕ) × (concat pieces ≡ front ++ waiting)
@@ -71,7 +76,8 @@ pub record IsComeSoFar (settings : Settings) (pieces : List (List ℕ)) (came : 
 abbrev pub IsClosed : ℕ → List ℕ → Type 0
 IsClosed t bytes = 0 < length bytes → slice_index bytes (length bytes - 1) ≡ t
 
--- a buffer of so many bytes can't hold a line that is longer, or one that fills it and is unterminated
+-- a buffer of so many bytes can't hold a line that is longer, or one that fills it and is
+-- unterminated
 abbrev pub IsTooLong : ℕ → ℕ → List ℕ → Type 0
 IsTooLong t size line =
     (size < length line) ⊎ ((length line ≡ size) × (slice_index line (size - 1) ≢ t))
@@ -97,8 +103,8 @@ IsSeenOf settings nowhere bytes seen = IsFront settings bytes seen
 IsSeenOf settings (in_contents b) bytes seen = seen ≡ bytes
 IsSeenOf settings on_stream bytes seen = IsFront settings (view_of settings bytes) seen
 
--- after the lines that were seen came bytes that end no line, and fewer of them than the heap limit.
--- No byte that came ends the search
+-- after the lines that were seen came bytes that end no line, and fewer of them than the heap
+-- limit. No byte that came ends the search
 pub record HasOpenLine (settings : Settings) (came seen : List ℕ) : Type 0 where
   pub rest : List ℕ
   pub whole : came ≡ seen ++ rest
@@ -111,8 +117,8 @@ module _ (settings : Settings) (meaning : Meaning) (input seen : List ℕ) where
   abbrev pub seen_count : ℕ
   seen_count = length (lines (byte_of settings.line_terminator) seen)
 
-  -- a search goes on after whole lines at the front of an input: the next line, if there is one, has a turn. Under
-  -- detection the first bytes may be read in any case
+  -- a search goes on after whole lines at the front of an input: the next line, if there is one,
+  -- has a turn. Under detection the first bytes may be read in any case
   pub record GoesOnAfter : Type 0 where
     pub front : IsFront settings input seen
     pub closed : IsClosed (byte_of settings.line_terminator) seen
@@ -120,8 +126,8 @@ module _ (settings : Settings) (meaning : Meaning) (input seen : List ℕ) where
         → seen_count < line_count settings input
         → seen_count < line_end settings meaning input
 
-  -- a buffer of so many bytes can't hold the next line and the lines before it that are kept, at most as many as are
-  -- reported before a match. If none is kept, that line alone is too long
+  -- a buffer of so many bytes can't hold the next line and the lines before it that are kept, at
+  -- most as many as are reported before a match. If none is kept, that line alone is too long
   pub record IsCrowded (size : ℕ) : Type 0 where
     pub kept : ℕ
     pub passed : kept ≤ seen_count
@@ -146,7 +152,8 @@ pub data CutsShort (settings : Settings) (meaning : Meaning) (input seen : List 
   -- the offset of the end is above 2^64 - 1
   of_offset : {error : Error} → error_kind error ≡ InvalidData → 2 ^ 64 ≤ length input
       → CutsShort settings meaning input seen error
-  -- the buffer may grow and there was no memory: as large as it is at first, it can't hold these lines
+  -- the buffer may grow and there was no memory: as large as it is at first, it can't hold these
+  -- lines
   of_memory : {error : Error} → error_kind error ≡ OutOfMemory
       → IfSome settings.heap_limit (λ limit. buffer_capacity < limit)
       → IsCrowded settings meaning input seen buffer_capacity
@@ -156,8 +163,8 @@ pub data CutsShort (settings : Settings) (meaning : Meaning) (input seen : List 
 abbrev pub IsBelowLimit : Settings → List ℕ → Type 0
 IsBelowLimit settings input = (limit : ℕ) → settings.heap_limit ≡ Some limit → length input < limit
 
--- why all of an input isn't read before a search across lines begins, by the error: as many bytes have come as the
--- heap limit, or there was no memory for them
+-- why all of an input isn't read before a search across lines begins, by the error: as many bytes
+-- have come as the heap limit, or there was no memory for them
 pub data CutsContents (settings : Settings) (input : List ℕ) : Error → Type 0 where
   of_full : {error : Error} (limit : ℕ) → settings.heap_limit ≡ Some limit
       → error_kind error ≡ Other
@@ -169,7 +176,8 @@ pub data CutsContents (settings : Settings) (input : List ℕ) : Error → Type 
 abbrev pub reports_nothing : Settings → Bool
 reports_nothing settings = not settings.passthru && is_at 0 settings.max_matches
 
--- whether a search by line may read after `begin`: a line may have a turn, or it looks for a binary byte
+-- whether a search by line may read after `begin`: a line may have a turn, or it looks for a binary
+-- byte
 abbrev pub reads_lines : Settings → Bool
 reads_lines settings = not (reports_nothing settings) || is_detecting settings.binary_detection
 
@@ -182,8 +190,8 @@ module _ {R : Type 0} (remaining : R → Option (List ℕ))
       (mid : R) × Pulls read_step old pieces mid × read_step mid (Ok []) new
       × IsAtEnd (remaining new)
 
-  -- What was taken of a reader: its calls returned some pieces, and `ended` says whether one more returned none. If
-  -- the reader says which bytes remain, the pieces are the front of them.
+  -- What was taken of a reader: its calls returned some pieces, and `ended` says whether one more
+  -- returned none. If the reader says which bytes remain, the pieces are the front of them.
   pub record Taken (old new : R) : Type 0 where
     pub ended : Bool
     pub pieces : List (List ℕ)
@@ -214,13 +222,14 @@ module _ {R : Type 0} (remaining : R → Option (List ℕ))
           → ((bytes : List ℕ) → IsTakenOf bytes → CutsShort state.settings meaning
           (before_quit state.settings.binary_detection (view_of state.settings bytes)) seen error)
           → IsCut true error
-      -- of what was decoded before, all lines that came whole were seen, fewer bytes than the heap limit came after
-      -- them, and none ends the search
+      -- of what was decoded before, all lines that came whole were seen, fewer bytes than the heap
+      -- limit came after them, and none ends the search
       of_reader : {error : Error} → StopsInLines → HasFailed error
           → (came : List ℕ) → IsComeSoFar state.settings taken.pieces came
           → HasOpenLine state.settings (view_of state.settings came) seen
           → IsCut true error
-      -- across lines all is read before `begin`, and fewer bytes than the heap limit were decoded before a failure
+      -- across lines all is read before `begin`, and fewer bytes than the heap limit were decoded
+      -- before a failure
       of_contents : {error : Error} → is_across state.settings meaning ≡ true → mid ≡ new
           → ((bytes : List ℕ) → IsTakenOf bytes → CutsContents state.settings bytes error)
           → IsCut false error

@@ -1,6 +1,8 @@
--- How lines are reported, given which of them are selected: the calls of a search, said of the whole list of lines by
--- offsets and distances alone. Lines are counted from 0 here, and the numbers that are reported from 1.
-use Rattle.std.specs.Prelude.{ℕ, zero, suc, ◌+◌, ◌-◌, min, Bool, true, false, not, ◌&&◌, ◌||◌, if◌then◌else◌, ◌==◌}
+-- How lines are reported, given which of them are selected: the calls of a search, said of the
+-- whole list of lines by offsets and distances alone. Lines are counted from 0 here, and the
+-- numbers that are reported from 1.
+use Rattle.std.specs.Prelude.{ℕ, zero, suc, ◌+◌, ◌-◌, min, Bool, true, false, not, ◌&&◌, ◌||◌}
+use Rattle.std.specs.Prelude.{if◌then◌else◌, ◌==◌}
 use Rattle.std.specs.Prelude.{nat_lt, nat_le}
 use Rattle.std.specs.Prelude.{List, [], ◌∷◌, ◌++◌, length, take, slice_index_or, count_by, filter}
 use Rattle.std.specs.Prelude.{Option, Some, None, is_some}
@@ -9,9 +11,11 @@ use Rattle.grep_matcher.specs.Terminators.{byte_of}
 use Rattle.grep_matcher.specs.LineLists.{lines, line_start}
 use Rattle.grep_lines.specs.Slices.{slice}
 use Rattle.grep_report.specs.declared.sink_context.SinkContextKind.{SinkContextKind}
-use Rattle.grep_report.specs.declared.sink_context.SinkContextKind.TheVariants.{Before, After, Other}
+use Rattle.grep_report.specs.declared.sink_context.SinkContextKind.TheVariants.{Before, After}
+use Rattle.grep_report.specs.declared.sink_context.SinkContextKind.TheVariants.{Other}
 use Rattle.grep_definitions.specs.Settings.{Settings}
-use Rattle.grep_definitions.specs.Plans.{Call, begins, matches, context, breaks, Finish, Planned, Plan}
+use Rattle.grep_definitions.specs.Plans.{Call, begins, matches, context, breaks, Finish, Planned}
+use Rattle.grep_definitions.specs.Plans.{Plan}
 
 -- whether some number below n passes
 abbrev pub some_below : (ℕ → Bool) → ℕ → Bool
@@ -47,8 +51,8 @@ abbrev pub joined_from : {X : Type 0} → (ℕ → List X) → ℕ → ℕ → L
 joined_from f i zero = []
 joined_from f i (suc n) = f i ++ joined_from f (i + 1) n
 
--- which lines are selected, which hit past the limit, whether selected lines in a row are one report, and up to which
--- line there are reports
+-- which lines are selected, which hit past the limit, whether selected lines in a row are one
+-- report, and up to which line there are reports
 pub record Selection : Type 0 where
   pub selected : ℕ → Bool
   pub trailing : ℕ → Bool
@@ -132,7 +136,8 @@ module _ (settings : Settings) (bytes : List ℕ) where
         (option_map report_end (first_below (λ j. nat_lt i j && selection.selected j) line_count))
         (i + 1)
 
-    -- the byte count if the report of line i returns false: a line before a match goes with that match
+    -- the byte count if the report of line i returns false: a line before a match goes with that
+    -- match
     abbrev pub count_at : ℕ → Option Kind → ℕ
     count_at i None = start (i + 1)
     count_at i (Some matched) = start (report_end i)
@@ -140,7 +145,8 @@ module _ (settings : Settings) (bytes : List ℕ) where
     count_at i (Some (in_context After)) = start (i + 1)
     count_at i (Some (in_context Other)) = start (i + 1)
 
-    -- a break comes before a match or a line before one, if lines were left out since the last report
+    -- a break comes before a match or a line before one, if lines were left out since the last
+    -- report
     abbrev pub can_break : Option Kind → Bool
     can_break None = false
     can_break (Some matched) = true

@@ -1,7 +1,8 @@
 -- Laws of the defined calls.
 use Rattle.std.specs.Prelude.{◌≡◌, ℕ, ◌+◌, ◌-◌, ◌<◌, ◌≤◌, Bool, true, false, not, ◌&&◌, ◌||◌}
 use Rattle.std.specs.Prelude.{if◌then◌else◌, nat_lt}
-use Rattle.std.specs.Prelude.{List, [], ◌∷◌, ◌++◌, length, slice_index, count_by, filter, map, slice_get, Some, None}
+use Rattle.std.specs.Prelude.{List, [], ◌∷◌, ◌++◌, length, slice_index, count_by, filter, map}
+use Rattle.std.specs.Prelude.{slice_get, Some, None}
 use Rattle.std.specs.Prelude.{All}
 use Rattle.std.specs.List.{AllPairs}
 use Rattle.std.specs.Option.{option_map}
@@ -12,7 +13,8 @@ use Rattle.grep_matcher.specs.Matching.{Meaning, plain}
 use Rattle.grep_report.specs.declared.sink_context.SinkContextKind.TheVariants.{After}
 use Rattle.grep_definitions.specs.Settings.{Settings}
 use Rattle.grep_definitions.specs.NotedSinks.{reported_to}
-use Rattle.grep_definitions.specs.SinkCalls.{Call, Turn, begins, matches, context, breaks, binary_data, finishes}
+use Rattle.grep_definitions.specs.SinkCalls.{Call, Turn, begins, matches, context, breaks}
+use Rattle.grep_definitions.specs.SinkCalls.{binary_data, finishes}
 use Rattle.grep_definitions.specs.SinkCalls.{is_report, reported_bytes, reported_from}
 use Rattle.grep_definitions.specs.Below.{count_below, first_below, joined_from}
 use Rattle.grep_definitions.specs.LineTurns.{number_of}
@@ -30,7 +32,8 @@ UnchangedIsInput =
     (settings : Settings) (input : List ℕ) → is_searched_unchanged settings input ≡ true
     → searched_bytes settings input ≡ input
 
--- without a label, an input is searched as it is if no mark is looked for, or if it begins with none
+-- without a label, an input is searched as it is if no mark is looked for, or if it begins with
+-- none
 abbrev pub UnsniffedIsUnchanged : Type 0
 UnsniffedIsUnchanged =
     (settings : Settings) (input : List ℕ) → settings.encoding ≡ None
@@ -42,8 +45,8 @@ UnmarkedIsUnchanged =
     (settings : Settings) (input : List ℕ) → settings.encoding ≡ None → marked input ≡ None
     → is_searched_unchanged settings input ≡ true
 
--- such an input passes unchanged, and so does one that begins with a mark of UTF-8, if a mark is looked for: what is
--- searched is what comes after it
+-- such an input passes unchanged, and so does one that begins with a mark of UTF-8, if a mark is
+-- looked for: what is searched is what comes after it
 abbrev pub UnchangedPasses : Type 0
 UnchangedPasses =
     (settings : Settings) (input : List ℕ) → is_searched_unchanged settings input ≡ true
@@ -83,8 +86,8 @@ ReportsAscend =
     (settings : Settings) (meaning : Meaning) (bytes : List ℕ)
     → AreInOrder (report_calls (turns settings meaning bytes))
 
--- a line that has a turn, isn't selected and is in reach of an earlier selected line is reported as the line
--- after it, even if it is also before a later one, and as a match if it is trailing
+-- a line that has a turn, isn't selected and is in reach of an earlier selected line is reported as
+-- the line after it, even if it is also before a later one, and as a match if it is trailing
 abbrev pub AfterWins : Type 0
 AfterWins =
     (settings : Settings) (meaning : Meaning) (bytes : List ℕ) (i j : ℕ)
@@ -119,7 +122,8 @@ FirstLinesBegin =
     → (later : List Turn)
     × (turns settings meaning (front ++ back) ≡ turns settings meaning front ++ later)
 
--- no more matches are reported than the limit has, and those in the context after the last of them; none at limit 0
+-- no more matches are reported than the limit has, and those in the context after the last of them;
+-- none at limit 0
 abbrev pub AtMostLimit : Type 0
 AtMostLimit =
     (settings : Settings) (meaning : Meaning) (bytes : List ℕ) (limit : ℕ)
@@ -134,8 +138,8 @@ WholeCount =
     → turn_count settings meaning bytes ≡ line_count settings meaning bytes
     → byte_count settings meaning bytes ≡ length bytes
 
--- by line the calls, how many lines have a turn, and the byte count depend on a matcher's matches alone, not on what it
--- says of terminators: a search by line with `Plain` of it has the same
+-- by line the calls, how many lines have a turn, and the byte count depend on a matcher's matches
+-- alone, not on what it says of terminators: a search by line with `Plain` of it has the same
 abbrev pub MatchesDecide : Type 0
 MatchesDecide =
     (settings : Settings) (meaning : Meaning) (bytes : List ℕ)

@@ -16,8 +16,8 @@ use Rattle.grep_definitions.specs.SearchTurns.{search_turns, search_byte_count}
 use Rattle.grep_definitions.specs.SinkCalls.{Turn}
 use Rattle.grep_definitions.specs.StreamSearches.{IsCutRun, IsNotedFor, IsNotedRun, stream_calls}
 use Rattle.grep_definitions.specs.SinkRuns.{Steps, all_true, AreReported, IsRun}
-pub use Rattle.grep_definitions.specs.Parties.{ErrorMakers, MatcherFacts, IsLawful, errors_by, facts_by}
-
+pub use Rattle.grep_definitions.specs.Parties.{ErrorMakers, MatcherFacts, IsLawful, errors_by}
+pub use Rattle.grep_definitions.specs.Parties.{facts_by}
 
 module _ {S E F : Type 0} (step : Steps S E) (errors : ErrorMakers E)
     (matcher : MatcherFacts F) where
@@ -28,7 +28,8 @@ module _ {S E F : Type 0} (step : Steps S E) (errors : ErrorMakers E)
     of_sink : {e : E} {new : S}
         → IsRun step settings old (calls.turns bytes) (calls.byte_count bytes) None (Err e) new
         → IsFaultIn calls settings bytes old e new
-    -- the matcher's error: one that a question of the search may get, after the calls that were made before
+    -- the matcher's error: one that a question of the search may get, after the calls that were
+    -- made before
     of_matcher : {e : E} {new : S} (haystack : List ℕ) (error : F) (made : List Turn)
         → calls.IsAsked bytes haystack made → matcher.fails haystack error
         → errors.is_message (matcher.text_of error) e
@@ -49,14 +50,15 @@ module _ {S E F : Type 0} (step : Steps S E) (errors : ErrorMakers E)
       (search_byte_count settings matcher.meaning bytes) None (Ok u) new
   IsSearchedAlong settings bytes old (Err e) new = IsFault settings bytes old e new
 
-  -- the calls that were made when no more of an input was read: `begin` and the reports over the lines that were
-  -- seen, or none
+  -- the calls that were made when no more of an input was read: `begin` and the reports over the
+  -- lines that were seen, or none
   abbrev pub HasReportedIn : SearchCalls → Settings → Option (List ℕ) → S → S → Type 0
   HasReportedIn calls settings None old new = new ≡ old
   HasReportedIn calls settings (Some seen) old new =
       AreReported step settings old (calls.turns seen) all_true new
 
-  -- an input that is decoded wasn't searched to its end: the error is of that cause, and so are the calls
+  -- an input that is decoded wasn't searched to its end: the error is of that cause, and so are the
+  -- calls
   pub record IsUnsearched (state : SearcherState) (input : List ℕ) (old : S) (e : E)
       (new : S) : Type 0 where
     pub seen : Option (List ℕ)
@@ -66,7 +68,8 @@ module _ {S E F : Type 0} (step : Steps S E) (errors : ErrorMakers E)
     pub reported : HasReportedIn
         (search_calls state.settings matcher.meaning) state.settings seen old new
 
-  -- along the calls for its decoded bytes, or it ends in a fault, or the input wasn't decoded to its end
+  -- along the calls for its decoded bytes, or it ends in a fault, or the input wasn't decoded to
+  -- its end
   abbrev pub IsPlainlySearched : SearcherState → List ℕ → S → Result (Unit {0}) E → S → Type 0
   IsPlainlySearched state input old (Ok u) new =
       IsSearchedAlong state.settings (searched_bytes state.settings input) old (Ok u) new
@@ -74,8 +77,8 @@ module _ {S E F : Type 0} (step : Steps S E) (errors : ErrorMakers E)
       IsFault state.settings (searched_bytes state.settings input) old e new
       ⊎ IsUnsearched state input old e new
 
-  -- a search of whole contents that ends at a byte: it is a run along these calls, or up to the point where the byte
-  -- ends it
+  -- a search of whole contents that ends at a byte: it is a run along these calls, or up to the
+  -- point where the byte ends it
   abbrev pub IsRunUntil : SearchCalls → ℕ → Settings → List ℕ → S → Result (Unit {0}) E → S → Type 0
   IsRunUntil calls b settings bytes old result new =
       IsRunTo step settings (quit_point b bytes (calls.turns bytes)) old (calls.turns bytes)
@@ -120,7 +123,8 @@ module _ {S E F : Type 0} (step : Steps S E) (errors : ErrorMakers E)
         × (AreReported step settings old
         ((calls_by_line settings matcher.meaning).turns seen) all_true new ⊎ (new ≡ old)))
 
-  -- by line of an input that is decoded: of the view, by a sink that is called with `binary_data` in between
+  -- by line of an input that is decoded: of the view, by a sink that is called with `binary_data`
+  -- in between
   pub record IsNotedFault (state : SearcherState) (input : List ℕ) (old : S) (e : E)
       (new : S) : Type 0 where
     pub found : Option ℕ
@@ -158,15 +162,15 @@ module _ {S E F : Type 0} (step : Steps S E) (errors : ErrorMakers E)
       (is_searched_unchanged state.settings input))
       state input
 
-  -- an error: that of the refusal, which leaves the sink as it was, or that of the search, which is said if the matcher
-  -- is lawful
+  -- an error: that of the refusal, which leaves the sink as it was, or that of the search, which is
+  -- said if the matcher is lawful
   abbrev pub IsFaultUnless : Option ConfigError → SearcherState → List ℕ → S → E → S → Type 0
   IsFaultUnless (Some refusal) state input old e new = errors.is_config refusal e × (new ≡ old)
   IsFaultUnless None state input old e new =
       IsLawful matcher state.settings → IsInputSearched state input old (Err e) new
 
-  -- a search of an input: it isn't refused and, if the matcher is lawful, runs along the calls for its decoded bytes, or
-  -- it ends in an error
+  -- a search of an input: it isn't refused and, if the matcher is lawful, runs along the calls for
+  -- its decoded bytes, or it ends in an error
   abbrev pub IsSearched : SearcherState → List ℕ → S → Result (Unit {0}) E → S → Type 0
   IsSearched state input old (Ok u) new =
       (refusal_of state.settings matcher.meaning ≡ None)

@@ -1,6 +1,7 @@
--- Which lines a search selects: by line those that match by themselves, across lines those that its successive matches
--- touch.
-use Rattle.std.specs.Prelude.{ℕ, zero, suc, ◌+◌, Bool, true, false, not, ◌&&◌, if◌then◌else◌, nat_lt, nat_le}
+-- Which lines a search selects: by line those that match by themselves, across lines those that its
+-- successive matches touch.
+use Rattle.std.specs.Prelude.{ℕ, zero, suc, ◌+◌, Bool, true, false, not, ◌&&◌, if◌then◌else◌}
+use Rattle.std.specs.Prelude.{nat_lt, nat_le}
 use Rattle.std.specs.Prelude.{List, [], ◌∷◌, length, take, drop, Option, Some, None, is_some}
 use Rattle.std.specs.List.{list_any}
 use Rattle.std.specs.Option.{option_map}
@@ -8,7 +9,8 @@ use Rattle.grep_lines.specs.Blocks.{block_start, block_end}
 use Rattle.grep_matcher.specs.LineLists.{strip}
 use Rattle.grep_matcher.specs.Meanings.{Meaning}
 use Rattle.grep_matcher.specs.Terminators.{byte_of}
-use Rattle.grep_definitions.specs.Reports.{some_below, count_below, first_below, at_most, is_below, is_at}
+use Rattle.grep_definitions.specs.Reports.{some_below, count_below, first_below, at_most, is_below}
+use Rattle.grep_definitions.specs.Reports.{is_at}
 use Rattle.grep_definitions.specs.Reports.{Selection, line_count, line, start}
 use Rattle.grep_definitions.specs.Settings.{Settings}
 
@@ -78,7 +80,8 @@ module _ (settings : Settings) (meaning : Meaning) (bytes : List ℕ) where
 
 -- ---- across lines
 
--- where the next match is looked for: from a match's end, and after an empty match from one byte later
+-- where the next match is looked for: from a match's end, and after an empty match from one byte
+-- later
 abbrev pub position_after : ℕ × ℕ → ℕ
 position_after m = if nat_lt m.0 m.1 then m.1 else m.1 + 1
 
@@ -121,8 +124,9 @@ module _ (meaning : Meaning) (bytes : List ℕ) where
   matches_up_to (Some limit) = take limit all_matches
 
 module _ (settings : Settings) (meaning : Meaning) (bytes : List ℕ) where
-  -- whether a line is within the block of a match: the whole lines that it extends over, as `locate` returns them. The
-  -- block of an empty match at the end of bytes that end in a terminator has no line
+  -- whether a line is within the block of a match: the whole lines that it extends over, as
+  -- `locate` returns them. The block of an empty match at the end of bytes that end in a terminator
+  -- has no line
   abbrev pub touches : ℕ → ℕ × ℕ → Bool
   touches i m =
       nat_le (block_start (byte_of settings.line_terminator) bytes m) (start settings bytes i)
@@ -138,8 +142,8 @@ module _ (settings : Settings) (meaning : Meaning) (bytes : List ℕ) where
   is_free i =
       nat_lt i (line_count settings bytes) && not (is_touched (all_matches meaning bytes) i)
 
-  -- the lines that the first matches touch, as many matches as the limit has; under inversion the first free lines, as
-  -- many lines
+  -- the lines that the first matches touch, as many matches as the limit has; under inversion the
+  -- first free lines, as many lines
   abbrev pub is_touched_selected : ℕ → Bool
   is_touched_selected i =
       if settings.invert_match

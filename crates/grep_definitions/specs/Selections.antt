@@ -1,9 +1,10 @@
--- How lines are reported, given which of them are selected: this is the same by line and across lines. What a walk over
--- lines knows of the lines before it. The contracts of private functions cite these definitions; no public contract
--- does.
+-- How lines are reported, given which of them are selected: this is the same by line and across
+-- lines. What a walk over lines knows of the lines before it. The contracts of private functions
+-- cite these definitions; no public contract does.
 use Rattle.std.specs.Prelude.{◌≡◌, ℕ, ◌-◌, ◌<◌, ◌≤◌, Bool, true, false, ◌&&◌, if◌then◌else◌}
 use Rattle.std.specs.Prelude.{nat_lt, nat_le, Option, Some, None, is_some}
-use Rattle.grep_report.specs.declared.sink_context.SinkContextKind.TheVariants.{Before, After, Other}
+use Rattle.grep_report.specs.declared.sink_context.SinkContextKind.TheVariants.{Before, After}
+use Rattle.grep_report.specs.declared.sink_context.SinkContextKind.TheVariants.{Other}
 use Rattle.grep_definitions.specs.Settings.{Settings}
 use Rattle.grep_definitions.specs.Below.{some_below}
 use Rattle.grep_definitions.specs.LineSearch.{Kind, matched, in_context}
@@ -32,8 +33,9 @@ module _ (settings : Settings) (selected trailing : ℕ → Bool) (count turned 
   abbrev pub is_reported : ℕ → Bool
   is_reported i = nat_lt i turned && is_some (kind i)
 
-  -- what a walk at line i knows of the lines before it, if it is done with those up to v, and `left` lines are still
-  -- to be reported after a match: the lines after v aren't selected and follow no selected line
+  -- what a walk at line i knows of the lines before it, if it is done with those up to v, and
+  -- `left` lines are still to be reported after a match: the lines after v aren't selected and
+  -- follow no selected line
   pub record IsNear (v i left : ℕ) : Type 0 where
     pub low : v ≤ i
     pub few : left ≤ settings.after_context

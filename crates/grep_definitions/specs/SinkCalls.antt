@@ -1,7 +1,8 @@
 -- The calls that a search makes of its sink.
 use Rattle.std.specs.Prelude.{ℕ, Bool, true, false}
 use Rattle.grep_report.specs.SinkReports.{MatchReport, ContextReport, FinishReport, match_bytes}
-pub use Rattle.grep_definitions.specs.Plans.{Call, begins, matches, context, breaks, binary_data, finishes}
+pub use Rattle.grep_definitions.specs.Plans.{Call, begins, matches, context, breaks, binary_data}
+pub use Rattle.grep_definitions.specs.Plans.{finishes}
 pub use Rattle.grep_definitions.specs.Plans.{is_break, reported_bytes, reported_from}
 
 -- a call before the last, with the end of its turn: the byte count if the call returns false

@@ -4,7 +4,8 @@ use Rattle.std.specs.Prelude.{Option, Some, None, Ok, Err}
 use Rattle.std.specs.List.{fold}
 use Rattle.grep_report.specs.declared.binary_detection.BinaryDetection.TheVariants.{None as no_detection}
 use Rattle.grep_definitions.specs.Settings.{Settings, SearcherState}
-use Rattle.grep_definitions.specs.SinkCalls.{Call, Turn, begins, matches, context, breaks, binary_data, finishes}
+use Rattle.grep_definitions.specs.SinkCalls.{Call, Turn, begins, matches, context, breaks}
+use Rattle.grep_definitions.specs.SinkCalls.{binary_data, finishes}
 use Rattle.grep_definitions.specs.SinkRuns.{Steps, IsRun}
 use Rattle.grep_matcher.specs.Matching.{IsInfallible}
 use Rattle.grep_definitions.specs.DecodedInputs.{searched_bytes}
@@ -18,7 +19,8 @@ use Rattle.std.specs.declared.io.Error.{Error}
 use Rattle.grep_definitions.specs.SearchLaws.{match_calls}
 
 module _ {V : Type 0} (taken : V → Call → Bool → V → Type 0) where
-  -- a call that succeeds, of a sink that takes matches alone: any other call goes on and leaves the state
+  -- a call that succeeds, of a sink that takes matches alone: any other call goes on and leaves the
+  -- state
   abbrev pub IsTakenOk : V → Call → Bool → V → Type 0
   IsTakenOk old begins b new = (b ≡ true) × (new ≡ old)
   IsTakenOk old (matches number offset line) b new = taken old (matches number offset line) b new
@@ -40,7 +42,8 @@ module _ {S : Type 0} (goes : S → Call → Bool) (next : S → Call → S) whe
   fold_while old (call ∷ later) =
       if goes old call then fold_while (next old call) later else next old call
 
-  -- the state after a run: `finish` gets the count, or the end of the turn after which the sink doesn't go on
+  -- the state after a run: `finish` gets the count, or the end of the turn after which the sink
+  -- doesn't go on
   abbrev pub run_fold : S → List Turn → ℕ → Option ℕ → S
   run_fold old [] count binary = next old (finishes count binary)
   run_fold old (turn ∷ later) count binary =
@@ -57,7 +60,8 @@ module _ {S : Type 0} (goes : S → Call → Bool) (next : S → Call → S) whe
   IsMatchOk old call b new = IsTakenOk IsTakenBy old call b new
 
 module _ {S E : Type 0} (goes : S → Call → Bool) (next : S → Call → S) (fails : E → Type 0) where
-  -- the steps of a sink as these functions of the state and the call, with the errors that a call may return
+  -- the steps of a sink as these functions of the state and the call, with the errors that a call
+  -- may return
   abbrev pub IsStepBy : Steps S E
   IsStepBy old settings call (Ok b) new = (b ≡ goes old call) × (new ≡ next old call)
   IsStepBy old settings call (Err e) new = fails e
@@ -68,7 +72,8 @@ module _ {S E : Type 0} (goes : S → Call → Bool) (next : S → Call → S) (
   IsMatchStep old settings call (Err e) new = fails e
 
 module _ {S E : Type 0} (step : Steps S E) where
-  -- each call that succeeds goes on and changes the state by these functions of the state and the call
+  -- each call that succeeds goes on and changes the state by these functions of the state and the
+  -- call
   abbrev pub StepsBy : (S → Call → Bool) → (S → Call → S) → Type 0
   StepsBy goes next =
       (old : S) (settings : Settings) (call : Call) (b : Bool) (new : S)
@@ -109,8 +114,8 @@ module _ {S E : Type 0} (step : Steps S E) where
 
 module _ {S E F : Type 0} (step : Steps S E) (errors : ErrorMakers E)
     (matcher : MatcherFacts F) where
-  -- without binary detection, a search with a lawful matcher that ended in `Ok` is a run along the calls for the
-  -- decoded bytes of its input
+  -- without binary detection, a search with a lawful matcher that ended in `Ok` is a run along the
+  -- calls for the decoded bytes of its input
   abbrev pub SearchesRun : Type 0
   SearchesRun =
       (state : SearcherState) (input : List ℕ) (old : S) (new : S)
@@ -122,8 +127,8 @@ module _ {S E F : Type 0} (step : Steps S E) (errors : ErrorMakers E)
       (search_byte_count state.settings matcher.meaning (searched_bytes state.settings input)) None
       (Ok tt) new
 
-  -- without binary detection, if the matcher never fails and is lawful, and the search isn't refused, an error is that
-  -- of a step of the sink, or the input wasn't decoded to its end
+  -- without binary detection, if the matcher never fails and is lawful, and the search isn't
+  -- refused, an error is that of a step of the sink, or the input wasn't decoded to its end
   abbrev pub SearchesFail : Type 0
   SearchesFail =
       (state : SearcherState) (input : List ℕ) (old : S) (e : E) (new : S)
@@ -162,8 +167,8 @@ module _ {S E F : Type 0} (step : Steps S E) (errors : ErrorMakers E) (matcher :
       × IsUnread remaining read_step state matcher.meaning reader seen error reader'
       × errors.is_io error e)
 
-  -- without binary detection, a search of a reader that says which bytes remain, with a lawful matcher, if it ended in
-  -- `Ok`, is a run along the calls for its decoded bytes
+  -- without binary detection, a search of a reader that says which bytes remain, with a lawful
+  -- matcher, if it ended in `Ok`, is a run along the calls for its decoded bytes
   abbrev pub KnownReadersRun : Type 0
   KnownReadersRun =
       (state : SearcherState) (reader : R) (input : List ℕ) (old : S) (reader' : R) (new : S)

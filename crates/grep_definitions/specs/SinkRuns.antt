@@ -1,9 +1,11 @@
 -- What a sink makes of a list of calls.
-use Rattle.std.specs.Prelude.{◌≡◌, ℕ, Bool, true, false, ◌⊎◌, List, [], ◌∷◌, Option, Result, Ok, Err}
+use Rattle.std.specs.Prelude.{◌≡◌, ℕ, Bool, true, false, ◌⊎◌, List, [], ◌∷◌, Option, Result, Ok}
+use Rattle.std.specs.Prelude.{Err}
 use Rattle.grep_definitions.specs.Settings.{Settings}
 use Rattle.grep_definitions.specs.SinkCalls.{Call, Turn, finishes}
 
--- a sink's meaning: the state before a call, the settings, the call, what it returned, the state after
+-- a sink's meaning: the state before a call, the settings, the call, what it returned, the state
+-- after
 abbrev pub Steps : Type 0 → Type 0 → Type 1
 Steps S E = S → Settings → Call → Result Bool E → S → Type 0
 
@@ -12,13 +14,15 @@ abbrev pub finish_result : {E : Type 0} → Result (Unit {0}) E → Result Bool 
 finish_result (Ok u) = Ok true
 finish_result (Err e) = Err e
 
--- what came of some calls: each returned true, or one returned false whose turn ends there, or one failed
+-- what came of some calls: each returned true, or one returned false whose turn ends there, or one
+-- failed
 pub data Outcome (E : Type 0) : Type 0 where
   all_true : Outcome E
   stopped : ℕ → Outcome E
   failed : E → Outcome E
 
--- what came of calls whose turns end there, by what is returned of them: whether the search goes on, or the error
+-- what came of calls whose turns end there, by what is returned of them: whether the search goes
+-- on, or the error
 abbrev pub outcome_of : {E : Type 0} → ℕ → Result Bool E → Outcome E
 outcome_of end (Ok true) = all_true
 outcome_of end (Ok false) = stopped end
@@ -39,8 +43,8 @@ module _ {S E : Type 0} (step : Steps S E) (settings : Settings) where
       ⊎ (((outcome ≡ stopped turn.end) × step old settings turn.call (Ok false) new)
       ⊎ ((e : E) × (outcome ≡ failed e) × step old settings turn.call (Err e) new))
 
-  -- `finish` follows calls that all returned true, with the whole count, or the first false, with the end of its turn;
-  -- nothing follows an error
+  -- `finish` follows calls that all returned true, with the whole count, or the first false, with
+  -- the end of its turn; nothing follows an error
   abbrev pub IsFinished : Outcome E → S → ℕ → Option ℕ → Result (Unit {0}) E → S → Type 0
   IsFinished all_true old count binary result new =
       step old settings (finishes count binary) (finish_result result) new

@@ -1,5 +1,5 @@
--- A search of an input that is read line by line under binary detection. The decoded bytes are the input, and its view
--- is what is searched of them.
+-- A search of an input that is read line by line under binary detection. The decoded bytes are the
+-- input, and its view is what is searched of them.
 use Rattle.std.specs.Prelude.{◌≡◌, ℕ, List, length, take, Option, Some, None, Result, Ok}
 pub use Rattle.grep_definitions.specs.BinaryPlans.{IsCutAt}
 use Rattle.grep_matcher.specs.Matching.{Meaning}
@@ -10,14 +10,15 @@ use Rattle.grep_definitions.specs.NotedSinks.{noted}
 use Rattle.grep_definitions.specs.SearchTurns.{SearchCalls, calls_by_line}
 use Rattle.grep_definitions.specs.Settings.{Settings}
 use Rattle.grep_definitions.specs.SinkCalls.{binary_data}
-use Rattle.grep_definitions.specs.SinkRuns.{Steps, Outcome, all_true, AreReported, IsFinished, count_of}
+use Rattle.grep_definitions.specs.SinkRuns.{Steps, Outcome, all_true, AreReported, IsFinished}
+use Rattle.grep_definitions.specs.SinkRuns.{count_of}
 
 -- the calls of such a search: those by line, over the view
 abbrev pub stream_calls : Settings → Meaning → SearchCalls
 stream_calls settings meaning = record (calls_by_line settings meaning) { view = view_of settings }
 
--- a search that goes on past a binary byte called `binary_data` with the offset of the first one. Under `Quit` none
--- goes on
+-- a search that goes on past a binary byte called `binary_data` with the offset of the first one.
+-- Under `Quit` none goes on
 pub record IsNotedFor (settings : Settings) (bytes : List ℕ) (found : Option ℕ) : Type 0 where
   pub first : (offset : ℕ) → found ≡ Some offset → binary_of settings bytes ≡ Some offset
   pub goes_on : (b : ℕ) → settings.binary_detection ≡ Quit b → found ≡ None
@@ -27,9 +28,9 @@ abbrev pub IsClear : Settings → List ℕ → Option ℕ → ℕ → Type 0
 IsClear settings bytes found count = found ≡ None → binary_of settings (take count bytes) ≡ None
 
 module _ {S E : Type 0} (step : Steps S E) (settings : Settings) (meaning : Meaning) where
-  -- the search ended at the first binary byte of its input, whichever of these that is: after the calls for the lines
-  -- that were seen came `binary_data`, and `finish` with the length of these lines as the count. If `binary_data`
-  -- returned true, the detection is `Quit`
+  -- the search ended at the first binary byte of its input, whichever of these that is: after the
+  -- calls for the lines that were seen came `binary_data`, and `finish` with the length of these
+  -- lines as the count. If `binary_data` returned true, the detection is `Quit`
   pub record IsCutRun (IsOne : List ℕ → Type 0) (old : S) (result : Result (Unit {0}) E)
       (new : S) : Type 0 where
     pub seen : List ℕ
@@ -45,7 +46,8 @@ module _ {S E : Type 0} (step : Steps S E) (settings : Settings) (meaning : Mean
     pub finished : IsFinished step settings outcome last (length seen) (Some offset) result new
     pub quits : outcome ≡ all_true → (b : ℕ) × (settings.binary_detection ≡ Quit b)
 
-  -- the calls were made over the view, and `binary_data` in between, up to the first false or the last, and `finish`
+  -- the calls were made over the view, and `binary_data` in between, up to the first false or the
+  -- last, and `finish`
   pub record IsNotedRun (bytes : List ℕ) (old : S) (new : S) : Type 0 where
     pub found : Option ℕ
     pub outcome : Outcome E

@@ -1,11 +1,14 @@
-//! Laws of the calls that a search makes, over their definition alone: each is the contract of a function that does
-//! nothing.
-ghost use Rattle.grep_definitions.specs.SearchLaws.{UnchangedIsInput, UnsniffedIsUnchanged, UnmarkedIsUnchanged};
+//! Laws of the calls that a search makes, over their definition alone: each is the contract of a
+//! function that does nothing.
+ghost use Rattle.grep_definitions.specs.SearchLaws.{UnchangedIsInput, UnsniffedIsUnchanged};
+ghost use Rattle.grep_definitions.specs.SearchLaws.{UnmarkedIsUnchanged};
 ghost use Rattle.grep_definitions.specs.SearchLaws.{UnchangedPasses, MarkedPasses};
 ghost use Rattle.grep_definitions.specs.SearchLaws.{ReportsAscend, AfterWins, InversionComplements};
 ghost use Rattle.grep_definitions.specs.SearchLaws.{FirstLinesBegin, AtMostLimit, WholeCount};
-ghost use Rattle.grep_definitions.specs.SearchLaws.{LinesAreNumbered, MatchesAreMatchedLines, MatchesDecide};
-ghost use Rattle.grep_definitions.specs.SearchLaws.{MatchesAreCounted, FirstMatchIsFirst, MatchesAreFew};
+ghost use Rattle.grep_definitions.specs.SearchLaws.{LinesAreNumbered, MatchesAreMatchedLines};
+ghost use Rattle.grep_definitions.specs.SearchLaws.{MatchesDecide};
+ghost use Rattle.grep_definitions.specs.SearchLaws.{MatchesAreCounted, FirstMatchIsFirst};
+ghost use Rattle.grep_definitions.specs.SearchLaws.{MatchesAreFew};
 ghost use Rattle.grep_definitions.specs.AcrossLaws;
 ghost use Rattle.grep_definitions.specs.AcrossLaws.{SearchesByLine, SearchesAcrossLines};
 ghost use Rattle.grep_definitions.specs.AcrossLaws.{MatchTouchesItsLines, EmptyMatchTouchesItsLine};
@@ -19,8 +22,8 @@ ghost use Rattle.grep_definitions.specs.CountLaws.{NumbersChangeNoCount, Numbers
 use grep_decode::laws::unchanged_is_decoded;
 use grep_lines::laws::{lines_append, lines_are_few, lines_join};
 
-/// An input without a label, and without a mark that is looked for and found, is searched as it is. After a mark of
-/// UTF-8 that is looked for, what comes after it is searched as it is.
+/// An input without a label, and without a mark that is looked for and found, is searched as it is.
+/// After a mark of UTF-8 that is looked for, what comes after it is searched as it is.
 pub fn unchanged_is_searched()
     ensures input { UnchangedIsInput }
     ensures unsniffed { UnsniffedIsUnchanged }
@@ -31,15 +34,16 @@ pub fn unchanged_is_searched()
     unchanged_is_decoded();
 }
 
-/// The reports ascend, and no byte is reported twice: each report has a byte, and ends by the offset of each later one.
+/// The reports ascend, and no byte is reported twice: each report has a byte, and ends by the
+/// offset of each later one.
 pub fn reports_ascend()
     ensures { ReportsAscend }
 {
     lines_join();
 }
 
-/// A line in reach of an earlier selected line is reported as the line after it, even if it is also before a later one;
-/// as a match, if it hits past the limit.
+/// A line in reach of an earlier selected line is reported as the line after it, even if it is also
+/// before a later one; as a match, if it hits past the limit.
 pub fn after_wins()
     ensures { AfterWins }
 {}
@@ -49,7 +53,8 @@ pub fn inversion_complements()
     ensures { InversionComplements }
 {}
 
-/// The calls over some first lines, but `finish`, begin those over all lines, under settings as they are built.
+/// The calls over some first lines, but `finish`, begin those over all lines, under settings as
+/// they are built.
 pub fn first_lines_begin()
     ensures { FirstLinesBegin }
 {
@@ -57,21 +62,23 @@ pub fn first_lines_begin()
     lines_append();
 }
 
-/// No more matches are reported than the limit has and, if that isn't 0, those in the context after the last of them.
+/// No more matches are reported than the limit has and, if that isn't 0, those in the context after
+/// the last of them.
 pub fn at_most_limit()
     ensures { AtMostLimit }
 {}
 
-/// If every line has a turn, the byte count is the length: that of a search in which every call returns true.
+/// If every line has a turn, the byte count is the length: that of a search in which every call
+/// returns true.
 pub fn whole_count()
     ensures { WholeCount }
 {
     lines_join();
 }
 
-/// By line the calls depend on a matcher's matches alone, not on the terminator or the bytes that it excludes: a
-/// search by line with `Plain` of a matcher, which asks about one line at a time, makes the same calls as one with
-/// the matcher. It has as many turns and the same byte count.
+/// By line the calls depend on a matcher's matches alone, not on the terminator or the bytes that
+/// it excludes: a search by line with `Plain` of a matcher, which asks about one line at a time,
+/// makes the same calls as one with the matcher. It has as many turns and the same byte count.
 pub fn matches_decide()
     ensures { MatchesDecide }
 {}
@@ -83,8 +90,8 @@ pub fn lines_are_numbered()
     grep_lines::laws::lines_are_numbered();
 }
 
-/// The matches that are reported are the selected lines and those that hit past the limit in the context after them, in
-/// order: each with its number, its offset and its bytes.
+/// The matches that are reported are the selected lines and those that hit past the limit in the
+/// context after them, in order: each with its number, its offset and its bytes.
 pub fn matches_are_matched_lines()
     ensures { MatchesAreMatchedLines }
 {
@@ -114,8 +121,8 @@ pub fn matches_are_few()
     lines_are_few();
 }
 
-/// Whether lines are numbered changes no count: a search that doesn't number lines reports as many matches as one that
-/// does, and the same bytes are searched.
+/// Whether lines are numbered changes no count: a search that doesn't number lines reports as many
+/// matches as one that does, and the same bytes are searched.
 pub fn numbers_change_no_count()
     ensures count { NumbersChangeNoCount }
     ensures bytes { NumbersChangeNoBytes }
@@ -126,7 +133,8 @@ pub fn searches_by_line()
     ensures { SearchesByLine }
 {}
 
-/// With `multi_line`, and a matcher that doesn't exclude the line terminator, a search is across lines.
+/// With `multi_line`, and a matcher that doesn't exclude the line terminator, a search is across
+/// lines.
 pub fn searches_across_lines()
     ensures { SearchesAcrossLines }
 {}
@@ -136,7 +144,8 @@ pub fn matches_are_all()
     ensures { MatchesAreAll }
 {}
 
-/// A match touches the lines that it has a byte of, and an empty match the line that holds its position.
+/// A match touches the lines that it has a byte of, and an empty match the line that holds its
+/// position.
 pub fn matches_touch_their_lines()
     ensures some { MatchTouchesItsLines }
     ensures empty { EmptyMatchTouchesItsLine }
@@ -152,8 +161,8 @@ pub fn reports_ascend_across()
     ensures { AcrossLaws.ReportsAscend }
 {}
 
-/// Across lines too, a line in reach of an earlier selected line is reported as the line after it, even if it is also
-/// before a later one.
+/// Across lines too, a line in reach of an earlier selected line is reported as the line after it,
+/// even if it is also before a later one.
 pub fn after_wins_across()
     ensures { AcrossLaws.AfterWins }
 {}
@@ -163,20 +172,21 @@ pub fn at_most_limit_across()
     ensures { AcrossLaws.AtMostLimit }
 {}
 
-/// Across lines the match reports, joined, are the selected lines, joined: each selected line is in one report, and no
-/// other line is.
+/// Across lines the match reports, joined, are the selected lines, joined: each selected line is in
+/// one report, and no other line is.
 pub fn selected_are_reported_across()
     ensures { SelectedAreReported }
 {}
 
-/// Across lines and without inversion, each match report ends before the next one begins: a line that isn't selected is
-/// between them.
+/// Across lines and without inversion, each match report ends before the next one begins: a line
+/// that isn't selected is between them.
 pub fn reports_are_apart_across()
     ensures { ReportsAreApart }
 {}
 
-/// Across lines contexts, breaks and turns are as by line: if a search under inversion selects the lines that a search
-/// by line does, and each line has a turn in that too, their calls are the same.
+/// Across lines contexts, breaks and turns are as by line: if a search under inversion selects the
+/// lines that a search by line does, and each line has a turn in that too, their calls are the
+/// same.
 pub fn reports_are_as_by_line()
     ensures { ReportsAreAsByLine }
 {}
@@ -193,15 +203,15 @@ pub fn stop_is_ignored_across()
     ensures { AcrossLaws.StopIsIgnored }
 {}
 
-/// A search of contents that ends at a binary byte reports no bytes that hold it, and one that doesn't end there
-/// reports none either.
+/// A search of contents that ends at a binary byte reports no bytes that hold it, and one that
+/// doesn't end there reports none either.
 pub fn quit_reports_are_clear()
     ensures { QuitReportsAreClear }
 {}
 
-/// By line, if a byte isn't among the first `count` bytes, no report whose turn ends within them holds it.
-/// Nor does a report over lines at the front of an input, if the byte that ends the search isn't
-/// among these.
+/// By line, if a byte isn't among the first `count` bytes, no report whose turn ends within them
+/// holds it. Nor does a report over lines at the front of an input, if the byte that ends the
+/// search isn't among these.
 pub fn counted_reports_are_clear()
     ensures first { CountedReportsAreClear }
     ensures seen { SeenLinesAreClear }
@@ -209,8 +219,8 @@ pub fn counted_reports_are_clear()
     lines_join();
 }
 
-/// The calls for the lines before a binary byte at which a search by line ends begin those for all lines of the input,
-/// under settings as they are built.
+/// The calls for the lines before a binary byte at which a search by line ends begin those for all
+/// lines of the input, under settings as they are built.
 pub fn seen_lines_begin()
     ensures { SeenLinesBegin }
 {

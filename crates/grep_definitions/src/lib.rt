@@ -1,8 +1,10 @@
-//! What a search does, as definitions: which calls it makes of a sink, said of the whole list of lines, what a sink
-//! makes of those calls, and how a search ends. Every contract of grep_searcher cites them.
+//! What a search does, as definitions: which calls it makes of a sink, said of the whole list of
+//! lines, what a sink makes of those calls, and how a search ends. Every contract of grep_searcher
+//! cites them.
 //!
-//! The definitions are in `specs/`: `LineSearch` has the calls of a search by line, `SinkRuns` a sink's run along
-//! calls, `Searches` and `ReaderSearches` a search with its faults. What follows from them is in `laws`.
+//! The definitions are in `specs/`: `LineSearch` has the calls of a search by line, `SinkRuns` a
+//! sink's run along calls, `Searches` and `ReaderSearches` a search with its faults. What follows
+//! from them is in `laws`.
 #![tactic(auto)]
 
 pub mod laws;

@@ -1,12 +1,14 @@
 -- What a line buffer shows, by the positions of its bytes.
-use Rattle.std.proofs.Common.{◌≡◌, ℕ, ◌+◌, ◌-◌, ◌<◌, ◌≤◌, Bool, List, ◌++◌, length, drop, Option, slice_index, sym, ap, subst, ◌∙◌, arith}
+use Rattle.std.proofs.Common.{◌≡◌, ℕ, ◌+◌, ◌-◌, ◌<◌, ◌≤◌, Bool, List, ◌++◌, length, drop, Option, slice_index, sym, ap}
+use Rattle.std.proofs.Common.{subst, ◌∙◌, arith}
 use Rattle.grep_line_buffer.specs.declared.detection.Detection.{Detection}
 use Rattle.grep_lines.specs.Positions.{slice}
 use Rattle.grep_line_buffer.specs.BufferStates.{BufferState, Lacks, EndsWith}
 use Rattle.grep_line_buffer.proofs.SliceLemmas.{drop-slice, slice-join, length-slice, slice_index-slice}
 
 -- two windows that differ in what is shown, in what follows it, and in sizes
-pub window-same : (shown shown' rest rest' : List ℕ) (offset size size' free free' : ℕ) (limit : Option ℕ) (terminator : ℕ) (detection : Detection) (binary : Option ℕ) (has_ended : Bool)
+pub window-same : (shown shown' rest rest' : List ℕ) (offset size size' free free' : ℕ) (limit : Option ℕ)
+    (terminator : ℕ) (detection : Detection) (binary : Option ℕ) (has_ended : Bool)
     → shown ≡ shown' → rest ≡ rest' → size ≡ size' → free ≡ free'
     → let old : BufferState = record {
       shown = shown;
@@ -45,7 +47,8 @@ window-same shown shown' rest rest' offset size size' free free' limit terminato
       binary = binary;
       has_ended = has_ended;
     } in
-    ap (λ x. F x rest size free) p ∙ ap (λ y. F shown' y size free) q ∙ ap (λ z. F shown' rest' z free) r ∙ ap (F shown' rest' size') s
+    ap (λ x. F x rest size free) p ∙ ap (λ y. F shown' y size free) q ∙ ap (λ z. F shown' rest' z free) r
+    ∙ ap (F shown' rest' size') s
 
 module _ (start line_end end count found t : ℕ) (bytes : List ℕ) (low : start ≤ line_end) (high : line_end ≤ end)
     (within : end ≤ length bytes) (read : count ≤ end - line_end) where
@@ -69,7 +72,8 @@ module _ (start line_end end count found t : ℕ) (bytes : List ℕ) (low : star
       ∙ sym (slice-join bytes start line_end end low high)
 
   -- the last byte shown is the terminator
-  pub EndsWith-shown : 0 < found → found ≤ count → slice_index last_read (found - 1) ≡ t → EndsWith t (slice bytes start ((end - count) + found))
+  pub EndsWith-shown : 0 < found → found ≤ count → slice_index last_read (found - 1) ≡ t
+      → EndsWith t (slice bytes start ((end - count) + found))
   EndsWith-shown some part is =
       let top = (end - count) + found in
       let len : length (slice bytes start top) ≡ top - start = length-slice bytes start top (omega arith) in

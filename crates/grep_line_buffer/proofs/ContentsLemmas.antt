@@ -1,5 +1,6 @@
 -- What reading a reader's contents has come to.
-use Rattle.std.proofs.Common.{◌≡◌, ◌≢◌, ℕ, ◌+◌, ◌*◌, ◌<◌, ◌≤◌, List, [], ◌++◌, length, take, drop, max, Option, None, Some, sym, ap, subst, ◌∙◌, arith, ⊎_elim, append-nil}
+use Rattle.std.proofs.Common.{◌≡◌, ◌≢◌, ℕ, ◌+◌, ◌*◌, ◌<◌, ◌≤◌, List, [], ◌++◌, length, take, drop, max, Option, None}
+use Rattle.std.proofs.Common.{Some, sym, ap, subst, ◌∙◌, arith, ⊎_elim, append-nil}
 use Rattle.std.proofs.lemmas.Bool.{cases_lt}
 use Rattle.std.proofs.Math.Seq.{take-add}
 use Rattle.grep_decode.specs.DecoderStates.{DecoderState, Decodes}
@@ -30,13 +31,16 @@ within-none None = tt
 within-none (Some most) = omega arith
 
 -- what is below the next size is below the limit
-below-next : (limit : Option ℕ) (least size n : ℕ) → n < next_size least limit size → IsBelow limit n × (n < max least (2 * size))
+below-next : (limit : Option ℕ) (least size n : ℕ) → n < next_size least limit size → IsBelow limit n
+    × (n < max least (2 * size))
 below-next None least size n below = (tt, below)
 below-next (Some most) least size n below = (omega (arith, below), omega (arith, below))
 
 -- why a vector with no more room can't grow
-pub contents-full : (limit : Option ℕ) (size was now : ℕ) (bytes : List ℕ) (e : FillError) → length bytes ≡ size → IsWithin limit size
-    → IsLarge limit size → was ≤ now → IsFullFault limit size e → (limit ≢ Some size → now < next_size first_size limit size)
+pub contents-full : (limit : Option ℕ) (size was now : ℕ) (bytes : List ℕ) (e : FillError) → length bytes ≡ size
+    → IsWithin limit size
+    → IsLarge limit size → was ≤ now → IsFullFault limit size e
+    → (limit ≢ Some size → now < next_size first_size limit size)
     → ContentsFail limit was bytes e
 contents-full limit size was now bytes (Read e) len within large kept fault memory = absurd fault
 contents-full limit size was now bytes HeapLimit len within large kept fault memory = fault ∙ ap Some (sym len)
@@ -54,7 +58,8 @@ contents-full limit size was now bytes Memory len within large kept fault memory
 
 module _ {R : Type 0} (remaining : R → Option (List ℕ)) (step : R → ReadResult → R → Type 0) where
   -- So many first bytes of a vector are what reads of the decoder gave.
-  pub record IsReading (limit : Option ℕ) (capacity : ℕ) (d : DecoderState) (r : R) (len : ℕ) (items : List ℕ) (capacity' : ℕ)
+  pub record IsReading (limit : Option ℕ) (capacity : ℕ) (d : DecoderState) (r : R) (len : ℕ) (items : List ℕ)
+      (capacity' : ℕ)
       (d' : DecoderState) (r' : R) : Type 0 where
     pub read : HasRead remaining step d r (take len items) d' r'
     pub fits : len ≤ length items
@@ -64,7 +69,8 @@ module _ {R : Type 0} (remaining : R → Option (List ℕ)) (step : R → ReadRe
 
   -- it begins with an empty vector
   pub IsReading-first : (limit : Option ℕ) (capacity capacity' : ℕ) (d : DecoderState) (r : R) (items : List ℕ)
-      → Decodes remaining step d r [] d r → items ≡ [] → capacity ≤ capacity' → IsReading limit capacity d r 0 items capacity' d r
+      → Decodes remaining step d r [] d r → items ≡ [] → capacity ≤ capacity'
+      → IsReading limit capacity d r 0 items capacity' d r
   IsReading-first limit capacity capacity' d r items none empty kept =
       subst (λ l. IsReading limit capacity d r 0 l capacity' d r) (sym empty) (record {
         read = HasRead-none remaining step d r none;
@@ -75,9 +81,11 @@ module _ {R : Type 0} (remaining : R → Option (List ℕ)) (step : R → ReadRe
       })
 
   -- there is more room, or as much
-  pub IsReading-room : (limit : Option ℕ) (capacity now now' len : ℕ) (d d1 : DecoderState) (r r1 : R) (items made : List ℕ)
+  pub IsReading-room : (limit : Option ℕ) (capacity now now' len : ℕ) (d d1 : DecoderState) (r r1 : R)
+      (items made : List ℕ)
       → IsReading limit capacity d r len items now d1 r1 → take len made ≡ take len items → len < length made
-      → IsWithin limit (length made) → IsLarge limit (length made) → now ≤ now' → IsReading limit capacity d r len made now' d1 r1
+      → IsWithin limit (length made) → IsLarge limit (length made) → now ≤ now'
+      → IsReading limit capacity d r len made now' d1 r1
   IsReading-room limit capacity now now' len d d1 r r1 items made before front room within large kept = record {
     read = subst (λ l. HasRead remaining step d r l d1 r1) (sym front) before.read;
     fits = omega (arith, room);
@@ -87,16 +95,19 @@ module _ {R : Type 0} (remaining : R → Option (List ℕ)) (step : R → ReadRe
   }
 
   -- one read
-  pub IsReading-more : (limit : Option ℕ) (capacity now len count : ℕ) (d d1 d2 : DecoderState) (r r1 r2 : R) (made bytes items : List ℕ)
+  pub IsReading-more : (limit : Option ℕ) (capacity now len count : ℕ) (d d1 d2 : DecoderState) (r r1 r2 : R)
+      (made bytes items : List ℕ)
       → Continues remaining step → IsReading limit capacity d r len made now d1 r1 → take len bytes ≡ take len made
       → length bytes ≡ length made → items ≡ bytes → len + count ≤ length bytes
       → Reads remaining step d1 r1 (take count (drop len bytes)) d2 r2 → d2.capacity ≡ d1.capacity
       → IsReading limit capacity d r (len + count) items now d2 r2
-  IsReading-more limit capacity now len count d d1 d2 r r1 r2 made bytes items continues before front same is bound reads held =
+  IsReading-more limit capacity now len count d d1 d2 r r1 r2 made bytes items continues before front same is bound
+      reads held =
       subst (λ l. IsReading limit capacity d r (len + count) l now d2 r2) (sym is) (record {
         read = subst (λ l. HasRead remaining step d r l d2 r2)
             (sym (take-add len count bytes ∙ ap (λ l. l ++ take count (drop len bytes)) front))
-            (HasRead-more remaining step d d1 d2 r r1 r2 (take len made) (take count (drop len bytes)) continues before.read reads held);
+            (HasRead-more remaining step d d1 d2 r r1 r2 (take len made) (take count (drop len bytes)) continues
+            before.read reads held);
         fits = bound;
         within = subst (IsWithin limit) (sym same) before.within;
         large = subst (IsLarge limit) (sym same) before.large;
@@ -104,10 +115,14 @@ module _ {R : Type 0} (remaining : R → Option (List ℕ)) (step : R → ReadRe
       })
 
   -- a read that gave nothing
-  pub HasRead-last : (d d1 d2 : DecoderState) (r r1 r2 : R) (len count : ℕ) (made bytes items : List ℕ) → Continues remaining step
-      → HasRead remaining step d r (take len made) d1 r1 → take len bytes ≡ take len made → items ≡ take len bytes → count ≡ 0
-      → Reads remaining step d1 r1 (take count (drop len bytes)) d2 r2 → d2.capacity ≡ d1.capacity → HasRead remaining step d r items d2 r2
+  pub HasRead-last : (d d1 d2 : DecoderState) (r r1 r2 : R) (len count : ℕ) (made bytes items : List ℕ)
+      → Continues remaining step
+      → HasRead remaining step d r (take len made) d1 r1 → take len bytes ≡ take len made → items ≡ take len bytes
+      → count ≡ 0
+      → Reads remaining step d1 r1 (take count (drop len bytes)) d2 r2 → d2.capacity ≡ d1.capacity
+      → HasRead remaining step d r items d2 r2
   HasRead-last d d1 d2 r r1 r2 len count made bytes items continues before front is zero reads held =
       subst (λ l. HasRead remaining step d r l d2 r2)
       (ap (λ n. take len made ++ take n (drop len bytes)) zero ∙ (append-nil (take len made) ∙ sym (is ∙ front)))
-      (HasRead-more remaining step d d1 d2 r r1 r2 (take len made) (take count (drop len bytes)) continues before reads held)
+      (HasRead-more remaining step d d1 d2 r r1 r2 (take len made) (take count (drop len bytes)) continues before reads
+      held)

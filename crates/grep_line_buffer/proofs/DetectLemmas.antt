@@ -1,7 +1,9 @@
 -- Detection in the bytes that were read last.
 use borrow.Rule.Slice.PartMut.{put_mid}
-use Rattle.std.proofs.Common.{◌≡◌, ℕ, ◌+◌, ◌-◌, ◌<◌, ◌≤◌, ◌⊎◌, inl, inr, ◌==◌, true, false, ◌&&◌, List, ◌++◌, length, take, drop}
-use Rattle.std.proofs.Common.{Option, None, Some, refl, sym, ap, ◌∙◌, subst, arith, length-append, length-drop, length-take-le}
+use Rattle.std.proofs.Common.{◌≡◌, ℕ, ◌+◌, ◌-◌, ◌<◌, ◌≤◌, ◌⊎◌, inl, inr, ◌==◌, true, false, ◌&&◌, List, ◌++◌, length}
+use Rattle.std.proofs.Common.{take, drop}
+use Rattle.std.proofs.Common.{Option, None, Some, refl, sym, ap, ◌∙◌, subst, arith, length-append, length-drop}
+use Rattle.std.proofs.Common.{length-take-le}
 use Rattle.std.specs.List.{position, position_or_len}
 use Rattle.std.specs.Option.{option_map, is_some}
 use Rattle.std.proofs.lemmas.Bool.{false≢true}
@@ -13,7 +15,8 @@ use Rattle.grep_line_buffer.specs.Appends.{Detects}
 use Rattle.grep_line_buffer.specs.BufferStates.{BufferState, held}
 use Rattle.grep_line_buffer.specs.Detections.{detected, found_in, first_of}
 use Rattle.grep_line_buffer.specs.declared.detection.Detection.TheVariants.{Quit}
-use Rattle.grep_line_buffer.proofs.DetectionLemmas.{all-before, first_of-none, passes-or-not, position-at, position-missing}
+use Rattle.grep_line_buffer.proofs.DetectionLemmas.{all-before, first_of-none, passes-or-not, position-at}
+use Rattle.grep_line_buffer.proofs.DetectionLemmas.{position-missing}
 use Rattle.std.proofs.lemmas.Option.{none-some, same_Some}
 use Rattle.grep_line_buffer.proofs.SliceLemmas.{length-slice, slice-join, slice-kept}
 
@@ -21,10 +24,12 @@ use Rattle.grep_line_buffer.proofs.SliceLemmas.{length-slice, slice-join, slice-
 pub Detects-made : (count : ℕ) (old new : BufferState) (front last made : List ℕ) (free : ℕ) (binary : Option ℕ)
     → old.rest ≡ front ++ last → length last ≡ count → made ≡ detected old.detection old.terminator last
     → new ≡ record old { rest = front ++ made; free = free; binary = binary }
-    → binary ≡ first_of old.binary (option_map (λ i. old.offset + (length (held old) - count) + i) (found_in old.detection old.terminator last))
+    → binary ≡ first_of old.binary (option_map (λ i. old.offset + (length (held old) - count) + i)
+    (found_in old.detection old.terminator last))
     → free + length (old.shown ++ (front ++ made)) ≡ old.free + length (held old) → Detects count old new
 Detects-made count old new front last made free binary split counted is changed found sum =
-    let at : length old.rest - count ≡ length front = omega (arith, ap (λ l. length l) split, length-append front last, counted) in
+    let at : length old.rest - count ≡ length front =
+    omega (arith, ap (λ l. length l) split, length-append front last, counted) in
     let before : take (length old.rest - count) old.rest ≡ front =
     ap (λ n. take n old.rest) at ∙ ap (take (length front)) split ∙ take-append_seam front last in
     let after : drop (length old.rest - count) old.rest ≡ last =
@@ -52,7 +57,8 @@ module _ (start line_end end count : ℕ) (bytes : List ℕ) (low : start ≤ li
 
   -- up to a byte of the last ones
   pub slice-before : (at : ℕ) → at ≤ count
-      → slice bytes line_end (end - count + at) ≡ slice bytes line_end (end - count) ++ take at (slice bytes (end - count) end)
+      → slice bytes line_end (end - count + at) ≡ slice bytes line_end (end - count)
+      ++ take at (slice bytes (end - count) end)
   slice-before at part =
       let from = end - count in
       let most : from + at - from ≡ at = omega arith in
@@ -62,7 +68,8 @@ module _ (start line_end end count : ℕ) (bytes : List ℕ) (low : start ≤ li
       (ap (λ n. take n (drop from bytes)) most ∙ sym (take-take at (end - from) (drop from bytes) left))
 
   pub length-cut : (at : ℕ) → at ≤ count
-      → length (slice bytes start line_end ++ (slice bytes line_end (end - count) ++ take at (slice bytes (end - count) end))) ≡ end - count + at - start
+      → length (slice bytes start line_end ++ (slice bytes line_end (end - count)
+      ++ take at (slice bytes (end - count) end))) ≡ end - count + at - start
   length-cut at part =
       ap (λ l. length (slice bytes start line_end ++ l)) (sym (slice-before at part))
       ∙ ap (λ l. length l) (slice-join bytes start line_end (end - count + at) (omega arith) (omega arith))
@@ -77,24 +84,29 @@ module _ (start line_end end count : ℕ) (bytes : List ℕ) (low : start ≤ li
     size = omega arith
 
     changed-front : take (end - count) changed ≡ take (end - count) bytes
-    changed-front = take-put_mid_below (end - count) (end - (end - count)) bytes made (end - count) (omega arith) (omega arith)
+    changed-front = take-put_mid_below (end - count) (end - (end - count)) bytes made (end - count) (omega arith)
+        (omega arith)
 
     changed-end : take end changed ≡ take (end - count) bytes ++ made
     changed-end = take-put_mid (end - count) (end - (end - count)) bytes made end (omega (arith, counted)) (omega arith)
 
     changed-back : drop end changed ≡ drop end bytes
-    changed-back = drop-put_mid (end - count) (end - (end - count)) bytes made end (omega arith) (omega arith) (omega (arith, counted))
+    changed-back = drop-put_mid (end - count) (end - (end - count)) bytes made end (omega arith) (omega arith)
+        (omega (arith, counted))
 
     length-changed : length changed ≡ length bytes
     length-changed =
-        let front : length (take (end - count) bytes) ≡ end - count = length-take-le (end - count) bytes (omega arith) in
-        ap (λ l. length l) (sym (take-append-drop end changed) ∙ ap (λ l. l ++ drop end changed) changed-end ∙ ap (λ l. (take (end - count) bytes ++ made) ++ l) changed-back)
+        let front : length (take (end - count) bytes)
+        ≡ end - count = length-take-le (end - count) bytes (omega arith) in
+        ap (λ l. length l) (sym (take-append-drop end changed) ∙ ap (λ l. l ++ drop end changed) changed-end
+        ∙ ap (λ l. (take (end - count) bytes ++ made) ++ l) changed-back)
         ∙ rw (length-append, length-append, front, counted, length-drop) (omega arith)
 
     changed-rest : slice changed line_end end ≡ slice bytes line_end (end - count) ++ made
     changed-rest =
         sym (slice-join changed line_end (end - count) end (omega arith) (omega arith))
-        ∙ ap (λ l. l ++ slice changed (end - count) end) (slice-kept bytes changed line_end (end - count) (end - count) changed-front (omega arith))
+        ∙ ap (λ l. l ++ slice changed (end - count) end)
+        (slice-kept bytes changed line_end (end - count) (end - count) changed-front (omega arith))
         ∙ ap (λ l. slice bytes line_end (end - count) ++ l) last
       where
         last : slice changed (end - count) end ≡ made
@@ -106,7 +118,8 @@ module _ (start line_end end count : ℕ) (bytes : List ℕ) (low : start ≤ li
       pub size : length now ≡ length bytes
       pub shown : slice now start line_end ≡ slice bytes start line_end
       pub rest : slice now line_end end ≡ slice bytes line_end (end - count) ++ made
-      pub sum : (length bytes - end) + length (slice bytes start line_end ++ (slice bytes line_end (end - count) ++ made))
+      pub sum : (length bytes - end) + length (slice bytes start line_end
+          ++ (slice bytes line_end (end - count) ++ made))
           ≡ (length bytes - end) + length (slice bytes start line_end ++ slice bytes line_end end)
 
     pub is-changed : (now : List ℕ) → now ≡ changed → IsChanged now
@@ -134,7 +147,8 @@ pub quit-none : (b t : ℕ) (bytes : List ℕ) → position (λ x. x == b) bytes
 quit-none b t bytes none =
     sym (take_all (position_or_len (λ x. x == b) bytes) bytes (omega (arith, all-before (λ x. x == b) bytes none)))
 
-pub quit-at : (b t : ℕ) (bytes : List ℕ) (at : ℕ) → position (λ x. x == b) bytes ≡ Some at → take at bytes ≡ detected (Quit b) t bytes
+pub quit-at : (b t : ℕ) (bytes : List ℕ) (at : ℕ) → position (λ x. x == b) bytes ≡ Some at → take at bytes
+    ≡ detected (Quit b) t bytes
 quit-at b t bytes at is = by (passes-or-not (λ x. x == b) bytes)
   where
     by : (position_or_len (λ x. x == b) bytes < length bytes) ⊎ (position_or_len (λ x. x == b) bytes ≡ length bytes)
@@ -147,5 +161,7 @@ pub found-first : (before : Option ℕ) → (true && is_some before) ≡ false �
 found-first None uncut = refl
 found-first (Some n) uncut = absurd (false≢true (sym uncut))
 
-pub found-at : (before later : Option ℕ) (f : ℕ → ℕ) (at : ℕ) → before ≡ None → later ≡ Some at → Some (f at) ≡ first_of before (option_map f later)
-found-at before later f at none is = sym (ap (λ o. first_of o (option_map f later)) none ∙ ap (λ o. first_of None (option_map f o)) is)
+pub found-at : (before later : Option ℕ) (f : ℕ → ℕ) (at : ℕ) → before ≡ None → later ≡ Some at → Some (f at)
+    ≡ first_of before (option_map f later)
+found-at before later f at none is = sym (ap (λ o. first_of o (option_map f later)) none
+    ∙ ap (λ o. first_of None (option_map f o)) is)

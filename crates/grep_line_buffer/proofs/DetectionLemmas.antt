@@ -1,6 +1,7 @@
 -- What detection makes of bytes and of those that come after them.
 use Rattle.std.proofs.Common.{◌≡◌, ◌⊎◌, inl, inr, ℕ, ◌+◌, ◌<◌, ◌≤◌, Bool, true, false, List, [], ◌++◌, length, take}
-use Rattle.std.proofs.Common.{Option, None, Some, refl, sym, ap, ◌∙◌, arith, if◌then◌else◌, ◌==◌, nat_lt, length-append, not, eqb, ltb-true, drop, ◌&&◌}
+use Rattle.std.proofs.Common.{Option, None, Some, refl, sym, ap, ◌∙◌, arith, if◌then◌else◌, ◌==◌, nat_lt, length-append}
+use Rattle.std.proofs.Common.{not, eqb, ltb-true, drop, ◌&&◌}
 use Rattle.std.specs.List.{position, position_or_len}
 use Rattle.std.specs.Option.{option_map, is_some}
 use Rattle.std.proofs.lemmas.Bool.{eq-eqb, eqb-true, le-ltb, lt-ltb, false_from_ne_true, false≢true}
@@ -26,14 +27,16 @@ unlike : (a b : ℕ) → a < b → eqb a b ≡ false
 unlike a b below = false_from_ne_true (eqb a b) (λ same. absurd (omega (arith, below, eqb-true a b same)))
 
 take-later : (l : List ℕ) (n : ℕ) (m : List ℕ) → take (length l + n) (l ++ m) ≡ l ++ take n m
-take-later l n m = take-add (length l) n (l ++ m) ∙ ap (λ k. k ++ take n (drop (length l) (l ++ m))) (take-append_seam l m)
+take-later l n m = take-add (length l) n (l ++ m)
+    ∙ ap (λ k. k ++ take n (drop (length l) (l ++ m))) (take-append_seam l m)
     ∙ ap (λ k. l ++ take n k) (drop_at l m _ refl)
 
 module _ (p : ℕ → Bool) where
   -- whether a byte passes
   pub passes-or-not : (xs : List ℕ) → (position_or_len p xs < length xs) ⊎ (position_or_len p xs ≡ length xs)
   passes-or-not xs =
-      below-or-same (position_or_len p xs) (length xs) (prefix_len-le-length (λ x. not (p x)) xs) (nat_lt (position_or_len p xs) (length xs)) refl
+      below-or-same (position_or_len p xs) (length xs) (prefix_len-le-length (λ x. not (p x)) xs)
+      (nat_lt (position_or_len p xs) (length xs)) refl
 
   pub position-at : (xs : List ℕ) → position_or_len p xs < length xs → position p xs ≡ Some (position_or_len p xs)
   position-at xs some = rw (lt-ltb (position_or_len p xs) (length xs) some) refl
@@ -41,12 +44,15 @@ module _ (p : ℕ → Bool) where
   pub position-missing : (xs : List ℕ) → position_or_len p xs ≡ length xs → position p xs ≡ None
   position-missing xs none = rw (none, le-ltb (length xs) (length xs) (omega arith)) refl
 
-  pub first-same : (xs ys : List ℕ) → position_or_len p xs < length xs → position_or_len p (xs ++ ys) ≡ position_or_len p xs
+  pub first-same : (xs ys : List ℕ) → position_or_len p xs < length xs → position_or_len p (xs ++ ys)
+      ≡ position_or_len p xs
   first-same xs ys some = prefix_len-append (λ x. not (p x)) xs ys
       ∙ rw (unlike (position_or_len p xs) (length xs) some) refl
 
-  first-later : (xs ys : List ℕ) → position_or_len p xs ≡ length xs → position_or_len p (xs ++ ys) ≡ length xs + position_or_len p ys
-  first-later xs ys none = prefix_len-append (λ x. not (p x)) xs ys ∙ rw (eq-eqb (position_or_len p xs) (length xs) none) refl
+  first-later : (xs ys : List ℕ) → position_or_len p xs ≡ length xs → position_or_len p (xs ++ ys)
+      ≡ length xs + position_or_len p ys
+  first-later xs ys none = prefix_len-append (λ x. not (p x)) xs ys
+      ∙ rw (eq-eqb (position_or_len p xs) (length xs) none) refl
 
   position-append-by : (xs ys : List ℕ) → (position_or_len p xs < length xs) ⊎ (position_or_len p xs ≡ length xs)
       → (position_or_len p ys < length ys) ⊎ (position_or_len p ys ≡ length ys)
@@ -67,11 +73,13 @@ module _ (p : ℕ → Bool) where
       ∙ ap (λ o. first_of o (option_map (λ i. length xs + i) (position p ys))) (sym (position-missing xs none))
 
   -- the first byte that passes
-  pub position-append : (xs ys : List ℕ) → position p (xs ++ ys) ≡ first_of (position p xs) (option_map (λ i. length xs + i) (position p ys))
+  pub position-append : (xs ys : List ℕ) → position p (xs ++ ys)
+      ≡ first_of (position p xs) (option_map (λ i. length xs + i) (position p ys))
   position-append xs ys = position-append-by xs ys (passes-or-not xs) (passes-or-not ys)
 
   -- no byte passes, so all are before the first
-  none-missing : (xs : List ℕ) → position p xs ≡ None → (position_or_len p xs < length xs) ⊎ (position_or_len p xs ≡ length xs) → position_or_len p xs ≡ length xs
+  none-missing : (xs : List ℕ) → position p xs ≡ None → (position_or_len p xs < length xs)
+      ⊎ (position_or_len p xs ≡ length xs) → position_or_len p xs ≡ length xs
   none-missing xs none (inl some) = absurd (none-some (position_or_len p xs) (sym none ∙ position-at xs some))
   none-missing xs none (inr all) = all
 
@@ -80,18 +88,21 @@ module _ (p : ℕ → Bool) where
 
 -- where the first binary byte is
 pub found-append : (detection : Detection) (t : ℕ) (xs ys : List ℕ)
-    → found_in detection t (xs ++ ys) ≡ first_of (found_in detection t xs) (option_map (λ i. length xs + i) (found_in detection t ys))
+    → found_in detection t (xs ++ ys) ≡ first_of (found_in detection t xs)
+    (option_map (λ i. length xs + i) (found_in detection t ys))
 found-append no_detection t xs ys = refl
 found-append (Quit b) t xs ys = position-append (λ x. x == b) xs ys
 found-append (Convert b) t xs ys = by (b == t)
   where
     by : (same : Bool) → (if same then None else position (λ x. x == b) (xs ++ ys))
-        ≡ first_of (if same then None else position (λ x. x == b) xs) (option_map (λ i. length xs + i) (if same then None else position (λ x. x == b) ys))
+        ≡ first_of (if same then None else position (λ x. x == b) xs)
+        (option_map (λ i. length xs + i) (if same then None else position (λ x. x == b) ys))
     by true = refl
     by false = position-append (λ x. x == b) xs ys
 
 -- bytes that none of `Quit` is among are all held
-pub detected-append : (detection : Detection) (t : ℕ) (xs ys : List ℕ) → (is_quit detection ≡ true → found_in detection t xs ≡ None)
+pub detected-append : (detection : Detection) (t : ℕ) (xs ys : List ℕ)
+    → (is_quit detection ≡ true → found_in detection t xs ≡ None)
     → detected detection t (xs ++ ys) ≡ detected detection t xs ++ detected detection t ys
 detected-append no_detection t xs ys none = refl
 detected-append (Convert b) t xs ys none = map-append (λ x. if x == b then t else x) xs ys
@@ -102,14 +113,17 @@ detected-append (Quit b) t xs ys none =
     ∙ ap (λ l. l ++ take (position_or_len p ys) ys) (sym (take_all (position_or_len p xs) xs (omega (arith, all))))
 
 -- if none was found, as many bytes are held
-pub length-detected : (detection : Detection) (t : ℕ) (xs : List ℕ) → found_in detection t xs ≡ None → length (detected detection t xs) ≡ length xs
+pub length-detected : (detection : Detection) (t : ℕ) (xs : List ℕ) → found_in detection t xs ≡ None
+    → length (detected detection t xs) ≡ length xs
 length-detected no_detection t xs none = refl
 length-detected (Quit b) t xs none =
-    ap (λ l. length l) (take_all (position_or_len (λ x. x == b) xs) xs (omega (arith, all-before (λ x. x == b) xs none)))
+    ap (λ l. length l) (take_all (position_or_len (λ x. x == b) xs) xs
+    (omega (arith, all-before (λ x. x == b) xs none)))
 length-detected (Convert b) t xs none = length-map xs (λ x. if x == b then t else x)
 
 -- a buffer that isn't cut found no byte of `Quit`
-pub uncut-none : (detection : Detection) (binary : Option ℕ) → (is_quit detection && is_some binary) ≡ false → is_quit detection ≡ true → binary ≡ None
+pub uncut-none : (detection : Detection) (binary : Option ℕ) → (is_quit detection && is_some binary) ≡ false
+    → is_quit detection ≡ true → binary ≡ None
 uncut-none detection None uncut quits = refl
 uncut-none no_detection (Some n) uncut quits = absurd (false≢true quits)
 uncut-none (Quit b) (Some n) uncut quits = absurd (false≢true (sym uncut))
@@ -135,14 +149,16 @@ first_of-none None = refl
 first_of-none (Some n) = refl
 
 -- bytes that aren't cut are held in full
-pub length-uncut : (detection : Detection) (t : ℕ) (xs : List ℕ) → (is_quit detection ≡ true → found_in detection t xs ≡ None)
+pub length-uncut : (detection : Detection) (t : ℕ) (xs : List ℕ)
+    → (is_quit detection ≡ true → found_in detection t xs ≡ None)
     → length (detected detection t xs) ≡ length xs
 length-uncut no_detection t xs none = refl
 length-uncut (Quit b) t xs none = length-detected (Quit b) t xs (none refl)
 length-uncut (Convert b) t xs none = length-map xs (λ x. if x == b then t else x)
 
 -- bytes after the one that cuts are dropped
-pub detected-cut : (detection : Detection) (t : ℕ) (xs ys : List ℕ) → is_quit detection ≡ true → (n : ℕ) → found_in detection t xs ≡ Some n
+pub detected-cut : (detection : Detection) (t : ℕ) (xs ys : List ℕ) → is_quit detection ≡ true → (n : ℕ)
+    → found_in detection t xs ≡ Some n
     → detected detection t (xs ++ ys) ≡ detected detection t xs
 detected-cut no_detection t xs ys quits n found = absurd (false≢true quits)
 detected-cut (Convert b) t xs ys quits n found = absurd (false≢true quits)

@@ -1,5 +1,8 @@
 -- What a fill of a line buffer has come to.
-use Rattle.std.proofs.Common.{◌≡◌, ◌≢◌, ◌⊎◌, inl, inr, ℕ, ◌+◌, ◌*◌, ◌-◌, ◌^◌, ◌<◌, ◌≤◌, List, [], ◌++◌, length, drop, Bool, true, false, ◌&&◌, if◌then◌else◌, take, Option, None, Some, Result, Ok, Err, IfErr, OnOk, refl, sym, ap, subst, ◌∙◌, arith, append_assoc, append-nil, length-append, length-drop}
+use Rattle.std.proofs.Common.{◌≡◌, ◌≢◌, ◌⊎◌, inl, inr, ℕ, ◌+◌, ◌*◌, ◌-◌, ◌^◌, ◌<◌, ◌≤◌, List, [], ◌++◌, length, drop}
+use Rattle.std.proofs.Common.{Bool, true, false, ◌&&◌, if◌then◌else◌, take, Option, None, Some, Result, Ok, Err, IfErr}
+use Rattle.std.proofs.Common.{OnOk, refl, sym, ap, subst, ◌∙◌, arith, append_assoc, append-nil, length-append}
+use Rattle.std.proofs.Common.{length-drop}
 use Rattle.std.proofs.lemmas.Bool.{false≢true}
 use Rattle.std.proofs.lemmas.List.{drop_at, nil_from_length}
 use Rattle.std.proofs.lemmas.List.Elements.{All-append}
@@ -16,10 +19,14 @@ use Rattle.std.specs.Option.{option_map, is_some}
 use Rattle.std.proofs.Math.Seq.{take-append_seam}
 use Rattle.grep_line_buffer.specs.declared.detection.Detection.TheVariants.{None as no_detection, Quit, Convert}
 use Rattle.grep_line_buffer.specs.Detections.{detected, found_in, first_of, is_quit}
-use Rattle.grep_line_buffer.proofs.DetectionLemmas.{detected-append, detected-cut, detected-nil, found-next, found-nil, first_of-none}
+use Rattle.grep_line_buffer.proofs.DetectionLemmas.{detected-append, detected-cut, detected-nil, found-next, found-nil}
+use Rattle.grep_line_buffer.proofs.DetectionLemmas.{first_of-none}
 use Rattle.grep_line_buffer.proofs.DetectionLemmas.{length-detected, length-uncut, uncut-none}
-use Rattle.grep_line_buffer.specs.BufferStates.{BufferState, coming_to, held, is_cut, stream, Lacks, IsWithin, IsSameBuffer, GrowsIfFull, KeepsStream, EndsWith, ShowsLine, IsFilled, HasNoLine}
-use Rattle.grep_line_buffer.specs.Fills.{IfRead, UnlessRead, Fills, FailsToFill, FillFails, PassesOffsets, IsAtLimit, MayGrow}
+use Rattle.grep_line_buffer.specs.BufferStates.{BufferState, coming_to, held, is_cut, stream, Lacks, IsWithin}
+use Rattle.grep_line_buffer.specs.BufferStates.{IsSameBuffer, GrowsIfFull, KeepsStream, EndsWith, ShowsLine, IsFilled}
+use Rattle.grep_line_buffer.specs.BufferStates.{HasNoLine}
+use Rattle.grep_line_buffer.specs.Fills.{IfRead, UnlessRead, Fills, FailsToFill, FillFails, PassesOffsets, IsAtLimit}
+use Rattle.grep_line_buffer.specs.Fills.{MayGrow}
 use Rattle.grep_line_buffer.specs.Appends.{Appends, Detects, FailsToRead}
 use Rattle.grep_line_buffer.specs.Room.{IsFullFault}
 use Rattle.grep_line_buffer.proofs.ReadLemmas.{Continues, HasRead, HasRead-none, HasRead-more, HasRead-failed}
@@ -63,7 +70,8 @@ unless-read X Offset p = p
 unless-read X Memory p = p
 
 -- a full buffer is no error of the reader's
-pub if-read-full : (X : Type 0) (limit : Option ℕ) (size : ℕ) (e : FillError) (P : Error → Type 0) → IsFullFault limit size e
+pub if-read-full : (X : Type 0) (limit : Option ℕ) (size : ℕ) (e : FillError) (P : Error → Type 0)
+    → IsFullFault limit size e
     → IfRead {X = X} (Err e) P
 if-read-full X limit size (Read e) P fault = absurd fault
 if-read-full X limit size HeapLimit P fault = tt
@@ -80,9 +88,11 @@ filled-before w ended all room = inr (inl (record {
 }))
 
 -- a full buffer at its limit without the end of a line is an error of its own, and no other
-pub only-limit : (old new : BufferState) (result : Result Bool FillError) → IfErr result (FillFails old new) → OnOk result (IsFilled old new)
+pub only-limit : (old new : BufferState) (result : Result Bool FillError) → IfErr result (FillFails old new)
+    → OnOk result (IsFilled old new)
     → HasNoLine old new → IsAtLimit new → new.offset + length (held new) < 2 ^ 64 → result ≡ Err HeapLimit
-only-limit old new (Ok some) failed (inl line) none full fits = absurd (omega (arith, ap (λ l. length l) none.shown, line.came))
+only-limit old new (Ok some) failed (inl line) none full fits =
+    absurd (omega (arith, ap (λ l. length l) none.shown, line.came))
 only-limit old new (Ok some) failed (inr (inl end)) none full fits = absurd (false≢true (sym none.unended ∙ end.ended))
 only-limit old new (Ok some) failed (inr (inr cut)) none full fits = absurd (false≢true (sym none.unended ∙ cut.ended))
 only-limit old new (Err (Read e)) failed filled none full fits = absurd (omega (arith, failed.1, full.full))
@@ -102,7 +112,8 @@ stream-moved detection t None after old raw now cut is going ended moved = tt
 stream-moved detection t (Some x) None old raw now cut is going ended moved = absurd moved
 stream-moved detection t (Some x) (Some y) old raw now true is going ended moved =
     let found = ended refl in
-    append-nil now ∙ is ∙ ap (λ l. old ++ l) (sym (detected-cut detection t raw y found.0 found.1.0 found.1.1) ∙ ap (detected detection t) (sym moved))
+    append-nil now ∙ is ∙ ap (λ l. old ++ l) (sym (detected-cut detection t raw y found.0 found.1.0 found.1.1)
+    ∙ ap (detected detection t) (sym moved))
 stream-moved detection t (Some x) (Some y) old raw now false is going ended moved =
     ap (λ l. l ++ detected detection t y) is ∙ append_assoc old (detected detection t raw) (detected detection t y)
     ∙ ap (λ l. old ++ l) (sym (detected-append detection t raw y (going refl)) ∙ ap (detected detection t) (sym moved))
@@ -119,35 +130,44 @@ first-missing None None f none = refl
 first-missing None (Some n) f none = absurd (cc)
 
 -- bytes that were appended have no terminator, so none that aren't shown has
-pub Lacks-more : (t count : ℕ) (before given now : List ℕ) → now ≡ before ++ given → length given ≡ count → Lacks t before
+pub Lacks-more : (t count : ℕ) (before given now : List ℕ) → now ≡ before ++ given → length given ≡ count
+    → Lacks t before
     → Lacks t (drop (length now - count) now) → Lacks t now
 Lacks-more t count before given now is len none more =
     let at : length now - count ≡ length before = rw (is, length-append before given, len) (omega arith) in
-    let last : drop (length now - count) now ≡ given = ap (λ k. drop k now) at ∙ ap (drop (length before)) is ∙ drop_at before given _ refl in
+    let last : drop (length now - count) now ≡ given = ap (λ k. drop k now) at ∙ ap (drop (length before)) is
+    ∙ drop_at before given _ refl in
     let P : List ℕ → Type 0 = Lacks t in
     subst P (sym is) (All-append (λ b. b ≢ t) before given none (subst P last more))
 
 -- a buffer that grew, and one that grew again
 grows-more : (old now made : BufferState) → GrowsIfFull old now → length (held made) ≡ length (held now)
-    → (made.size ≡ now.size) ⊎ (now.size < made.size) × (now.size ≤ length (held now)) × (made.size ≤ 2 * length (held now) + 1)
+    → (made.size ≡ now.size) ⊎ (now.size < made.size) × (now.size ≤ length (held now))
+    × (made.size ≤ 2 * length (held now) + 1)
     → GrowsIfFull old made
 grows-more old now made (inl same) len (inl kept) = inl (kept ∙ same)
-grows-more old now made (inl same) len (inr grew) = inr (omega (arith, grew.0), omega (arith, grew.1), omega (arith, grew.2))
-grows-more old now made (inr more) len (inl kept) = inr (omega (arith, more.0), omega (arith, more.1), omega (arith, more.2))
-grows-more old now made (inr more) len (inr grew) = inr (omega (arith, more.0, grew.0), omega (arith, more.1), omega (arith, grew.2))
+grows-more old now made (inl same) len (inr grew) = inr
+    (omega (arith, grew.0), omega (arith, grew.1), omega (arith, grew.2))
+grows-more old now made (inr more) len (inl kept) = inr
+    (omega (arith, more.0), omega (arith, more.1), omega (arith, more.2))
+grows-more old now made (inr more) len (inr grew) = inr
+    (omega (arith, more.0, grew.0), omega (arith, more.1), omega (arith, grew.2))
 
 -- bytes that are held now don't leave
-grows-held : (old now new : BufferState) → GrowsIfFull old now → new.size ≡ now.size → length (held now) ≤ length (held new) → GrowsIfFull old new
+grows-held : (old now new : BufferState) → GrowsIfFull old now → new.size ≡ now.size
+    → length (held now) ≤ length (held new) → GrowsIfFull old new
 grows-held old now new (inl same) size more = inl (size ∙ same)
 grows-held old now new (inr grew) size more = inr (omega (arith, grew.0), omega (arith, grew.1), omega (arith, grew.2))
 
 -- what a buffer found, if reads gave these bytes after those that it held
 abbrev found_after : BufferState → List ℕ → Option ℕ
-found_after old raw = first_of old.binary (option_map (λ i. old.offset + length (held old) + i) (found_in old.detection old.terminator raw))
+found_after old raw = first_of old.binary (option_map (λ i. old.offset + length (held old) + i)
+    (found_in old.detection old.terminator raw))
 
 module _ {R : Type 0} (remaining : R → Option (List ℕ)) (step : R → ReadResult → R → Type 0) where
   -- The bytes that were held before are shown, and what detection makes of those that came since follows them.
-  pub record IsFilling (old : BufferState) (d : DecoderState) (r : R) (now : BufferState) (d' : DecoderState) (r' : R) : Type 0 where
+  pub record IsFilling (old : BufferState) (d : DecoderState) (r : R) (now : BufferState) (d' : DecoderState) (r' : R) :
+      Type 0 where
     pub raw : List ℕ
     pub came : now.rest ≡ detected old.detection old.terminator raw
     pub found : now.binary ≡ found_after old raw
@@ -162,7 +182,8 @@ module _ {R : Type 0} (remaining : R → Option (List ℕ)) (step : R → ReadRe
     pub read : HasRead remaining step d r raw d' r'
 
   -- No terminator came yet, and no byte that ends the input.
-  pub record HasNone (old : BufferState) (d : DecoderState) (r : R) (now : BufferState) (d' : DecoderState) (r' : R) : Type 0 where
+  pub record HasNone (old : BufferState) (d : DecoderState) (r : R) (now : BufferState) (d' : DecoderState) (r' : R) :
+      Type 0 where
     pub filling : IsFilling old d r now d' r'
     pub none : Lacks old.terminator now.rest
     pub offset : now.offset + length (held now) < 2 ^ 64
@@ -170,12 +191,15 @@ module _ {R : Type 0} (remaining : R → Option (List ℕ)) (step : R → ReadRe
 
   -- it begins with all that was held moved to the front
   pub HasNone-first : (old now : BufferState) (d : DecoderState) (r : R) (free : ℕ) → Decodes remaining step d r [] d r
-      → now ≡ record old { shown = held old; rest = []; free = free } → free + length (held old) ≡ old.size → old.has_ended ≡ false
-      → IsWithin old.limit old.size → old.offset + length (held old) < 2 ^ 64 → is_cut old ≡ false → HasNone old d r now d r
+      → now ≡ record old { shown = held old; rest = []; free = free } → free + length (held old) ≡ old.size
+      → old.has_ended ≡ false
+      → IsWithin old.limit old.size → old.offset + length (held old) < 2 ^ 64 → is_cut old ≡ false
+      → HasNone old d r now d r
   HasNone-first old now d r free none is rolled unended within offset uncut =
       let all : held old ++ [] ≡ held old = append-nil (held old) in
       let found : old.binary ≡ found_after old [] =
-      sym (ap (λ o. first_of old.binary (option_map (λ i. old.offset + length (held old) + i) o)) (found-nil old.detection old.terminator)
+      sym (ap (λ o. first_of old.binary (option_map (λ i. old.offset + length (held old) + i) o))
+      (found-nil old.detection old.terminator)
       ∙ first_of-none old.binary)
       in
       subst (λ w. HasNone old d r w d r) (sym is) (record {
@@ -199,7 +223,8 @@ module _ {R : Type 0} (remaining : R → Option (List ℕ)) (step : R → ReadRe
       })
 
   -- it goes on with more room
-  pub HasNone-room : (old now made : BufferState) (d d1 : DecoderState) (r r1 : R) (size free : ℕ) → HasNone old d r now d1 r1
+  pub HasNone-room : (old now made : BufferState) (d d1 : DecoderState) (r r1 : R) (size free : ℕ)
+      → HasNone old d r now d1 r1
       → made ≡ record now { size = size; free = free } → free + length (held made) ≡ size → IsWithin made.limit size
       → (size ≡ now.size) ⊎ (now.size < size) × (now.free ≡ 0) × (size ≤ 2 * now.size + 1)
       → HasNone old d r made d1 r1
@@ -215,7 +240,13 @@ module _ {R : Type 0} (remaining : R → Option (List ℕ)) (step : R → ReadRe
           uncut = f.uncut;
           shown = f.shown;
           unended = f.unended;
-          same = record { offset = f.same.offset; limit = f.same.limit; terminator = f.same.terminator; detection = f.same.detection };
+          same = record {
+            offset = f.same.offset;
+            limit = f.same.limit;
+            terminator = f.same.terminator;
+            detection =
+                f.same.detection;
+          };
           rolled = subst (λ w. free + length (held w) ≡ size) is rolled;
           fits = fits grows;
           within = subst (λ w. IsWithin w.limit size) is within;
@@ -240,27 +271,33 @@ module _ {R : Type 0} (remaining : R → Option (List ℕ)) (step : R → ReadRe
           inr (more.0, omega (arith, full), omega (arith, full, more.2))
 
   -- nothing that ends the input was among the bytes that came
-  going-none : (old now : BufferState) (d d1 : DecoderState) (r r1 : R) → (f : IsFilling old d r now d1 r1) → is_cut now ≡ false
+  going-none : (old now : BufferState) (d d1 : DecoderState) (r r1 : R) → (f : IsFilling old d r now d1 r1) → is_cut now
+      ≡ false
       → is_quit old.detection ≡ true → found_in old.detection old.terminator f.raw ≡ None
   going-none old now d d1 r r1 f going quits =
       let none : now.binary ≡ None =
-      uncut-none old.detection now.binary (ap (λ x. is_quit x && is_some now.binary) (sym f.same.detection) ∙ going) quits in
-      first-missing old.binary (found_in old.detection old.terminator f.raw) (λ i. old.offset + length (held old) + i) (sym f.found ∙ none)
+      uncut-none old.detection now.binary (ap (λ x. is_quit x && is_some now.binary) (sym f.same.detection) ∙ going)
+      quits in
+      first-missing old.binary (found_in old.detection old.terminator f.raw) (λ i. old.offset + length (held old) + i)
+      (sym f.found ∙ none)
 
   -- the bytes of one read, as detection makes them
   pub record Comes (count : ℕ) (now : BufferState) (given : List ℕ) (made : BufferState) : Type 0 where
     pub rest : made.rest ≡ now.rest ++ detected now.detection now.terminator given
     pub binary : made.binary
-        ≡ first_of now.binary (option_map (λ i. now.offset + length (held now) + i) (found_in now.detection now.terminator given))
+        ≡ first_of now.binary (option_map (λ i. now.offset + length (held now) + i)
+        (found_in now.detection now.terminator given))
     pub whole : made.free + length (held made) ≡ now.free + length (held now)
     pub others : made ≡ record now { rest = made.rest; free = made.free; binary = made.binary }
 
   -- a read, and what detection makes of it
   pub Comes-detected : (now next made : BufferState) (d1 d2 : DecoderState) (r1 r2 : R) (count : ℕ)
-      → (came : Appends remaining step count now d1 r1 next d2 r2) → Detects count next made → Comes count now came.given made
+      → (came : Appends remaining step count now d1 r1 next d2 r2) → Detects count next made
+      → Comes count now came.given made
   Comes-detected now next made d1 d2 r1 r2 count came changed =
       let grown : BufferState = record now { rest = now.rest ++ came.given; free = now.free - count } in
-      let len : length (now.rest ++ came.given) - count ≡ length now.rest = omega (arith, length-append now.rest came.given, came.counted) in
+      let len : length (now.rest ++ came.given) - count
+      ≡ length now.rest = omega (arith, length-append now.rest came.given, came.counted) in
       let front : take (length (now.rest ++ came.given) - count) (now.rest ++ came.given) ≡ now.rest =
       ap (λ n. take n (now.rest ++ came.given)) len ∙ take-append_seam now.rest came.given in
       let back : drop (length (now.rest ++ came.given) - count) (now.rest ++ came.given) ≡ came.given =
@@ -270,18 +307,23 @@ module _ {R : Type 0} (remaining : R → Option (List ℕ)) (step : R → ReadRe
       let base : length (now.shown ++ (now.rest ++ came.given)) - count ≡ length (held now) = omega (arith, all) in
       let of : Detects count grown made = subst (λ w. Detects count w made) came.appended changed in
       record {
-        rest = of.appended ∙ ap (λ l. l ++ detected now.detection now.terminator (drop (length (now.rest ++ came.given) - count) (now.rest ++ came.given))) front
+        rest = of.appended ∙ ap (λ l. l ++ detected now.detection now.terminator
+            (drop (length (now.rest ++ came.given) - count) (now.rest ++ came.given))) front
             ∙ ap (λ l. now.rest ++ detected now.detection now.terminator l) back;
         binary = of.found
-            ∙ ap (λ l. first_of now.binary (option_map (λ i. now.offset + (length (now.shown ++ (now.rest ++ came.given)) - count) + i) (found_in now.detection now.terminator l))) back
-            ∙ ap (λ n. first_of now.binary (option_map (λ i. now.offset + n + i) (found_in now.detection now.terminator came.given))) base;
+            ∙ ap (λ l. first_of now.binary (option_map (λ i. now.offset +
+            (length (now.shown ++ (now.rest ++ came.given)) - count) + i) (found_in now.detection now.terminator l)))
+            back
+            ∙ ap (λ n. first_of now.binary (option_map (λ i. now.offset + n + i)
+            (found_in now.detection now.terminator came.given))) base;
         whole = omega (arith, of.free, all, came.fits);
         others = of.others;
       }
 
   -- it goes on with one read
   pub IsFilling-more : (old now next made : BufferState) (d d1 d2 : DecoderState) (r r1 r2 : R) (count : ℕ)
-      → Continues remaining step → HasNone old d r now d1 r1 → (came : Appends remaining step count now d1 r1 next d2 r2)
+      → Continues remaining step → HasNone old d r now d1 r1
+      → (came : Appends remaining step count now d1 r1 next d2 r2)
       → Comes count now came.given made → d2.capacity ≡ d1.capacity → IsFilling old d r made d2 r2
   IsFilling-more old now next made d d1 d2 r r1 r2 count continues before came comes capacity =
       let f = before.filling in
@@ -290,20 +332,25 @@ module _ {R : Type 0} (remaining : R → Option (List ℕ)) (step : R → ReadRe
       let none = going-none old now d d1 r r1 f before.going in
       let D = old.detection in
       let t = old.terminator in
-      let given : detected now.detection now.terminator came.given ≡ detected D t came.given = rw (same-d, same-t) refl in
-      let found : made.binary ≡ first_of now.binary (option_map (λ i. now.offset + length (held now) + i) (found_in D t came.given)) =
+      let given : detected now.detection now.terminator came.given
+      ≡ detected D t came.given = rw (same-d, same-t) refl in
+      let found : made.binary ≡ first_of now.binary (option_map (λ i. now.offset + length (held now) + i)
+      (found_in D t came.given)) =
       comes.binary ∙ rw (same-d, same-t) refl in
       let held-now : length (held now) ≡ length (held old) + length now.rest =
       ap (λ l. length (l ++ now.rest)) f.shown ∙ length-append (held old) now.rest in
-      let base : now.offset + length (held now) ≡ old.offset + length (held old) + length now.rest = omega (arith, f.same.offset, held-now) in
+      let base : now.offset + length (held now) ≡ old.offset + length (held old) + length now.rest =
+      omega (arith, f.same.offset, held-now) in
       let len : length (held made) ≡ length (held now) + length (detected D t came.given) =
-      ap (λ w. length (held w)) comes.others ∙ ap (λ l. length (now.shown ++ l)) (comes.rest ∙ ap (λ l. now.rest ++ l) given)
+      ap (λ w. length (held w)) comes.others ∙ ap (λ l. length (now.shown ++ l))
+      (comes.rest ∙ ap (λ l. now.rest ++ l) given)
       ∙ (rw (length-append, length-append, length-append) (omega arith)) in
       record {
         raw = f.raw ++ came.given;
         came = comes.rest ∙ ap (λ l. now.rest ++ l) given ∙ ap (λ l. l ++ detected D t came.given) f.came
             ∙ sym (detected-append D t f.raw came.given none);
-        found = found-next D t (old.offset + length (held old)) (length now.rest) f.raw came.given old.binary now.binary made.binary f.found
+        found = found-next D t (old.offset + length (held old)) (length now.rest) f.raw came.given old.binary now.binary
+            made.binary f.found
             (λ missing. ap (λ l. length l) f.came ∙ length-detected D t f.raw missing)
             (found ∙ ap (λ n. first_of now.binary (option_map (λ i. n + i) (found_in D t came.given))) base);
         uncut = f.uncut;
@@ -333,7 +380,8 @@ module _ {R : Type 0} (remaining : R → Option (List ℕ)) (step : R → ReadRe
       }
 
   -- what a fill says of the bytes that it appended
-  pub record Outcome (old : BufferState) (d : DecoderState) (r : R) (new : BufferState) (d' : DecoderState) (r' : R) : Type 0 where
+  pub record Outcome (old : BufferState) (d : DecoderState) (r : R) (new : BufferState) (d' : DecoderState) (r' : R) :
+      Type 0 where
     pub same : IsSameBuffer old new
     pub within : IsWithin new.limit new.size
     pub grows : GrowsIfFull old new
@@ -345,7 +393,8 @@ module _ {R : Type 0} (remaining : R → Option (List ℕ)) (step : R → ReadRe
     pub stays : IsSettled d.mode → d'.mode ≡ d.mode
 
   -- a buffer is cut exactly if the byte was among those that came
-  cut-found : (old now : BufferState) (d d1 : DecoderState) (r r1 : R) → (f : IsFilling old d r now d1 r1) → is_cut now ≡ true
+  cut-found : (old now : BufferState) (d d1 : DecoderState) (r r1 : R) → (f : IsFilling old d r now d1 r1) → is_cut now
+      ≡ true
       → (is_quit old.detection ≡ true) × ((n : ℕ) × (found_in old.detection old.terminator f.raw ≡ Some n))
   cut-found old now d d1 r r1 f cut = by old.detection old.binary (found_in old.detection old.terminator f.raw) refl
       (sym (ap (λ x. is_quit x && is_some now.binary) f.same.detection) ∙ cut) f.found f.uncut
@@ -353,15 +402,18 @@ module _ {R : Type 0} (remaining : R → Option (List ℕ)) (step : R → ReadRe
       by : (D : Detection) (before later : Option ℕ) → found_in old.detection old.terminator f.raw ≡ later
           → (is_quit D && is_some now.binary) ≡ true
           → now.binary ≡ first_of before (option_map (λ i. old.offset + length (held old) + i) later)
-          → (is_quit D && is_some before) ≡ false → (is_quit D ≡ true) × ((n : ℕ) × (found_in old.detection old.terminator f.raw ≡ Some n))
+          → (is_quit D && is_some before) ≡ false → (is_quit D ≡ true)
+          × ((n : ℕ) × (found_in old.detection old.terminator f.raw ≡ Some n))
       by (Quit b) before (Some n) same cut found uncut = (refl, (n, same))
       by (Quit b) None None same cut found uncut = absurd (false≢true (sym (ap (λ o. is_some o) found) ∙ cut))
       by (Quit b) (Some m) None same cut found uncut = absurd (false≢true (sym uncut))
       by no_detection before later same cut found uncut = absurd (false≢true cut)
       by (Convert b) before later same cut found uncut = absurd (false≢true cut)
 
-  stream-filled : (old now new : BufferState) (d d' : DecoderState) (r r' : R) → (f : IsFilling old d r now d' r') (after : Option (List ℕ))
-      → held new ≡ held old ++ detected old.detection old.terminator f.raw → is_cut new ≡ is_cut now → new.detection ≡ old.detection
+  stream-filled : (old now new : BufferState) (d d' : DecoderState) (r r' : R)
+      → (f : IsFilling old d r now d' r') (after : Option (List ℕ))
+      → held new ≡ held old ++ detected old.detection old.terminator f.raw → is_cut new ≡ is_cut now → new.detection
+      ≡ old.detection
       → new.terminator ≡ old.terminator → Consumes (yet d (remaining r)) after f.raw
       → KeepsStream old new (yet d (remaining r)) after
   stream-filled old now new d d' r r' f after is cut same-d same-t gives =
@@ -374,12 +426,15 @@ module _ {R : Type 0} (remaining : R → Option (List ℕ)) (step : R → ReadRe
       ap (λ x. if is_cut new then Some [] else option_map (detected x new.terminator) after) same-d
       ∙ ap (λ x. if is_cut new then Some [] else option_map (detected D x) after) same-t in
       subst (λ c. Keeps (prepend_known (held old) c) (stream new after)) (sym was)
-      (subst (λ c. Keeps (prepend_known (held old) (option_map (detected D t) before)) (prepend_known (held new) c)) (sym will)
+      (subst (λ c. Keeps (prepend_known (held old) (option_map (detected D t) before)) (prepend_known (held new) c))
+      (sym will)
       (stream-moved D t before after (held old) f.raw (held new) (is_cut new) is
-      (λ going. going-none old now d d' r r' f (sym cut ∙ going)) (λ ended. cut-found old now d d' r r' f (sym cut ∙ ended)) gives))
+      (λ going. going-none old now d d' r r' f (sym cut ∙ going))
+      (λ ended. cut-found old now d d' r r' f (sym cut ∙ ended)) gives))
 
   pub IsFilling-outcome : (old now new : BufferState) (d d' : DecoderState) (r r' : R) → IsFilling old d r now d' r'
-      → held new ≡ held now → IsSameBuffer now new → new.size ≡ now.size → new.binary ≡ now.binary → Outcome old d r new d' r'
+      → held new ≡ held now → IsSameBuffer now new → new.size ≡ now.size → new.binary ≡ now.binary
+      → Outcome old d r new d' r'
   IsFilling-outcome old now new d d' r r' f whole same size binary =
       let is : held new ≡ held old ++ detected old.detection old.terminator f.raw =
       whole ∙ ap (λ l. l ++ now.rest) f.shown ∙ ap (λ l. held old ++ l) f.came in
@@ -407,14 +462,16 @@ module _ {R : Type 0} (remaining : R → Option (List ℕ)) (step : R → ReadRe
           fits = λ some. omega (arith, f.fits, size);
           decodes = f.read.decodes;
         };
-        stream = stream-filled old now new d d' r r' f (yet d' (remaining r')) is cut (same.detection ∙ f.same.detection)
+        stream = stream-filled old now new d d' r r' f (yet d' (remaining r')) is cut
+            (same.detection ∙ f.same.detection)
             (same.terminator ∙ f.same.terminator) f.read.gives;
         ahead = λ going passing. rw (len going) (f.read.ahead passing);
         stays = f.read.stays;
       }
 
   -- without a read
-  pub Outcome-none : (old : BufferState) (d : DecoderState) (r : R) → Decodes remaining step d r [] d r → IsWithin old.limit old.size → Outcome old d r old d r
+  pub Outcome-none : (old : BufferState) (d : DecoderState) (r : R) → Decodes remaining step d r [] d r
+      → IsWithin old.limit old.size → Outcome old d r old d r
   Outcome-none old d r none within = record {
     same = record { offset = refl; limit = refl; terminator = refl; detection = refl };
     within = within;
@@ -423,7 +480,8 @@ module _ {R : Type 0} (remaining : R → Option (List ℕ)) (step : R → ReadRe
     reads = record {
       given = [];
       appended = sym (ap (λ l. held old ++ l) (detected-nil old.detection old.terminator) ∙ append-nil (held old));
-      found = sym (ap (λ o. first_of old.binary (option_map (λ i. old.offset + length (held old) + i) o)) (found-nil old.detection old.terminator)
+      found = sym (ap (λ o. first_of old.binary (option_map (λ i. old.offset + length (held old) + i) o))
+          (found-nil old.detection old.terminator)
           ∙ first_of-none old.binary);
       uncut = λ was. refl;
       fits = λ some. absurd (omega (arith, some));
@@ -435,7 +493,8 @@ module _ {R : Type 0} (remaining : R → Option (List ℕ)) (step : R → ReadRe
   }
 
   -- the bytes that are held are moved to the front, and all of them are shown
-  pub Fills-none : (old rolled new : BufferState) (d : DecoderState) (r : R) (free : ℕ) → Decodes remaining step d r [] d r
+  pub Fills-none : (old rolled new : BufferState) (d : DecoderState) (r : R) (free : ℕ)
+      → Decodes remaining step d r [] d r
       → rolled ≡ record old { shown = held old; rest = []; free = free }
       → new ≡ record rolled { shown = held rolled; rest = []; has_ended = true } → Fills remaining step old d r new d r
   Fills-none old rolled new d r free none moved ended = record {
@@ -443,7 +502,8 @@ module _ {R : Type 0} (remaining : R → Option (List ℕ)) (step : R → ReadRe
     appended = ap (λ w. held w) ended ∙ append-nil (held rolled) ∙ ap (λ w. held w) moved ∙ append-nil (held old)
         ∙ sym (append-nil (held old)) ∙ ap (λ l. held old ++ l) (sym (detected-nil old.detection old.terminator));
     found = ap binary_of ended ∙ ap binary_of moved
-        ∙ sym (ap (λ o. first_of old.binary (option_map (λ i. old.offset + length (held old) + i) o)) (found-nil old.detection old.terminator)
+        ∙ sym (ap (λ o. first_of old.binary (option_map (λ i. old.offset + length (held old) + i) o))
+        (found-nil old.detection old.terminator)
         ∙ first_of-none old.binary);
     uncut = λ was. refl;
     fits = λ some. absurd (omega (arith, some));
@@ -451,12 +511,15 @@ module _ {R : Type 0} (remaining : R → Option (List ℕ)) (step : R → ReadRe
   }
 
   -- once nothing more can be read
-  pub IsFilling-stopped : (old now new : BufferState) (d d' : DecoderState) (r r' : R) → IsFilling old d r now d' r' → new ≡ now → Outcome old d r new d' r'
+  pub IsFilling-stopped : (old now new : BufferState) (d d' : DecoderState) (r r' : R) → IsFilling old d r now d' r'
+      → new ≡ now → Outcome old d r new d' r'
   IsFilling-stopped old now new d d' r r' f is = subst (λ w. Outcome old d r w d' r') (sym is)
-      (IsFilling-outcome old now now d d' r r' f refl (record { offset = refl; limit = refl; terminator = refl; detection = refl }) refl refl)
+      (IsFilling-outcome old now now d d' r r' f refl
+      (record { offset = refl; limit = refl; terminator = refl; detection = refl }) refl refl)
 
   -- once lines are shown
-  pub IsFilling-shown : (old now new : BufferState) (d d' : DecoderState) (r r' : R) (count : ℕ) → IsFilling old d r now d' r' → ShowsLine now new count
+  pub IsFilling-shown : (old now new : BufferState) (d d' : DecoderState) (r r' : R) (count : ℕ)
+      → IsFilling old d r now d' r' → ShowsLine now new count
       → Outcome old d r new d' r'
   IsFilling-shown old now new d d' r r' count f shows = IsFilling-outcome old now new d d' r r' f shows.whole
       (record {
@@ -470,12 +533,20 @@ module _ {R : Type 0} (remaining : R → Option (List ℕ)) (step : R → ReadRe
   -- once the end was seen
   pub IsFilling-ended : (old now new : BufferState) (d d' : DecoderState) (r r' : R) → IsFilling old d r now d' r'
       → new ≡ record now { shown = held now; rest = []; has_ended = true } → Outcome old d r new d' r'
-  IsFilling-ended old now new d d' r r' f is = IsFilling-outcome old now new d d' r r' f (ap (λ w. held w) is ∙ append-nil (held now))
-      (record { offset = ap offset_of is; limit = ap limit_of is; terminator = ap terminator_of is; detection = ap detection_of is })
+  IsFilling-ended old now new d d' r r' f is = IsFilling-outcome old now new d d' r r' f
+      (ap (λ w. held w) is ∙ append-nil (held now))
+      (record {
+        offset = ap offset_of is;
+        limit = ap limit_of is;
+        terminator = ap terminator_of is;
+        detection = ap
+            detection_of is;
+      })
       (ap size_of is) (ap binary_of is)
 
   -- a fill that ends in the reader's error
-  pub record ReadFault (old : BufferState) (d : DecoderState) (r : R) (e : Error) (new : BufferState) (d' : DecoderState) (r' : R) : Type 0 where
+  pub record ReadFault (old : BufferState) (d : DecoderState) (r : R) (e : Error) (new : BufferState)
+      (d' : DecoderState) (r' : R) : Type 0 where
     pub same : IsSameBuffer old new
     pub within : IsWithin new.limit new.size
     pub grows : GrowsIfFull old new
@@ -489,7 +560,8 @@ module _ {R : Type 0} (remaining : R → Option (List ℕ)) (step : R → ReadRe
     pub uncut : is_cut new ≡ false
 
   pub HasNone-fault : (old now new : BufferState) (d d1 d2 : DecoderState) (r r1 r2 : R) (e : Error)
-      → Continues remaining step → HasNone old d r now d1 r1 → FailsToRead remaining step d1 r1 e d2 r2 → 0 < now.free → d2.capacity ≡ d1.capacity → new ≡ now
+      → Continues remaining step → HasNone old d r now d1 r1 → FailsToRead remaining step d1 r1 e d2 r2 → 0 < now.free
+      → d2.capacity ≡ d1.capacity → new ≡ now
       → ReadFault old d r e new d2 r2
   HasNone-fault old now new d d1 d2 r r1 r2 e continues before failed some capacity is =
       let f = before.filling in
@@ -523,15 +595,18 @@ module _ {R : Type 0} (remaining : R → Option (List ℕ)) (step : R → ReadRe
       })
 
   -- what is shown at the end
-  pub HasNone-end : (old now next new : BufferState) (d d1 d2 : DecoderState) (r r1 r2 : R) (count : ℕ) → HasNone old d r now d1 r1
+  pub HasNone-end : (old now next new : BufferState) (d d1 d2 : DecoderState) (r r1 r2 : R) (count : ℕ)
+      → HasNone old d r now d1 r1
       → Appends remaining step count now d1 r1 next d2 r2 → count ≡ 0 → 0 < now.free
       → new ≡ record next { shown = held next; rest = []; has_ended = true } → IsFilled old new
   HasNone-end old now next new d d1 d2 r r1 r2 count before came zero some is =
       let f = before.filling in
       let empty : came.given ≡ [] = nil_from_length came.given (came.counted ∙ zero) in
-      let rest : next.rest ≡ now.rest = ap rest_of came.appended ∙ ap (λ l. now.rest ++ l) empty ∙ append-nil now.rest in
+      let rest : next.rest ≡ now.rest = ap rest_of came.appended ∙ ap (λ l. now.rest ++ l) empty
+      ∙ append-nil now.rest in
       let free : next.free ≡ now.free - count = ap free_of came.appended in
-      let whole : held next ≡ held old ++ now.rest = ap (λ l. l ++ next.rest) (ap shown_of came.appended ∙ f.shown) ∙ ap (λ l. held old ++ l) rest in
+      let whole : held next ≡ held old ++ now.rest = ap (λ l. l ++ next.rest) (ap shown_of came.appended ∙ f.shown)
+      ∙ ap (λ l. held old ++ l) rest in
       let held-now : held now ≡ held old ++ now.rest = ap (λ l. l ++ now.rest) f.shown in
       let last : drop (length (held old)) (held next) ≡ now.rest =
       ap (drop (length (held old))) whole ∙ drop_at (held old) now.rest _ refl in
@@ -547,14 +622,16 @@ module _ {R : Type 0} (remaining : R → Option (List ℕ)) (step : R → ReadRe
 
   -- the end of such a read, which gave none
   pub IsFilling-none : (old now next : BufferState) (d d1 d2 : DecoderState) (r r1 r2 : R) (count : ℕ)
-      → Continues remaining step → HasNone old d r now d1 r1 → Appends remaining step count now d1 r1 next d2 r2 → count ≡ 0
+      → Continues remaining step → HasNone old d r now d1 r1 → Appends remaining step count now d1 r1 next d2 r2 → count
+      ≡ 0
       → d2.capacity ≡ d1.capacity → IsFilling old d r next d2 r2
   IsFilling-none old now next d d1 d2 r r1 r2 count continues before came zero capacity =
       let empty : came.given ≡ [] = nil_from_length came.given (came.counted ∙ zero) in
       let rest : next.rest ≡ now.rest ++ detected now.detection now.terminator came.given =
       ap rest_of came.appended ∙ ap (λ l. now.rest ++ l) (empty ∙ sym (detected-nil now.detection now.terminator)
       ∙ ap (detected now.detection now.terminator) (sym empty)) in
-      let found : next.binary ≡ first_of now.binary (option_map (λ i. now.offset + length (held now) + i) (found_in now.detection now.terminator came.given)) =
+      let found : next.binary ≡ first_of now.binary (option_map (λ i. now.offset + length (held now) + i)
+      (found_in now.detection now.terminator came.given)) =
       ap binary_of came.appended ∙ sym (first_of-none now.binary)
       ∙ ap (λ o. first_of now.binary (option_map (λ i. now.offset + length (held now) + i) o))
       (sym (found-nil now.detection now.terminator) ∙ ap (found_in now.detection now.terminator) (sym empty))
@@ -573,8 +650,10 @@ module _ {R : Type 0} (remaining : R → Option (List ℕ)) (step : R → ReadRe
       same-next is = subst (λ w. w ≡ record now { rest = w.rest; free = w.free; binary = w.binary }) (sym is) refl
 
   -- what is shown once a byte ended the input
-  pub IsFilling-byte : (old now new : BufferState) (d d' : DecoderState) (r r' : R) → IsFilling old d r now d' r' → is_cut now ≡ true
-      → length (held now) < now.size → new ≡ record now { shown = held now; rest = []; has_ended = true } → IsFilled old new
+  pub IsFilling-byte : (old now new : BufferState) (d d' : DecoderState) (r r' : R) → IsFilling old d r now d' r'
+      → is_cut now ≡ true
+      → length (held now) < now.size → new ≡ record now { shown = held now; rest = []; has_ended = true }
+      → IsFilled old new
   IsFilling-byte old now new d d' r r' f cut room is =
       subst (IsFilled old) (sym is) (inr (inr (record { cut = cut; all = refl; room = room; ended = refl })))
 
@@ -584,12 +663,15 @@ module _ {R : Type 0} (remaining : R → Option (List ℕ)) (step : R → ReadRe
       → length (detected now.detection now.terminator given) ≡ count
   Comes-counted old now made d d1 d2 r r1 r2 count given before comes counted going =
       length-uncut now.detection now.terminator given
-      (λ quits. first-missing now.binary (found_in now.detection now.terminator given) (λ i. now.offset + length (held now) + i)
-      (sym comes.binary ∙ uncut-none now.detection made.binary (ap (λ x. is_quit x && is_some made.binary) (sym (ap detection_of comes.others)) ∙ going) quits))
+      (λ quits. first-missing now.binary (found_in now.detection now.terminator given)
+      (λ i. now.offset + length (held now) + i)
+      (sym comes.binary ∙ uncut-none now.detection made.binary
+      (ap (λ x. is_quit x && is_some made.binary) (sym (ap detection_of comes.others)) ∙ going) quits))
       ∙ counted
 
   -- what is shown once a line ended
-  pub IsFilling-line : (old now made new : BufferState) (d d1 d2 : DecoderState) (r r1 r2 : R) (count : ℕ) (given : List ℕ)
+  pub IsFilling-line : (old now made new : BufferState) (d d1 d2 : DecoderState) (r r1 r2 : R) (count : ℕ)
+      (given : List ℕ)
       → HasNone old d r now d1 r1 → Comes count now given made → length given ≡ count → is_cut made ≡ false
       → IsFilling old d r made d2 r2 → ShowsLine made new count → IsFilled old new
   IsFilling-line old now made new d d1 d2 r r1 r2 count given before comes counted going f shows =
@@ -607,23 +689,27 @@ module _ {R : Type 0} (remaining : R → Option (List ℕ)) (step : R → ReadRe
       })
 
   -- it goes on if no line ended
-  pub HasNone-more : (old now made new : BufferState) (d d1 d2 : DecoderState) (r r1 r2 : R) (count : ℕ) (given : List ℕ)
+  pub HasNone-more : (old now made new : BufferState) (d d1 d2 : DecoderState) (r r1 r2 : R) (count : ℕ)
+      (given : List ℕ)
       → HasNone old d r now d1 r1 → Comes count now given made → length given ≡ count → is_cut made ≡ false
       → IsFilling old d r made d2 r2
-      → Lacks made.terminator (drop (length made.rest - count) made.rest) → made.offset + length (held made) < 2 ^ 64 → new ≡ made
+      → Lacks made.terminator (drop (length made.rest - count) made.rest) → made.offset + length (held made) < 2 ^ 64
+      → new ≡ made
       → HasNone old d r new d2 r2
   HasNone-more old now made new d d1 d2 r r1 r2 count given before comes counted going f lacks offset is =
       let kept = Comes-counted old now made d d1 d2 r r1 r2 count given before comes counted going in
       let last = subst (λ t. Lacks t (drop (length made.rest - count) made.rest)) f.same.terminator lacks in
       subst (λ w. HasNone old d r w d2 r2) (sym is) (record {
         filling = f;
-        none = Lacks-more old.terminator count now.rest (detected now.detection now.terminator given) made.rest comes.rest kept before.none last;
+        none = Lacks-more old.terminator count now.rest (detected now.detection now.terminator given) made.rest
+            comes.rest kept before.none last;
         offset = offset;
         going = going;
       })
 
   -- an offset would be above 2^64 - 1
-  pub IsFilling-past : (old now next : BufferState) (d d1 d2 : DecoderState) (r r1 r2 : R) → HasNone old d r now d1 r1 → IsFilling old d r next d2 r2
+  pub IsFilling-past : (old now next : BufferState) (d d1 d2 : DecoderState) (r r1 r2 : R) → HasNone old d r now d1 r1
+      → IsFilling old d r next d2 r2
       → 2 ^ 64 ≤ next.offset + length (held next) → PassesOffsets old next
   IsFilling-past old now next d d1 d2 r r1 r2 before f past =
       let len = ap (λ l. length (l ++ now.rest)) before.filling.shown ∙ length-append (held old) now.rest in
@@ -635,12 +721,14 @@ module _ {R : Type 0} (remaining : R → Option (List ℕ)) (step : R → ReadRe
       }
 
   -- a full buffer that can't grow
-  pub HasNone-full : (old now new : BufferState) (d d1 : DecoderState) (r r1 : R) (e : FillError) → HasNone old d r now d1 r1
+  pub HasNone-full : (old now new : BufferState) (d d1 : DecoderState) (r r1 : R) (e : FillError)
+      → HasNone old d r now d1 r1
       → new ≡ now → now.free ≡ 0 → IsFullFault now.limit now.size e → FillFails old new e
-  HasNone-full old now new d d1 r r1 HeapLimit before is none fault = subst (λ w. HasNoLine old w × IsAtLimit w) (sym is) (
-    record { shown = before.filling.shown; none = before.none; unended = before.filling.unended },
-    record { full = omega (arith, before.filling.rolled, none); limit = fault },
-  )
+  HasNone-full old now new d d1 r r1 HeapLimit before is none fault = subst (λ w. HasNoLine old w × IsAtLimit w)
+      (sym is) (
+        record { shown = before.filling.shown; none = before.none; unended = before.filling.unended },
+        record { full = omega (arith, before.filling.rolled, none); limit = fault },
+      )
   HasNone-full old now new d d1 r r1 Memory before is none fault = subst (λ w. HasNoLine old w × MayGrow w) (sym is) (
     record { shown = before.filling.shown; none = before.none; unended = before.filling.unended },
     record { full = omega (arith, before.filling.rolled, none); limit = fault },

@@ -1,5 +1,6 @@
 -- What some reads of a decoder gave, and what a read that failed left.
-use Rattle.std.proofs.Common.{◌≡◌, ◌⊎◌, inl, inr, ℕ, ◌+◌, ◌≤◌, List, [], ◌++◌, length, Option, refl, sym, ap, subst, ◌∙◌, arith, append-nil, length-append}
+use Rattle.std.proofs.Common.{◌≡◌, ◌⊎◌, inl, inr, ℕ, ◌+◌, ◌≤◌, List, [], ◌++◌, length, Option, refl, sym, ap, subst}
+use Rattle.std.proofs.Common.{◌∙◌, arith, append-nil, length-append}
 use Rattle.std.proofs.KnownBytes.{Consumes-nil, Consumes-trans, Consumes-kept}
 use Rattle.std.specs.Io.KnownBytes.{Consumes}
 use Rattle.std.specs.declared.io.Error.{Error}
@@ -10,7 +11,8 @@ use Rattle.grep_line_buffer.specs.Appends.{FailsToRead, Reads}
 use Rattle.grep_line_buffer.specs.Contents.{FailsAfter}
 
 -- what was taken by some reads and by some more
-TakesAtMost-append : (a b c : Option (List ℕ)) (first second most : ℕ) → TakesAtMost a b first → TakesAtMost b c second → first + second ≤ most
+TakesAtMost-append : (a b c : Option (List ℕ)) (first second most : ℕ) → TakesAtMost a b first → TakesAtMost b c second
+    → first + second ≤ most
     → TakesAtMost a c most
 TakesAtMost-append a b c first second most p q within =
     (p.0 ++ q.0, rw length-append (omega (arith, p.1, q.1)), Consumes-trans a b c p.0 q.0 p.2 q.2)
@@ -40,7 +42,8 @@ module _ {R : Type 0} (remaining : R → Option (List ℕ)) (step : R → ReadRe
     capacity = refl;
   }
 
-  ahead-more : (d d1 d2 : DecoderState) (r r1 r2 : R) (given came : List ℕ) → HasRead d r given d1 r1 → Reads remaining step d1 r1 came d2 r2
+  ahead-more : (d d1 d2 : DecoderState) (r r1 r2 : R) (given came : List ℕ) → HasRead d r given d1 r1
+      → Reads remaining step d1 r1 came d2 r2
       → IsSettled d1.mode ⊎ ((d1 ≡ d) × (r1 ≡ r) × (given ≡ []))
       → d2.mode ≡ Passing → TakesAtMost (remaining r) (remaining r2) (length (given ++ came) + runs_ahead d.mode)
   ahead-more d d1 d2 r r1 r2 given came before read (inl settled) passing =
@@ -49,7 +52,8 @@ module _ {R : Type 0} (remaining : R → Option (List ℕ)) (step : R → ReadRe
       TakesAtMost-append _ _ _ _ _ _ (before.ahead same) (read.ahead passing) (rw length-append (omega (arith, none)))
   ahead-more d d1 d2 r r1 r2 given came before read (inr first) passing =
       let most : length came + runs_ahead d1.mode ≡ length (given ++ came) + runs_ahead d.mode =
-      ap (λ x. length came + runs_ahead x.mode) first.0 ∙ ap (λ l. length (l ++ came) + runs_ahead d.mode) (sym first.2) in
+      ap (λ x. length came + runs_ahead x.mode) first.0
+      ∙ ap (λ l. length (l ++ came) + runs_ahead d.mode) (sym first.2) in
       subst (λ x. TakesAtMost (remaining x) (remaining r2) (length (given ++ came) + runs_ahead d.mode)) first.1
       (subst (TakesAtMost (remaining r1) (remaining r2)) most (read.ahead passing))
 
@@ -60,19 +64,22 @@ module _ {R : Type 0} (remaining : R → Option (List ℕ)) (step : R → ReadRe
     decodes = continues d d1 d2 r r1 r2 given came before.decodes read.decodes;
     gives = Consumes-trans _ _ _ given came before.gives read.gives;
     begins = inl read.settled;
-    stays = λ settled. read.stays (subst (λ m. IsSettled m) (sym (before.stays settled)) settled) ∙ before.stays settled;
+    stays = λ settled. read.stays (subst (λ m. IsSettled m) (sym (before.stays settled)) settled)
+        ∙ before.stays settled;
     ahead = ahead-more d d1 d2 r r1 r2 given came before read before.begins;
     capacity = capacity ∙ before.capacity;
   }
 
   -- Reads of a decoder, none or some, gave these bytes, and then one failed.
-  pub record HasFailed (d : DecoderState) (r : R) (given : List ℕ) (e : Error) (d' : DecoderState) (r' : R) : Type 0 where
-    pub after : FailsAfter remaining step e d r given d' r'
-    pub gives : Consumes (yet d (remaining r)) (yet d' (remaining r')) given
-    pub stays : IsSettled d.mode → d'.mode ≡ d.mode
-    pub capacity : d'.capacity ≡ d.capacity
+  pub record HasFailed (d : DecoderState) (r : R) (given : List ℕ) (e : Error) (d' : DecoderState) (r' : R) : Type 0
+    where
+      pub after : FailsAfter remaining step e d r given d' r'
+      pub gives : Consumes (yet d (remaining r)) (yet d' (remaining r')) given
+      pub stays : IsSettled d.mode → d'.mode ≡ d.mode
+      pub capacity : d'.capacity ≡ d.capacity
 
-  pub HasRead-failed : (d d1 d2 : DecoderState) (r r1 r2 : R) (given : List ℕ) (e : Error) → Continues → HasRead d r given d1 r1
+  pub HasRead-failed : (d d1 d2 : DecoderState) (r r1 r2 : R) (given : List ℕ) (e : Error) → Continues
+      → HasRead d r given d1 r1
       → FailsToRead remaining step d1 r1 e d2 r2 → d2.capacity ≡ d1.capacity → HasFailed d r given e d2 r2
   HasRead-failed d d1 d2 r r1 r2 given e continues before failed capacity = record {
     after = record {
@@ -83,6 +90,7 @@ module _ {R : Type 0} (remaining : R → Option (List ℕ)) (step : R → ReadRe
       failed = failed.failed.failed;
     };
     gives = Consumes-kept _ _ _ given before.gives failed.keeps;
-    stays = λ settled. failed.stays (subst (λ m. IsSettled m) (sym (before.stays settled)) settled) ∙ before.stays settled;
+    stays = λ settled. failed.stays (subst (λ m. IsSettled m) (sym (before.stays settled)) settled)
+        ∙ before.stays settled;
     capacity = capacity ∙ before.capacity;
   }

@@ -1,6 +1,8 @@
 -- Slices of a list of bytes.
-use Rattle.std.proofs.Common.{◌≡◌, ℕ, ◌+◌, ◌-◌, ◌<◌, ◌≤◌, List, [], ◌++◌, length, take, drop, slice_index, refl, sym, ap, ◌∙◌, arith}
-use Rattle.std.proofs.lemmas.List.{drop-take, drop-drop, take-append-le, take-take, length-take-le, length-drop, get_or-take, get_or-drop}
+use Rattle.std.proofs.Common.{◌≡◌, ℕ, ◌+◌, ◌-◌, ◌<◌, ◌≤◌, List, [], ◌++◌, length, take, drop, slice_index, refl, sym}
+use Rattle.std.proofs.Common.{ap, ◌∙◌, arith}
+use Rattle.std.proofs.lemmas.List.{drop-take, drop-drop, take-append-le, take-take, length-take-le, length-drop}
+use Rattle.std.proofs.lemmas.List.{get_or-take, get_or-drop}
 use Rattle.std.proofs.Math.Seq.{take-add}
 use Rattle.std.proofs.lemmas.Slice.{between_is}
 use lib.Seq.{paste}
@@ -16,7 +18,8 @@ pub slice-none : (bytes : List ℕ) (start : ℕ) → slice bytes start start �
 slice-none bytes start = let none : start - start ≡ 0 = omega arith in rw none refl
 
 -- a slice that starts n positions later
-pub drop-slice : (bytes : List ℕ) (start end n : ℕ) → n ≤ end - start → drop n (slice bytes start end) ≡ slice bytes (start + n) end
+pub drop-slice : (bytes : List ℕ) (start end n : ℕ) → n ≤ end - start → drop n (slice bytes start end)
+    ≡ slice bytes (start + n) end
 drop-slice bytes start end n fits =
     let sum : end - start ≡ n + (end - (start + n)) = omega arith in
     ap (λ k. drop n (take k (drop start bytes))) sum ∙ drop-take n (end - (start + n)) (drop start bytes)
@@ -40,7 +43,8 @@ slice-moved bytes start end order within =
     let all : end - start ≤ length moved = omega arith in
     let same : end - start ≤ end - start = omega arith in
     ap (λ k. take k (paste bytes 0 (drop start bytes) (end - start))) none
-    ∙ take-append-le (end - start) moved (drop (0 + (end - start)) bytes) all ∙ take-take (end - start) (end - start) (drop start bytes) same
+    ∙ take-append-le (end - start) moved (drop (0 + (end - start)) bytes) all
+    ∙ take-take (end - start) (end - start) (drop start bytes) same
 
 -- a slice of a front that stayed
 pub slice-kept : (old new : List ℕ) (a b e : ℕ) → take e new ≡ take e old → b ≤ e → slice new a b ≡ slice old a b
@@ -54,13 +58,17 @@ pub slice-grown : (old new : List ℕ) (a e n : ℕ) → take e new ≡ take e o
 slice-grown old new a e n same below =
     let top : e ≤ e + n = omega arith in
     let left : (e + n) - e ≡ n = omega arith in
-    sym (slice-join new a e (e + n) below top) ∙ ap (λ l. l ++ slice new e (e + n)) (slice-kept old new a e e same (omega arith))
+    sym (slice-join new a e (e + n) below top) ∙ ap (λ l. l ++ slice new e (e + n))
+    (slice-kept old new a e e same (omega arith))
     ∙ ap (λ k. slice old a e ++ take k (drop e new)) left
 
 -- a slice of bytes that others follow
 pub slice-front : (bytes more : List ℕ) (a b : ℕ) → b ≤ length bytes → slice (bytes ++ more) a b ≡ slice bytes a b
-slice-front bytes more a b within = slice-kept bytes (bytes ++ more) a b b (take-append-le b bytes more within) (omega arith)
+slice-front bytes more a b within = slice-kept bytes (bytes ++ more) a b b (take-append-le b bytes more within)
+    (omega arith)
 
 -- a byte of a slice
-pub slice_index-slice : (bytes : List ℕ) (start end k : ℕ) → k < end - start → slice_index (slice bytes start end) k ≡ slice_index bytes (start + k)
-slice_index-slice bytes start end k within = get_or-take (end - start) (drop start bytes) k 0 within ∙ get_or-drop start bytes k 0
+pub slice_index-slice : (bytes : List ℕ) (start end k : ℕ) → k < end - start → slice_index (slice bytes start end) k
+    ≡ slice_index bytes (start + k)
+slice_index-slice bytes start end k within = get_or-take (end - start) (drop start bytes) k 0 within
+    ∙ get_or-drop start bytes k 0

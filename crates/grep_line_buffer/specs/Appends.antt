@@ -10,7 +10,8 @@ use Rattle.grep_decode.specs.Source.{ReadResult}
 use Rattle.grep_line_buffer.specs.BufferStates.{BufferState, held}
 use Rattle.grep_line_buffer.specs.Detections.{detected, found_in, first_of}
 
--- Detection changed the last bytes that are held, so many of them, and none but these. It never adds one.
+-- Detection changed the last bytes that are held, so many of them, and none but these. It never
+-- adds one.
 pub record Detects (count : ℕ) (old new : BufferState) : Type 0 where
   pub appended : new.rest ≡ take (length old.rest - count) old.rest
       ++ detected old.detection old.terminator (drop (length old.rest - count) old.rest)
@@ -21,7 +22,8 @@ pub record Detects (count : ℕ) (old new : BufferState) : Type 0 where
   pub others : new ≡ record old { rest = new.rest; free = new.free; binary = new.binary }
 
 module _ {R : Type 0} (remaining : R → Option (List ℕ)) (step : R → ReadResult → R → Type 0) where
-  -- One read of a decoder gave these bytes, none only at the end, and the decoder has settled on a mode.
+  -- One read of a decoder gave these bytes, none only at the end, and the decoder has settled on a
+  -- mode.
   pub record Reads (decoder : DecoderState) (reader : R) (given : List ℕ)
       (decoder' : DecoderState) (reader' : R) : Type 0 where
     pub decodes : Decodes remaining step decoder reader given decoder' reader'

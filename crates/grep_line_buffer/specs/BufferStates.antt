@@ -1,14 +1,17 @@
 -- What contracts see of a line buffer.
-use Rattle.std.specs.Prelude.{◌≡◌, ◌≢◌, ◌⊎◌, ℕ, ◌+◌, ◌*◌, ◌-◌, ◌<◌, ◌≤◌, Bool, true, false, List, [], ◌++◌, length}
-use Rattle.std.specs.Prelude.{drop, All, Option, None, Some, is_some, ◌&&◌, if◌then◌else◌, slice_index}
+use Rattle.std.specs.Prelude.{◌≡◌, ◌≢◌, ◌⊎◌, ℕ, ◌+◌, ◌*◌, ◌-◌, ◌<◌, ◌≤◌, Bool, true, false, List}
+use Rattle.std.specs.Prelude.{[], ◌++◌, length}
+use Rattle.std.specs.Prelude.{drop, All, Option, None, Some, is_some, ◌&&◌, if◌then◌else◌}
+use Rattle.std.specs.Prelude.{slice_index}
 use Rattle.std.specs.Option.{option_map}
 use Rattle.std.specs.Io.KnownBytes.{prepend_known, Keeps}
 use Rattle.grep_line_buffer.specs.declared.detection.Detection.{Detection}
 use Rattle.grep_line_buffer.specs.Detections.{detected, is_quit}
 
--- A line buffer: the bytes that it shows, the bytes that it holds after them, the offset of its first byte in the whole
--- input, its size in bytes, the most that this may become, how many bytes are free, the byte that ends a line, what it
--- does with binary bytes, the offset of the first binary byte that it read, and whether the end of the input was seen.
+-- A line buffer: the bytes that it shows, the bytes that it holds after them, the offset of its
+-- first byte in the whole input, its size in bytes, the most that this may become, how many bytes
+-- are free, the byte that ends a line, what it does with binary bytes, the offset of the first
+-- binary byte that it read, and whether the end of the input was seen.
 pub record BufferState : Type 0 where
   pub shown : List ℕ
   pub rest : List ℕ
@@ -58,7 +61,8 @@ abbrev pub IsWithin : Option ℕ → ℕ → Type 0
 IsWithin None n = Unit {0}
 IsWithin (Some most) n = n ≤ most
 
--- what a buffer will hold of the bytes that are still to come, if they are known: nothing once the input was cut
+-- what a buffer will hold of the bytes that are still to come, if they are known: nothing once the
+-- input was cut
 abbrev pub coming_to : BufferState → Option (List ℕ) → Option (List ℕ)
 coming_to w coming =
     if is_cut w then Some [] else option_map (detected w.detection w.terminator) coming
@@ -71,7 +75,8 @@ stream w coming = prepend_known (held w) (coming_to w coming)
 abbrev pub KeepsStream : BufferState → BufferState → Option (List ℕ) → Option (List ℕ) → Type 0
 KeepsStream old new before after = Keeps (stream old before) (stream new after)
 
--- a fill changes nothing but what is held and shown, the size, what was found, and whether the end was seen
+-- a fill changes nothing but what is held and shown, the size, what was found, and whether the end
+-- was seen
 pub record IsSameBuffer (old new : BufferState) : Type 0 where
   pub offset : new.offset ≡ old.offset
   pub limit : new.limit ≡ old.limit
@@ -84,7 +89,8 @@ GrowsIfFull old new = (new.size ≡ old.size)
     ⊎ (old.size < new.size) × (old.size ≤ length (held new))
     × (new.size ≤ 2 * length (held new) + 1)
 
--- Some of the bytes that were read last end a line, and just after the last of these the shown bytes end.
+-- Some of the bytes that were read last end a line, and just after the last of these the shown
+-- bytes end.
 pub record ShowsLine (old new : BufferState) (count : ℕ) : Type 0 where
   pub whole : held new ≡ held old
   pub ends : EndsWith old.terminator new.shown
@@ -117,7 +123,8 @@ pub record EndsAtByte (new : BufferState) : Type 0 where
 abbrev pub IsFilled : BufferState → BufferState → Type 0
 IsFilled old new = EndsAtLine old new ⊎ (EndsAtEnd old new ⊎ EndsAtByte new)
 
--- after a fill that failed: the bytes that were held before are shown, and what came since has no terminator
+-- after a fill that failed: the bytes that were held before are shown, and what came since has no
+-- terminator
 pub record HasNoLine (old new : BufferState) : Type 0 where
   pub shown : new.shown ≡ held old
   pub none : Lacks old.terminator new.rest

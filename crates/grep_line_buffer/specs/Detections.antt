@@ -1,8 +1,10 @@
 -- What a buffer holds of the bytes that it reads, by its detection.
-use Rattle.std.specs.Prelude.{ℕ, ◌+◌, Bool, true, false, ◌==◌, if◌then◌else◌, List, map, take, Option, None, Some}
+use Rattle.std.specs.Prelude.{ℕ, ◌+◌, Bool, true, false, ◌==◌, if◌then◌else◌, List, map, take}
+use Rattle.std.specs.Prelude.{Option, None, Some}
 use Rattle.std.specs.List.{position, position_or_len}
 use Rattle.grep_line_buffer.specs.declared.detection.Detection.{Detection}
-use Rattle.grep_line_buffer.specs.declared.detection.Detection.TheVariants.{None as no_detection, Quit, Convert}
+use Rattle.grep_line_buffer.specs.declared.detection.Detection.TheVariants.{None as no_detection}
+use Rattle.grep_line_buffer.specs.declared.detection.Detection.TheVariants.{Quit, Convert}
 
 -- whether the input ends at a binary byte
 abbrev pub is_quit : Detection → Bool

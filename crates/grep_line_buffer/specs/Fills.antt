@@ -1,11 +1,13 @@
 -- What a fill of a line buffer reads, and why it fails.
-use Rattle.std.specs.Prelude.{◌≡◌, ◌≢◌, ℕ, ◌+◌, ◌^◌, ◌<◌, ◌≤◌, List, [], ◌++◌, length, Option, Some, true, false, Result, Ok, Err}
+use Rattle.std.specs.Prelude.{◌≡◌, ◌≢◌, ℕ, ◌+◌, ◌^◌, ◌<◌, ◌≤◌, List, [], ◌++◌, length, Option, Some}
+use Rattle.std.specs.Prelude.{true, false, Result, Ok, Err}
 use Rattle.std.specs.Option.{option_map}
 use Rattle.std.specs.declared.io.Error.{Error}
 use Rattle.grep_decode.specs.DecoderStates.{DecoderState, Decodes}
 use Rattle.grep_decode.specs.Source.{ReadResult}
 use Rattle.grep_line_buffer.specs.declared.fill_error.FillError.{FillError}
-use Rattle.grep_line_buffer.specs.declared.fill_error.FillError.TheVariants.{Read, HeapLimit, Offset, Memory}
+use Rattle.grep_line_buffer.specs.declared.fill_error.FillError.TheVariants.{Read, HeapLimit}
+use Rattle.grep_line_buffer.specs.declared.fill_error.FillError.TheVariants.{Offset, Memory}
 use Rattle.grep_line_buffer.specs.BufferStates.{BufferState, held, is_cut, HasNoLine}
 use Rattle.grep_line_buffer.specs.Detections.{detected, found_in, first_of}
 
@@ -25,8 +27,8 @@ UnlessRead (Err HeapLimit) P = P
 UnlessRead (Err Offset) P = P
 UnlessRead (Err Memory) P = P
 
--- The offset after the bytes that are held is above 2^64 - 1. If the offset after the bytes that were held before
--- isn't, these are shown; else nothing changed.
+-- The offset after the bytes that are held is above 2^64 - 1. If the offset after the bytes that
+-- were held before isn't, these are shown; else nothing changed.
 pub record PassesOffsets (old new : BufferState) : Type 0 where
   pub past : 2 ^ 64 ≤ new.offset + length (held new)
   pub shown : old.offset + length (held old) < 2 ^ 64 → new.shown ≡ held old
@@ -51,9 +53,10 @@ FillFails old new Offset = PassesOffsets old new
 FillFails old new Memory = HasNoLine old new × MayGrow new
 
 module _ {R : Type 0} (remaining : R → Option (List ℕ)) (step : R → ReadResult → R → Type 0) where
-  -- Reads of the decoder gave some bytes. What detection makes of these was appended to what the buffer held, and the
-  -- offset of the first binary byte is known. If the input was cut before, nothing was read. The buffer had room for
-  -- all that was given, also for what came after a byte that ends the input.
+  -- Reads of the decoder gave some bytes. What detection makes of these was appended to what the
+  -- buffer held, and the offset of the first binary byte is known. If the input was cut before,
+  -- nothing was read. The buffer had room for all that was given, also for what came after a byte
+  -- that ends the input.
   pub record Fills (old : BufferState) (decoder : DecoderState) (reader : R) (new : BufferState)
       (decoder' : DecoderState) (reader' : R) : Type 0 where
     pub given : List ℕ
@@ -65,8 +68,8 @@ module _ {R : Type 0} (remaining : R → Option (List ℕ)) (step : R → ReadRe
     pub fits : 0 < length given → length (held old) + length given ≤ new.size
     pub decodes : Decodes remaining step decoder reader given decoder' reader'
 
-  -- The same, and then one more call of the reader returned this error. The decoder has still to give all that it had
-  -- then.
+  -- The same, and then one more call of the reader returned this error. The decoder has still to
+  -- give all that it had then.
   pub record FailsToFill (error : Error) (old : BufferState) (decoder : DecoderState) (reader : R)
       (new : BufferState)
       (decoder' : DecoderState) (reader' : R) : Type 0 where

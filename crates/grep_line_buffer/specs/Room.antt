@@ -1,11 +1,13 @@
--- How a full vector grows, and why it can't. The contracts of private functions cite these definitions; no public
--- contract does.
+-- How a full vector grows, and why it can't. The contracts of private functions cite these
+-- definitions; no public contract does.
 use Rattle.std.specs.Prelude.{◌≡◌, ◌≢◌, ◌⊎◌, ℕ, ◌*◌, ◌<◌, ◌≤◌, max, min, Option, Some, None}
 use Rattle.grep_line_buffer.specs.declared.fill_error.FillError.{FillError}
-use Rattle.grep_line_buffer.specs.declared.fill_error.FillError.TheVariants.{Read, HeapLimit, Offset, Memory}
+use Rattle.grep_line_buffer.specs.declared.fill_error.FillError.TheVariants.{Read, HeapLimit}
+use Rattle.grep_line_buffer.specs.declared.fill_error.FillError.TheVariants.{Offset, Memory}
 use Rattle.grep_line_buffer.specs.Contents.{first_size}
 
--- the size to which a full vector of this size grows: twice that, at first `least`, and never more than the limit
+-- the size to which a full vector of this size grows: twice that, at first `least`, and never more
+-- than the limit
 abbrev pub next_size : ℕ → Option ℕ → ℕ → ℕ
 next_size least None size = max least (2 * size)
 next_size least (Some most) size = min most (max least (2 * size))

@@ -4,7 +4,8 @@ ghost use Rattle.std.specs.Prelude.{OnOk, OnErr, IfErr, replicate, take, vec_len
 ghost use Rattle.std.specs.Io.KnownBytes.{Consumes, IsAtEnd};
 ghost use Rattle.grep_decode.specs.Source.{FailsWith};
 ghost use Rattle.grep_decode.specs.declared.mode.Mode.TheVariants.{Passing};
-ghost use Rattle.grep_decode.specs.DecoderStates.{Decodes, IsDone, IsSettled, IsWaiting, TakesAtMost};
+ghost use Rattle.grep_decode.specs.DecoderStates.{Decodes, IsDone, IsSettled, IsWaiting};
+ghost use Rattle.grep_decode.specs.DecoderStates.{TakesAtMost};
 ghost use Rattle.grep_decode.specs.DecoderStates.{runs_ahead, yet};
 ghost use Rattle.grep_line_buffer.specs.Contents.{first_size, IsBelow, ContentsFail, FailsAfter};
 ghost use Rattle.grep_line_buffer.specs.BufferStates.{IsWithin};
@@ -20,16 +21,18 @@ use std::alloc::{AllocError, Allocator};
 // For how many bytes there is room at first, if the limit isn't lower.
 const FIRST_SIZE: usize = 65_536;
 
-/// Reads the decoded bytes of a reader to its end. `contents` is cleared first, and its memory is kept.
+/// Reads the decoded bytes of a reader to its end. `contents` is cleared first, and its memory is
+/// kept.
 ///
-/// The contents have to be shorter than `limit`, if there is one: once `limit` bytes have come, the error is
-/// `FillError::HeapLimit`, and nothing more is read. There is room for 65,536 bytes at first, and then for twice as
-/// many whenever it is used up, but never for more than the limit. Of that, at most 65,536 bytes at a time are set to
-/// zero, and each read asks for what is left of these. Once a read has returned none, no other is made.
+/// The contents have to be shorter than `limit`, if there is one: once `limit` bytes have come, the
+/// error is `FillError::HeapLimit`, and nothing more is read. There is room for 65,536 bytes at
+/// first, and then for twice as many whenever it is used up, but never for more than the limit. Of
+/// that, at most 65,536 bytes at a time are set to zero, and each read asks for what is left of
+/// these. Once a read has returned none, no other is made.
 ///
-/// `FillError::Read` is the reader's own error, also one of kind `Interrupted`, and `Memory` means that the room was
-/// used up, might grow, and there was no memory. `Offset` isn't returned. After each error `contents` has the bytes
-/// that came before it.
+/// `FillError::Read` is the reader's own error, also one of kind `Interrupted`, and `Memory` means
+/// that the room was used up, might grow, and there was no memory. `Offset` isn't returned. After
+/// each error `contents` has the bytes that came before it.
 pub fn read_contents<A: Allocator, B: Allocator, R: Source>(
     decoder: &mut Decoder<A>,
     reader: &mut R,
@@ -55,7 +58,8 @@ pub fn read_contents<A: Allocator, B: Allocator, R: Source>(
         (ContentsFail limit (vec_capacity contents.old) contents.new.items) }
     ensures fault { IfRead result (λ e. FailsWith R.step reader.old e reader.new) }
 
-    // how far the reader is ahead of the contents, and what the decoder holds, if the bytes pass unchanged
+    // how far the reader is ahead of the contents, and what the decoder holds, if the bytes pass
+    // unchanged
     ensures ahead { UnlessRead result (decoder.new.mode ≡ Passing
         → TakesAtMost (R.remaining reader.old) (R.remaining reader.new)
         (length contents.new.items + runs_ahead decoder.old.mode)) }
@@ -86,7 +90,8 @@ pub fn read_contents<A: Allocator, B: Allocator, R: Source>(
     }
 }
 
-// Makes room for another byte after the first `len` ones, if there is none. An error leaves them as they are.
+// Makes room for another byte after the first `len` ones, if there is none. An error leaves them as
+// they are.
 fn make_room<A: Allocator>(
     contents: &mut Vec<u8, A>,
     len: usize,

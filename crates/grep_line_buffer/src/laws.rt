@@ -10,10 +10,11 @@ ghost use Rattle.grep_line_buffer.specs.Fills.{Fills, FailsToFill};
 use grep_decode::Source;
 use grep_decode::laws::{reads_continue, reads_fail};
 
-/// Over many fills of a line buffer, with `gone` the bytes that were consumed: these and what the buffer holds are what
-/// detection makes of the bytes that reads of the decoder gave since the first fill, and the offset of the first binary
-/// byte is where it is among these. That stays so by a fill (`fills`) and by `consume` (`consumed`). An error of the reader
-/// is then the last of its calls since the first fill (`fails`); what came before it is a fill (`FailsToFill.fills`).
+/// Over many fills of a line buffer, with `gone` the bytes that were consumed: these and what the
+/// buffer holds are what detection makes of the bytes that reads of the decoder gave since the
+/// first fill, and the offset of the first binary byte is where it is among these. That stays so by
+/// a fill (`fills`) and by `consume` (`consumed`). An error of the reader is then the last of its
+/// calls since the first fill (`fails`); what came before it is a fill (`FailsToFill.fills`).
 pub fn fills_continue<R: Source>()
     ensures fills { (old new : BufferState) (d d1 d2 : DecoderState) (r r1 r2 : R)
         (gone given : List ℕ)

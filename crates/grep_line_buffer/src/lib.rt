@@ -1,5 +1,5 @@
-//! A buffer over a reader's decoded bytes that shows whole lines of them, in bounded memory. It follows grep-searcher's
-//! module `line_buffer`. And all of a reader's decoded bytes in a vector.
+//! A buffer over a reader's decoded bytes that shows whole lines of them, in bounded memory. It
+//! follows grep-searcher's module `line_buffer`. And all of a reader's decoded bytes in a vector.
 #![tactic(auto)]
 
 mod contents;

@@ -1,21 +1,28 @@
 //! A buffer over a reader that shows whole lines.
-ghost use Rattle.std.specs.Prelude.{◌≡◌, ◌≢◌, ◌⊎◌, ◌↔◌, ◌<◌, ◌≤◌, ◌+◌, ◌*◌, ◌-◌, ◌^◌, ◌++◌, ℕ, List, [], ◌∷◌, true};
-ghost use Rattle.std.specs.Prelude.{false, Err, None, Some, length, take, drop, IsTrue, IsOk, IfOk, IfErr, IfSome};
-ghost use Rattle.std.specs.Prelude.{IfNone, OnOk, OnErr, MatchBool, slice_index, replicate, vec_len};
+ghost use Rattle.std.specs.Prelude.{◌≡◌, ◌≢◌, ◌⊎◌, ◌↔◌, ◌<◌, ◌≤◌, ◌+◌, ◌*◌, ◌-◌, ◌^◌, ◌++◌, ℕ};
+ghost use Rattle.std.specs.Prelude.{List, [], ◌∷◌, true};
+ghost use Rattle.std.specs.Prelude.{false, Err, None, Some, length, take, drop, IsTrue, IsOk, IfOk};
+ghost use Rattle.std.specs.Prelude.{IfErr, IfSome};
+ghost use Rattle.std.specs.Prelude.{IfNone, OnOk, OnErr, MatchBool, slice_index, replicate};
+ghost use Rattle.std.specs.Prelude.{vec_len};
 ghost use Rattle.std.specs.Io.KnownBytes.{IsAtEnd};
 ghost use Rattle.std.specs.Option.{option_map};
 ghost use Rattle.std.specs.Io.{ReadsAtMost};
 ghost use lib.Seq.{paste};
 ghost use Rattle.grep_decode.specs.Source.{FailsWith};
 ghost use Rattle.grep_decode.specs.declared.mode.Mode.TheVariants.{Passing};
-ghost use Rattle.grep_decode.specs.DecoderStates.{IsDone, IsSettled, IsWaiting, TakesAtMost, runs_ahead};
+ghost use Rattle.grep_decode.specs.DecoderStates.{IsDone, IsSettled, IsWaiting, TakesAtMost};
+ghost use Rattle.grep_decode.specs.DecoderStates.{runs_ahead};
 ghost use Rattle.grep_decode.specs.DecoderStates.{yet};
 ghost use Rattle.grep_lines.specs.Positions.{slice};
-ghost use Rattle.grep_line_buffer.specs.BufferStates.{BufferState, empty_buffer, held, Lacks, IsWithin, IsSameBuffer};
-ghost use Rattle.grep_line_buffer.specs.BufferStates.{GrowsIfFull, ShowsLine, IsFilled, HasNoLine, KeepsStream};
+ghost use Rattle.grep_line_buffer.specs.BufferStates.{BufferState, empty_buffer, held, Lacks};
+ghost use Rattle.grep_line_buffer.specs.BufferStates.{IsWithin, IsSameBuffer};
+ghost use Rattle.grep_line_buffer.specs.BufferStates.{GrowsIfFull, ShowsLine, IsFilled, HasNoLine};
+ghost use Rattle.grep_line_buffer.specs.BufferStates.{KeepsStream};
 ghost use Rattle.grep_line_buffer.specs.BufferStates.{is_cut};
 ghost use Rattle.grep_line_buffer.specs.Detections.{byte_offset, first_of, is_quit};
-ghost use Rattle.grep_line_buffer.specs.Fills.{IfRead, UnlessRead, IsAtLimit, FillFails, Fills, FailsToFill};
+ghost use Rattle.grep_line_buffer.specs.Fills.{IfRead, UnlessRead, IsAtLimit, FillFails, Fills};
+ghost use Rattle.grep_line_buffer.specs.Fills.{FailsToFill};
 ghost use Rattle.grep_line_buffer.specs.declared.fill_error.FillError.TheVariants.{HeapLimit};
 ghost use Rattle.grep_line_buffer.specs.Appends.{Appends, Detects, FailsToRead};
 ghost use Rattle.grep_line_buffer.specs.Room.{IsFullFault};
@@ -33,8 +40,8 @@ use std::marker::Model;
 
 /// A buffer over a reader's decoded bytes, which shows whole lines of them.
 ///
-/// `fill` reads up to the end of a line, `buffer` shows the lines that were read, and `consume` moves past them. The
-/// buffer grows if a line is longer than it, up to its limit.
+/// `fill` reads up to the end of a line, `buffer` shows the lines that were read, and `consume`
+/// moves past them. The buffer grows if a line is longer than it, up to its limit.
 #[derive(Drop)]
 pub struct LineBuffer<A: Allocator> {
     bytes: Vec<u8, A>,
@@ -45,7 +52,8 @@ pub struct LineBuffer<A: Allocator> {
     limit: Option<usize>,
     terminator: u8,
     detection: Detection,
-    // the buffer's offset when the first binary byte was read, and the byte's index among those held then
+    // the buffer's offset when the first binary byte was read, and the byte's index among those
+    // held then
     binary: Option<(u64, usize)>,
     has_ended: bool,
 }
@@ -76,8 +84,9 @@ impl<A: Allocator> Model for LineBuffer<A> {
 }
 
 impl<A: Allocator> LineBuffer<A> {
-    /// An empty buffer of `capacity` bytes, at offset 0, whose lines end with the byte `terminator`. It grows up to
-    /// `limit` bytes, or without a limit for `None`. The caller ensures that `capacity` is at most the limit.
+    /// An empty buffer of `capacity` bytes, at offset 0, whose lines end with the byte
+    /// `terminator`. It grows up to `limit` bytes, or without a limit for `None`. The caller
+    /// ensures that `capacity` is at most the limit.
     ///
     /// An error is one of being out of memory.
     pub fn new(
@@ -105,7 +114,8 @@ impl<A: Allocator> LineBuffer<A> {
         })
     }
 
-    /// Empties the buffer, for another input, and forgets the binary byte. Its size stays, so no memory is taken.
+    /// Empties the buffer, for another input, and forgets the binary byte. Its size stays, so no
+    /// memory is taken.
     pub fn clear(&mut self)
         ensures { self.new
             ≡ empty_buffer self.old.size self.old.limit self.old.terminator self.old.detection }
@@ -118,8 +128,8 @@ impl<A: Allocator> LineBuffer<A> {
         self.has_ended = false;
     }
 
-    /// Sets what the buffer does with binary bytes. The caller ensures that nothing was filled since `new` or `clear`:
-    /// bytes that were read stay as they are.
+    /// Sets what the buffer does with binary bytes. The caller ensures that nothing was filled
+    /// since `new` or `clear`: bytes that were read stay as they are.
     pub fn set_binary_detection(&mut self, detection: Detection)
         requires { self.old.binary ≡ None }
         ensures { self.new ≡ record self.old { detection = detection } }
@@ -145,8 +155,9 @@ impl<A: Allocator> LineBuffer<A> {
         self.offset
     }
 
-    /// The offset of the first binary byte that was read, from the start of the decoded input. An offset above
-    /// 2^64 - 1, which comes only with `FillError::Offset`, is returned as that number.
+    /// The offset of the first binary byte that was read, from the start of the decoded input. An
+    /// offset above 2^64 - 1, which comes only with `FillError::Offset`, is returned as that
+    /// number.
     pub fn binary_byte_offset(&self) -> Option<u64>
         ensures exact { self.now.offset + length (held self.now) < 2 ^ 64
             → result ≡ self.now.binary }
@@ -159,7 +170,8 @@ impl<A: Allocator> LineBuffer<A> {
         }
     }
 
-    /// Moves past the first `count` bytes of those that are shown. The caller ensures that so many are shown.
+    /// Moves past the first `count` bytes of those that are shown. The caller ensures that so many
+    /// are shown.
     pub fn consume(&mut self, count: usize)
         requires { count ≤ length self.old.shown }
         ensures { self.new ≡ record self.old {
@@ -173,22 +185,23 @@ impl<A: Allocator> LineBuffer<A> {
 
     /// Reads up to the end of a line, and returns whether any byte is shown then.
     ///
-    /// What isn't consumed is moved to the front, and the decoder is read until a terminator comes or nothing is left.
-    /// The shown bytes then end just after the last terminator that was read, or are all bytes that are left. Once the
-    /// end was seen, nothing is read. Each read asks for as many bytes as are free. A full buffer grows to twice its
-    /// size, or up to its limit.
+    /// What isn't consumed is moved to the front, and the decoder is read until a terminator comes
+    /// or nothing is left. The shown bytes then end just after the last terminator that was read,
+    /// or are all bytes that are left. Once the end was seen, nothing is read. Each read asks for
+    /// as many bytes as are free. A full buffer grows to twice its size, or up to its limit.
     ///
-    /// `Detection::Quit` ends the input at its byte, as if nothing were left, and `Detection::Convert` makes each of
-    /// its bytes the terminator as it is read.
+    /// `Detection::Quit` ends the input at its byte, as if nothing were left, and
+    /// `Detection::Convert` makes each of its bytes the terminator as it is read.
     ///
-    /// The decoder and the reader are those of the earlier fills since `new` or `clear`: if they are others, the
-    /// bytes of both follow one another.
+    /// The decoder and the reader are those of the earlier fills since `new` or `clear`: if they
+    /// are others, the bytes of both follow one another.
     ///
-    /// `FillError::Read` is the reader's own error. `HeapLimit` means that the buffer is full, is at its limit and
-    /// holds no terminator that was read in this call, and `Memory` that it is full likewise, may grow, and there
-    /// was no memory. `Offset` means that the offset after the bytes that it holds is above 2^64 - 1. After an error
-    /// the buffer shows what wasn't consumed before the call, an unfinished line too, and nothing that was read is
-    /// lost: a further call goes on from there. Only after `Offset` each further call returns the same error.
+    /// `FillError::Read` is the reader's own error. `HeapLimit` means that the buffer is full, is
+    /// at its limit and holds no terminator that was read in this call, and `Memory` that it is
+    /// full likewise, may grow, and there was no memory. `Offset` means that the offset after the
+    /// bytes that it holds is above 2^64 - 1. After an error the buffer shows what wasn't consumed
+    /// before the call, an unfinished line too, and nothing that was read is lost: a further call
+    /// goes on from there. Only after `Offset` each further call returns the same error.
     pub fn fill<B: Allocator, R: Source>(
         &mut self,
         decoder: &mut Decoder<B>,
@@ -199,7 +212,8 @@ impl<A: Allocator> LineBuffer<A> {
         ensures grows { GrowsIfFull self.old self.new }
         ensures capacity { decoder.new.capacity ≡ decoder.old.capacity }
 
-        // what was held is followed by what detection makes of bytes that the decoder gave, and nothing is lost
+        // what was held is followed by what detection makes of bytes that the decoder gave, and
+        // nothing is lost
         ensures reads { UnlessRead result
             (Fills R.remaining R.step self.old decoder.old reader.old self.new decoder.new
             reader.new) }
@@ -219,7 +233,8 @@ impl<A: Allocator> LineBuffer<A> {
         ensures uncut { IfRead result (λ _. is_cut self.new ≡ false) }
         ensures fits { OnOk result (self.new.offset + length (held self.new) < 2 ^ 64) }
 
-        // Nothing is left once the end was seen, unless a byte ended the input, and nothing is read then.
+        // Nothing is left once the end was seen, unless a byte ended the input, and nothing is read
+        // then.
         ensures done { (self.old.has_ended ≡ true → is_cut self.old ≡ false → IsDone decoder.old)
             → self.new.has_ended ≡ true → is_cut self.new ≡ false → IsDone decoder.new }
         ensures end { (self.old.has_ended ≡ true → is_cut self.old ≡ false
@@ -229,7 +244,8 @@ impl<A: Allocator> LineBuffer<A> {
         ensures ended { self.old.has_ended ≡ true → IsOk result × (self.new ≡ self.old)
             × (decoder.new ≡ decoder.old) × (reader.new ≡ reader.old) }
 
-        // how far the reader is ahead of what was appended, and what the decoder holds, if the bytes pass unchanged
+        // how far the reader is ahead of what was appended, and what the decoder holds, if the
+        // bytes pass unchanged
         ensures ahead { OnOk result (is_cut self.new ≡ false → decoder.new.mode ≡ Passing
             → TakesAtMost (R.remaining reader.old) (R.remaining reader.new)
             (length (held self.new) - length (held self.old) + runs_ahead decoder.old.mode)) }
@@ -338,7 +354,8 @@ impl<A: Allocator> LineBuffer<A> {
         enlarge(&mut self.bytes, 1, self.limit)
     }
 
-    // Reads once into the free part, just after the bytes that are held, and returns how many bytes came.
+    // Reads once into the free part, just after the bytes that are held, and returns how many bytes
+    // came.
     fn read<B: Allocator, R: Source>(
         &mut self,
         decoder: &mut Decoder<B>,
@@ -364,8 +381,8 @@ impl<A: Allocator> LineBuffer<A> {
         }
     }
 
-    // Looks for binary bytes in the last `count` bytes that are held, and replaces them, or drops the first one that
-    // ends the input and what follows it.
+    // Looks for binary bytes in the last `count` bytes that are held, and replaces them, or drops
+    // the first one that ends the input and what follows it.
     fn detect(&mut self, count: usize)
         requires ended { self.old.has_ended ≡ false }
         requires count { count ≤ length self.old.rest }

@@ -1,6 +1,8 @@
 //! Room in a vector of bytes, and reads into it.
-ghost use Rattle.std.specs.Prelude.{◌≡◌, ◌≢◌, ◌<◌, ◌≤◌, ◌+◌, ◌-◌, ◌^◌, ◌++◌, Some, length, take, drop, IfOk};
-ghost use Rattle.std.specs.Prelude.{IfErr, IfSome, IfNone, OnOk, OnErr, replicate, vec_len, vec_capacity};
+ghost use Rattle.std.specs.Prelude.{◌≡◌, ◌≢◌, ◌<◌, ◌≤◌, ◌+◌, ◌-◌, ◌^◌, ◌++◌, Some, length, take};
+ghost use Rattle.std.specs.Prelude.{drop, IfOk};
+ghost use Rattle.std.specs.Prelude.{IfErr, IfSome, IfNone, OnOk, OnErr, replicate, vec_len};
+ghost use Rattle.std.specs.Prelude.{vec_capacity};
 ghost use Rattle.std.specs.Io.{ReadsAtMost};
 ghost use Rattle.grep_line_buffer.specs.BufferStates.{IsWithin};
 ghost use Rattle.grep_line_buffer.specs.Appends.{FailsToRead, Reads};
@@ -11,7 +13,8 @@ use grep_decode::{Decoder, Source};
 use std::alloc::{AllocError, Allocator};
 use std::io;
 
-// Fills up a vector with zeros to its next size. An error leaves the bytes as they are, and is `HeapLimit` or `Memory`.
+// Fills up a vector with zeros to its next size. An error leaves the bytes as they are, and is
+// `HeapLimit` or `Memory`.
 pub(crate) fn enlarge<A: Allocator>(
     bytes: &mut Vec<u8, A>,
     least: usize,

@@ -1,5 +1,6 @@
 -- What is equal in a vector of 64 bytes, counted lane by lane.
-use Rattle.std.proofs.Common.{zero, suc, take, drop, ◌≡◌, ◌≤◌, ◌+◌, ◌==◌, ◌^◌, ◌-◌, ◌/◌, ◌*◌, shr-shr, ℕ, Bool, true, false, eqb, length, count_by, List, [], ◌∷◌, map, refl, sym, ◌∙◌, ap, subst, arith, w8}
+use Rattle.std.proofs.Common.{zero, suc, take, drop, ◌≡◌, ◌≤◌, ◌+◌, ◌==◌, ◌^◌, ◌-◌, ◌/◌, ◌*◌, shr-shr, ℕ, Bool, true}
+use Rattle.std.proofs.Common.{false, eqb, length, count_by, List, [], ◌∷◌, map, refl, sym, ◌∙◌, ap, subst, arith, w8}
 use lib.Lanes.{Each1, Each2, mask_l, sel_l, sum_l, top, zip2}
 use mathlib.Core.Bool.{cond}
 use mir.Val.{Fits, bits, hbits}
@@ -12,7 +13,8 @@ use Rattle.std.proofs.lemmas.Simd.{Each1-zip2, Each2-of, sum-zip2, sum_bound, to
 abbrev pub ones : (ℕ → Bool) → List ℕ → List ℕ
 ones p xs = map (λ x. cond (p x) 1 0) xs
 
-selected : (p : ℕ → Bool) (xs : List ℕ) → sel_l (map p xs) (replicate (length xs) 1) (replicate (length xs) 0) ≡ ones p xs
+selected : (p : ℕ → Bool) (xs : List ℕ) → sel_l (map p xs) (replicate (length xs) 1) (replicate (length xs) 0)
+    ≡ ones p xs
 selected p [] = refl
 selected p (x ∷ xs) = ap (λ ys. cond (p x) 1 0 ∷ ys) (selected p xs)
 
@@ -50,7 +52,8 @@ pub equal-ones : (xs : List ℕ) (t : ℕ) → length xs ≡ 64
     → sel_l (map (top (hbits w8)) (zip2 (λ a b. cond (eqb a b) (2 ^ bits w8 - 1) 0) xs (replicate 64 t)))
     (replicate 64 1) (replicate 64 0) ≡ ones (λ x. eqb x t) xs
 equal-ones xs t long =
-    ap (λ ms. sel_l ms (replicate 64 1) (replicate 64 0)) (tops_compared w8 eqb xs (replicate 64 t) ∙ zip2_splat eqb xs 64 t long)
+    ap (λ ms. sel_l ms (replicate 64 1) (replicate 64 0))
+    (tops_compared w8 eqb xs (replicate 64 t) ∙ zip2_splat eqb xs 64 t long)
     ∙ subst (λ n. sel_l (map (λ x. eqb x t) xs) (replicate n 1) (replicate n 0) ≡ ones (λ x. eqb x t) xs) long
     (selected (λ x. eqb x t) xs)
 
@@ -61,11 +64,14 @@ module _ (lanes xs : List ℕ) (p : ℕ → Bool) where
       (λ a b low one. record { fits = omega (arith, low, one) }) lanes (ones p xs) room (few-ones p xs)
 
   pub sum-added : length lanes ≡ length xs → sum_l (zip2 (λ a b. a + b) lanes (ones p xs)) ≡ sum_l lanes + count_by p xs
-  sum-added same = sum-zip2 lanes (ones p xs) (same ∙ sym (length-ones p xs)) ∙ ap (λ n. sum_l lanes + n) (sum-ones p xs)
+  sum-added same = sum-zip2 lanes (ones p xs) (same ∙ sym (length-ones p xs))
+      ∙ ap (λ n. sum_l lanes + n) (sum-ones p xs)
 
-  pub few-added : (most : ℕ) → Each1 (λ n. n ≤ most) lanes → Each1 (λ n. n ≤ most + 1) (zip2 (λ a b. a + b) lanes (ones p xs))
+  pub few-added : (most : ℕ) → Each1 (λ n. n ≤ most) lanes
+      → Each1 (λ n. n ≤ most + 1) (zip2 (λ a b. a + b) lanes (ones p xs))
   few-added most few = Each1-zip2 (λ a b. a + b) (λ n. n ≤ most + 1) lanes (ones p xs)
-      (Each2-of (λ n. n ≤ most) (λ n. n ≤ 1) (λ a b. a + b ≤ most + 1) (λ a b low one. omega (arith, low, one)) lanes (ones p xs)
+      (Each2-of (λ n. n ≤ most) (λ n. n ≤ 1) (λ a b. a + b ≤ most + 1) (λ a b low one. omega (arith, low, one)) lanes
+      (ones p xs)
       few (few-ones p xs))
 
 -- a mask without its first bits

@@ -1,5 +1,6 @@
 -- The lines of some bytes have the four properties that make a list their lines, and no other list has them.
-use Rattle.std.proofs.Common.{◌≡◌, ◌≢◌, ℕ, zero, suc, ◌-◌, ◌<◌, List, [], ◌∷◌, ◌++◌, length, drop, slice_index, refl, ap, sym, ◌∙◌, subst}
+use Rattle.std.proofs.Common.{◌≡◌, ◌≢◌, ℕ, zero, suc, ◌-◌, ◌<◌, List, [], ◌∷◌, ◌++◌, length, drop, slice_index, refl}
+use Rattle.std.proofs.Common.{ap, sym, ◌∙◌, subst}
 use Rattle.std.proofs.Common.{arith, length-append, ⊎_elim}
 use Rattle.std.proofs.lemmas.Bool.{cases_eq}
 use Rattle.std.proofs.lemmas.List.{get_or_append_left, take_at, drop_at}
@@ -11,7 +12,8 @@ use Rattle.grep_lines.specs.FirstLine.{IsFirstLine}
 use Rattle.grep_lines.proofs.LineLemmas.{lines-end, lines-inner, lines-first}
 
 -- a byte t in front, as a line of its own
-AreLines-end : (t b : ℕ) (bytes : List ℕ) (ls : List (List ℕ)) → b ≡ t → AreLines t bytes ls → AreLines t (b ∷ bytes) ((b ∷ []) ∷ ls)
+AreLines-end : (t b : ℕ) (bytes : List ℕ) (ls : List (List ℕ)) → b ≡ t → AreLines t bytes ls
+    → AreLines t (b ∷ bytes) ((b ∷ []) ∷ ls)
 AreLines-end t b bytes ls same later = record {
   joined = ap (λ l. b ∷ l) later.joined;
   filled = All-cons (λ piece. 0 < length piece) (b ∷ []) ls (omega arith) later.filled;
@@ -24,7 +26,8 @@ AreLines-end t b bytes ls same later = record {
     end (next ∷ rest) is = (same, is)
 
 -- another byte in front of the first line
-AreLines-inner : (t b : ℕ) (bytes : List ℕ) (ls : List (List ℕ)) → b ≢ t → AreLines t bytes ls → AreLines t (b ∷ bytes) (onto_first b ls)
+AreLines-inner : (t b : ℕ) (bytes : List ℕ) (ls : List (List ℕ)) → b ≢ t → AreLines t bytes ls
+    → AreLines t (b ∷ bytes) (onto_first b ls)
 AreLines-inner t b bytes [] other later = record {
   joined = ap (λ l. b ∷ l) later.joined;
   filled = All-cons (λ piece. 0 < length piece) (b ∷ []) [] (omega arith) later.filled;
@@ -33,7 +36,8 @@ AreLines-inner t b bytes [] other later = record {
 }
 AreLines-inner t b bytes (line ∷ ls) other later = record {
   joined = ap (λ l. b ∷ l) later.joined;
-  filled = All-cons (λ piece. 0 < length piece) (b ∷ line) ls (omega arith) (All-tail (λ piece. 0 < length piece) line ls later.filled);
+  filled = All-cons (λ piece. 0 < length piece) (b ∷ line) ls (omega arith)
+      (All-tail (λ piece. 0 < length piece) line ls later.filled);
   unbroken = All-cons (IsUnbroken t) (b ∷ line) ls (longer line (All-head (IsUnbroken t) line ls later.unbroken))
       (All-tail (IsUnbroken t) line ls later.unbroken);
   ended = end line ls (All-head (λ piece. 0 < length piece) line ls later.filled) later.ended;
@@ -50,12 +54,20 @@ AreLines-inner t b bytes (line ∷ ls) other later = record {
 
 -- the lines have the four properties
 pub AreLines-lines : (t : ℕ) (bytes : List ℕ) → AreLines t bytes (lines t bytes)
-AreLines-lines t [] = record { joined = refl; filled = All-nil (λ piece. 0 < length piece); unbroken = All-nil (IsUnbroken t); ended = tt }
+AreLines-lines t [] = record {
+  joined = refl;
+  filled = All-nil (λ piece. 0 < length piece);
+  unbroken = All-nil
+      (IsUnbroken t);
+  ended = tt;
+}
 AreLines-lines t (b ∷ bytes) =
     let later = AreLines-lines t bytes in
     ⊎_elim
-    (λ same. subst (AreLines t (b ∷ bytes)) (sym (lines-end t b bytes same)) (AreLines-end t b bytes (lines t bytes) same later))
-    (λ other. subst (AreLines t (b ∷ bytes)) (sym (lines-inner t b bytes other)) (AreLines-inner t b bytes (lines t bytes) other later))
+    (λ same. subst (AreLines t (b ∷ bytes)) (sym (lines-end t b bytes same))
+    (AreLines-end t b bytes (lines t bytes) same later))
+    (λ other. subst (AreLines t (b ∷ bytes)) (sym (lines-inner t b bytes other))
+    (AreLines-inner t b bytes (lines t bytes) other later))
     (cases_eq b t)
 
 -- pieces that have the four properties are the lines of what they make when joined
@@ -72,7 +84,8 @@ pieces-lines t (piece ∷ rest) h =
     }) in
     ap (λ ls. piece ∷ ls) later
     ∙ sym (parts ∙ (ap (λ l. l ∷ lines t (drop (length piece) (piece ++ concat rest)))
-    (take_at piece (concat rest) (length piece) refl) ∙ ap (λ l. piece ∷ lines t l) (drop_at piece (concat rest) (length piece) refl)))
+    (take_at piece (concat rest) (length piece) refl)
+    ∙ ap (λ l. piece ∷ lines t l) (drop_at piece (concat rest) (length piece) refl)))
   where
     tail : (more : List (List ℕ)) → AreEnded t (piece ∷ more) → AreEnded t more
     tail [] is = tt
@@ -92,7 +105,8 @@ pieces-lines t (piece ∷ rest) h =
       within = omega (arith, length-append piece (concat more));
       inner = λ i below same. All-head (IsUnbroken t) piece rest h.unbroken i below
           (sym (get_or_append_left piece (concat more) 0 i (omega arith)) ∙ same);
-      closed = λ below. get_or_append_left piece (concat more) 0 (length piece - 1) (omega (arith, some)) ∙ last more is below;
+      closed = λ below. get_or_append_left piece (concat more) 0 (length piece - 1) (omega (arith, some))
+          ∙ last more is below;
     }
 
 -- no other pieces have the four properties

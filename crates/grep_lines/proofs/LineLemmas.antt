@@ -1,5 +1,6 @@
 -- The lines of some bytes, from one byte to the next and over two parts.
-use Rattle.std.proofs.Common.{◌≡◌, ◌≢◌, ℕ, zero, suc, ◌+◌, ◌-◌, ◌<◌, ◌≤◌, ◌==◌, List, [], ◌∷◌, ◌++◌, length, take, drop, slice_index}
+use Rattle.std.proofs.Common.{◌≡◌, ◌≢◌, ℕ, zero, suc, ◌+◌, ◌-◌, ◌<◌, ◌≤◌, ◌==◌, List, [], ◌∷◌, ◌++◌, length, take, drop}
+use Rattle.std.proofs.Common.{slice_index}
 use Rattle.std.proofs.Common.{count_by, refl, ap, ap₂, sym, ◌∙◌, arith, cond, ⊎_elim}
 use Rattle.std.proofs.lemmas.Bool.{cases_eq, eq-eqb, ne_eqb}
 use Rattle.std.proofs.lemmas.List.Sums.{sum_by-cons}
@@ -26,10 +27,12 @@ count-end t b bytes same = let yes = eq-eqb b t same in rw (sum_by-cons (λ x. c
 
 -- another byte doesn't
 count-inner : (t b : ℕ) (bytes : List ℕ) → b ≢ t → count t (b ∷ bytes) ≡ count t bytes
-count-inner t b bytes other = let no = ne_eqb b t other in rw (sum_by-cons (λ x. cond (x == t) 1 0) b bytes, no) (omega arith)
+count-inner t b bytes other = let no = ne_eqb b t other in rw (sum_by-cons (λ x. cond (x == t) 1 0) b bytes, no)
+    (omega arith)
 
 -- a first line without its first byte
-IsFirstLine-tail : (t b : ℕ) (bytes : List ℕ) (e : ℕ) → IsFirstLine t (b ∷ bytes) (suc (suc e)) → IsFirstLine t bytes (suc e)
+IsFirstLine-tail : (t b : ℕ) (bytes : List ℕ) (e : ℕ) → IsFirstLine t (b ∷ bytes) (suc (suc e))
+    → IsFirstLine t bytes (suc e)
 IsFirstLine-tail t b bytes e h = record {
   above = omega arith;
   within = omega (arith, h.within);
@@ -38,7 +41,8 @@ IsFirstLine-tail t b bytes e h = record {
 }
 
 -- a first line with a byte in front of it
-IsFirstLine-cons : (t b : ℕ) (bytes : List ℕ) (e : ℕ) → b ≢ t → IsFirstLine t bytes (suc e) → IsFirstLine t (b ∷ bytes) (suc (suc e))
+IsFirstLine-cons : (t b : ℕ) (bytes : List ℕ) (e : ℕ) → b ≢ t → IsFirstLine t bytes (suc e)
+    → IsFirstLine t (b ∷ bytes) (suc (suc e))
 IsFirstLine-cons t b bytes e other h = record {
   above = omega arith;
   within = omega (arith, h.within);
@@ -65,26 +69,40 @@ first_line t (b ∷ []) some = (
 first_line t (b ∷ c ∷ later) some =
     let rest = first_line t (c ∷ later) (omega arith) in
     ⊎_elim
-    (λ same. (0, record { above = omega arith; within = omega arith; inner = λ i below. absurd (omega arith); closed = λ _. same }))
+    (λ same. (
+      0,
+      record {
+        above = omega arith;
+        within = omega arith;
+        inner = λ i below. absurd (omega arith);
+        closed =
+            λ _. same;
+      },
+    ))
     (λ other. (suc rest.0, IsFirstLine-cons t b (c ∷ later) rest.0 other rest.1))
     (cases_eq b t)
 
 -- the first line, and the lines of what follows it
-pub lines-first : (t : ℕ) (bytes : List ℕ) (e : ℕ) → IsFirstLine t bytes e → lines t bytes ≡ take e bytes ∷ lines t (drop e bytes)
+pub lines-first : (t : ℕ) (bytes : List ℕ) (e : ℕ) → IsFirstLine t bytes e → lines t bytes ≡ take e bytes
+    ∷ lines t (drop e bytes)
 lines-first t [] e h = absurd (omega (arith, h.above, h.within))
 lines-first t (b ∷ bytes) zero h = absurd (omega (arith, h.above))
-lines-first t (b ∷ []) (suc zero) h = ⊎_elim (λ same. lines-end t b [] same) (λ other. lines-inner t b [] other) (cases_eq b t)
+lines-first t (b ∷ []) (suc zero) h = ⊎_elim (λ same. lines-end t b [] same) (λ other. lines-inner t b [] other)
+    (cases_eq b t)
 lines-first t (b ∷ c ∷ later) (suc zero) h = lines-end t b (c ∷ later) (h.closed (omega arith))
 lines-first t (b ∷ bytes) (suc (suc e)) h = lines-inner t b bytes (h.inner 0 (omega arith))
     ∙ ap (onto_first b) (lines-first t bytes (suc e) (IsFirstLine-tail t b bytes e h))
 
 -- the same of two parts
-pub lines-parts : (t : ℕ) (bytes line rest : List ℕ) (e : ℕ) → IsFirstLine t bytes e → line ≡ take e bytes → rest ≡ drop e bytes
+pub lines-parts : (t : ℕ) (bytes line rest : List ℕ) (e : ℕ) → IsFirstLine t bytes e → line ≡ take e bytes → rest
+    ≡ drop e bytes
     → lines t bytes ≡ line ∷ lines t rest
-lines-parts t bytes line rest e is_first is_line is_rest = lines-first t bytes e is_first ∙ sym (ap₂ ◌∷◌ is_line (ap (lines t) is_rest))
+lines-parts t bytes line rest e is_first is_line is_rest = lines-first t bytes e is_first
+    ∙ sym (ap₂ ◌∷◌ is_line (ap (lines t) is_rest))
 
 -- a first line that isn't the last holds one t
-pub count-first_line : (t : ℕ) (bytes : List ℕ) (e : ℕ) → IsFirstLine t bytes e → e < length bytes → count t (take e bytes) ≡ 1
+pub count-first_line : (t : ℕ) (bytes : List ℕ) (e : ℕ) → IsFirstLine t bytes e → e < length bytes
+    → count t (take e bytes) ≡ 1
 count-first_line t [] e h more = absurd (omega arith)
 count-first_line t (b ∷ bytes) zero h more = absurd (omega (arith, h.above))
 count-first_line t (b ∷ bytes) (suc zero) h more = count-end t b [] (h.closed more)
@@ -109,7 +127,8 @@ IsClosed-tail : (t b c : ℕ) (bytes : List ℕ) → IsClosed t (b ∷ c ∷ byt
 IsClosed-tail t b c bytes closed = λ some. simp unary_clauses (simp unary_clauses at (closed (omega arith)))
 
 -- after such bytes the lines begin anew
-pub lines-append : (t : ℕ) (front back : List ℕ) → IsClosed t front → lines t (front ++ back) ≡ lines t front ++ lines t back
+pub lines-append : (t : ℕ) (front back : List ℕ) → IsClosed t front → lines t (front ++ back) ≡ lines t front
+    ++ lines t back
 lines-append t [] back closed = refl
 lines-append t (b ∷ []) back closed = let same : b ≡ t = closed (omega arith) in
     lines-end t b back same ∙ ap (λ ls. ls ++ lines t back) (sym (lines-end t b [] same))
@@ -123,14 +142,16 @@ lines-append t (b ∷ c ∷ front) back closed =
     ∙ ap (λ ls. ls ++ lines t back) (sym (lines-inner t b (c ∷ front) other)))))
     (cases_eq b t)
   where
-    onto : (first : List (List ℕ)) → 0 < length first → onto_first b (first ++ lines t back) ≡ onto_first b first ++ lines t back
+    onto : (first : List (List ℕ)) → 0 < length first → onto_first b (first ++ lines t back) ≡ onto_first b first
+        ++ lines t back
     onto [] some = absurd (omega arith)
     onto (line ∷ more) some = refl
 
 -- such bytes have as many lines as they have t
 pub lines-closed : (t : ℕ) (bytes : List ℕ) → IsClosed t bytes → length (lines t bytes) ≡ count t bytes
 lines-closed t [] closed = refl
-lines-closed t (b ∷ []) closed = let same : b ≡ t = closed (omega arith) in ap length (lines-end t b [] same) ∙ sym (count-end t b [] same)
+lines-closed t (b ∷ []) closed = let same : b ≡ t = closed (omega arith) in ap length (lines-end t b [] same)
+    ∙ sym (count-end t b [] same)
 lines-closed t (b ∷ c ∷ bytes) closed =
     let later = lines-closed t (c ∷ bytes) (IsClosed-tail t b c bytes closed) in
     ⊎_elim
@@ -149,7 +170,8 @@ pub lines-unclosed : (t : ℕ) (bytes : List ℕ) → 0 < length bytes → slice
 lines-unclosed t [] some last = absurd (omega (arith, some))
 lines-unclosed t (b ∷ []) some last = omega (arith, ap length (lines-inner t b [] last), count-inner t b [] last)
 lines-unclosed t (b ∷ c ∷ bytes) some last =
-    let later = lines-unclosed t (c ∷ bytes) (omega arith) (λ is. last (simp unary_clauses (simp unary_clauses at is))) in
+    let later = lines-unclosed t (c ∷ bytes) (omega arith)
+    (λ is. last (simp unary_clauses (simp unary_clauses at is))) in
     ⊎_elim
     (λ same. omega (arith, ap length (lines-end t b (c ∷ bytes) same), count-end t b (c ∷ bytes) same, later))
     (λ other. ap length (lines-inner t b (c ∷ bytes) other) ∙ (onto (lines t (c ∷ bytes)) (lines-some t c bytes)
@@ -167,7 +189,13 @@ lines-few t (b ∷ bytes) =
     let later = lines-few t bytes in
     ⊎_elim
     (λ same. omega (arith, ap length (lines-end t b bytes same), count-end t b bytes same, later))
-    (λ other. omega (arith, ap length (lines-inner t b bytes other), onto (lines t bytes) later, count-inner t b bytes other))
+    (λ other. omega (
+      arith,
+      ap length (lines-inner t b bytes other),
+      onto (lines t bytes) later,
+      count-inner t b bytes
+          other,
+    ))
     (cases_eq b t)
   where
     onto : (rest : List (List ℕ)) → length rest ≤ count t bytes + 1 → length (onto_first b rest) ≤ count t bytes + 1

@@ -1,5 +1,7 @@
--- Where the line of a position starts and ends, by the number of terminators before the position and by the line's index.
-use Rattle.std.proofs.Common.{◌≡◌, ◌≢◌, ℕ, zero, suc, ◌+◌, ◌-◌, ◌<◌, ◌≤◌, ◌==◌, List, ◌++◌, length, take, drop, slice_index, sym, ◌∙◌, ap}
+-- Where the line of a position starts and ends, by the number of terminators before the position and by the line's
+-- index.
+use Rattle.std.proofs.Common.{◌≡◌, ◌≢◌, ℕ, zero, suc, ◌+◌, ◌-◌, ◌<◌, ◌≤◌, ◌==◌, List, ◌++◌, length, take, drop}
+use Rattle.std.proofs.Common.{slice_index, sym, ◌∙◌, ap}
 use Rattle.std.proofs.Common.{arith, ⊎_elim, subst, take_all, length-drop}
 use Rattle.std.proofs.lemmas.Bool.{cases_lt, lt-ltb, le-ltb, eqb-true, eq-eqb, ne_eqb}
 use Rattle.std.proofs.lemmas.List.{take_at, take-append-drop, get_or-drop, get_or-take, length-take-le}
@@ -19,7 +21,8 @@ module _ (t : ℕ) (bytes : List ℕ) where
   IsBare from end = (i : ℕ) → from ≤ i → i < end → slice_index bytes i ≢ t
 
   -- then as many t come before both
-  count-bare : (from end : ℕ) → from ≤ end → end ≤ length bytes → IsBare from end → count t (take end bytes) ≡ count t (take from bytes)
+  count-bare : (from end : ℕ) → from ≤ end → end ≤ length bytes → IsBare from end → count t (take end bytes)
+      ≡ count t (take from bytes)
   count-bare from zero low within bare = let same : zero ≡ from = omega arith in ap (λ n. count t (take n bytes)) same
   count-bare from (suc end) low within bare = ⊎_elim
       (λ less.
@@ -39,7 +42,8 @@ module _ (t : ℕ) (bytes : List ℕ) where
       let size : length front ≡ start = length-take-le start bytes within in
       let shut : IsClosed t front = λ some. ap (λ n. slice_index front (n - 1)) size
       ∙ (get_or-take start bytes (start - 1) 0 (omega arith) ∙ closed (omega arith)) in
-      let both : lines t bytes ≡ lines t front ++ lines t (drop start bytes) = ap (lines t) (sym (take-append-drop start bytes))
+      let both : lines t bytes ≡ lines t front ++ lines t (drop start bytes) = ap (lines t)
+      (sym (take-append-drop start bytes))
       ∙ lines-append t front (drop start bytes) shut in
       let few = ap (take (count t front)) both
       ∙ take_at (lines t front) (lines t (drop start bytes)) (count t front) (lines-closed t front shut) in
@@ -53,9 +57,11 @@ module _ (t : ℕ) (bytes : List ℕ) where
       ∙ ap (line_start t bytes) (sym (count-bare start position last.high within last.inner))
 
   -- the block of a match starts there
-  pub block_start-is : (m : ℕ × ℕ) (position start : ℕ) → m.0 ≤ length bytes → position ≡ m.0 → IsLastStart t bytes position start
+  pub block_start-is : (m : ℕ × ℕ) (position start : ℕ) → m.0 ≤ length bytes → position ≡ m.0
+      → IsLastStart t bytes position start
       → start ≡ block_start t bytes m
-  block_start-is m position start within same last = last_start-count m.0 start within (subst (λ p. IsLastStart t bytes p start) same last)
+  block_start-is m position start within same last = last_start-count m.0 start within
+      (subst (λ p. IsLastStart t bytes p start) same last)
 
   -- the end of that line, after its terminator
   pub end-count : (position at : ℕ) → position ≤ at → at < length bytes → slice_index bytes at ≡ t → IsBare position at
@@ -70,7 +76,8 @@ module _ (t : ℕ) (bytes : List ℕ) where
   end-last : (position : ℕ) → position ≤ length bytes → IsBare position (length bytes)
       → length bytes ≡ line_start t bytes (count t (take position bytes) + 1)
   end-last position within bare =
-      let all : count t bytes ≡ count t (take position bytes) = ap (count t) (sym (take_all (length bytes) bytes (omega arith)))
+      let all : count t bytes ≡ count t (take position bytes) = ap (count t)
+      (sym (take_all (length bytes) bytes (omega arith)))
       ∙ count-bare position (length bytes) within (omega arith) bare in
       let few : length (lines t bytes) ≤ count t (take position bytes) + 1 = omega (arith, lines-few t bytes, all) in
       sym (ap (λ ls. length (concat ls)) (take_all (count t (take position bytes) + 1) (lines t bytes) few)
@@ -79,7 +86,8 @@ module _ (t : ℕ) (bytes : List ℕ) where
   -- the same by a search for the terminator from the position on
   pub end-found : (position at : ℕ) → position ≤ length bytes
       → NoneBefore (Passes (is_byte t) (drop position bytes)) 0 (length (drop position bytes)) at
-      → Passes (is_byte t) (drop position bytes) at → position + at + 1 ≡ line_start t bytes (count t (take position bytes) + 1)
+      → Passes (is_byte t) (drop position bytes) at → position + at + 1
+      ≡ line_start t bytes (count t (take position bytes) + 1)
   end-found position at within near passes =
       end-count position (position + at) (omega arith) (omega (arith, near.high, length-drop position bytes))
       (sym (get_or-drop position bytes at 0) ∙ eqb-true _ _ passes) (λ i low high same.
@@ -118,7 +126,8 @@ module _ (t : ℕ) (bytes : List ℕ) where
       last_start-same position start (line_start t bytes i) last (IsLastStart-line t bytes i position inside low high)
 
   -- for the byte before the start of a line it is the start of the line before
-  start-before : (position start i : ℕ) → 0 < position → IsLastStart t bytes (position - 1) start → IsLineStart t bytes position i
+  start-before : (position start i : ℕ) → 0 < position → IsLastStart t bytes (position - 1) start
+      → IsLineStart t bytes position i
       → IsLineStart t bytes start (i - 1)
   start-before position start zero some last here = absurd (omega (arith, here.begins))
   start-before position start (suc i) some last here =
@@ -134,7 +143,8 @@ module _ (t : ℕ) (bytes : List ℕ) where
   start-none i here = omega (arith, (IsAt-start t bytes 0 i here).few)
 
   -- the start of the line before, also for a position that may be 0
-  start-back : (position start i : ℕ) → (position ≡ 0 → start ≡ 0) → (0 < position → IsLastStart t bytes (position - 1) start)
+  start-back : (position start i : ℕ) → (position ≡ 0 → start ≡ 0)
+      → (0 < position → IsLastStart t bytes (position - 1) start)
       → IsLineStart t bytes position i → IsLineStart t bytes start (i - 1)
   start-back position start i none last here = ⊎_elim
       (λ some. start-before position start i some (last some) here)
@@ -157,14 +167,16 @@ module _ (t : ℕ) (bytes : List ℕ) where
       let step = IsStep-line t bytes last (omega arith) in
       (omega (arith, step.above, end), end)
 
-  -- a start of the line k lines before the one with start < pos ≤ end; that is also the line k lines before one that ends at pos
+  -- a start of the line k lines before the one with start < pos ≤ end; that is also the line k lines before one that
+  -- ends at pos
   pub record IsBack (pos start k : ℕ) : Type 0 where
     pub line : (i : ℕ) → i < length (lines t bytes) → line_start t bytes i < pos → pos ≤ line_start t bytes (i + 1)
         → IsLineStart t bytes start (i - k)
     pub from_start : (i : ℕ) → IsLineStart t bytes pos i → IsLineStart t bytes start (i - 1 - k)
 
   -- the line that holds the byte before pos
-  pub IsBack-first : (pos start : ℕ) → (pos ≡ 0 → start ≡ 0) → (0 < pos → IsLastStart t bytes (pos - 1) start) → IsBack pos start 0
+  pub IsBack-first : (pos start : ℕ) → (pos ≡ 0 → start ≡ 0) → (0 < pos → IsLastStart t bytes (pos - 1) start)
+      → IsBack pos start 0
   IsBack-first pos start none last = record {
     line = λ i inside low high.
         let same : i ≡ i - 0 = omega arith in
@@ -181,10 +193,12 @@ module _ (t : ℕ) (bytes : List ℕ) where
   IsBack-more pos later start k some last back = record {
     line = λ i inside low high.
         let same : i - k - 1 ≡ i - (k + 1) = omega arith in
-        subst (IsLineStart t bytes start) same (start-before later start (i - k) some last (back.line i inside low high));
+        subst (IsLineStart t bytes start) same (start-before later start (i - k) some last
+        (back.line i inside low high));
     from_start = λ i here.
         let same : i - 1 - k - 1 ≡ i - 1 - (k + 1) = omega arith in
-        subst (IsLineStart t bytes start) same (start-before later start (i - 1 - k) some last (back.from_start i here));
+        subst (IsLineStart t bytes start) same (start-before later start (i - 1 - k) some last
+        (back.from_start i here));
   }
 
   -- before 0 there are no lines
@@ -201,7 +215,8 @@ module _ (t : ℕ) (bytes : List ℕ) where
           subst (IsLineStart t bytes start) same here
 
   -- the block of a match whose last byte is the terminator
-  pub block_end-closed : (m : ℕ × ℕ) → m.0 < m.1 → m.1 ≤ length bytes → slice_index bytes (m.1 - 1) ≡ t → m.1 ≡ block_end t bytes m
+  pub block_end-closed : (m : ℕ × ℕ) → m.0 < m.1 → m.1 ≤ length bytes → slice_index bytes (m.1 - 1) ≡ t → m.1
+      ≡ block_end t bytes m
   block_end-closed m some within same =
       let less = lt-ltb m.0 m.1 some in
       let yes = eq-eqb (slice_index bytes (m.1 - 1)) t same in

@@ -1,10 +1,12 @@
 -- Where a byte is first, and bytes in which each of them is replaced.
-use Rattle.std.proofs.Common.{◌≡◌, ◌≢◌, ℕ, zero, suc, ◌+◌, ◌-◌, ◌<◌, ◌≤◌, Bool, true, false, List, [], ◌∷◌, ◌++◌, length, map, take, drop}
+use Rattle.std.proofs.Common.{◌≡◌, ◌≢◌, ℕ, zero, suc, ◌+◌, ◌-◌, ◌<◌, ◌≤◌, Bool, true, false, List, [], ◌∷◌, ◌++◌}
+use Rattle.std.proofs.Common.{length, map, take, drop}
 use Rattle.std.proofs.Common.{get_or, set, append-nil, length-drop, length-take}
 use Rattle.std.proofs.Common.{Option, None, Some, refl, sym, ap, ◌∙◌, arith, if◌then◌else◌, ◌==◌}
 use Rattle.std.specs.List.{position, position_or_len}
 use Rattle.std.proofs.lemmas.Bool.{eq-eqb, eqb-true, le-ltb, lt-ltb, false_from_ne_true}
-use Rattle.std.proofs.lemmas.List.{take_more, take_more_set, drop-set-lt, map-append, drop_more, get_or-take, length-map, nil_from_length}
+use Rattle.std.proofs.lemmas.List.{take_more, take_more_set, drop-set-lt, map-append, drop_more, get_or-take}
+use Rattle.std.proofs.lemmas.List.{length-map, nil_from_length}
 use Rattle.std.proofs.lemmas.List.{take_all, take-append-drop}
 use Rattle.std.proofs.lemmas.Grind.{drop_more_same}
 use borrow.Rule.Slice.PartMut.{mid_of, put_mid}
@@ -13,7 +15,8 @@ use Rattle.memchr.specs.Find.{IsFirstByte, is_byte}
 
 module _ (p : ℕ → Bool) where
   -- no byte passes
-  pub length-none : (xs : List ℕ) → ((k : ℕ) → k < length xs → p (get_or xs k 0) ≡ false) → position_or_len p xs ≡ length xs
+  pub length-none : (xs : List ℕ) → ((k : ℕ) → k < length xs → p (get_or xs k 0) ≡ false) → position_or_len p xs
+      ≡ length xs
   length-none [] none = refl
   length-none (x ∷ xs) none =
       let first : p x ≡ false = none 0 (omega arith) in
@@ -68,11 +71,13 @@ position-found b xs None none =
     let all = length-none (λ x. x == b) xs (λ k below. false_from_ne_true _ (none k (omega arith) below)) in
     rw all (rw (le-ltb (length xs) (length xs) (omega arith)) refl)
 position-found b xs (Some i) (first, is) =
-    let at = length-first (λ x. x == b) xs i first.high is (λ k below. false_from_ne_true _ (first.before k (omega arith) below)) in
+    let at = length-first (λ x. x == b) xs i first.high is
+    (λ k below. false_from_ne_true _ (first.before k (omega arith) below)) in
     rw at (rw (lt-ltb i (length xs) first.high) refl)
 
 -- bytes in which each byte from the first one on was replaced
-pub replaced-whole : (src new : ℕ) (xs : List ℕ) (i : ℕ) → i ≤ length xs → ((k : ℕ) → k < i → (get_or xs k 0 == src) ≡ false)
+pub replaced-whole : (src new : ℕ) (xs : List ℕ) (i : ℕ) → i ≤ length xs
+    → ((k : ℕ) → k < i → (get_or xs k 0 == src) ≡ false)
     → put_mid i (length xs - i) xs (map (λ b. if b == src then new else b) (mid_of i (length xs - i) xs))
     ≡ map (λ b. if b == src then new else b) xs
 replaced-whole src new xs i within none =
@@ -87,9 +92,11 @@ replaced-whole src new xs i within none =
     let low : k < i = omega (arith, below, length-take i xs) in
     ap (λ x. x == src) (get_or-take i xs k 0 low) ∙ none k low
     in
-    let mid : mid_of i (length xs - i) xs ≡ drop i xs = take_all (length xs - i) (drop i xs) (omega (arith, length-drop i xs)) in
+    let mid : mid_of i (length xs - i) xs ≡ drop i xs = take_all (length xs - i) (drop i xs)
+    (omega (arith, length-drop i xs)) in
     ap (λ l. put_mid i (length xs - i) xs (map f l)) mid
-    ∙ sym (take-append-drop (length xs) now) ∙ ap (λ l. take (length xs) now ++ l) back ∙ append-nil (take (length xs) now)
+    ∙ sym (take-append-drop (length xs) now) ∙ ap (λ l. take (length xs) now ++ l) back
+    ∙ append-nil (take (length xs) now)
     ∙ take-put_mid i (length xs - i) xs (map f (drop i xs)) (length xs) (omega (arith, len)) within
     ∙ ap (λ l. l ++ map f (drop i xs)) (sym (map-none src new (take i xs) short))
     ∙ sym (map-append f (take i xs) (drop i xs)) ∙ ap (map f) (take-append-drop i xs)

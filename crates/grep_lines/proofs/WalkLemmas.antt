@@ -1,6 +1,8 @@
 -- The lines one after another, by the positions at which they start.
-use Rattle.std.proofs.Common.{◌≡◌, ℕ, zero, suc, ◌+◌, ◌-◌, ◌<◌, ◌≤◌, ◌==◌, cond, List, [], ◌∷◌, ◌++◌, length, take, drop, slice_index}
-use Rattle.std.proofs.Common.{get_or, refl, sym, ◌∙◌, ap, subst, arith, ⊎_elim, length-append, length-take, length-drop, take_all, ap₂}
+use Rattle.std.proofs.Common.{◌≡◌, ℕ, zero, suc, ◌+◌, ◌-◌, ◌<◌, ◌≤◌, ◌==◌, cond, List, [], ◌∷◌, ◌++◌, length, take}
+use Rattle.std.proofs.Common.{drop, slice_index}
+use Rattle.std.proofs.Common.{get_or, refl, sym, ◌∙◌, ap, subst, arith, ⊎_elim, length-append, length-take, length-drop}
+use Rattle.std.proofs.Common.{take_all, ap₂}
 use Rattle.std.proofs.lemmas.Bool.{cases_lt}
 use Rattle.std.proofs.lemmas.List.{take_more, drop_more, drop_all, take-take, drop-take, drop-drop, get_or-drop}
 use Rattle.std.proofs.lemmas.List.Folds.{concat-append}
@@ -52,16 +54,23 @@ IsAt-none t bytes = record {
 }
 
 -- a step over a line, by its first and last position
-IsStep-first : (t : ℕ) (bytes : List ℕ) (position end i : ℕ) → IsAt t bytes position i → position < end → end ≤ length bytes
+IsStep-first : (t : ℕ) (bytes : List ℕ) (position end i : ℕ) → IsAt t bytes position i → position < end
+    → end ≤ length bytes
     → IsFirstLine t (drop position bytes) (end - position) → IsStep t bytes position end i
 IsStep-first t bytes position end i walked above within is_first =
     let sum : position + (end - position) ≡ end = omega arith in
     let later : drop (end - position) (drop position bytes) ≡ drop end bytes = drop-drop (end - position) position bytes
     ∙ ap (λ n. drop n bytes) sum in
-    let here = drop-here (lines t bytes) i _ _ [] (walked.rest ∙ (lines-first t (drop position bytes) (end - position) is_first
+    let here = drop-here (lines t bytes) i _ _ [] (walked.rest
+    ∙ (lines-first t (drop position bytes) (end - position) is_first
     ∙ ap (λ bs. slice bytes position end ∷ lines t bs) later)) in
     let begin : line_start t bytes (i + 1) ≡ end =
-    rw (take_more (lines t bytes) i [] here.0, concat-append (take i (lines t bytes)) (get_or (lines t bytes) i [] ∷ []), here.1)
+    rw (
+      take_more (lines t bytes) i [] here.0,
+      concat-append (take i (lines t bytes))
+          (get_or (lines t bytes) i [] ∷ []),
+      here.1,
+    )
     (omega (
       arith,
       walked.start,
@@ -81,10 +90,13 @@ IsStep-first t bytes position end i walked above within is_first =
         rest = here.2;
         start = begin;
         counted = λ below.
-            let cut : take end bytes ≡ take position bytes ++ slice bytes position end = ap (λ n. take n bytes) (sym sum)
+            let cut : take end bytes ≡ take position bytes
+            ++ slice bytes position end = ap (λ n. take n bytes) (sym sum)
             ∙ take-add position (end - position) bytes in
-            let one = count-first_line t (drop position bytes) (end - position) is_first (omega (arith, length-drop position bytes)) in
-            rw (cut, sum_by-append (λ b. cond (b == t) 1 0) (take position bytes), walked.counted (omega arith), one) refl;
+            let one = count-first_line t (drop position bytes) (end - position) is_first
+            (omega (arith, length-drop position bytes)) in
+            rw (cut, sum_by-append (λ b. cond (b == t) 1 0) (take position bytes), walked.counted (omega arith), one)
+            refl;
         closed = λ _ below.
             let shut = is_first.closed (omega (arith, length-drop position bytes)) in
             let at : position + ((end - position) - 1) ≡ end - 1 = omega arith in
@@ -95,9 +107,15 @@ IsStep-first t bytes position end i walked above within is_first =
     }
 
 -- at the end of the bytes all lines are passed
-pub all_passed : (t : ℕ) (bytes : List ℕ) (position i : ℕ) → IsAt t bytes position i → length bytes ≤ position → i ≡ length (lines t bytes)
+pub all_passed : (t : ℕ) (bytes : List ℕ) (position i : ℕ) → IsAt t bytes position i → length bytes ≤ position → i
+    ≡ length (lines t bytes)
 all_passed t bytes position i here over =
-    omega (arith, length-drop i (lines t bytes), ap length (here.rest ∙ ap (lines t) (drop_all position bytes over)), here.listed)
+    omega (
+      arith,
+      length-drop i (lines t bytes),
+      ap length (here.rest ∙ ap (lines t) (drop_all position bytes over)),
+      here.listed,
+    )
 
 -- a step over a line that exists
 IsStep-any : (t : ℕ) (bytes : List ℕ) (position i : ℕ) → IsAt t bytes position i → i < length (lines t bytes)
@@ -135,15 +153,19 @@ IsStep-line t bytes i inside =
     subst (λ end. IsStep t bytes (line_start t bytes i) end i) (sym step.1.next.start) step.1
 
 -- as many t come before a line as there are lines before it
-pub lines-numbered : (t : ℕ) (bytes : List ℕ) (i : ℕ) → i < length (lines t bytes) → count t (take (line_start t bytes i) bytes) ≡ i
-lines-numbered t bytes i inside = let step = IsStep-line t bytes i inside in step.at.counted (omega (arith, step.above, step.next.inside))
+pub lines-numbered : (t : ℕ) (bytes : List ℕ) (i : ℕ) → i < length (lines t bytes)
+    → count t (take (line_start t bytes i) bytes) ≡ i
+lines-numbered t bytes i inside = let step = IsStep-line t bytes i inside in step.at.counted
+    (omega (arith, step.above, step.next.inside))
 
 -- there are at most as many lines as bytes
 pub lines-at-most : (t : ℕ) (bytes : List ℕ) → length (lines t bytes) ≤ length bytes
-lines-at-most t bytes = let end = IsAt-any t bytes (length (lines t bytes)) (omega arith) in omega (arith, end.few, end.inside)
+lines-at-most t bytes = let end = IsAt-any t bytes (length (lines t bytes)) (omega arith) in
+    omega (arith, end.few, end.inside)
 
 -- the line that starts at a position
-IsLine-first : (t : ℕ) (bytes : List ℕ) (position i end : ℕ) → IsLineStart t bytes position i → position < end → end ≤ length bytes
+IsLine-first : (t : ℕ) (bytes : List ℕ) (position i end : ℕ) → IsLineStart t bytes position i → position < end
+    → end ≤ length bytes
     → IsFirstLine t (drop position bytes) (end - position) → IsLine t bytes i position end
 IsLine-first t bytes position i end h above within is_first =
     let here = IsAt-start t bytes position i h in
@@ -160,7 +182,8 @@ IsLine-first t bytes position i end h above within is_first =
     }
 
 -- the start of a line is the last line start up to any of the line's positions
-pub IsLastStart-line : (t : ℕ) (bytes : List ℕ) (i position : ℕ) → i < length (lines t bytes) → line_start t bytes i ≤ position
+pub IsLastStart-line : (t : ℕ) (bytes : List ℕ) (i position : ℕ) → i < length (lines t bytes)
+    → line_start t bytes i ≤ position
     → position < line_start t bytes (i + 1) → IsLastStart t bytes position (line_start t bytes i)
 IsLastStart-line t bytes i position inside low high =
     let start = line_start t bytes i in
@@ -169,7 +192,8 @@ IsLastStart-line t bytes i position inside low high =
       high = low;
       inner = λ j from below same.
           let sum : start + (j - start) ≡ j = omega arith in
-          step.is_first.inner (j - start) (omega arith) (get_or-drop start bytes (j - start) 0 ∙ (ap (λ n. get_or bytes n 0) sum ∙ same));
+          step.is_first.inner (j - start) (omega arith)
+          (get_or-drop start bytes (j - start) 0 ∙ (ap (λ n. get_or bytes n 0) sum ∙ same));
       closed = λ some. step.at.closed some (omega (arith, step.above, step.next.inside));
     }
 
@@ -186,7 +210,8 @@ slice-first t bytes start end e is_first =
     lines-first t (slice bytes start end) e is_first ∙ ap₂ ◌∷◌ line (ap (lines t) later)
 
 -- the line that starts at a position, by the first line of the bytes from there on
-pub IsLine-slice : (t : ℕ) (bytes : List ℕ) (start end e i : ℕ) → end ≡ length bytes → IsFirstLine t (slice bytes start end) e
+pub IsLine-slice : (t : ℕ) (bytes : List ℕ) (start end e i : ℕ) → end ≡ length bytes
+    → IsFirstLine t (slice bytes start end) e
     → IsLineStart t bytes start i → IsLine t bytes i start (start + e)
 IsLine-slice t bytes start end e i all is_first here =
     let same : slice bytes start end ≡ drop start bytes =

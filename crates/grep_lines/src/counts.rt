@@ -11,7 +11,8 @@ const WIDE: usize = 64;
 // The same if fewer are left.
 const NARROW: usize = 16;
 
-// From how many bytes on what is equal is summed lane by lane: adding up the lanes costs as much as a few parts.
+// From how many bytes on what is equal is summed lane by lane: adding up the lanes costs as much as
+// a few parts.
 const LONG: usize = 512;
 
 // How many bytes are summed before the lanes are added up: a lane is full at 255.
@@ -106,8 +107,8 @@ fn count_short(bytes: &[u8], terminator: u8) -> u64
     count_wide_parts(bytes, terminator)
 }
 
-// How many of the bytes are `terminator`, part by part. What is left of them at last is the end of a
-// part that begins earlier.
+// How many of the bytes are `terminator`, part by part. What is left of them at last is the end of
+// a part that begins earlier.
 #[inline(always)]
 fn count_wide_parts(bytes: &[u8], terminator: u8) -> u64
     requires { WIDE ≤ length bytes.now }

@@ -1,12 +1,14 @@
 -- What a literal's first occurrence in many lines says of each of them.
-use Rattle.std.proofs.Common.{◌≡◌, inl, inr, ℕ, zero, suc, Bool, ◌+◌, ◌-◌, ◌<◌, ◌≤◌, true, false, List, [], length, slice_index}
+use Rattle.std.proofs.Common.{◌≡◌, inl, inr, ℕ, zero, suc, Bool, ◌+◌, ◌-◌, ◌<◌, ◌≤◌, true, false, List, [], length}
+use Rattle.std.proofs.Common.{slice_index}
 use Rattle.std.proofs.Common.{slice_index_or, Some, None, ap, sym, subst, arith, ⊎_elim, is_some}
 use Rattle.std.proofs.lemmas.Bool.{cases_lt, cases_eq}
 use Rattle.memchr.specs.Find.{OccursAt, NoneBefore, FindsNeedle}
 use Rattle.grep_matcher.specs.declared.line_match_kind.LineMatchKind.{LineMatchKind}
 use Rattle.grep_matcher.specs.declared.line_terminator.LineTerminator.{LineTerminator}
 use Rattle.grep_matcher.specs.declared.line_terminator.LineTerminator.TheVariants.{Byte, Crlf}
-use Rattle.grep_matcher.specs.Lawful.{matches_at, HoldsPosition, ExcludesTerminator, IsTrusted, position_of, is_confirmed}
+use Rattle.grep_matcher.specs.Lawful.{matches_at, HoldsPosition, ExcludesTerminator, IsTrusted, position_of}
+use Rattle.grep_matcher.specs.Lawful.{is_confirmed}
 use Rattle.grep_matcher.specs.Lines.{lines, line_start, strip}
 use Rattle.grep_matcher.specs.Literals.{literal_meaning, lacks}
 use Rattle.grep_matcher.specs.Terminators.{byte_of, bytes_of}
@@ -26,7 +28,8 @@ lacks-terminator Crlf literal lacked cr (suc (suc j)) below = absurd (omega arit
 
 -- such a literal occurs in a line without its terminator if it occurs in the line
 strip-inner : (terminator : LineTerminator) (line literal : List ℕ) (k : ℕ) → lacks literal (byte_of terminator) ≡ true
-    → lacks literal 13 ≡ true → (length literal ≡ 0 → k ≡ 0) → OccursAt line literal k → OccursAt (strip terminator line) literal k
+    → lacks literal 13 ≡ true → (length literal ≡ 0 → k ≡ 0) → OccursAt line literal k
+    → OccursAt (strip terminator line) literal k
 strip-inner terminator line literal k lacked cr empty occurs =
     let clear = lacks-terminator terminator literal lacked cr in
     ⊎_elim
@@ -60,7 +63,8 @@ module _ (terminator : LineTerminator) (literal bytes : List ℕ) where
   outer i k listed occurs =
       let is = line-is t bytes i listed in
       let sum : 0 + k ≡ k = omega arith in
-      let in_line = rw sum at (OccursAt-outer (line i) (kept i) literal 0 k (strip-occurs terminator (line i)) occurs) in
+      let in_line = rw sum at (OccursAt-outer (line i) (kept i) literal 0 k (strip-occurs terminator (line i))
+      occurs) in
       (OccursAt-outer bytes (line i) literal (start i) k is.occurs in_line, omega (arith, in_line.fits, is.ends))
 
   -- a line matches only if the literal occurs in it
@@ -70,7 +74,8 @@ module _ (terminator : LineTerminator) (literal bytes : List ℕ) where
   module _ (found : ℕ) (first : FindsNeedle bytes literal 0 (Some found)) where
     -- the empty literal is found at 0
     zero-found : length literal ≡ 0 → found ≡ 0
-    zero-found none = ⊎_elim (λ same. same) (λ other. absurd (first.0.before 0 (omega arith) (omega arith) empty)) (cases_eq found 0)
+    zero-found none = ⊎_elim (λ same. same) (λ other. absurd (first.0.before 0 (omega arith) (omega arith) empty))
+        (cases_eq found 0)
       where
         empty : OccursAt bytes literal 0
         empty = record { fits = omega arith; reads = λ j below. absurd (omega arith) }
@@ -84,7 +89,8 @@ module _ (terminator : LineTerminator) (literal bytes : List ℕ) where
         first.0.before (start i + k) (omega arith) sooner out.0)
 
     -- the line that holds the start of the first occurrence holds all of it
-    inside : (i : ℕ) → IsListed i → lacks literal t ≡ true → HoldsPosition terminator (literal_meaning literal) bytes i found
+    inside : (i : ℕ) → IsListed i → lacks literal t ≡ true
+        → HoldsPosition terminator (literal_meaning literal) bytes i found
         → found + length literal ≤ start (i + 1)
     inside i listed lacked (low, held) =
         let is = line-is t bytes i listed in
@@ -103,13 +109,15 @@ module _ (terminator : LineTerminator) (literal bytes : List ℕ) where
         let is = line-is t bytes i listed in
         let low = holds.0 in
         let within = inside i listed lacked holds in
-        let in_line = OccursAt-inner bytes (line i) literal (start i) found is.occurs first.1 low (omega (arith, is.ends)) in
+        let in_line = OccursAt-inner bytes (line i) literal (start i) found is.occurs first.1 low
+        (omega (arith, is.ends)) in
         let zero : length literal ≡ 0 → found - start i ≡ 0 = λ none. omega (arith, zero-found none) in
         let in_kept = strip-inner terminator (line i) literal (found - start i) lacked cr zero in_line in
         let is_first : NoneBefore (OccursAt (kept i) literal) 0 (length (kept i) + 1) (found - start i) = record {
           low = omega arith;
           high = omega (arith, in_kept.fits);
-          before = λ q from below occurs. first.0.before (start i + q) (omega arith) (omega arith) (outer i q listed occurs).0;
+          before = λ q from below occurs. first.0.before (start i + q) (omega arith) (omega arith)
+              (outer i q listed occurs).0;
         } in
         sym (ap is_some (match-found (kept i) literal (found - start i) (is_first, in_kept)))
 
@@ -128,7 +136,8 @@ module _ (literal bytes : List ℕ) (is_lawful : LineTerminator → Type 0) wher
 
   -- the start of the first occurrence can be trusted, as confirmed if the literal lacks a carriage return
   pub trusted-some : (found : LineMatchKind) → FindsNeedle bytes literal 0 (Some (position_of found))
-      → (is_confirmed found ≡ true → lacks literal 13 ≡ true) → IsTrusted (literal_meaning literal) is_lawful bytes (Some found)
+      → (is_confirmed found ≡ true → lacks literal 13 ≡ true)
+      → IsTrusted (literal_meaning literal) is_lawful bytes (Some found)
   trusted-some found first cr terminator lawful excludes = (
     λ i listed ends. missed terminator literal bytes (position_of found) first i listed ends.0,
     λ i listed holds confirmed. matched terminator literal bytes (position_of found) first i listed

@@ -1,5 +1,6 @@
 -- Where the lines of some bytes occur in them, and a line without its terminator in the line.
-use Rattle.std.proofs.Common.{◌≡◌, ℕ, zero, suc, ◌+◌, ◌-◌, ◌<◌, List, [], ◌∷◌, length, take, slice_index, slice_index_or, add-one, refl, ap}
+use Rattle.std.proofs.Common.{◌≡◌, ℕ, zero, suc, ◌+◌, ◌-◌, ◌<◌, List, [], ◌∷◌, length, take, slice_index}
+use Rattle.std.proofs.Common.{slice_index_or, add-one, refl, ap}
 use Rattle.std.proofs.Common.{sym, subst, inl, inr, arith, ⊎_elim, ◌++◌, ◌⊎◌, length-append}
 use Rattle.std.proofs.lemmas.Bool.{cases_eq, cases_Bool, eq-eqb, ne_eqb}
 use Rattle.std.proofs.lemmas.Bool.Decides.{Decides-eqb}
@@ -29,16 +30,19 @@ IsLine-later t b bytes line start end is = record {
   };
   ends = omega (arith, is.ends);
   filled = is.filled;
-  closed = λ more. let next : suc end - 1 ≡ suc (end - 1) = omega (arith, is.ends, is.filled) in rw next (is.closed (omega arith));
+  closed = λ more. let next : suc end - 1 ≡ suc (end - 1) = omega (arith, is.ends, is.filled) in rw next
+      (is.closed (omega arith));
 }
 
 -- a first line, with a byte in front of it
-IsLine-longer : (t b : ℕ) (bytes line : List ℕ) (end : ℕ) → IsLine t bytes line 0 end → IsLine t (b ∷ bytes) (b ∷ line) 0 (suc end)
+IsLine-longer : (t b : ℕ) (bytes line : List ℕ) (end : ℕ) → IsLine t bytes line 0 end
+    → IsLine t (b ∷ bytes) (b ∷ line) 0 (suc end)
 IsLine-longer t b bytes line end is = record {
   occurs = record { fits = omega (arith, is.occurs.fits); reads = reads };
   ends = omega (arith, is.ends);
   filled = omega arith;
-  closed = λ more. let next : suc end - 1 ≡ suc (end - 1) = omega (arith, is.ends, is.filled) in rw next (is.closed (omega arith));
+  closed = λ more. let next : suc end - 1 ≡ suc (end - 1) = omega (arith, is.ends, is.filled) in rw next
+      (is.closed (omega arith));
 }
   where
     reads : (j : ℕ) → j < length (b ∷ line) → slice_index (b ∷ bytes) (0 + j) ≡ slice_index (b ∷ line) j
@@ -60,7 +64,8 @@ IsLine-byte t b bytes closed = record {
 
 -- the line at i of a list is a line of the bytes
 abbrev IsLineAt : ℕ → List ℕ → List (List ℕ) → ℕ → Type 0
-IsLineAt t bytes ls i = IsLine t bytes (slice_index_or ls i []) (length (concat (take i ls))) (length (concat (take (suc i) ls)))
+IsLineAt t bytes ls i = IsLine t bytes (slice_index_or ls i []) (length (concat (take i ls)))
+    (length (concat (take (suc i) ls)))
 
 -- each line of a list is one of the bytes, and together they have as many bytes
 record AreEach (t : ℕ) (bytes : List ℕ) (ls : List (List ℕ)) : Type 0 where
@@ -68,7 +73,8 @@ record AreEach (t : ℕ) (bytes : List ℕ) (ls : List (List ℕ)) : Type 0 wher
   each : (i : ℕ) → i < length ls → IsLineAt t bytes ls i
 
 -- a byte t in front is a line of its own
-AreEach-end : (t b : ℕ) (bytes : List ℕ) (ls : List (List ℕ)) → b ≡ t → AreEach t bytes ls → AreEach t (b ∷ bytes) ((b ∷ []) ∷ ls)
+AreEach-end : (t b : ℕ) (bytes : List ℕ) (ls : List (List ℕ)) → b ≡ t → AreEach t bytes ls
+    → AreEach t (b ∷ bytes) ((b ∷ []) ∷ ls)
 AreEach-end t b bytes ls same later = record { whole = ap suc later.whole; each = each }
   where
     each : (i : ℕ) → i < suc (length ls) → IsLineAt t (b ∷ bytes) ((b ∷ []) ∷ ls) i
@@ -76,7 +82,8 @@ AreEach-end t b bytes ls same later = record { whole = ap suc later.whole; each 
     each (suc i) below = IsLine-later t b bytes (slice_index_or ls i []) _ _ (later.each i (omega arith))
 
 -- another byte belongs to the first line
-AreEach-inner : (t b : ℕ) (bytes : List ℕ) (ls : List (List ℕ)) → AreEach t bytes ls → AreEach t (b ∷ bytes) (onto_first b ls)
+AreEach-inner : (t b : ℕ) (bytes : List ℕ) (ls : List (List ℕ)) → AreEach t bytes ls
+    → AreEach t (b ∷ bytes) (onto_first b ls)
 AreEach-inner t b bytes [] later = record { whole = ap suc later.whole; each = each }
   where
     each : (i : ℕ) → i < 1 → IsLineAt t (b ∷ bytes) ((b ∷ []) ∷ []) i
@@ -120,7 +127,8 @@ strip-occurs terminator line = ⊎_elim
     front : (kept : List ℕ) → OccursAt (kept ++ bytes_of terminator) kept 0
     front kept = record {
       fits = omega (arith, length-append kept (bytes_of terminator));
-      reads = λ j below. let sum : 0 + j ≡ j = omega arith in rw sum (get_or_append_left kept (bytes_of terminator) 0 j below);
+      reads = λ j below. let sum : 0 + j ≡ j = omega arith in rw sum
+          (get_or_append_left kept (bytes_of terminator) 0 j below);
     }
 
     whole : (l : List ℕ) → OccursAt l l 0

@@ -1,5 +1,6 @@
 -- Occurrences of a literal in a haystack and in a part of it.
-use Rattle.std.proofs.Common.{◌≡◌, ◌⊎◌, inl, inr, ℕ, ◌+◌, ◌-◌, ◌<◌, ◌≤◌, true, List, ◌++◌, length, slice_index, ap, sym, ◌∙◌, arith, ⊎_elim}
+use Rattle.std.proofs.Common.{◌≡◌, ◌⊎◌, inl, inr, ℕ, ◌+◌, ◌-◌, ◌<◌, ◌≤◌, true, List, ◌++◌, length, slice_index, ap, sym}
+use Rattle.std.proofs.Common.{◌∙◌, arith, ⊎_elim}
 use Rattle.std.proofs.Common.{length-append}
 use Rattle.std.proofs.lemmas.Bool.{cases_lt, false≢true}
 use Rattle.std.proofs.lemmas.List.{get_or_append_left, get_or-append-add}
@@ -34,7 +35,8 @@ apart hay literal k i occurs lacked = ⊎_elim (λ before. inl before) (λ from.
     (cases_lt i (k + length literal))) (cases_lt i k)
 
 -- a literal doesn't occur over the end of a haystack if it lacks each byte of that end
-pub OccursAt-before : (front end literal : List ℕ) (k : ℕ) → OccursAt (front ++ end) literal k → (length literal ≡ 0 → k ≡ 0)
+pub OccursAt-before : (front end literal : List ℕ) (k : ℕ) → OccursAt (front ++ end) literal k
+    → (length literal ≡ 0 → k ≡ 0)
     → ((j : ℕ) → j < length end → lacks literal (slice_index end j) ≡ true) → OccursAt front literal k
 OccursAt-before front end literal k occurs empty lacked = record {
   fits = fits;
@@ -45,7 +47,8 @@ OccursAt-before front end literal k occurs empty lacked = record {
     size = length-append front end
 
     beside : (j : ℕ) → j < length end → (length front + j < k) ⊎ (k + length literal ≤ length front + j)
-    beside j below = apart (front ++ end) literal k (length front + j) occurs (rw (get_or-append-add front end j 0) (lacked j below))
+    beside j below = apart (front ++ end) literal k (length front + j) occurs
+        (rw (get_or-append-add front end j 0) (lacked j below))
 
     fits : k + length literal ≤ length front
     fits = ⊎_elim

@@ -32,7 +32,8 @@ module _ (bytes hay : List ℕ) (start end : ℕ) where
 
   pub clear-at : is_clear bytes hay start end ≡ true → (k : ℕ) → start ≤ k → k < end → k < length hay →
       is_among bytes (slice_index hay k) ≡ false
-  clear-at clear k low high inside = false_from_ne_true _ (λ has. true≢false (sym clear ∙ clear-not k low high inside has))
+  clear-at clear k low high inside = false_from_ne_true _
+      (λ has. true≢false (sym clear ∙ clear-not k low high inside has))
 
   pub clear-from : ((k : ℕ) → start ≤ k → k < end → k < length hay → is_among bytes (slice_index hay k) ≡ false) →
       is_clear bytes hay start end ≡ true
@@ -47,12 +48,14 @@ module _ (bytes hay : List ℕ) (start end : ℕ) where
       ∙ each (k + start) (omega arith) sized.0 sized.1))
 
 -- a part of a clear stretch is clear
-pub clear-part : (bytes hay : List ℕ) (s e l : ℕ) → e ≤ l → is_clear bytes hay s l ≡ true → is_clear bytes hay s e ≡ true
+pub clear-part : (bytes hay : List ℕ) (s e l : ℕ) → e ≤ l → is_clear bytes hay s l ≡ true → is_clear bytes hay s e
+    ≡ true
 clear-part bytes hay s e l le clear =
     clear-from bytes hay s e (λ k low high inside. clear-at bytes hay s l clear k low (omega arith) inside)
 
 -- and no stretch is clear that has a part which isn't
-pub clear-more : (bytes hay : List ℕ) (s e l : ℕ) → e ≤ l → is_clear bytes hay s e ≡ false → is_clear bytes hay s l ≡ false
+pub clear-more : (bytes hay : List ℕ) (s e l : ℕ) → e ≤ l → is_clear bytes hay s e ≡ false → is_clear bytes hay s l
+    ≡ false
 clear-more bytes hay s e l le unclear =
     false_from_ne_true _ (λ clear. true≢false (sym (clear-part bytes hay s e l le clear) ∙ unclear))
 

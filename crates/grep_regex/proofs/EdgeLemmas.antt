@@ -53,7 +53,13 @@ record IsAlike (a b : Side) : Type 0 where
   line : (is_edge a || is_lf a) ≡ (is_edge b || is_lf b)
 
 alike-same : {a b : Side} → a ≡ b → IsAlike a b
-alike-same e = record { word = ap is_word e; ascii = ap is_ascii_word e; whole = ap is_whole e; line = ap (λ s. is_edge s || is_lf s) e }
+alike-same e = record {
+  word = ap is_word e;
+  ascii = ap is_ascii_word e;
+  whole = ap is_whole e;
+  line = ap
+      (λ s. is_edge s || is_lf s) e;
+}
 
 abbrev edge : Side
 edge = record { byte = None; char = None }
@@ -67,7 +73,8 @@ alike-feed = record { word = sym (is_word_char-ascii 10 (omega arith)); ascii = 
 side-is : (s : Side) (b c : Option ℕ) → s.byte ≡ b → s.char ≡ c → s ≡ record { byte = b; char = c }
 side-is s b c p q = λ i. record { byte = p i; char = q i }
 
-alike-holds : (l : Look) (s s2 t t2 : Side) → is_local_look l ≡ true → IsAlike s s2 → IsAlike t t2 → holds_between l s t ≡ holds_between l s2 t2
+alike-holds : (l : Look) (s s2 t t2 : Side) → is_local_look l ≡ true → IsAlike s s2 → IsAlike t t2 → holds_between l s t
+    ≡ holds_between l s2 t2
 unfolding holds_between
 alike-holds Start s s2 t t2 ok a b = absurd (cc)
 alike-holds End s s2 t t2 ok a b = absurd (cc)
@@ -121,7 +128,8 @@ over hay p q c found after below feeds = elim (char_at_cases hay p c found).1 [
 split-front : (xs ys bs r : List ℕ) → xs ++ ys ≡ bs ++ r → length bs ≤ length xs → xs ≡ bs ++ drop (length bs) xs
 split-front xs ys bs r e fits =
     sym (take-append-drop (length bs) xs)
-    ∙ ap (λ l. l ++ drop (length bs) xs) (sym (take-append-le (length bs) xs ys fits) ∙ (ap (take (length bs)) e ∙ take-append_seam bs r))
+    ∙ ap (λ l. l ++ drop (length bs) xs) (sym (take-append-le (length bs) xs ys fits)
+    ∙ (ap (take (length bs)) e ∙ take-append_seam bs r))
 
 -- what stands at n is the part and then the rest; before it and after it is a line feed, or nothing
 pub record IsPart (hay kept post : List ℕ) (n : ℕ) : Type 0 where
@@ -146,7 +154,8 @@ char_of_len_parts hay m i c e = by-test (nat_le m i && is_some_and (char_at hay 
 char_of_len_from : (hay : List ℕ) (m i c : ℕ) → m ≤ i → char_at hay (i - m) ≡ Some c → len_utf8 c ≡ m →
     char_of_len_before hay m i ≡ Some c
 char_of_len_from hay m i c le found len =
-    cond-true _ _ None (and_from _ _ (le-leb m i le) (ap (λ o. is_some_and o (λ x. len_utf8 x == m)) found ∙ eq-eqb _ _ len)) ∙ found
+    cond-true _ _ None (and_from _ _ (le-leb m i le)
+    (ap (λ o. is_some_and o (λ x. len_utf8 x == m)) found ∙ eq-eqb _ _ len)) ∙ found
 
 module _ (hay kept post : List ℕ) (n : ℕ) (part : IsPart hay kept post n) where
   from : (i : ℕ) → i ≤ length kept → drop (n + i) hay ≡ drop i kept ++ post
@@ -158,28 +167,33 @@ module _ (hay kept post : List ℕ) (n : ℕ) (part : IsPart hay kept post n) wh
   byte-same : (i : ℕ) → i < length kept → slice_get kept i ≡ slice_get hay (n + i)
   byte-same i h =
       slice_get-get_or kept i 0 h
-      ∙ (ap Some (sym (get_or_append_left kept post 0 i h) ∙ (ap (λ l. get_or l i 0) (sym part.front) ∙ get_or-drop n hay i 0))
+      ∙ (ap Some (sym (get_or_append_left kept post 0 i h)
+      ∙ (ap (λ l. get_or l i 0) (sym part.front) ∙ get_or-drop n hay i 0))
       ∙ sym (slice_get-get_or hay (n + i) 0 (omega (arith, size))))
 
   has-in : (i : ℕ) (bs : List ℕ) → i ≤ length kept → has_bytes_at kept i bs ≡ true → has_bytes_at hay (n + i) bs ≡ true
   has-in i bs h e = has_bytes_at_from hay (n + i) bs (drop (i + length bs) kept ++ post)
       (from i h ∙ (ap (λ l. l ++ post) (has_bytes_at_parts kept i bs e) ∙ append_assoc bs _ post))
 
-  has-out : (i : ℕ) (bs : List ℕ) → i + length bs ≤ length kept → has_bytes_at hay (n + i) bs ≡ true → has_bytes_at kept i bs ≡ true
+  has-out : (i : ℕ) (bs : List ℕ) → i + length bs ≤ length kept → has_bytes_at hay (n + i) bs ≡ true
+      → has_bytes_at kept i bs ≡ true
   has-out i bs h e = has_bytes_at_from kept i bs _
-      (split-front (drop i kept) post bs _ (sym (from i (omega arith)) ∙ has_bytes_at_parts hay (n + i) bs e) (omega (arith, length-drop i kept)))
+      (split-front (drop i kept) post bs _ (sym (from i (omega arith)) ∙ has_bytes_at_parts hay (n + i) bs e)
+      (omega (arith, length-drop i kept)))
 
   char-in : (i c : ℕ) → char_at kept i ≡ Some c → char_at hay (n + i) ≡ Some c
   char-in i c e =
       let p = char_at_parts kept i c e in
       char_at_from hay (n + i) c (drop (i + len_utf8 c) kept ++ post) p.0
-      (from i (omega (arith, char_at_fits kept i c e)) ∙ (ap (λ l. l ++ post) p.1 ∙ append_assoc (encode_utf8 c) _ post))
+      (from i (omega (arith, char_at_fits kept i c e))
+      ∙ (ap (λ l. l ++ post) p.1 ∙ append_assoc (encode_utf8 c) _ post))
 
   char-out : (i c : ℕ) → i + len_utf8 c ≤ length kept → char_at hay (n + i) ≡ Some c → char_at kept i ≡ Some c
   char-out i c h e =
       let p = char_at_parts hay (n + i) c e in
       char_at_from kept i c _ p.0
-      (split-front (drop i kept) post (encode_utf8 c) _ (sym (from i (omega arith)) ∙ p.1) (omega (arith, length-drop i kept, length-encode c)))
+      (split-front (drop i kept) post (encode_utf8 c) _ (sym (from i (omega arith)) ∙ p.1)
+      (omega (arith, length-drop i kept, length-encode c)))
 
   char-same : (i : ℕ) → i < length kept → char_at kept i ≡ char_at hay (n + i)
   char-same i h = ⊎_elim
@@ -205,11 +219,13 @@ module _ (hay kept post : List ℕ) (n : ℕ) (part : IsPart hay kept post n) wh
       (λ feeds.
       let there = subst (λ k. slice_get hay k ≡ Some 10) at feeds in
       subst (λ s. IsAlike s (side_after hay (n + i))) (sym here)
-      (subst (IsAlike edge) (sym (side-is (side_after hay (n + i)) _ _ there (char_at_ascii hay (n + i) 10 there (omega arith)))) alike-feed))
+      (subst (IsAlike edge) (sym (side-is (side_after hay (n + i)) _ _ there
+      (char_at_ascii hay (n + i) 10 there (omega arith)))) alike-feed))
       part.after)
       (cases_lt i (length kept))
 
-  char_of_len-same : (m i : ℕ) → 0 < i → i ≤ length kept → char_of_len_before kept m i ≡ char_of_len_before hay m (n + i)
+  char_of_len-same : (m i : ℕ) → 0 < i → i ≤ length kept → char_of_len_before kept m i
+      ≡ char_of_len_before hay m (n + i)
   char_of_len-same m i some h = ⊎_elim
       (λ none. none ∙ sym (none_of_no_value _ (λ c e.
       let p = char_of_len_parts hay m (n + i) c e in
@@ -262,10 +278,14 @@ module _ (hay kept post : List ℕ) (n : ℕ) (part : IsPart hay kept post n) wh
       (λ (none : i ≤ 0).
       let zeroth : 0 ≡ i = omega arith in
       let at : n ≡ n + i = omega arith in
-      let here : side_before kept i ≡ edge = ap (side_before kept) (sym zeroth) ∙ side-is _ _ _ (byte_before-zero kept) (char_before-zero kept) in
-      subst (λ s. IsAlike s (side_before hay (n + i))) (sym here) (subst (λ k. IsAlike edge (side_before hay k)) at (⊎_elim
-      (λ (first : n ≡ 0). alike-same (sym (ap (side_before hay) first ∙ side-is _ _ _ (byte_before-zero hay) (char_before-zero hay))))
-      (λ fed. subst (IsAlike edge) (sym (side-is (side_before hay n) _ _ fed (char_before_ascii hay n 10 fed (omega arith)))) alike-feed)
+      let here : side_before kept i ≡ edge = ap (side_before kept) (sym zeroth)
+      ∙ side-is _ _ _ (byte_before-zero kept) (char_before-zero kept) in
+      subst (λ s. IsAlike s (side_before hay (n + i))) (sym here)
+      (subst (λ k. IsAlike edge (side_before hay k)) at (⊎_elim
+      (λ (first : n ≡ 0). alike-same (sym (ap (side_before hay) first
+      ∙ side-is _ _ _ (byte_before-zero hay) (char_before-zero hay))))
+      (λ fed. subst (IsAlike edge) (sym (side-is (side_before hay n) _ _ fed
+      (char_before_ascii hay n 10 fed (omega arith)))) alike-feed)
       part.before)))
       (cases_lt 0 i)
 
@@ -275,7 +295,8 @@ module _ (hay kept post : List ℕ) (n : ℕ) (part : IsPart hay kept post n) wh
 
   -- ---- matches
 
-  rounds-in : (a : Re) → ((i j : ℕ) → i ≤ length kept → Matches kept a i j → Matches hay a (n + i) (n + j)) → (i j : ℕ) → i ≤ length kept →
+  rounds-in : (a : Re) → ((i j : ℕ) → i ≤ length kept → Matches kept a i j → Matches hay a (n + i) (n + j)) → (i j : ℕ)
+      → i ≤ length kept →
       Rounds (Matches kept a) i j → Rounds (Matches hay a) (n + i) (n + j)
   rounds-in a each i j h (one_round _ r) = one_round (n + j) (each i j h r)
   rounds-in a each i j h (next_round l _ earlier r) =
@@ -283,10 +304,17 @@ module _ (hay kept post : List ℕ) (n : ℕ) (part : IsPart hay kept post n) wh
       next_round (n + l) (n + j) (rounds-in a each i l h earlier) (each l j (omega arith) r)
 
   -- a match of the part alone is one of the haystack
-  pub matches-in : (re : Re) → is_local re ≡ true → (i j : ℕ) → i ≤ length kept → Matches kept re i j → Matches hay re (n + i) (n + j)
+  pub matches-in : (re : Re) → is_local re ≡ true → (i j : ℕ) → i ≤ length kept → Matches kept re i j
+      → Matches hay re (n + i) (n + j)
   matches-in empty ok i j h m = ap (λ k. n + k) m
   matches-in (literal bs) ok i j h m = (has-in i bs h m.0, omega (arith, m.1))
-  matches-in (byte_in rs) ok i j h m = (m.0, sym (byte-same i (slice_get_within kept i m.0 m.1)) ∙ m.1, m.2, omega (arith, m.3))
+  matches-in (byte_in rs) ok i j h m = (
+    m.0,
+    sym (byte-same i (slice_get_within kept i m.0 m.1))
+        ∙ m.1,
+    m.2,
+    omega (arith, m.3),
+  )
   matches-in (char_in rs) ok i j h m = (m.0, char-in i m.0 m.1, m.2, omega (arith, m.3))
   matches-in (look l) ok i j h m = (sym (look-same l i ok h) ∙ m.0, ap (λ k. n + k) m.1)
   matches-in (cat a b) ok i j h m =
@@ -302,7 +330,8 @@ module _ (hay kept post : List ℕ) (n : ℕ) (part : IsPart hay kept post n) wh
   abbrev end : ℕ
   end = n + length kept
 
-  rounds-out : (a : Re) → ((x y : ℕ) → n ≤ x → y ≤ end → Matches hay a x y → Matches kept a (x - n) (y - n)) → (x y : ℕ) → n ≤ x → y ≤ end →
+  rounds-out : (a : Re) → ((x y : ℕ) → n ≤ x → y ≤ end → Matches hay a x y → Matches kept a (x - n) (y - n)) → (x y : ℕ)
+      → n ≤ x → y ≤ end →
       Rounds (Matches hay a) x y → Rounds (Matches kept a) (x - n) (y - n)
   rounds-out a each x y low top (one_round _ r) = one_round (y - n) (each x y low top r)
   rounds-out a each x y low top (next_round l _ earlier r) =
@@ -311,7 +340,8 @@ module _ (hay kept post : List ℕ) (n : ℕ) (part : IsPart hay kept post n) wh
       next_round (l - n) (y - n) (rounds-out a each x l low (omega arith) earlier) (each l y (omega arith) top r)
 
   -- a match of the haystack within the part is one of the part alone
-  pub matches-out : (re : Re) → is_local re ≡ true → (x y : ℕ) → n ≤ x → y ≤ end → Matches hay re x y → Matches kept re (x - n) (y - n)
+  pub matches-out : (re : Re) → is_local re ≡ true → (x y : ℕ) → n ≤ x → y ≤ end → Matches hay re x y
+      → Matches kept re (x - n) (y - n)
   matches-out empty ok x y low top m = ap (λ k. k - n) m
   matches-out (literal bs) ok x y low top m =
       let back : n + (x - n) ≡ x = omega arith in

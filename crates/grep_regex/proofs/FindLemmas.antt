@@ -23,18 +23,23 @@ unfolding outcome
 span-at i None later = refl
 span-at i (Some t) later = refl
 
-first_from-span : (f g : Rest) (last : ℕ) → ((i : ℕ) → i ≤ last → outcome (f i) ≡ outcome (g i)) → (n i : ℕ) → i + n ≤ last + 1 →
+first_from-span : (f g : Rest) (last : ℕ) → ((i : ℕ) → i ≤ last → outcome (f i) ≡ outcome (g i)) → (n i : ℕ)
+    → i + n ≤ last + 1 →
     option_map span (first_from f n i) ≡ option_map span (first_from g n i)
 unfolding first_from
 first_from-span f g last h zero i room = refl
 first_from-span f g last h (suc n) i room =
     span-at i (f i) _
-    ∙ (ap₂ option_or (ap (option_map (λ s. (i, s.0))) (h i (omega arith))) (first_from-span f g last h n (i + 1) (omega arith))
+    ∙ (ap₂ option_or (ap (option_map (λ s. (i, s.0))) (h i (omega arith)))
+    (first_from-span f g last h n (i + 1) (omega arith))
     ∙ sym (span-at i (g i) _))
 
--- the stripped pattern finds what the pattern finds that a text is read as, among the matches that hold none of the bytes
-pub find-stripped : (bytes : List ℕ) (whole stripped written : Re) → IsStripped bytes whole stripped → SameCaptures whole written →
-    (hay : List ℕ) → All (λ x. x < 256) hay → option_map span (find stripped hay 0) ≡ option_map span (find_clear bytes written hay)
+-- the stripped pattern finds what the pattern finds that a text is read as, among the matches that hold none of the
+-- bytes
+pub find-stripped : (bytes : List ℕ) (whole stripped written : Re) → IsStripped bytes whole stripped
+    → SameCaptures whole written →
+    (hay : List ℕ) → All (λ x. x < 256) hay → option_map span (find stripped hay 0)
+    ≡ option_map span (find_clear bytes written hay)
 unfolding find find_clear
 find-stripped bytes whole stripped written p q hay small =
     first_from-span _ _ (length hay) (λ i inside.
@@ -42,23 +47,30 @@ find-stripped bytes whole stripped written p q hay small =
     ∙ q.at hay small (if_clear bytes hay i accept) i) (length hay + 1 - 0) 0 (omega arith)
 
 -- the first match that holds none of the bytes holds none of them
-pub clear-match : (bytes : List ℕ) (re : Re) (hay : List ℕ) (a b : ℕ) → option_map span (find_clear bytes re hay) ≡ Some (a, b) →
+pub clear-match : (bytes : List ℕ) (re : Re) (hay : List ℕ) (a b : ℕ) → option_map span (find_clear bytes re hay)
+    ≡ Some (a, b) →
     is_clear bytes hay a b ≡ true
 unfolding find_clear
 clear-match bytes re hay a b e = ⊎_elim
     (λ none. absurd (none-some _ (sym (ap (option_map span) none) ∙ e)))
     (λ some.
     let same = same_Some _ _ (sym (ap (option_map span) some.1) ∙ e) in
-    let first = IsFirst-of_first_between (λ i. attempt hay re (if_clear bytes hay i accept) i) 0 (length hay) some.0 some.1 in
+    let first = IsFirst-of_first_between (λ i. attempt hay re (if_clear bytes hay i accept) i) 0 (length hay) some.0
+    some.1 in
     let goes = attempt_sound hay re (if_clear bytes hay some.0.start accept) some.0.start some.0.trace first.here in
     let both = ends some.0.start goes.at goes.rest goes.gave in
     ap₂ (is_clear bytes hay) (sym (ap (λ (x : ℕ × ℕ). x.0) same))
     (sym (ap (λ (x : ℕ × ℕ). x.1) same) ∙ (goes.same_end ∙ both.1)) ∙ both.0)
     (option_cases (find_clear bytes re hay))
   where
-    ends : (s l : ℕ) (t : Trace) → if_clear bytes hay s accept l ≡ Some t → (is_clear bytes hay s l ≡ true) × (t.end ≡ l)
+    ends : (s l : ℕ) (t : Trace) → if_clear bytes hay s accept l ≡ Some t → (is_clear bytes hay s l ≡ true)
+        × (t.end ≡ l)
     ends s l t gave = ⊎_elim
-        (λ clear. (clear, ap (λ (t : Trace). t.end) (sym (same_Some _ _ (sym (cond-true _ (accept l) None clear) ∙ gave)))))
+        (λ clear. (
+          clear,
+          ap (λ (t : Trace). t.end) (sym
+              (same_Some _ _ (sym (cond-true _ (accept l) None clear) ∙ gave))),
+        ))
         (λ unclear. absurd (none-some t (sym (cond-false _ (accept l) None unclear) ∙ gave)))
         (cases_Bool (is_clear bytes hay s l))
 
@@ -67,5 +79,7 @@ pub find-unterminated : (bytes : List ℕ) (re : Re) (hay : List ℕ) → is_cle
     find_clear bytes re hay ≡ find re hay 0
 unfolding find find_clear
 find-unterminated bytes re hay clear =
-    first_between_cong _ _ 0 (length hay) (λ i from to. attempt_cong hay re (if_clear bytes hay i accept) accept i (λ j m.
-    cond-true _ (accept j) None (clear-from bytes hay i j (λ k low high inside. clear-at bytes hay 0 (length hay) clear k (omega arith) inside inside))))
+    first_between_cong _ _ 0 (length hay) (λ i from to. attempt_cong hay re (if_clear bytes hay i accept) accept i
+    (λ j m.
+    cond-true _ (accept j) None (clear-from bytes hay i j
+    (λ k low high inside. clear-at bytes hay 0 (length hay) clear k (omega arith) inside inside))))

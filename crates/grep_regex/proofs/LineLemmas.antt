@@ -50,7 +50,8 @@ match-within re hay = ⊎_elim
 
 -- ---- the lines
 
-prefix-is : (xs line : List ℕ) → length line ≤ length xs → ((j : ℕ) → j < length line → slice_index xs j ≡ slice_index line j) →
+prefix-is : (xs line : List ℕ) → length line ≤ length xs
+    → ((j : ℕ) → j < length line → slice_index xs j ≡ slice_index line j) →
     xs ≡ line ++ drop (length line) xs
 prefix-is xs [] fits same = refl
 prefix-is [] (b ∷ line) fits same = absurd (omega arith)
@@ -58,7 +59,8 @@ prefix-is (x ∷ xs) (b ∷ line) fits same =
     ap (λ y. y ∷ xs) (same 0 (omega arith))
     ∙ ap (λ l. b ∷ l) (prefix-is xs line (omega arith) (λ j below. same (suc j) (omega arith)))
 
-last-is : (line : List ℕ) (t : ℕ) → 0 < length line → slice_index line (length line - 1) ≡ t → line ≡ take (length line - 1) line ++ t ∷ []
+last-is : (line : List ℕ) (t : ℕ) → 0 < length line → slice_index line (length line - 1) ≡ t → line
+    ≡ take (length line - 1) line ++ t ∷ []
 last-is [] t some e = absurd (omega arith)
 last-is (b ∷ []) t some e = ap (λ x. x ∷ []) e
 last-is (b ∷ c ∷ line) t some e =
@@ -93,13 +95,15 @@ module _ (bytes : List ℕ) where
   IsListed i = i < length (lines 10 bytes)
 
   last-start : (n : ℕ) → n ≡ length (lines 10 bytes) → start n ≡ length bytes
-  last-start n e = ap (λ ls. length (concat ls)) (ap (λ k. take k (lines 10 bytes)) e ∙ take-length (lines 10 bytes)) ∙ whole-lines 10 bytes
+  last-start n e = ap (λ ls. length (concat ls)) (ap (λ k. take k (lines 10 bytes)) e ∙ take-length (lines 10 bytes))
+      ∙ whole-lines 10 bytes
 
   -- where a line ends, and what comes then
   abbrev IsEnd : ℕ → Type 0
   IsEnd i =
       ((slice_get bytes (start i + length (kept i)) ≡ Some 10) × (start (i + 1) ≡ start i + length (kept i) + 1))
-      ⊎ ((length bytes ≡ start i + length (kept i)) × (start (i + 1) ≡ length bytes) × (slice_index bytes (length bytes - 1) ≢ 10))
+      ⊎ ((length bytes ≡ start i + length (kept i)) × (start (i + 1) ≡ length bytes)
+      × (slice_index bytes (length bytes - 1) ≢ 10))
 
   abbrev rest : ℕ → List ℕ
   rest i = drop (length (line i)) (drop (start i) bytes)
@@ -117,9 +121,11 @@ module _ (bytes : List ℕ) where
       let later = line-is 10 bytes (suc k) listed in
       let next : start (k + 1) ≡ start (suc k) = ap start (add-one k) in
       let back : start (suc k) - 1 + 1 ≡ start (suc k) = omega (arith, is.ends, is.filled, next) in
-      let at : slice_index bytes (start (suc k) - 1) ≡ 10 = rw next at (is.closed (omega (arith, later.occurs.fits, later.filled, next))) in
+      let at : slice_index bytes (start (suc k) - 1)
+      ≡ 10 = rw next at (is.closed (omega (arith, later.occurs.fits, later.filled, next))) in
       inr (ap (byte_before bytes) (sym back) ∙ (byte_before-add-one bytes (start (suc k) - 1)
-      ∙ (slice_get-get_or bytes (start (suc k) - 1) 0 (omega (arith, later.occurs.fits, later.filled, back)) ∙ ap Some at)))
+      ∙ (slice_get-get_or bytes (start (suc k) - 1) 0 (omega (arith, later.occurs.fits, later.filled, back))
+      ∙ ap Some at)))
 
   record IsKept (i : ℕ) : Type 0 where
     post : List ℕ
@@ -133,8 +139,10 @@ module _ (bytes : List ℕ) where
       let size : length (line i) ≡ length (kept i) + 1 = ap length joined ∙ length-append (kept i) feed in
       let inside : start i + length (kept i) < length bytes = omega (arith, is.occurs.fits, size) in
       let at : slice_index bytes (start i + length (kept i)) ≡ 10 =
-      is.occurs.reads (length (kept i)) (omega (arith, size)) ∙ (ap (λ l. slice_index l (length (kept i))) joined ∙ get_or-append_seam (kept i) 10 [] 0) in
-      let fed : slice_get bytes (start i + length (kept i)) ≡ Some 10 = slice_get-get_or bytes _ 0 inside ∙ ap Some at in
+      is.occurs.reads (length (kept i)) (omega (arith, size))
+      ∙ (ap (λ l. slice_index l (length (kept i))) joined ∙ get_or-append_seam (kept i) 10 [] 0) in
+      let fed : slice_get bytes (start i + length (kept i)) ≡ Some 10 = slice_get-get_or bytes _ 0 inside
+      ∙ ap Some at in
       record {
         post = feed ++ rest i;
         part = record {
@@ -152,8 +160,10 @@ module _ (bytes : List ℕ) where
       ((ends_is Decides-eqb (line i) feed _ refl).1 _ (last-is (line i) 10 is.filled last)) ∙ doesnt) in
       let lasts : slice_index bytes (start (i + 1) - 1) ≢ 10 = λ last.
       let there : start i + (length (line i) - 1) ≡ start (i + 1) - 1 = omega (arith, is.ends, is.filled) in
-      unended (sym (is.occurs.reads (length (line i) - 1) (omega (arith, is.filled))) ∙ (ap (slice_index bytes) there ∙ last)) in
-      let whole : start (i + 1) ≡ length bytes = ⊎_elim (λ more. absurd (lasts (is.closed more))) (λ past. omega (arith, is.ends, is.occurs.fits))
+      unended (sym (is.occurs.reads (length (line i) - 1) (omega (arith, is.filled)))
+      ∙ (ap (slice_index bytes) there ∙ last)) in
+      let whole : start (i + 1) ≡ length bytes = ⊎_elim (λ more. absurd (lasts (is.closed more)))
+      (λ past. omega (arith, is.ends, is.occurs.fits))
       (cases_lt (start (i + 1)) (length bytes)) in
       let ends : length bytes ≡ start i + length (kept i) = omega (arith, is.ends, whole, size) in
       record {
@@ -176,11 +186,13 @@ module _ (bytes : List ℕ) where
   kept-small small i listed k = ⊎_elim
       (λ (inside : k < length (kept i)).
       let it = kept-is i listed in
-      let same : get_or (kept i) k 0 ≡ get_or bytes (start i + k) 0 = sym (get_or_append_left (kept i) it.post 0 k inside)
+      let same : get_or (kept i) k 0 ≡ get_or bytes (start i + k) 0 = sym
+      (get_or_append_left (kept i) it.post 0 k inside)
       ∙ (ap (λ l. get_or l k 0) (sym it.part.front) ∙ get_or-drop (start i) bytes k 0) in
       let low : get_or bytes (start i + k) 0 < 256 = small (start i + k) in
       omega (arith, same, low))
-      (λ (past : length (kept i) ≤ k). let zeroth : get_or (kept i) k 0 ≡ 0 = get_or_past (kept i) k 0 past in omega (arith, zeroth))
+      (λ (past : length (kept i) ≤ k). let zeroth : get_or (kept i) k 0
+      ≡ 0 = get_or_past (kept i) k 0 past in omega (arith, zeroth))
       (cases_lt k (length (kept i)))
 
   module _ (re : Re) (ok : is_local re ≡ true) where
@@ -201,7 +213,8 @@ module _ (bytes : List ℕ) where
     inner i x y listed low top m =
         let it = kept-is i listed in
         let spans = Matches-IsSpan bytes re x y m in
-        let some = value_of_IsSome _ (find_complete re (kept i) 0 (x - start i) (y - start i) (omega arith) (omega arith)
+        let some = value_of_IsSome _ (find_complete re (kept i) 0 (x - start i) (y - start i) (omega arith)
+        (omega arith)
         (matches-out bytes (kept i) it.post (start i) it.part re ok x y low top m)) in
         ap (λ o. is_some (option_map span o)) some.1
 
@@ -212,7 +225,13 @@ module _ (bytes : List ℕ) where
         let m = outer i listed does in
         let it = kept-is i listed in
         let some = value_of_IsSome _ (find_complete re bytes 0 _ _ (omega arith) (⊎_elim
-        (λ ended. omega (arith, m.2, (line-is 10 bytes i listed).occurs.fits, (line-is 10 bytes i listed).ends, ended.1))
+        (λ ended. omega (
+          arith,
+          m.2,
+          (line-is 10 bytes i listed).occurs.fits,
+          (line-is 10 bytes i listed).ends,
+          ended.1,
+        ))
         (λ last. omega (arith, m.2, last.0)) it.end) m.3) in
         absurd (none-some some.0 (sym none ∙ some.1)))
         (λ doesnt. doesnt)
@@ -231,7 +250,11 @@ module _ (bytes : List ℕ) where
           (λ (sooner : start i + o.0 < m.start). absurd (sound.2 _ _ (omega arith) sooner o.3))
           (λ (later : m.start ≤ start i + o.0). ⊎_elim
           (λ ended. absurd (omega (arith, ended.1, o.2, ends.0)))
-          (λ last. absurd (ends.1 (omega (arith, ends.0, last.0, last.1), inr (only i listed last.1, omega (arith, ends.0, last.1, to), last.2))))
+          (λ last. absurd (ends.1 (
+            omega (arith, ends.0, last.0, last.1),
+            inr
+                (only i listed last.1, omega (arith, ends.0, last.1, to), last.2),
+          )))
           (kept-is i listed).end)
           (cases_lt (start i + o.0) m.start))
           (λ doesnt. doesnt)
@@ -239,13 +262,15 @@ module _ (bytes : List ℕ) where
         where
           only : (i : ℕ) → IsListed i → start (i + 1) ≡ length bytes → i + 1 ≡ length (lines 10 bytes)
           only i listed whole = ⊎_elim
-              (λ more. let next = line-is 10 bytes (i + 1) more in absurd (omega (arith, next.occurs.fits, next.filled, whole)))
+              (λ more. let next = line-is 10 bytes (i + 1) more in
+              absurd (omega (arith, next.occurs.fits, next.filled, whole)))
               (λ past. omega arith)
               (cases_lt (i + 1) (length (lines 10 bytes)))
 
       -- the line that holds the start of a match without line feed matches
       pub matched : (meaning : Meaning) (i : ℕ) → IsListed i → HoldsPosition (Byte 10) meaning bytes i m.start →
-          ((k : ℕ) → m.start ≤ k → k < m.trace.end → slice_index bytes k ≢ 10) → is_some (leftmost_match re (kept i)) ≡ true
+          ((k : ℕ) → m.start ≤ k → k < m.trace.end → slice_index bytes k ≢ 10) → is_some (leftmost_match re (kept i))
+          ≡ true
       matched meaning i listed holds clear =
           let sound = find_sound re bytes 0 m found in
           let to = found-to re bytes m found in

@@ -41,7 +41,8 @@ module _ (bytes hay : List ℕ) (start : ℕ) (rest : Rest) where
   gives-up j unclear = cond-false _ (rest j) None unclear
 
   -- from an unclear position on nothing is tried
-  gives-up-from : (re : Re) (i : ℕ) → is_clear bytes hay start i ≡ false → attempt hay re (if_clear bytes hay start rest) i ≡ None
+  gives-up-from : (re : Re) (i : ℕ) → is_clear bytes hay start i ≡ false
+      → attempt hay re (if_clear bytes hay start rest) i ≡ None
   gives-up-from re i unclear = attempt_none hay re _ i (λ j m.
       let span = Matches-IsSpan hay re i j m in
       gives-up j (clear-more bytes hay start i j (omega arith) unclear))
@@ -59,19 +60,23 @@ stripped-empty bytes = record { at = λ hay small rest s i le fits clear. sym (g
 pub stripped-look : (bytes : List ℕ) (l : Look) → IsStripped bytes (look l) (look l)
 unfolding attempt
 stripped-look bytes l = record {
-  at = λ hay small rest s i le fits clear. ap (λ (x : Option Trace). cond (holds l hay i) x None) (sym (goes-on bytes hay s rest i clear));
+  at = λ hay small rest s i le fits clear. ap (λ (x : Option Trace). cond (holds l hay i) x None)
+      (sym (goes-on bytes hay s rest i clear));
 }
 
 -- the literal's bytes stand in the haystack
 literal-at : (hay : List ℕ) (i : ℕ) (bs : List ℕ) → has_bytes_at hay i bs ≡ true → (k : ℕ) → k < length bs →
     slice_index hay (i + k) ≡ slice_index bs k
 literal-at hay i bs has k below =
-    sym (get_or-drop i hay k 0) ∙ (ap (λ l. get_or l k 0) (has_bytes_at_parts hay i bs has) ∙ get_or_append_left bs _ 0 k below)
+    sym (get_or-drop i hay k 0) ∙ (ap (λ l. get_or l k 0) (has_bytes_at_parts hay i bs has)
+    ∙ get_or_append_left bs _ 0 k below)
 
-pub stripped-literal : (bytes bs : List ℕ) → list_any (is_among bytes) bs ≡ false → IsStripped bytes (literal bs) (literal bs)
+pub stripped-literal : (bytes bs : List ℕ) → list_any (is_among bytes) bs ≡ false
+    → IsStripped bytes (literal bs) (literal bs)
 unfolding attempt
 stripped-literal bytes bs none = record {
-  at = λ hay small rest s i le fits clear. cond_cong (has_bytes_at hay i bs) _ _ None (λ has. sym (goes-on bytes hay s rest (i + length bs)
+  at = λ hay small rest s i le fits clear. cond_cong (has_bytes_at hay i bs) _ _ None
+      (λ has. sym (goes-on bytes hay s rest (i + length bs)
       (clear-from bytes hay s (i + length bs) (λ k low high inside. ⊎_elim
       (λ (before : k < i). clear-at bytes hay s i clear k low before inside)
       (λ (within : i ≤ k).
@@ -93,7 +98,8 @@ stripped-literal bytes bs none = record {
 -- a member that is none of the bytes stays, and another one is no member any more
 thinned-kept : (bytes : List ℕ) (before after : List (ℕ × ℕ)) → IsThinned bytes before after → (x : ℕ) → x ≤ 0x10_FFFF →
     is_among bytes x ≡ false → in_ranges after x ≡ in_ranges before x
-thinned-kept bytes before after thin x small hasnt = thin x small ∙ (ap (λ b. in_ranges before x && not b) hasnt ∙ and-true (in_ranges before x))
+thinned-kept bytes before after thin x small hasnt = thin x small
+    ∙ (ap (λ b. in_ranges before x && not b) hasnt ∙ and-true (in_ranges before x))
   where
     and-true : (b : Bool) → (b && true) ≡ b
     and-true true = refl
@@ -101,7 +107,8 @@ thinned-kept bytes before after thin x small hasnt = thin x small ∙ (ap (λ b.
 
 thinned-gone : (bytes : List ℕ) (before after : List (ℕ × ℕ)) → IsThinned bytes before after → (x : ℕ) → x ≤ 0x10_FFFF →
     is_among bytes x ≡ true → in_ranges after x ≡ false
-thinned-gone bytes before after thin x small has = thin x small ∙ (ap (λ b. in_ranges before x && not b) has ∙ and-false (in_ranges before x))
+thinned-gone bytes before after thin x small has = thin x small
+    ∙ (ap (λ b. in_ranges before x && not b) has ∙ and-false (in_ranges before x))
   where
     and-false : (b : Bool) → (b && false) ≡ false
     and-false true = refl
@@ -109,18 +116,21 @@ thinned-gone bytes before after thin x small has = thin x small ∙ (ap (λ b. i
 
 -- a step over a part of the haystack that is clear, or over one that isn't
 module _ (bytes hay : List ℕ) (s : ℕ) (rest : Rest) (i j : ℕ) where
-  clear-step : is_clear bytes hay s i ≡ true → ((k : ℕ) → i ≤ k → k < j → k < length hay → is_among bytes (slice_index hay k) ≡ false) →
+  clear-step : is_clear bytes hay s i ≡ true → ((k : ℕ) → i ≤ k → k < j → k < length hay
+      → is_among bytes (slice_index hay k) ≡ false) →
       rest j ≡ if_clear bytes hay s rest j
   clear-step clear each = sym (goes-on bytes hay s rest j (clear-from bytes hay s j (λ k low high inside. ⊎_elim
       (λ (before : k < i). clear-at bytes hay s i clear k low before inside)
       (λ (within : i ≤ k). each k within high inside)
       (cases_lt k i))))
 
-  unclear-step : s ≤ i → i < j → i < length hay → is_among bytes (slice_index hay i) ≡ true → if_clear bytes hay s rest j ≡ None
+  unclear-step : s ≤ i → i < j → i < length hay → is_among bytes (slice_index hay i) ≡ true
+      → if_clear bytes hay s rest j ≡ None
   unclear-step le more inside has = gives-up bytes hay s rest j (clear-not bytes hay s j i le more inside has)
 
 -- one step of a class: what the class after gives is what the class before gives where the match is clear
-class-step : (bytes : List ℕ) (before after : List (ℕ × ℕ)) → IsThinned bytes before after → (x : ℕ) → x ≤ 0x10_FFFF → (r g : Option Trace) →
+class-step : (bytes : List ℕ) (before after : List (ℕ × ℕ)) → IsThinned bytes before after → (x : ℕ) → x ≤ 0x10_FFFF
+    → (r g : Option Trace) →
     (is_among bytes x ≡ true → g ≡ None) → (is_among bytes x ≡ false → r ≡ g) →
     cond (in_ranges after x) r None ≡ cond (in_ranges before x) g None
 class-step bytes before after thin x small r g gone kept = ⊎_elim
@@ -130,12 +140,14 @@ class-step bytes before after thin x small r g gone kept = ⊎_elim
     ∙ ap (λ o. cond (in_ranges before x) o None) (kept hasnt))
     (cases_Bool (is_among bytes x))
 
-pub stripped-byte_in : (bytes : List ℕ) (before after : List (ℕ × ℕ)) → IsThinned bytes before after → IsStripped bytes (byte_in before) (byte_in after)
+pub stripped-byte_in : (bytes : List ℕ) (before after : List (ℕ × ℕ)) → IsThinned bytes before after
+    → IsStripped bytes (byte_in before) (byte_in after)
 unfolding attempt
 stripped-byte_in bytes before after thin = record {
   at = λ hay small rest s i le fits clear. ⊎_elim
       (λ none. ap (λ (o : Option ℕ). cond (is_some_and o (in_ranges after)) (rest (i + 1)) None) none
-      ∙ sym (ap (λ (o : Option ℕ). cond (is_some_and o (in_ranges before)) (if_clear bytes hay s rest (i + 1)) None) none))
+      ∙ sym (ap (λ (o : Option ℕ). cond (is_some_and o (in_ranges before)) (if_clear bytes hay s rest (i + 1)) None)
+      none))
       (λ some.
       let inside : i < length hay = slice_get_within hay i some.0 some.1 in
       let at : slice_index hay i ≡ some.0 = get_or_from_slice_get hay i some.0 0 some.1 in
@@ -146,7 +158,8 @@ stripped-byte_in bytes before after thin = record {
       (λ hasnt. clear-step bytes hay s rest i (i + 1) clear (λ k low high inside.
       let same : k ≡ i = omega arith in
       ap (λ n. is_among bytes (slice_index hay n)) same ∙ (ap (is_among bytes) at ∙ hasnt)))
-      ∙ sym (ap (λ (o : Option ℕ). cond (is_some_and o (in_ranges before)) (if_clear bytes hay s rest (i + 1)) None) some.1)))
+      ∙ sym (ap (λ (o : Option ℕ). cond (is_some_and o (in_ranges before)) (if_clear bytes hay s rest (i + 1)) None)
+      some.1)))
       (option_cases (slice_get hay i));
 }
 
@@ -168,7 +181,8 @@ high-at hay p k q x is same =
     record { high = omega (arith, eq) }
 
 -- each byte of a character that is not ASCII is 128 or more
-char-high : (hay : List ℕ) (p c : ℕ) → char_at hay p ≡ Some c → 128 ≤ c → (k : ℕ) → p ≤ k → k < p + len_utf8 c → IsHighAt hay k
+char-high : (hay : List ℕ) (p c : ℕ) → char_at hay p ≡ Some c → 128 ≤ c → (k : ℕ) → p ≤ k → k < p + len_utf8 c
+    → IsHighAt hay k
 char-high hay p c found big k low high = elim (char_at_cases hay p c found).1 [
   | inl one ↦ absurd (omega (arith, one.0))
   | inr (inl two) ↦
@@ -197,13 +211,15 @@ char-high hay p c found big k low high = elim (char_at_cases hay p c found).1 [
     lead : (n x : ℕ) → slice_index hay p ≡ n → n ≡ 128 + x → slice_index hay (p + 0) ≡ 128 + x
     lead n x is same = let back : p + 0 ≡ p = omega arith in ap (slice_index hay) back ∙ (is ∙ same)
 
-pub stripped-char_in : (bytes : List ℕ) → AreAscii bytes → (before after : List (ℕ × ℕ)) → IsThinned bytes before after →
+pub stripped-char_in : (bytes : List ℕ) → AreAscii bytes → (before after : List (ℕ × ℕ))
+    → IsThinned bytes before after →
     IsStripped bytes (char_in before) (char_in after)
 unfolding attempt
 stripped-char_in bytes ascii before after thin = record {
   at = λ hay small rest s i le fits clear. ⊎_elim
       (λ none. ap (option_and_then (λ c. cond (in_ranges after c) (rest (i + len_utf8 c)) None)) none
-      ∙ sym (ap (option_and_then (λ c. cond (in_ranges before c) (if_clear bytes hay s rest (i + len_utf8 c)) None)) none))
+      ∙ sym (ap (option_and_then (λ c. cond (in_ranges before c) (if_clear bytes hay s rest (i + len_utf8 c)) None))
+      none))
       (λ some.
       let size : i + len_utf8 some.0 ≤ length hay = char_at_fits hay i some.0 some.1 in
       let cases = char_at_cases hay i some.0 some.1 in
@@ -219,10 +235,13 @@ stripped-char_in bytes ascii before after thin = record {
       (λ (little : some.0 < 128).
       let one : len_utf8 some.0 ≡ 1 = len_utf8_ascii some.0 little in
       let same : k ≡ i = omega (arith, one) in
-      ap (λ n. is_among bytes (slice_index hay n)) same ∙ (ap (is_among bytes) (char-low hay i some.0 some.1 little) ∙ hasnt))
-      (λ (big : 128 ≤ some.0). not-among bytes ascii (slice_index hay k) (char-high hay i some.0 some.1 big k low high).high)
+      ap (λ n. is_among bytes (slice_index hay n)) same
+      ∙ (ap (is_among bytes) (char-low hay i some.0 some.1 little) ∙ hasnt))
+      (λ (big : 128 ≤ some.0). not-among bytes ascii (slice_index hay k)
+      (char-high hay i some.0 some.1 big k low high).high)
       (cases_lt some.0 128)))
-      ∙ sym (ap (option_and_then (λ c. cond (in_ranges before c) (if_clear bytes hay s rest (i + len_utf8 c)) None)) some.1)))
+      ∙ sym (ap (option_and_then (λ c. cond (in_ranges before c) (if_clear bytes hay s rest (i + len_utf8 c)) None))
+      some.1)))
       (option_cases (char_at hay i));
 }
   where
@@ -252,7 +271,8 @@ module _ (bytes hay : List ℕ) (s i : ℕ) (re : Re) (f g : Rest) (le : s ≤ i
       (λ unclear. gives-up bytes hay s f j unclear ∙ sym (none j (omega arith) unclear))
       (cases_Bool (is_clear bytes hay s j)))
 
-pub stripped-cat : (bytes : List ℕ) {a b c d : Re} → IsStripped bytes a b → IsStripped bytes c d → IsStripped bytes (cat a c) (cat b d)
+pub stripped-cat : (bytes : List ℕ) {a b c d : Re} → IsStripped bytes a b → IsStripped bytes c d
+    → IsStripped bytes (cat a c) (cat b d)
 unfolding attempt
 stripped-cat bytes {a} {b} {c} {d} p q = record {
   at = λ hay small rest s i le fits clear. p.at hay small (attempt hay d rest) s i le fits clear
@@ -261,17 +281,22 @@ stripped-cat bytes {a} {b} {c} {d} p q = record {
       (λ j from unclear. gives-up-from bytes hay s rest c j unclear);
 }
 
-pub stripped-alt : (bytes : List ℕ) {a b c d : Re} → IsStripped bytes a b → IsStripped bytes c d → IsStripped bytes (alt a c) (alt b d)
+pub stripped-alt : (bytes : List ℕ) {a b c d : Re} → IsStripped bytes a b → IsStripped bytes c d
+    → IsStripped bytes (alt a c) (alt b d)
 unfolding attempt
 stripped-alt bytes p q = record {
-  at = λ hay small rest s i le fits clear. ap₂ option_or (p.at hay small rest s i le fits clear) (q.at hay small rest s i le fits clear);
+  at = λ hay small rest s i le fits clear. ap₂ option_or (p.at hay small rest s i le fits clear)
+      (q.at hay small rest s i le fits clear);
 }
 
-pub stripped-group : (bytes : List ℕ) (n : ℕ) {a b : Re} → IsStripped bytes a b → IsStripped bytes (group n a) (group n b)
+pub stripped-group : (bytes : List ℕ) (n : ℕ) {a b : Re} → IsStripped bytes a b
+    → IsStripped bytes (group n a) (group n b)
 unfolding attempt
 stripped-group bytes n {a} {b} p = record {
-  at = λ hay small rest s i le fits clear. ap (write (2 * n) i) (p.at hay small (λ j. write (2 * n + 1) j (rest j)) s i le fits clear
-      ∙ gate-cong bytes hay s i a (λ j. write (2 * n + 1) j (rest j)) (λ j. write (2 * n + 1) j (if_clear bytes hay s rest j)) le fits
+  at = λ hay small rest s i le fits clear. ap (write (2 * n) i)
+      (p.at hay small (λ j. write (2 * n + 1) j (rest j)) s i le fits clear
+      ∙ gate-cong bytes hay s i a (λ j. write (2 * n + 1) j (rest j))
+      (λ j. write (2 * n + 1) j (if_clear bytes hay s rest j)) le fits
       (λ j from to here. ap (write (2 * n + 1) j) (sym (goes-on bytes hay s rest j here)))
       (λ j from unclear. ap (write (2 * n + 1) j) (gives-up bytes hay s rest j unclear)));
 }
@@ -292,7 +317,8 @@ module _ (bytes hay : List ℕ) (s : ℕ) (rest : Rest) (a : Re) where
       ap₂ (prefer greedy)
       (attempt_none hay a _ j (λ l m.
       let span = Matches-IsSpan hay a j l m in
-      ap (λ (x : Option Trace). cond (nat_lt j l) x None) (rounds-none greedy n l (clear-more bytes hay s j l (omega arith) unclear))
+      ap (λ (x : Option Trace). cond (nat_lt j l) x None)
+      (rounds-none greedy n l (clear-more bytes hay s j l (omega arith) unclear))
       ∙ cond-none (nat_lt j l)))
       (gives-up bytes hay s rest j unclear)
       ∙ prefer-none greedy
@@ -307,17 +333,23 @@ module _ (bytes hay : List ℕ) (s : ℕ) (rest : Rest) (a : Re) where
         (stripped.at hay small (λ l. cond (nat_lt j l) (rounds greedy (attempt hay b) rest n l) None) s j le fits clear
         ∙ gate-cong bytes hay s j a (λ l. cond (nat_lt j l) (rounds greedy (attempt hay b) rest n l) None)
         (λ l. cond (nat_lt j l) (rounds greedy (attempt hay a) (if_clear bytes hay s rest) n l) None) le fits
-        (λ l from to here. ap (λ (x : Option Trace). cond (nat_lt j l) x None) (rounds-same greedy n l (omega arith) to here))
-        (λ l from unclear. ap (λ (x : Option Trace). cond (nat_lt j l) x None) (rounds-none greedy n l unclear) ∙ cond-none (nat_lt j l)))
+        (λ l from to here. ap (λ (x : Option Trace). cond (nat_lt j l) x None)
+        (rounds-same greedy n l (omega arith) to here))
+        (λ l from unclear. ap (λ (x : Option Trace). cond (nat_lt j l) x None) (rounds-none greedy n l unclear)
+        ∙ cond-none (nat_lt j l)))
         (sym (goes-on bytes hay s rest j clear))
 
-pub stripped-plus : (bytes : List ℕ) (greedy : Bool) {a b : Re} → IsStripped bytes a b → IsStripped bytes (plus greedy a) (plus greedy b)
+pub stripped-plus : (bytes : List ℕ) (greedy : Bool) {a b : Re} → IsStripped bytes a b
+    → IsStripped bytes (plus greedy a) (plus greedy b)
 unfolding attempt
 stripped-plus bytes greedy {a} {b} p = record {
   at = λ hay small rest s i le fits clear.
-      p.at hay small (λ j. cond (nat_lt i j) (rounds greedy (attempt hay b) rest (length hay - j) j) (rest j)) s i le fits clear
-      ∙ gate-cong bytes hay s i a (λ j. cond (nat_lt i j) (rounds greedy (attempt hay b) rest (length hay - j) j) (rest j))
-      (λ j. cond (nat_lt i j) (rounds greedy (attempt hay a) (if_clear bytes hay s rest) (length hay - j) j) (if_clear bytes hay s rest j)) le fits
+      p.at hay small (λ j. cond (nat_lt i j) (rounds greedy (attempt hay b) rest (length hay - j) j) (rest j)) s i le
+      fits clear
+      ∙ gate-cong bytes hay s i a (λ j. cond (nat_lt i j) (rounds greedy (attempt hay b) rest (length hay - j) j)
+      (rest j))
+      (λ j. cond (nat_lt i j) (rounds greedy (attempt hay a) (if_clear bytes hay s rest) (length hay - j) j)
+      (if_clear bytes hay s rest j)) le fits
       (λ j from to here. ap₂ (cond (nat_lt i j))
       (rounds-same bytes hay s rest a b p small greedy (length hay - j) j (omega arith) to here)
       (sym (goes-on bytes hay s rest j here)))
@@ -327,26 +359,32 @@ stripped-plus bytes greedy {a} {b} p = record {
       ∙ cond-none (nat_lt i j));
 }
 
-stripped-optional : (bytes : List ℕ) (greedy : Bool) {a b : Re} → IsStripped bytes a b → IsStripped bytes (optional greedy a) (optional greedy b)
+stripped-optional : (bytes : List ℕ) (greedy : Bool) {a b : Re} → IsStripped bytes a b
+    → IsStripped bytes (optional greedy a) (optional greedy b)
 stripped-optional bytes true p = stripped-alt bytes p (stripped-empty bytes)
 stripped-optional bytes false p = stripped-alt bytes (stripped-empty bytes) p
 
-stripped-copies : (bytes : List ℕ) (n : ℕ) {a b c d : Re} → IsStripped bytes a b → IsStripped bytes c d → IsStripped bytes (copies n a c) (copies n b d)
+stripped-copies : (bytes : List ℕ) (n : ℕ) {a b c d : Re} → IsStripped bytes a b → IsStripped bytes c d
+    → IsStripped bytes (copies n a c) (copies n b d)
 stripped-copies bytes zero p q = q
 stripped-copies bytes (suc n) p q = stripped-cat bytes p (stripped-copies bytes n p q)
 
-stripped-up_to : (bytes : List ℕ) (greedy : Bool) (n : ℕ) {a b : Re} → IsStripped bytes a b → IsStripped bytes (up_to greedy n a) (up_to greedy n b)
+stripped-up_to : (bytes : List ℕ) (greedy : Bool) (n : ℕ) {a b : Re} → IsStripped bytes a b
+    → IsStripped bytes (up_to greedy n a) (up_to greedy n b)
 stripped-up_to bytes greedy zero p = stripped-empty bytes
-stripped-up_to bytes greedy (suc n) p = stripped-optional bytes greedy (stripped-cat bytes p (stripped-up_to bytes greedy n p))
+stripped-up_to bytes greedy (suc n) p = stripped-optional bytes greedy
+    (stripped-cat bytes p (stripped-up_to bytes greedy n p))
 
 pub stripped-repeat : (bytes : List ℕ) (least : ℕ) (most : Option ℕ) (greedy : Bool) (a b : Re) → IsStripped bytes a b →
     IsStripped bytes (repeat least most greedy a) (repeat least most greedy b)
 unfolding repeat
 stripped-repeat bytes zero None greedy a b p = stripped-optional bytes greedy (stripped-plus bytes greedy p)
 stripped-repeat bytes (suc n) None greedy a b p = stripped-copies bytes n p (stripped-plus bytes greedy p)
-stripped-repeat bytes least (Some most) greedy a b p = stripped-copies bytes least p (stripped-up_to bytes greedy (most - least) p)
+stripped-repeat bytes least (Some most) greedy a b p = stripped-copies bytes least p
+    (stripped-up_to bytes greedy (most - least) p)
 
-pub stripped-cat_all : (bytes : List ℕ) (xs ys : List Re) → AreStripped bytes xs ys → IsStripped bytes (cat_all xs) (cat_all ys)
+pub stripped-cat_all : (bytes : List ℕ) (xs ys : List Re) → AreStripped bytes xs ys
+    → IsStripped bytes (cat_all xs) (cat_all ys)
 stripped-cat_all bytes [] [] p = stripped-empty bytes
 stripped-cat_all bytes [] (y ∷ ys) p = absurd p
 stripped-cat_all bytes (x ∷ xs) [] p = absurd p
@@ -356,7 +394,8 @@ stripped-nothing : (bytes : List ℕ) → IsStripped bytes (byte_in []) (byte_in
 unfolding in_ranges
 stripped-nothing bytes = stripped-byte_in bytes [] [] (λ x small. refl)
 
-pub stripped-alt_all : (bytes : List ℕ) (xs ys : List Re) → AreStripped bytes xs ys → IsStripped bytes (alt_all xs) (alt_all ys)
+pub stripped-alt_all : (bytes : List ℕ) (xs ys : List Re) → AreStripped bytes xs ys
+    → IsStripped bytes (alt_all xs) (alt_all ys)
 stripped-alt_all bytes [] [] p = stripped-nothing bytes
 stripped-alt_all bytes [] (y ∷ ys) p = absurd p
 stripped-alt_all bytes (x ∷ xs) [] p = absurd p

@@ -33,22 +33,28 @@ abbrev AreTrees : List ℕ → Hir → Hir → Type 0
 AreTrees bytes h g = IsStripped bytes (meaning h) (meaning g)
 
 pub tree-Empty : (bytes : List ℕ) (h : Hir) → h ≡ Empty → IsStripped bytes (meaning h) (meaning Empty)
-tree-Empty bytes h is = subst (λ x. AreTrees bytes x Empty) (sym is) (subst (λ x. IsStripped bytes x x) (sym meaning-Empty) (stripped-empty bytes))
+tree-Empty bytes h is = subst (λ x. AreTrees bytes x Empty) (sym is)
+    (subst (λ x. IsStripped bytes x x) (sym meaning-Empty) (stripped-empty bytes))
 
-pub tree-Look : (bytes : List ℕ) (h : Hir) (l : look_type.Look) → h ≡ Look l → IsStripped bytes (meaning h) (meaning (Look l))
+pub tree-Look : (bytes : List ℕ) (h : Hir) (l : look_type.Look) → h ≡ Look l
+    → IsStripped bytes (meaning h) (meaning (Look l))
 tree-Look bytes h l is =
-    subst (λ x. AreTrees bytes x (Look l)) (sym is) (subst (λ x. IsStripped bytes x x) (sym (meaning-Look l)) (stripped-look bytes l))
+    subst (λ x. AreTrees bytes x (Look l)) (sym is)
+    (subst (λ x. IsStripped bytes x x) (sym (meaning-Look l)) (stripped-look bytes l))
 
 pub tree-Literal : (bytes : List ℕ) (h : Hir) (a b : Vec ℕ Global) → h ≡ Literal a → b.items ≡ a.items →
     list_any (is_among bytes) a.items ≡ false → IsStripped bytes (meaning h) (meaning (Literal b))
 tree-Literal bytes h a b is same none =
     rw (is, meaning-Literal a, meaning-Literal b, same) (stripped-literal bytes a.items none)
 
-pub tree-Bytes : (bytes : List ℕ) (h : Hir) (a b : Class) → h ≡ Bytes a → IsThinned bytes a.ranges.items b.ranges.items →
+pub tree-Bytes : (bytes : List ℕ) (h : Hir) (a b : Class) → h ≡ Bytes a
+    → IsThinned bytes a.ranges.items b.ranges.items →
     IsStripped bytes (meaning h) (meaning (Bytes b))
-tree-Bytes bytes h a b is thin = rw (is, meaning-Bytes a, meaning-Bytes b) (stripped-byte_in bytes a.ranges.items b.ranges.items thin)
+tree-Bytes bytes h a b is thin = rw (is, meaning-Bytes a, meaning-Bytes b)
+    (stripped-byte_in bytes a.ranges.items b.ranges.items thin)
 
-pub tree-Chars : (bytes : List ℕ) → AreAscii bytes → (h : Hir) (a b : Class) → h ≡ Chars a → IsThinned bytes a.ranges.items b.ranges.items →
+pub tree-Chars : (bytes : List ℕ) → AreAscii bytes → (h : Hir) (a b : Class) → h ≡ Chars a
+    → IsThinned bytes a.ranges.items b.ranges.items →
     IsStripped bytes (meaning h) (meaning (Chars b))
 tree-Chars bytes ascii h a b is thin =
     rw (is, meaning-Chars a, meaning-Chars b) (stripped-char_in bytes ascii a.ranges.items b.ranges.items thin)
@@ -62,7 +68,8 @@ tree-Repetition bytes h least most greedy a b is p =
 
 pub tree-Capture : (bytes : List ℕ) (h : Hir) (index : ℕ) (a b : Box Hir Global) → h ≡ Capture index a →
     IsStripped bytes (meaning a.value) (meaning b.value) → IsStripped bytes (meaning h) (meaning (Capture index b))
-tree-Capture bytes h index a b is p = rw (is, meaning-Capture index a, meaning-Capture index b) (stripped-group bytes index p)
+tree-Capture bytes h index a b is p = rw (is, meaning-Capture index a, meaning-Capture index b)
+    (stripped-group bytes index p)
 
 pub tree-Concat : (bytes : List ℕ) (h : Hir) (a b : Vec Hir Global) → h ≡ Concat a →
     AreStripped bytes (map meaning a.items) (map meaning b.items) → IsStripped bytes (meaning h) (meaning (Concat b))
@@ -70,9 +77,11 @@ tree-Concat bytes h a b is p =
     rw (is, meaning-Concat a, meaning-Concat b) (stripped-cat_all bytes (map meaning a.items) (map meaning b.items) p)
 
 pub tree-Alternation : (bytes : List ℕ) (h : Hir) (a b : Vec Hir Global) → h ≡ Alternation a →
-    AreStripped bytes (map meaning a.items) (map meaning b.items) → IsStripped bytes (meaning h) (meaning (Alternation b))
+    AreStripped bytes (map meaning a.items) (map meaning b.items)
+    → IsStripped bytes (meaning h) (meaning (Alternation b))
 tree-Alternation bytes h a b is p =
-    rw (is, meaning-Alternation a, meaning-Alternation b) (stripped-alt_all bytes (map meaning a.items) (map meaning b.items) p)
+    rw (is, meaning-Alternation a, meaning-Alternation b)
+    (stripped-alt_all bytes (map meaning a.items) (map meaning b.items) p)
 
 -- the same of equal trees
 pub along : (bytes : List ℕ) (h h2 g g2 : Hir) → h ≡ h2 → g2 ≡ g → IsStripped bytes (meaning h) (meaning g) →
@@ -86,7 +95,8 @@ all-along bytes xs ys zs e p = subst (λ l. AreStripped bytes (map meaning l) (m
 -- ---- steps of loops
 
 pub trees-more : (bytes : List ℕ) (subs all after : List Hir) (i : ℕ) (d g : Hir) → i < length subs →
-    AreStripped bytes (map meaning (take i subs)) (map meaning all) → IsStripped bytes (meaning (get_or subs i d)) (meaning g) →
+    AreStripped bytes (map meaning (take i subs)) (map meaning all)
+    → IsStripped bytes (meaning (get_or subs i d)) (meaning g) →
     after ≡ all ++ g ∷ [] → AreStripped bytes (map meaning (take (i + 1) subs)) (map meaning after)
 trees-more bytes subs all after i d g inside p q is =
     subst (λ x. AreStripped bytes x (map meaning after))
@@ -101,7 +111,8 @@ or-false false = refl
 
 -- a class that has the first bytes gets one more
 pub class-more : (bytes : List ℕ) (ranges after : List (ℕ × ℕ)) (i : ℕ) → i < length bytes →
-    ((x : ℕ) → in_ranges ranges x ≡ is_among (take i bytes) x) → after ≡ ranges ++ (get_or bytes i 0, get_or bytes i 0) ∷ [] →
+    ((x : ℕ) → in_ranges ranges x ≡ is_among (take i bytes) x) → after ≡ ranges ++ (get_or bytes i 0, get_or bytes i 0)
+    ∷ [] →
     (x : ℕ) → in_ranges after x ≡ is_among (take (i + 1) bytes) x
 class-more bytes ranges after i inside p is x =
     ap (λ r. in_ranges r x) is ∙ (in_ranges-append ranges ((get_or bytes i 0, get_or bytes i 0) ∷ []) x
@@ -110,13 +121,16 @@ class-more bytes ranges after i inside p is x =
 
 -- and the class that has all of them is the class of the bytes
 pub class-full : (bytes : List ℕ) (ranges after : List (ℕ × ℕ)) (i : ℕ) → i ≡ length bytes →
-    ((x : ℕ) → in_ranges ranges x ≡ is_among (take i bytes) x) → HasExactly after (in_ranges ranges) → IsClassOf bytes after
+    ((x : ℕ) → in_ranges ranges x ≡ is_among (take i bytes) x) → HasExactly after (in_ranges ranges)
+    → IsClassOf bytes after
 class-full bytes ranges after i whole p same x small =
     same x small ∙ (p x ∙ ap (λ l. is_among l x) (ap (λ n. take n bytes) whole ∙ take-length bytes))
 
 -- the first texts of two lists are equal, and so are the next
-pub texts-more : {A B : Type 0} (f : A → List ℕ) (g : B → List ℕ) (xs : List A) (ys : List B) (i : ℕ) (d : A) (e : B) → i < length xs → i < length ys →
-    map f (take i xs) ≡ map g (take i ys) → f (get_or xs i d) ≡ g (get_or ys i e) → map f (take (i + 1) xs) ≡ map g (take (i + 1) ys)
+pub texts-more : {A B : Type 0} (f : A → List ℕ) (g : B → List ℕ) (xs : List A) (ys : List B) (i : ℕ) (d : A) (e : B)
+    → i < length xs → i < length ys →
+    map f (take i xs) ≡ map g (take i ys) → f (get_or xs i d) ≡ g (get_or ys i e) → map f (take (i + 1) xs)
+    ≡ map g (take (i + 1) ys)
 texts-more f g xs ys i d e low high p q =
     ap (map f) (take_more xs i d low) ∙ (map-append f (take i xs) (get_or xs i d ∷ [])
     ∙ (ap₂ (λ l t. l ++ t ∷ []) p q

@@ -29,7 +29,8 @@ use Rattle.grep_regex.proofs.LineLemmas.{match-within, kept, IsListed, kept-smal
 use Rattle.grep_regex.proofs.LineLemmas.{missed, matched}
 
 -- expressions with the same options and texts find the same
-pub first-same : (p q : Regex) → regex_options p ≡ regex_options q → regex_patterns p ≡ regex_patterns q → (hay : List ℕ) →
+pub first-same : (p q : Regex) → regex_options p ≡ regex_options q → regex_patterns p ≡ regex_patterns q
+    → (hay : List ℕ) →
     regex_first p hay ≡ regex_first q hay
 first-same p q options patterns hay = ap₂ (λ o texts. first_match o texts hay) options patterns
 
@@ -45,7 +46,8 @@ only-declared r is terminator (inr absent) = absurd (true≢false (sym absent))
 
 none-of : (re : Re) (bytes : List ℕ) → leftmost_match re bytes ≡ None → find re bytes 0 ≡ None
 none-of re bytes e =
-    ⊎_elim (λ none. none) (λ some. absurd (none-some _ (sym e ∙ ap (option_map span) some.1))) (option_cases (find re bytes 0))
+    ⊎_elim (λ none. none) (λ some. absurd (none-some _ (sym e ∙ ap (option_map span) some.1)))
+    (option_cases (find re bytes 0))
 
 some-of : (re : Re) (bytes : List ℕ) (a b : ℕ) → leftmost_match re bytes ≡ Some (a, b) →
     (m : Match) × (find re bytes 0 ≡ Some m) × (m.start ≡ a) × (m.trace.end ≡ b)
@@ -60,27 +62,37 @@ module _ (r : Regex) (is_lawful : LineTerminator → Type 0) (bytes : List ℕ) 
   module _ (is : r.options.line_terminator ≡ Some (Byte 10)) (local : is_local (program_re r) ≡ true)
       (small : (k : ℕ) → get_or bytes k 0 < 256) where
     -- a line alone, by what was compiled
-    alone : (i : ℕ) → IsListed bytes i → is_some (regex_first r (kept bytes i)) ≡ is_some (leftmost_match (program_re r) (kept bytes i))
+    alone : (i : ℕ) → IsListed bytes i → is_some (regex_first r (kept bytes i))
+        ≡ is_some (leftmost_match (program_re r) (kept bytes i))
     alone i listed = ap is_some (sym (finds-of r (kept bytes i) (kept-small bytes small i listed)))
 
     -- no match holds a line feed
     no-feed : (a b : ℕ) → regex_first r bytes ≡ Some (a, b) → (k : ℕ) → a ≤ k → k < b → slice_index bytes k ≢ 10
     no-feed a b found k low high feed =
-        let inside : k < length bytes = omega (arith, high, (subst (IsWithin bytes) found (first-within r bytes small)).1) in
-        let clear = clear-match (excluded_bytes r.options.line_terminator) (written_re r.options (map string_bytes r.patterns.items)) bytes a b found in
+        let inside : k < length bytes = omega (
+          arith,
+          high,
+          (subst (IsWithin bytes) found (first-within r bytes small)).1,
+        ) in
+        let clear = clear-match (excluded_bytes r.options.line_terminator)
+        (written_re r.options (map string_bytes r.patterns.items)) bytes a b found in
         let none = clear-at (excluded_bytes r.options.line_terminator) bytes a b clear k low high inside in
         true≢false (ap₂ is_among (sym (ap excluded_bytes is)) (sym feed) ∙ none)
 
     pub trusted-none : regex_first r bytes ≡ None → IsTrusted (regex_meaning r) is_lawful bytes None
     trusted-none none terminator lawful excludes =
         subst (λ t. IsLawfulResult t (regex_meaning r) bytes None) (sym (only-declared r is terminator excludes))
-        (λ i listed. alone i listed ∙ missed-all bytes (program_re r) local (none-of _ bytes (finds-of r bytes small ∙ none)) i listed)
+        (λ i listed. alone i listed ∙ missed-all bytes (program_re r) local
+        (none-of _ bytes (finds-of r bytes small ∙ none)) i listed)
 
-    pub trusted-some : (a b : ℕ) → regex_first r bytes ≡ Some (a, b) → IsTrusted (regex_meaning r) is_lawful bytes (Some (Confirmed a))
+    pub trusted-some : (a b : ℕ) → regex_first r bytes ≡ Some (a, b)
+        → IsTrusted (regex_meaning r) is_lawful bytes (Some (Confirmed a))
     trusted-some a b found terminator lawful excludes =
-        subst (λ t. IsLawfulResult t (regex_meaning r) bytes (Some (Confirmed a))) (sym (only-declared r is terminator excludes))
+        subst (λ t. IsLawfulResult t (regex_meaning r) bytes (Some (Confirmed a)))
+        (sym (only-declared r is terminator excludes))
         (let m = some-of (program_re r) bytes a b (finds-of r bytes small ∙ found) in (
-          λ i listed ends. alone i listed ∙ missed bytes (program_re r) local m.0 m.1 (regex_meaning r) i listed (rw m.2 ends),
+          λ i listed ends. alone i listed ∙ missed bytes (program_re r) local m.0 m.1 (regex_meaning r) i listed
+              (rw m.2 ends),
           λ i listed holds confirmed. alone i listed
               ∙ matched bytes (program_re r) local m.0 m.1 (regex_meaning r) i listed (rw m.2 holds)
               (λ k low high. no-feed a b found k (omega (arith, m.2)) (omega (arith, m.3))),
@@ -90,6 +102,7 @@ module _ (r : Regex) (is_lawful : LineTerminator → Type 0) (bytes : List ℕ) 
 pub trusted-first : (meaning : Meaning) (is_lawful : LineTerminator → Type 0) (bytes : List ℕ) →
     IsTrusted meaning is_lawful bytes (Some (Candidate 0))
 trusted-first meaning is_lawful bytes terminator lawful excludes = (
-  λ i listed ends. let is = line-is (byte_of terminator) bytes i listed in absurd (omega (arith, is.ends, is.filled, ends.0)),
+  λ i listed ends. let is = line-is (byte_of terminator) bytes i listed in
+      absurd (omega (arith, is.ends, is.filled, ends.0)),
   λ i listed held confirmed. absurd (cc),
 )

@@ -31,7 +31,8 @@ use Rattle.grep_regex.specs.declared.options.Options.{Options}
 use Rattle.grep_regex.proofs.FindLemmas.{find-stripped}
 
 read-alike : (o : Option (Nested Re × Names)) (most : ℕ) (a : Re) (m : Names) →
-    IsSomeAnd o (λ (re, found). (re.depth ≤ most) × SameCaptures a re.value × (m ≡ found) × (group_count a ≤ length m)) →
+    IsSomeAnd o (λ (re, found). (re.depth ≤ most) × SameCaptures a re.value × (m ≡ found) × (group_count a ≤ length m))
+    →
     SameCaptures a (re_of o)
 read-alike None most a m p = absurd p
 read-alike (Some found) most a m p = p.1
@@ -42,7 +43,8 @@ pub reads-alike : (config : Config) (text : List ℕ) (hir : Hir) (names : Names
 unfolding Reads
 reads-alike config text hir names p = read-alike (read config (chars text)) config.nest_limit (meaning hir) names p
 
-between-alike : (before after : Look) {a b : Re} → SameCaptures a b → SameCaptures (between before after a) (between before after b)
+between-alike : (before after : Look) {a b : Re} → SameCaptures a b
+    → SameCaptures (between before after a) (between before after b)
 between-alike before after p = alike_cat (alike_refl _) (alike_cat p (alike_refl _))
 
 framed-alike : (o : Options) {a b : Re} → SameCaptures a b → SameCaptures (framed o a) (framed o b)
@@ -50,9 +52,11 @@ framed-alike o {a} {b} p = by-cases o.whole_line (is_crlf o.line_terminator) o.w
   where
     by-cases : (w r x u : Bool) → SameCaptures
         (cond w (cond r (between StartCrlf EndCrlf a) (between StartLf EndLf a))
-        (cond x (cond u (between WordStartHalfUnicode WordEndHalfUnicode a) (between WordStartHalfAscii WordEndHalfAscii a)) a))
+        (cond x (cond u (between WordStartHalfUnicode WordEndHalfUnicode a)
+        (between WordStartHalfAscii WordEndHalfAscii a)) a))
         (cond w (cond r (between StartCrlf EndCrlf b) (between StartLf EndLf b))
-        (cond x (cond u (between WordStartHalfUnicode WordEndHalfUnicode b) (between WordStartHalfAscii WordEndHalfAscii b)) b))
+        (cond x (cond u (between WordStartHalfUnicode WordEndHalfUnicode b)
+        (between WordStartHalfAscii WordEndHalfAscii b)) b))
     by-cases true true x u = between-alike _ _ p
     by-cases true false x u = between-alike _ _ p
     by-cases false r true true = between-alike _ _ p
@@ -67,14 +71,16 @@ alike-alt_all [] (y ∷ ys) p = absurd p
 alike-alt_all (x ∷ xs) [] p = absurd p
 alike-alt_all (x ∷ xs) (y ∷ ys) p = alike_alt p.0 (alike-alt_all xs ys p.1)
 
-pub alike-more : (xs ys : List Re) (a b : Re) → AreAlike xs ys → SameCaptures a b → AreAlike (xs ++ a ∷ []) (ys ++ b ∷ [])
+pub alike-more : (xs ys : List Re) (a b : Re) → AreAlike xs ys → SameCaptures a b
+    → AreAlike (xs ++ a ∷ []) (ys ++ b ∷ [])
 alike-more [] [] a b p q = (q, tt)
 alike-more [] (y ∷ ys) a b p q = absurd p
 alike-more (x ∷ xs) [] a b p q = absurd p
 alike-more (x ∷ xs) (y ∷ ys) a b p q = (p.0, alike-more xs ys a b p.1 q)
 
 -- what was read of the first texts matches alike, and so does what is read of the next
-pub reads-more : (o : Options) (patterns : List (Bor (List ℕ))) (hirs after : List Hir) (i : ℕ) (d : Bor (List ℕ)) (hir : Hir) (names : Names) →
+pub reads-more : (o : Options) (patterns : List (Bor (List ℕ))) (hirs after : List Hir) (i : ℕ) (d : Bor (List ℕ))
+    (hir : Hir) (names : Names) →
     i < length patterns → AreAlike (map meaning hirs) (map (read_re o) (map (λ p. p.now) (take i patterns))) →
     Reads (config_of o) (text_of o (get_or patterns i d).now) hir names → after ≡ hirs ++ hir ∷ [] →
     AreAlike (map meaning after) (map (read_re o) (map (λ p. p.now) (take (i + 1) patterns)))
@@ -86,7 +92,8 @@ reads-more o patterns hirs after i d hir names inside p read is =
     ∙ (ap (map (read_re o)) (map-append (λ (p : Bor (List ℕ)). p.now) (take i patterns) (get_or patterns i d ∷ []))
     ∙ map-append (read_re o) (map (λ (p : Bor (List ℕ)). p.now) (take i patterns)) ((get_or patterns i d).now ∷ []))))
     (alike-more (map meaning hirs) (map (read_re o) (map (λ p. p.now) (take i patterns))) (meaning hir)
-    (read_re o (get_or patterns i d).now) p (reads-alike (config_of o) (text_of o (get_or patterns i d).now) hir names read)))
+    (read_re o (get_or patterns i d).now) p (reads-alike (config_of o) (text_of o (get_or patterns i d).now) hir names
+    read)))
 
 -- a choice of one is that one
 nothing-in : (o : Option ℕ) (t : Option Trace) → cond (is_some_and o (in_ranges [])) t None ≡ None
@@ -97,7 +104,8 @@ nothing-in (Some x) t = refl
 alike-single : (a : Re) → SameCaptures a (alt a (byte_in []))
 unfolding attempt
 alike-single a = record {
-  at = λ hay small k i. ap outcome (sym (option_or-None (attempt hay a k i)) ∙ ap (option_or (attempt hay a k i)) (sym (nothing-in (slice_get hay i) (k (i + 1)))));
+  at = λ hay small k i. ap outcome (sym (option_or-None (attempt hay a k i))
+      ∙ ap (option_or (attempt hay a k i)) (sym (nothing-in (slice_get hay i) (k (i + 1)))));
 }
 
 -- the last of some trees, which are one, is their choice

@@ -90,8 +90,8 @@ abbrev pub excluded_bytes : Option LineTerminator → List ℕ
 excluded_bytes None = []
 excluded_bytes (Some terminator) = bytes_of terminator
 
--- the first match of a haystack, by its start and its end: the leftmost that holds no excluded byte,
--- and of those the one that the pattern prefers
+-- the first match of a haystack, by its start and its end: the leftmost that holds no excluded
+-- byte, and of those the one that the pattern prefers
 abbrev pub first_match : Options → List (List ℕ) → List ℕ → Option (ℕ × ℕ)
 first_match o patterns haystack =
     option_map span (find_clear (excluded_bytes o.line_terminator) (written_re o patterns) haystack)

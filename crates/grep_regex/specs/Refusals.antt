@@ -13,7 +13,8 @@ use Rattle.grep_regex.specs.declared.error.Error.TheVariants.{Syntax, NotAllowed
 use Rattle.grep_regex.specs.declared.error.Error.TheVariants.{InvalidLineTerminator, TooBig, Memory}
 use Rattle.grep_regex.specs.declared.options.Options.{Options}
 
--- the parser's error says of a text what the grammar says, where in the text, and isn't one of memory
+-- the parser's error says of a text what the grammar says, where in the text, and isn't one of
+-- memory
 pub record IsSyntax (config : Config) (text : List ℕ) (error : parser.Error) : Type 0 where
   pub refused : Refuses config text error.kind
   pub kind : error.kind ≢ OutOfMemory
@@ -36,7 +37,8 @@ IsOfCompiler _ = ⊥
 
 -- the error of a text: it is no pattern, or nested too deep, or there is no memory
 abbrev pub IsTextError : Config → ℕ → List ℕ → Error → Type 0
-IsTextError config index text (Syntax pattern error) = (pattern ≡ index) × IsSyntax config text error
+IsTextError config index text (Syntax pattern error) = (pattern ≡ index)
+    × IsSyntax config text error
 IsTextError config index text Memory = Unit {0}
 IsTextError config index text _ = ⊥
 

@@ -73,8 +73,8 @@ impl RegexMatcherBuilder {
         }
     }
 
-    /// Compiles a pattern: the text of a regular expression, or under `fixed_strings` a literal. See
-    /// `build_many` for errors.
+    /// Compiles a pattern: the text of a regular expression, or under `fixed_strings` a literal.
+    /// See `build_many` for errors.
     pub fn build(&self, alloc: Global, pattern: &str) -> Result<Regex, Error>
         ensures options { IfOk result (λ regex. regex_options regex ≡ self.now) }
         ensures patterns { IfOk result (λ regex. regex_patterns regex ≡ pattern.now ∷ []) }
@@ -138,8 +138,8 @@ impl RegexMatcherBuilder {
         self
     }
 
-    /// Whether a match has to begin and to end at the ends of lines; not by default. Then `word` has
-    /// no effect.
+    /// Whether a match has to begin and to end at the ends of lines; not by default. Then `word`
+    /// has no effect.
     pub fn whole_line(&mut self, yes: bool) -> &mut RegexMatcherBuilder
         ensures reference { result.ghost_name ≡ self.entry.ghost_name }
         ensures set { result.now ≡ record self.old { whole_line = yes } }
@@ -175,9 +175,9 @@ impl RegexMatcherBuilder {
         self
     }
 
-    /// What matchers declare as their line terminator, none by default. Its byte is taken out of the
-    /// classes of patterns and refused in literals, so that no match holds it, and a search runs line
-    /// by line and may ask about many lines at once.
+    /// What matchers declare as their line terminator, none by default. Its byte is taken out of
+    /// the classes of patterns and refused in literals, so that no match holds it, and a search
+    /// runs line by line and may ask about many lines at once.
     pub fn line_terminator(&mut self, terminator: Option<u8>) -> &mut RegexMatcherBuilder
         ensures reference { result.ghost_name ≡ self.entry.ghost_name }
         ensures set { result.now
@@ -190,9 +190,9 @@ impl RegexMatcherBuilder {
         self
     }
 
-    /// Whether lines end in a carriage return and a line feed, which is then the line terminator, and
-    /// otherwise none is; not by default. Neither byte is in a match, and under `multi_line` `^` and
-    /// `$` match around both.
+    /// Whether lines end in a carriage return and a line feed, which is then the line terminator,
+    /// and otherwise none is; not by default. Neither byte is in a match, and under `multi_line`
+    /// `^` and `$` match around both.
     pub fn crlf(&mut self, yes: bool) -> &mut RegexMatcherBuilder
         ensures reference { result.ghost_name ≡ self.entry.ghost_name }
         ensures set { result.now ≡ record self.old {

@@ -20,8 +20,8 @@ use regex_hir::Hir;
 use regex_meta::{Program, Searcher};
 use std::alloc::{AllocError, Global};
 
-/// A compiled regular expression, with its options and the texts of its patterns. It doesn't search:
-/// `matcher` gives what does.
+/// A compiled regular expression, with its options and the texts of its patterns. It doesn't
+/// search: `matcher` gives what does.
 pub struct Regex {
     options: Options,
     patterns: Vec<String>,
@@ -70,8 +70,8 @@ impl Regex {
         })
     }
 
-    /// A matcher of the expression. The only error is being out of memory for what its engines write
-    /// to.
+    /// A matcher of the expression. The only error is being out of memory for what its engines
+    /// write to.
     pub fn matcher(&self, alloc: Global) -> Result<RegexMatcher<'_>, AllocError>
         ensures { IfOk result (λ m. matcher_regex m ≡ self.now) }
     {
@@ -177,8 +177,8 @@ fn is_line_feed(terminator: Option<LineTerminator>) -> bool
     }
 }
 
-// Whether lines end at line feeds, and each assertion holds beside one where it holds at the edge of
-// a haystack.
+// Whether lines end at line feeds, and each assertion holds beside one where it holds at the edge
+// of a haystack.
 fn is_by_line(terminator: Option<LineTerminator>, hir: &Hir) -> bool
     ensures terminator { IsTrue result → terminator ≡ Some (Byte 10) }
     ensures local { IsTrue result → IsTrue (is_local (meaning hir.now)) }

@@ -7,6 +7,7 @@ pub text-kept : (text : Option (List ℕ)) (held : List ℕ) → IfSome text (λ
 text-kept None held is = is
 text-kept (Some bytes) held is = inl is
 
-pub text-left : (text : Option (List ℕ)) (held : List ℕ) → held ≡ [] → IfSome text (λ bytes. (held ≡ bytes) ⊎ (held ≡ []))
+pub text-left : (text : Option (List ℕ)) (held : List ℕ) → held ≡ []
+    → IfSome text (λ bytes. (held ≡ bytes) ⊎ (held ≡ []))
 text-left None held none = tt
 text-left (Some bytes) held none = inr none

@@ -1,5 +1,6 @@
 -- Sinks that call a closure.
-use Rattle.std.proofs.Common.{◌≡◌, ℕ, ◌+◌, Bool, true, false, List, [], ◌∷◌, ◌++◌, Some, None, sym, ap, subst, ◌∙◌, inl, inr, append_assoc}
+use Rattle.std.proofs.Common.{◌≡◌, ℕ, ◌+◌, Bool, true, false, List, [], ◌∷◌, ◌++◌, Some, None, sym, ap, subst, ◌∙◌, inl}
+use Rattle.std.proofs.Common.{inr, append_assoc}
 use Rattle.std.proofs.lemmas.List.{append-nil}
 use Rattle.std.specs.Prelude.{Result, Ok, map, if◌then◌else◌}
 use Rattle.std.specs.Borrow.{Bor}
@@ -12,7 +13,8 @@ use Rattle.grep_definitions.specs.SinkCalls.{Call, begins, matches, context, bre
 use Rattle.grep_definitions.specs.SinkFolds.{AreTaken, IsTakenOk}
 use Rattle.grep_definitions.proofs.SinkFoldLemmas.{runs-take_matches}
 use Rattle.grep_matcher.specs.Matching.{Meaning}
-use Rattle.grep_searcher.specs.ClosureSinks.{IsClosureStep, IsCalledAt, ClosureSteps, ClosuresAreCalled, KeepsCalls, ClosuresKeep}
+use Rattle.grep_searcher.specs.ClosureSinks.{IsClosureStep, IsCalledAt, ClosureSteps, ClosuresAreCalled, KeepsCalls}
+use Rattle.grep_searcher.specs.ClosureSinks.{ClosuresKeep}
 
 module _ {F : Type 0} (call : F → ℕ → Bor (List ℕ) → Result Bool Error → F → Type 0)
     (is_text : List ℕ → Result (List ℕ) Error → Type 0) where
@@ -43,13 +45,16 @@ module _ {F : Type 0} (call : F → ℕ → Bor (List ℕ) → Result Bool Error
   module _ (name : F → ℕ) (kept : F → List (ℕ × List ℕ)) (by : KeepsCalls call is_text name kept)
       (settings : Settings) (meaning : Meaning) (bytes : List ℕ) where
     kept-one : (i : ℕ) (old new : F) (b : Bool) → IsCalledAt call is_text old (match_of settings meaning bytes i) b new
-        → (b ≡ true) × (name new ≡ name old) × (kept new ≡ kept old ++ (i + 1, text_of (line settings meaning bytes i)) ∷ [])
+        → (b ≡ true) × (name new ≡ name old) × (kept new ≡ kept old ++ (i + 1, text_of (line settings meaning bytes i))
+        ∷ [])
     kept-one i old new b = go settings.line_number
       where
         go : (has_numbers : Bool)
             → IsCalledAt call is_text old
-            (matches (if has_numbers then Some (i + 1) else None) (start settings meaning bytes i) (line settings meaning bytes i)) b new
-            → (b ≡ true) × (name new ≡ name old) × (kept new ≡ kept old ++ (i + 1, text_of (line settings meaning bytes i)) ∷ [])
+            (matches (if has_numbers then Some (i + 1) else None) (start settings meaning bytes i)
+            (line settings meaning bytes i)) b new
+            → (b ≡ true) × (name new ≡ name old) × (kept new ≡ kept old
+            ++ (i + 1, text_of (line settings meaning bytes i)) ∷ [])
         go true (text, is, (passed, same, called)) =
             let here = by old (i + 1) passed b new called in
             let whole = same ∙ texts (line settings meaning bytes i) text is in
@@ -71,8 +76,12 @@ module _ {F : Type 0} (call : F → ℕ → Bor (List ℕ) → Result Bool Error
         )
     kept-matches (i ∷ later) old new (inr here) = absurd (let never = (kept-one i old new false here).0 in cc)
 
-  pub closures-keep : MatchesAreMatchedLines → {S : Type 0} (closure : S → F) → ClosuresKeep call is_text closure text_of
+  pub closures-keep : MatchesAreMatchedLines → {S : Type 0} (closure : S → F)
+      → ClosuresKeep call is_text closure text_of
   closures-keep are_matched closure name kept by settings meaning bytes by_line old count binary new run =
-      kept-matches name kept by settings meaning bytes (matched_lines settings meaning bytes) (closure old) (closure new)
-      (subst (λ calls. AreTaken (IsCalledAt call is_text) (closure old) calls (closure new)) (are_matched settings meaning bytes by_line)
-      (closures-are_called call is_text closure settings old (search_turns settings meaning bytes) count binary new run).taken)
+      kept-matches name kept by settings meaning bytes (matched_lines settings meaning bytes) (closure old)
+      (closure new)
+      (subst (λ calls. AreTaken (IsCalledAt call is_text) (closure old) calls (closure new))
+      (are_matched settings meaning bytes by_line)
+      (closures-are_called call is_text closure settings old (search_turns settings meaning bytes) count binary new
+      run).taken)

@@ -14,7 +14,8 @@ fold_while-counted old (call ∷ later) fits = omega (arith, fold_while-counted 
 
 pub runs-count : (E : Type 0) → RunsCount E
 runs-count E settings old turns count binary new fits run =
-    runs-fold_matches {E = E} IsCountStep (λ _ _. true) counted (λ _ _ _ _ _ h. h) settings old turns count binary new run
+    runs-fold_matches {E = E} IsCountStep (λ _ _. true) counted (λ _ _ _ _ _ h. h) settings old turns count binary new
+    run
     ∙ fold_while-counted old (match_calls turns) fits
 
 pub runs-count_all : (E : Type 0) → RunsCountAll E

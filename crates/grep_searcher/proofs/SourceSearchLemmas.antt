@@ -38,32 +38,39 @@ module _ {S E F : Type 0} (step : Steps S E) (errors : ErrorMakers E) (matcher :
   -- why an input wasn't searched to its end, of a searcher with these settings
   pub unread-same : (k : Settings) (state : SearcherState) (reader : R) (result : Result (Unit {0}) E) (reader' : R)
       → k ≡ state.settings → IfErr result (λ e. (has_buffers : Bool) → (seen : Option (List ℕ)) × (error : Error)
-      × IsUnread remaining read_step (record { settings = k; has_buffers = has_buffers }) matcher.meaning reader seen error reader'
+      × IsUnread remaining read_step (record { settings = k; has_buffers = has_buffers }) matcher.meaning reader seen
+      error reader'
       × errors.is_io error e)
       → IfErr result (λ e. (seen : Option (List ℕ)) × (error : Error)
       × IsUnread remaining read_step state matcher.meaning reader seen error reader' × errors.is_io error e)
   unread-same k state reader (Ok u) reader' same unread = tt
   unread-same k state reader (Err e) reader' same unread =
       subst (λ k. (seen : Option (List ℕ)) × (error : Error)
-      × IsUnread remaining read_step (record { settings = k; has_buffers = state.has_buffers }) matcher.meaning reader seen error reader'
+      × IsUnread remaining read_step (record { settings = k; has_buffers = state.has_buffers }) matcher.meaning reader
+      seen error reader'
       × errors.is_io error e) same (unread state.has_buffers)
 
   -- a search of a searcher with these settings
-  pub searched-same : (k : Settings) (state : SearcherState) (reader : R) (old : S) (result : Result (Unit {0}) E) (reader' : R)
+  pub searched-same : (k : Settings) (state : SearcherState) (reader : R) (old : S) (result : Result (Unit {0}) E)
+      (reader' : R)
       (new : S) → k ≡ state.settings
       → ((has_buffers : Bool) → IsSourceSearched remaining read_step step errors matcher
       (record { settings = k; has_buffers = has_buffers }) reader old result reader' new)
       → IsSourceSearched remaining read_step step errors matcher state reader old result reader' new
   searched-same k state reader old result reader' new same searched =
       subst (λ k. IsSourceSearched remaining read_step step errors matcher
-      (record { settings = k; has_buffers = state.has_buffers }) reader old result reader' new) same (searched state.has_buffers)
+      (record { settings = k; has_buffers = state.has_buffers }) reader old result reader' new) same
+      (searched state.has_buffers)
 
   -- a search that isn't refused
-  pub reader-searched : (state : SearcherState) → refusal_of state.settings matcher.meaning ≡ None → (reader : R) (old : S)
+  pub reader-searched : (state : SearcherState) → refusal_of state.settings matcher.meaning ≡ None
+      → (reader : R) (old : S)
       (result : Result (Unit {0}) E) (reader' : R) (new : S)
-      → (IsLawful matcher state.settings → IsSourceSearched remaining read_step step errors matcher state reader old result reader' new)
+      → (IsLawful matcher state.settings → IsSourceSearched remaining read_step step errors matcher state reader old
+      result reader' new)
       → IsReaderSearched remaining read_step step errors matcher state reader old result reader' new
   reader-searched state allowed reader old (Ok u) reader' new searched = (allowed, searched)
   reader-searched state allowed reader old (Err e) reader' new searched =
-      subst (λ refusal. IsReaderFaultUnless remaining read_step step errors matcher refusal state reader old e reader' new) (sym allowed)
+      subst (λ refusal. IsReaderFaultUnless remaining read_step step errors matcher refusal state reader old e reader'
+      new) (sym allowed)
       searched

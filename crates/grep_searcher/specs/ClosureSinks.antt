@@ -12,7 +12,8 @@ use Rattle.grep_definitions.specs.Modes.{is_across}
 use Rattle.grep_definitions.specs.SearchTurns.{search_turns}
 use Rattle.grep_definitions.specs.SearchLaws.{match_calls, matched_lines}
 use Rattle.grep_definitions.specs.Settings.{Settings}
-use Rattle.grep_definitions.specs.SinkCalls.{Call, Turn, begins, matches, context, breaks, binary_data, finishes}
+use Rattle.grep_definitions.specs.SinkCalls.{Call, Turn, begins, matches, context, breaks}
+use Rattle.grep_definitions.specs.SinkCalls.{binary_data, finishes}
 use Rattle.grep_definitions.specs.SinkFolds.{AreTaken}
 use Rattle.grep_definitions.specs.SinkRuns.{Steps, IsRun}
 use Rattle.grep_matcher.specs.Matching.{Meaning}
@@ -29,7 +30,8 @@ abbrev pub IsUtf8Text : List ℕ → Result (List ℕ) Error → Type 0
 IsUtf8Text bytes (Ok text) = (text ≡ bytes) × IsUtf8 bytes
 IsUtf8Text bytes (Err e) = (IsUtf8 bytes → ⊥) × (error_kind e ≡ Other)
 
--- the bytes with each part that isn't UTF-8 replaced, for which there may be no memory if there is one
+-- the bytes with each part that isn't UTF-8 replaced, for which there may be no memory if there is
+-- one
 abbrev pub IsLossyText : List ℕ → Result (List ℕ) Error → Type 0
 IsLossyText bytes (Ok text) = text ≡ utf8_lossy bytes
 IsLossyText bytes (Err e) = (IsUtf8 bytes → ⊥) × (error_kind e ≡ OutOfMemory)
@@ -44,14 +46,15 @@ module _ {F : Type 0} (call : F → ℕ → Bor (List ℕ) → Result Bool Error
   abbrev pub IsRefusedBy : (Error → Type 0) → F → Result Bool Error → F → Type 0
   IsRefusedBy is_error old result new = (e : Error) × is_error e × (result ≡ Err e) × (new ≡ old)
 
-  -- a match with this text: the closure is called once, with its number and the text, and its result is returned;
-  -- without a number the error is of the kind `Other`
+  -- a match with this text: the closure is called once, with its number and the text, and its
+  -- result is returned; without a number the error is of the kind `Other`
   abbrev pub IsCalled : Option ℕ → List ℕ → F → Result Bool Error → F → Type 0
   IsCalled None text old result new = IsRefusedBy (λ e. error_kind e ≡ Other) old result new
   IsCalled (Some number) text old result new =
       (passed : Bor (List ℕ)) × (passed.now ≡ text) × call old number passed result new
 
-  -- a match: there is no text for the closure, or it is called with the text; any other call passes it over
+  -- a match: there is no text for the closure, or it is called with the text; any other call passes
+  -- it over
   abbrev pub IsClosureStep : F → Call → Result Bool Error → F → Type 0
   IsClosureStep old begins result new = IsPassedOver old result new
   IsClosureStep old (matches number offset bytes) result new =
@@ -62,7 +65,8 @@ module _ {F : Type 0} (call : F → ℕ → Bor (List ℕ) → Result Bool Error
   IsClosureStep old (binary_data offset) result new = IsPassedOver old result new
   IsClosureStep old (finishes count binary) result new = IsPassedOver old result new
 
-  -- the closure is called at a match, with its number and its text, and returns whether the search goes on
+  -- the closure is called at a match, with its number and its text, and returns whether the search
+  -- goes on
   abbrev pub IsCalledAt : F → Call → Bool → F → Type 0
   IsCalledAt old begins b new = ⊥
   IsCalledAt old (matches None offset bytes) b new = ⊥
@@ -89,15 +93,16 @@ module _ {F : Type 0} (call : F → ℕ → Bor (List ℕ) → Result Bool Error
       → IsRun (ClosureSteps closure) settings old turns count binary (Ok tt) new
       → AreCalled (closure old) (match_calls turns) (closure new)
 
-  -- a call of the closure that returns goes on, adds its number and its text to what is kept, and leaves the name of
-  -- the reference through which it is kept
+  -- a call of the closure that returns goes on, adds its number and its text to what is kept, and
+  -- leaves the name of the reference through which it is kept
   abbrev pub KeepsCalls : (F → ℕ) → (F → List (ℕ × List ℕ)) → Type 0
   KeepsCalls name kept =
       (old : F) (number : ℕ) (text : Bor (List ℕ)) (b : Bool) (new : F)
       → call old number text (Ok b) new → (b ≡ true) × (name new ≡ name old)
       × (kept new ≡ kept old ++ (number, text.now) ∷ [])
 
-  -- then a run by line along the calls for some bytes that ended in `Ok` adds the numbers and the texts of the matched lines
+  -- then a run by line along the calls for some bytes that ended in `Ok` adds the numbers and the
+  -- texts of the matched lines
   abbrev pub ClosuresKeep : {S : Type 0} → (S → F) → (List ℕ → List ℕ) → Type 0
   ClosuresKeep {S} closure text_of =
       (name : F → ℕ) (kept : F → List (ℕ × List ℕ)) → KeepsCalls name kept

@@ -1,5 +1,6 @@
-//! Laws of the calls that a search makes, each the contract of a function that does nothing. The first
-//! ones are over the definition of those calls alone, the others say what a sink makes of them.
+//! Laws of the calls that a search makes, each the contract of a function that does nothing. The
+//! first ones are over the definition of those calls alone, the others say what a sink makes of
+//! them.
 ghost use Rattle.std.specs.Str.Lossy.{utf8_lossy};
 ghost use Rattle.grep_searcher.specs.ClosureSinks.{ClosuresAreCalled, ClosuresKeep};
 ghost use Rattle.grep_searcher.specs.ClosureSinks.{IsUtf8Text, IsLossyText, IsWholeText};
@@ -8,7 +9,8 @@ ghost use Rattle.grep_definitions.specs.FileSearches.{IsFileRead};
 ghost use Rattle.grep_definitions.specs.Searches.{errors_by, facts_by};
 ghost use Rattle.grep_definitions.specs.SinkFolds.{RunsFold, RunsFoldAll, RunsFoldMatches};
 ghost use Rattle.grep_definitions.specs.SinkFolds.{SearchesRun, ReaderSearchesRun};
-ghost use Rattle.grep_definitions.specs.SinkFolds.{SearchesFail, ReaderSearchesFail, KnownReadersRun};
+ghost use Rattle.grep_definitions.specs.SinkFolds.{SearchesFail, ReaderSearchesFail};
+ghost use Rattle.grep_definitions.specs.SinkFolds.{KnownReadersRun};
 
 use crate::sink::Sink;
 use crate::sinks::{Bytes, Lossy, UTF8};
@@ -29,8 +31,8 @@ use std::alloc::Allocator;
 use std::io;
 use std::io::Read;
 
-/// A run that ended in `Ok`, of a sink whose steps are functions of the state and the call, is a fold
-/// over its turns: up to the first after which the sink doesn't go on, and then `finish`.
+/// A run that ended in `Ok`, of a sink whose steps are functions of the state and the call, is a
+/// fold over its turns: up to the first after which the sink doesn't go on, and then `finish`.
 pub fn runs_fold<S: Sink>()
     ensures { RunsFold S.step }
 {}
@@ -40,23 +42,23 @@ pub fn runs_fold_all<S: Sink>()
     ensures { RunsFoldAll S.step }
 {}
 
-/// If only matches change the state of a sink, and only a match ends the search, a run that ended in
-/// `Ok` is a fold over the matches that are reported, up to the first after which the sink doesn't go
-/// on.
+/// If only matches change the state of a sink, and only a match ends the search, a run that ended
+/// in `Ok` is a fold over the matches that are reported, up to the first after which the sink
+/// doesn't go on.
 pub fn runs_fold_matches<S: Sink>()
     ensures { RunsFoldMatches S.step }
 {}
 
-/// A run of `Count` that ended in `Ok` counted the matches that are reported, up to the largest `u64`: it added them to
-/// what was counted before, if anything was.
+/// A run of `Count` that ended in `Ok` counted the matches that are reported, up to the largest
+/// `u64`: it added them to what was counted before, if anything was.
 pub fn runs_count_matches<E>()
     ensures all { RunsCountAll E }
     ensures added { RunsCount E }
 {}
 
-/// A run that ended in `Ok`, of a sink that calls a closure, called it at each match that is reported, in order, with
-/// its number and its text, up to the first at which it returned false. Pass the sink, since a closure's type has no
-/// name.
+/// A run that ended in `Ok`, of a sink that calls a closure, called it at each match that is
+/// reported, in order, with its number and its text, up to the first at which it returned false.
+/// Pass the sink, since a closure's type has no name.
 pub fn closures_are_called<F: FnMut(u64, &str) -> Result<bool, io::Error>>(_: &UTF8<F>)
     ensures { ClosuresAreCalled F.step IsUtf8Text (λ (s : UTF8 F). s.0) }
 {}
@@ -71,9 +73,9 @@ pub fn bytes_closures_are_called<F: FnMut(u64, &[u8]) -> Result<bool, io::Error>
     ensures { ClosuresAreCalled F.step IsWholeText (λ (s : Bytes F). s.0) }
 {}
 
-/// If each call of such a closure that returns adds its number and its text to what is kept, through one reference,
-/// then a run along the calls for some bytes that ended in `Ok` adds those of the matched lines, and the reference is
-/// the same.
+/// If each call of such a closure that returns adds its number and its text to what is kept,
+/// through one reference, then a run along the calls for some bytes that ended in `Ok` adds those
+/// of the matched lines, and the reference is the same.
 pub fn closures_keep_calls<F: FnMut(u64, &str) -> Result<bool, io::Error>>(_: &UTF8<F>)
     ensures { ClosuresKeep F.step IsUtf8Text (λ (s : UTF8 F). s.0) (λ bytes. bytes) }
 {
@@ -94,8 +96,8 @@ pub fn bytes_closures_keep_calls<F: FnMut(u64, &[u8]) -> Result<bool, io::Error>
     matches_are_matched_lines();
 }
 
-/// Without binary detection, a search of a slice with a lawful matcher, if it ended in `Ok`, is a run along the calls for
-/// its decoded bytes. Pass the sink, since a closure's type has no name.
+/// Without binary detection, a search of a slice with a lawful matcher, if it ended in `Ok`, is a
+/// run along the calls for its decoded bytes. Pass the sink, since a closure's type has no name.
 pub fn searches_run<A: Allocator + Copy, M: Matcher, S: Sink>(_: &S)
 where
     S::Error: SinkError<A>,
@@ -114,8 +116,9 @@ where
         R.remaining R.step }
 {}
 
-/// Without binary detection, if the matcher never fails and is lawful, and the search isn't refused, an error that a
-/// search of a slice ended in is that of a step of the sink, or the slice has to be decoded and wasn't to its end.
+/// Without binary detection, if the matcher never fails and is lawful, and the search isn't
+/// refused, an error that a search of a slice ended in is that of a step of the sink, or the slice
+/// has to be decoded and wasn't to its end.
 pub fn searches_fail<A: Allocator + Copy, M: Matcher, S: Sink>()
 where
     S::Error: SinkError<A>,
@@ -134,8 +137,9 @@ where
         R.remaining R.step }
 {}
 
-/// Without binary detection, a search of a reader that says which bytes remain, with a lawful matcher, if it ended in
-/// `Ok`, is a run along the calls for the decoded bytes of them all, as a search of a slice is.
+/// Without binary detection, a search of a reader that says which bytes remain, with a lawful
+/// matcher, if it ended in `Ok`, is a run along the calls for the decoded bytes of them all, as a
+/// search of a slice is.
 pub fn known_readers_run<A: Allocator + Copy, M: Matcher, R: Source, S: Sink>()
 where
     S::Error: SinkError<A>,
@@ -145,7 +149,8 @@ where
         R.remaining R.step }
 {}
 
-/// The same of a search of a file that says which bytes remain. After `search_path` such a file is one that was opened.
+/// The same of a search of a file that says which bytes remain. After `search_path` such a file is
+/// one that was opened.
 pub fn known_files_run<A: Allocator + Copy, M: Matcher, F: Read, S: Sink>()
 where
     S::Error: SinkError<A>,

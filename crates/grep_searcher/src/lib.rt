@@ -1,9 +1,10 @@
-//! Line-oriented search: a `Searcher` takes a caller's `Matcher` and the bytes to search, and reports to a caller's
-//! `Sink` the matching lines, the lines near them, and how far it came.
+//! Line-oriented search: a `Searcher` takes a caller's `Matcher` and the bytes to search, and
+//! reports to a caller's `Sink` the matching lines, the lines near them, and how far it came.
 //!
-//! Which calls a search makes is defined in grep_definitions: `specs/LineSearch.antt` says it of the whole list of
-//! lines, `specs/AcrossLines.antt` of a search across lines, `specs/SinkRuns.antt` what a sink makes of the calls, and
-//! `specs/Searches.antt` what a search does, with its faults.
+//! Which calls a search makes is defined in grep_definitions: `specs/LineSearch.antt` says it of
+//! the whole list of lines, `specs/AcrossLines.antt` of a search across lines,
+//! `specs/SinkRuns.antt` what a sink makes of the calls, and `specs/Searches.antt` what a search
+//! does, with its faults.
 #![tactic(auto)]
 
 pub mod laws;

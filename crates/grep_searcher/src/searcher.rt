@@ -10,7 +10,8 @@ ghost use Rattle.grep_definitions.specs.CallOrder.{IsOwnError, IsReadingError, R
 ghost use Rattle.grep_definitions.specs.DecodedInputs.{is_searched_unchanged};
 ghost use Rattle.grep_definitions.specs.PlannedSearches.{IsSliceSearch, IsUnlessRefused};
 ghost use Rattle.grep_definitions.specs.Questions.{IsLawfulFor};
-ghost use Rattle.grep_definitions.specs.ReaderSearches.{IsReaderSearched, IsSourceSearched, IsUnread};
+ghost use Rattle.grep_definitions.specs.ReaderSearches.{IsReaderSearched, IsSourceSearched};
+ghost use Rattle.grep_definitions.specs.ReaderSearches.{IsUnread};
 ghost use Rattle.grep_definitions.specs.ReadingFaults.{IsUndecoded};
 ghost use Rattle.grep_definitions.specs.Refusals.{refusal_of};
 ghost use Rattle.grep_definitions.specs.Searches.{IsInputSearched, IsSearched};
@@ -38,7 +39,8 @@ use std::alloc::{Allocator, Global};
 use std::io;
 use std::marker::Model;
 
-/// A search, as a `SearcherBuilder` configured it. It can be used for any number of searches; each begins anew.
+/// A search, as a `SearcherBuilder` configured it. It can be used for any number of searches; each
+/// begins anew.
 #[derive(Drop)]
 pub struct Searcher<A: Allocator + Copy = Global> {
     config: Config,
@@ -62,8 +64,8 @@ impl<A: Allocator + Copy> Model for Searcher<A> {
 }
 
 impl<A: Allocator + Copy> Searcher<A> {
-    /// The searcher with the default settings, those of `SearcherBuilder::new`. The only error is `Memory`, if there is
-    /// none for its buffers.
+    /// The searcher with the default settings, those of `SearcherBuilder::new`. The only error is
+    /// `Memory`, if there is none for its buffers.
     pub fn new(alloc: A) -> Result<Searcher<A>, ConfigError>
         ensures settings { IfOk result
             (λ searcher. searcher ≡ record { settings = default_settings; has_buffers = true }) }
@@ -72,9 +74,9 @@ impl<A: Allocator + Copy> Searcher<A> {
         SearcherBuilder::new().build(alloc)
     }
 
-    /// A searcher with the same settings and buffers of its own. A clone of the searcher that a sink is lent during a
-    /// search gets its buffers when it is first searched with. The only error is `Memory`, if there is none for its
-    /// buffers.
+    /// A searcher with the same settings and buffers of its own. A clone of the searcher that a
+    /// sink is lent during a search gets its buffers when it is first searched with. The only error
+    /// is `Memory`, if there is none for its buffers.
     pub fn clone(&self) -> Result<Searcher<A>, ConfigError>
         ensures settings { IfOk result (λ searcher. searcher ≡ self.now) }
         ensures error { IfErr result (λ e. e ≡ ConfigError.Memory) }
@@ -108,28 +110,33 @@ impl<A: Allocator + Copy> Searcher<A> {
         }
     }
 
-    /// Searches some bytes, and reports to the sink what it finds. The caller ensures that the sink may be called.
+    /// Searches some bytes, and reports to the sink what it finds. The caller ensures that the sink
+    /// may be called.
     ///
-    /// A search that is refused makes no call: if the heap limit is 0 the error is made of `SearchUnavailable`, else if
-    /// the matcher names another terminator than the searcher's, of `MismatchedLineTerminators`. Any other search makes
-    /// the calls that are defined, up to the first that doesn't return true, and after a false `finish` with the end of
-    /// that turn. It ends in the sink's error, or in an error made of the matcher's; then `finish` isn't called.
+    /// A search that is refused makes no call: if the heap limit is 0 the error is made of
+    /// `SearchUnavailable`, else if the matcher names another terminator than the searcher's, of
+    /// `MismatchedLineTerminators`. Any other search makes the calls that are defined, up to the
+    /// first that doesn't return true, and after a false `finish` with the end of that turn. It
+    /// ends in the sink's error, or in an error made of the matcher's; then `finish` isn't called.
     ///
-    /// If the search may ask the matcher about many lines at once, these calls are promised of a matcher that is lawful
-    /// for the searcher's terminator. With any other matcher the search is safe and returns, and the calls are some in
-    /// this order: `begin`, reports and breaks (and `binary_data`, under detection), and `finish`. After an error there
-    /// is no call, and after a false only `finish`.
+    /// If the search may ask the matcher about many lines at once, these calls are promised of a
+    /// matcher that is lawful for the searcher's terminator. With any other matcher the search is
+    /// safe and returns, and the calls are some in this order: `begin`, reports and breaks (and
+    /// `binary_data`, under detection), and `finish`. After an error there is no call, and after a
+    /// false only `finish`.
     ///
-    /// What is searched are the decoded bytes. If a label is set, or a mark is looked for and is there, the bytes
-    /// are searched as a reader's are, as `search_reader` says, with its errors but the reader's own. Any other
-    /// slice is searched as it is: that takes no memory, the heap limit is none for it, and it fails in no other
-    /// way. The settings stay as they were, and a searcher that has its buffers has them afterwards.
+    /// What is searched are the decoded bytes. If a label is set, or a mark is looked for and is
+    /// there, the bytes are searched as a reader's are, as `search_reader` says, with its errors
+    /// but the reader's own. Any other slice is searched as it is: that takes no memory, the heap
+    /// limit is none for it, and it fails in no other way. The settings stay as they were, and a
+    /// searcher that has its buffers has them afterwards.
     ///
-    /// Under `BinaryDetection::Quit` a slice that is searched as it is ends at a binary byte: after `begin` it is
-    /// looked for in the first 65,536 bytes, and then in what each report would show. If it is found, no other report
-    /// is made, nor the break before it: `binary_data` is called with its offset, and then `finish` with that offset.
-    /// The byte count is 0 if it was among the first bytes, and its offset if it was in a report. A byte in other
-    /// lines isn't looked for. `BinaryDetection::Convert` changes nothing of such a search.
+    /// Under `BinaryDetection::Quit` a slice that is searched as it is ends at a binary byte: after
+    /// `begin` it is looked for in the first 65,536 bytes, and then in what each report would show.
+    /// If it is found, no other report is made, nor the break before it: `binary_data` is called
+    /// with its offset, and then `finish` with that offset. The byte count is 0 if it was among the
+    /// first bytes, and its offset if it was in a report. A byte in other lines isn't looked for.
+    /// `BinaryDetection::Convert` changes nothing of such a search.
     pub fn search_slice<M: Matcher, S: Sink>(
         &mut self,
         matcher: M,
@@ -186,17 +193,18 @@ impl<A: Allocator + Copy> Searcher<A> {
         }
     }
 
-    /// Searches the decoded bytes of a reader, line by line as they come, in bounded memory, and reports to the sink
-    /// what it finds, as `search_slice` does. The caller ensures that the sink may be called.
+    /// Searches the decoded bytes of a reader, line by line as they come, in bounded memory, and
+    /// reports to the sink what it finds, as `search_slice` does. The caller ensures that the sink
+    /// may be called.
     ///
-    /// By line `begin` comes before any read. The reader is read no further than the search needs: a false, the limit
-    /// or a stop ends it without another read (at a limit of 0 it may be read once under binary detection), and so does
-    /// an unterminated last line. A buffer shows whole lines;
-    /// between two reads it keeps at most as many of them as are reported before a match. It has 65,536 bytes at
-    /// first, or the heap limit if that is lower, and grows to the heap limit.
+    /// By line `begin` comes before any read. The reader is read no further than the search needs:
+    /// a false, the limit or a stop ends it without another read (at a limit of 0 it may be read
+    /// once under binary detection), and so does an unterminated last line. A buffer shows whole
+    /// lines; between two reads it keeps at most as many of them as are reported before a match. It
+    /// has 65,536 bytes at first, or the heap limit if that is lower, and grows to the heap limit.
     ///
-    /// A search that is refused reads nothing and makes no call. An error of reading comes after the reports
-    /// of the lines before it, and nothing follows. It is made of
+    /// A search that is refused reads nothing and makes no call. An error of reading comes after
+    /// the reports of the lines before it, and nothing follows. It is made of
     /// - the reader's error, unchanged; an interrupted read isn't tried again;
     /// - one of kind `Other`, if the heap limit is reached: a line that is longer than the limit, or as long and
     ///   unterminated, or with the lines that are kept before it as long as the limit;
@@ -205,18 +213,21 @@ impl<A: Allocator + Copy> Searcher<A> {
     ///   at most 65,536; or if the searcher has no buffers, as a clone that was made in a sink, and there is no
     ///   memory for them: then the sink had no call.
     ///
-    /// Under binary detection a search by line calls `binary_data` with the offset of the first binary byte once the
-    /// buffer has it, before the lines that were read with it are searched. `BinaryDetection::Quit` ends the search
-    /// there, and so does a false; `BinaryDetection::Convert` goes on, and each binary byte is searched as the line
-    /// terminator's byte. `finish` has that offset then. A byte that ends lines isn't converted, nor reported as
-    /// binary.
+    /// Under binary detection a search by line calls `binary_data` with the offset of the first
+    /// binary byte once the buffer has it, before the lines that were read with it are searched.
+    /// `BinaryDetection::Quit` ends the search there, and so does a false;
+    /// `BinaryDetection::Convert` goes on, and each binary byte is searched as the line
+    /// terminator's byte. `finish` has that offset then. A byte that ends lines isn't converted,
+    /// nor reported as binary.
     ///
-    /// A search across lines (`multi_line_with_matcher`) first reads the reader to its end, and keeps all decoded bytes
-    /// in memory. If an error of reading comes then, the sink has no call: the reader's error; one of kind `Other`,
-    /// once as many decoded bytes have come as the heap limit; or one of kind `OutOfMemory`. Binary detection is that
-    /// of a slice that is searched as it is.
+    /// A search across lines (`multi_line_with_matcher`) first reads the reader to its end, and
+    /// keeps all decoded bytes in memory. If an error of reading comes then, the sink has no call:
+    /// the reader's error; one of kind `Other`, once as many decoded bytes have come as the heap
+    /// limit; or one of kind `OutOfMemory`. Binary detection is that of a slice that is searched as
+    /// it is.
     ///
-    /// The settings stay as they were, and a searcher that has its buffers has them afterwards, whatever comes.
+    /// The settings stay as they were, and a searcher that has its buffers has them afterwards,
+    /// whatever comes.
     pub fn search_reader<M: Matcher, R: Source, S: Sink>(
         &mut self,
         matcher: M,
@@ -259,7 +270,8 @@ impl<A: Allocator + Copy> Searcher<A> {
         self.alloc
     }
 
-    // Takes out the buffers, or makes them now if there are none. An error is one of kind `OutOfMemory`.
+    // Takes out the buffers, or makes them now if there are none. An error is one of kind
+    // `OutOfMemory`.
     fn take_buffers(&mut self) -> io::Result<Buffers<A>>
         ensures settings { self.new.settings ≡ self.old.settings }
         ensures taken { self.new.has_buffers ≡ false }
@@ -336,8 +348,8 @@ impl<A: Allocator + Copy> Searcher<A> {
         self.search_source(matcher, &mut source, sink)
     }
 
-    // A search of a reader that isn't refused. The buffers are taken out, so that the searcher that a sink is lent
-    // has none, and put back whatever comes.
+    // A search of a reader that isn't refused. The buffers are taken out, so that the searcher that
+    // a sink is lent has none, and put back whatever comes.
     pub(crate) fn search_source<M: Matcher, R: Source, S: Sink>(
         &mut self,
         matcher: &M,

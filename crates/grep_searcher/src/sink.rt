@@ -13,16 +13,18 @@ use crate::searcher::Searcher;
 use grep_report::{SinkContext, SinkFinish, SinkMatch};
 use std::alloc::Allocator;
 
-/// What a search reports to: `begin`, then the matches, the lines near them and the breaks between, in the order of
-/// lines, and at most once that the input is binary, then `finish`. Each call gets the searcher, whose queries give
-/// the settings.
+/// What a search reports to: `begin`, then the matches, the lines near them and the breaks between,
+/// in the order of lines, and at most once that the input is binary, then `finish`. Each call gets
+/// the searcher, whose queries give the settings.
 ///
-/// A sink that returns false ends the search: `finish` alone follows. An error ends it at once, and nothing follows.
+/// A sink that returns false ends the search: `finish` alone follows. An error ends it at once, and
+/// nothing follows.
 pub trait Sink {
     /// Why a call failed. A search also makes its own faults of it, as `SinkError` says.
     type Error;
 
-    /// One call: the state before, the searcher's settings, the call with its data, what it returned, the state after.
+    /// One call: the state before, the searcher's settings, the call with its data, what it
+    /// returned, the state after.
     ghost step: { Self → Settings → Call → Result Bool Self.Error → Self → Type 0 };
 
     /// Whether the sink may be called. The caller of a search ensures it, and each call keeps it.
@@ -34,11 +36,11 @@ pub trait Sink {
         ensures step { step self.old searcher.now.settings begins result self.new }
         ensures may_call { may_call self.new };
 
-    /// Selected lines, split as the searcher splits lines. Returns whether the search goes on; an error is the sink's
-    /// own.
+    /// Selected lines, split as the searcher splits lines. Returns whether the search goes on; an
+    /// error is the sink's own.
     ///
-    /// The caller ensures that the match has a line number exactly if the searcher numbers lines, and that the offset
-    /// of its end fits in 64 bits.
+    /// The caller ensures that the match has a line number exactly if the searcher numbers lines,
+    /// and that the offset of its end fits in 64 bits.
     fn matched<A: Allocator + Copy>(
         &mut self,
         searcher: &Searcher<A>,
@@ -51,10 +53,11 @@ pub trait Sink {
         ensures step { step self.old searcher.now.settings (match_call found.now) result self.new }
         ensures may_call { may_call self.new };
 
-    /// A line that isn't selected and is reported. Returns whether the search goes on; an error is the sink's own.
+    /// A line that isn't selected and is reported. Returns whether the search goes on; an error is
+    /// the sink's own.
     ///
-    /// The caller ensures that the line has a number exactly if the searcher numbers lines, and that the offset of its
-    /// end fits in 64 bits.
+    /// The caller ensures that the line has a number exactly if the searcher numbers lines, and
+    /// that the offset of its end fits in 64 bits.
     fn context<A: Allocator + Copy>(
         &mut self,
         searcher: &Searcher<A>,
@@ -66,7 +69,8 @@ pub trait Sink {
         ensures step { step self.old searcher.now.settings (context_call line.now) result self.new }
         ensures may_call { may_call self.new };
 
-    /// Lines were left out since the last report. Returns whether the search goes on; an error is the sink's own.
+    /// Lines were left out since the last report. Returns whether the search goes on; an error is
+    /// the sink's own.
     fn context_break<A: Allocator + Copy>(
         &mut self,
         searcher: &Searcher<A>,
@@ -75,12 +79,13 @@ pub trait Sink {
         ensures step { step self.old searcher.now.settings breaks result self.new }
         ensures may_call { may_call self.new };
 
-    /// The input is binary: `binary_byte_offset` is the offset, in bytes, of the first binary byte that the search
-    /// found, counted from 0 at the start of the decoded input. Under `BinaryDetection::Quit` a slice may hold one
-    /// before it, in a line that isn't reported. Returns whether the search goes on; an error is the sink's own.
+    /// The input is binary: `binary_byte_offset` is the offset, in bytes, of the first binary byte
+    /// that the search found, counted from 0 at the start of the decoded input. Under
+    /// `BinaryDetection::Quit` a slice may hold one before it, in a line that isn't reported.
+    /// Returns whether the search goes on; an error is the sink's own.
     ///
-    /// A search calls it once at most, before `finish`. If the binary byte ends the search (`BinaryDetection::Quit`),
-    /// it does so whatever this returns.
+    /// A search calls it once at most, before `finish`. If the binary byte ends the search
+    /// (`BinaryDetection::Quit`), it does so whatever this returns.
     fn binary_data<A: Allocator + Copy>(
         &mut self,
         searcher: &Searcher<A>,
@@ -104,7 +109,8 @@ pub trait Sink {
         ensures may_call { may_call self.new };
 }
 
-/// A reference is the sink that it refers to: each call is that sink's, and it stays a reference to that sink.
+/// A reference is the sink that it refers to: each call is that sink's, and it stays a reference to
+/// that sink.
 impl<S: Sink> Sink for &mut S {
     type Error = S::Error;
 

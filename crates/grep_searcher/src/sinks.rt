@@ -1,5 +1,5 @@
-//! Sinks that take matches alone: those that call a closure at each match, with its line number and its text, and one
-//! that counts.
+//! Sinks that take matches alone: those that call a closure at each match, with its line number and
+//! its text, and one that counts.
 //!
 //! The closure returns whether the search goes on. Its error ends the search.
 ghost use Rattle.std.specs.Prelude.{◌≡◌, Some, None, MatchResult};
@@ -17,9 +17,9 @@ use std::{io, str};
 
 /// Calls a closure at each match, with its line number, counted from 1, and its lines as text.
 ///
-/// A match that isn't UTF-8 ends the search in an error of the kind `Other`, and so does one without a line number, if
-/// the searcher doesn't number lines; the closure isn't called then. The caller of the search ensures that the closure
-/// may always be called.
+/// A match that isn't UTF-8 ends the search in an error of the kind `Other`, and so does one
+/// without a line number, if the searcher doesn't number lines; the closure isn't called then. The
+/// caller of the search ensures that the closure may always be called.
 #[derive(Drop)]
 pub struct UTF8<F>(pub F);
 
@@ -76,12 +76,13 @@ impl<F: FnMut(u64, &str) -> Result<bool, io::Error>> Sink for UTF8<F> {
     }
 }
 
-/// Calls a closure at each match, with its line number, counted from 1, and its lines as text, in which each part that
-/// isn't UTF-8 is replaced by U+FFFD, as std's `from_utf8_lossy` does.
+/// Calls a closure at each match, with its line number, counted from 1, and its lines as text, in
+/// which each part that isn't UTF-8 is replaced by U+FFFD, as std's `from_utf8_lossy` does.
 ///
-/// If there is no memory for the text with replacements, the search ends in an error of the kind `OutOfMemory`. A match
-/// without a line number, if the searcher doesn't number lines, ends it in one of the kind `Other`. The closure isn't
-/// called then. The caller of the search ensures that the closure may always be called.
+/// If there is no memory for the text with replacements, the search ends in an error of the kind
+/// `OutOfMemory`. A match without a line number, if the searcher doesn't number lines, ends it in
+/// one of the kind `Other`. The closure isn't called then. The caller of the search ensures that
+/// the closure may always be called.
 #[derive(Drop)]
 pub struct Lossy<F>(pub F);
 
@@ -143,8 +144,9 @@ impl<F: FnMut(u64, &str) -> Result<bool, io::Error>> Sink for Lossy<F> {
 
 /// Calls a closure at each match, with its line number, counted from 1, and the bytes of its lines.
 ///
-/// A match without a line number, if the searcher doesn't number lines, ends the search in an error of the kind
-/// `Other`, and the closure isn't called. The caller of the search ensures that the closure may always be called.
+/// A match without a line number, if the searcher doesn't number lines, ends the search in an error
+/// of the kind `Other`, and the closure isn't called. The caller of the search ensures that the
+/// closure may always be called.
 #[derive(Drop)]
 pub struct Bytes<F>(pub F);
 

@@ -33,7 +33,8 @@ pub struct Row {
 }
 
 impl Row {
-    /// Whether a search of the bytes as a slice makes the same calls. No byte of a slice is made a terminator.
+    /// Whether a search of the bytes as a slice makes the same calls. No byte of a slice is made a
+    /// terminator.
     pub fn is_same_in_slice(&self) -> bool {
         matches!(self.settings.detection, BinaryDetection::None)
     }
@@ -146,8 +147,8 @@ pub const LIMIT: Row = Row {
     reads: 6,
 };
 
-/// The rows. By line nothing is searched of fewer than three bytes, which may be a mark; then each line once it came whole.
-/// Across lines all is read before `begin`.
+/// The rows. By line nothing is searched of fewer than three bytes, which may be a mark; then each
+/// line once it came whole. Across lines all is read before `begin`.
 pub const ROWS: &[Row] = &[
     BREAK,
     LIMIT,

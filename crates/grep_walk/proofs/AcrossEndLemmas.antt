@@ -46,12 +46,14 @@ module _ (k : Settings) (meaning : Meaning) (bytes : List ℕ) where
 
   module _ {State E : Type 0} (step : Steps State E) (first : State) where
     abbrev IsCounted : ℕ → Outcome E → State → Type 0
-    IsCounted count outcome new = Counted step k first (turns k meaning bytes) (byte_count k meaning bytes) count outcome new
+    IsCounted count outcome new = Counted step k first (turns k meaning bytes) (byte_count k meaning bytes) count
+        outcome new
 
     pub counted-unbegun : (new : State) → step first k begins (Ok false) new → IsCounted 0 (stopped 0) new
     counted-unbegun new stops = record { reported = inr (inl (refl, stops)); is_count = refl }
 
-    pub reported-begin : (now : State) → step first k begins (Ok true) now → AreReported step k first (front 0) all_true now
+    pub reported-begin : (now : State) → step first k begins (Ok true) now
+        → AreReported step k first (front 0) all_true now
     reported-begin now goes = inl (now, goes, (refl, refl))
 
     -- more calls
@@ -79,7 +81,8 @@ module _ (k : Settings) (meaning : Meaning) (bytes : List ℕ) where
     pub failed-whole : (w : Walk) (e : E) (new : State) → IsAcross k meaning bytes w
         → AreReported step k first (front w.next_unreported) (failed e) new
         → AreReported step k first (turns k meaning bytes) (failed e) new
-    failed-whole w e new across reported = ended-whole w.next_unreported (failed e) new (passed-few w across) (λ same. cc) reported
+    failed-whole w e new across reported = ended-whole w.next_unreported (failed e) new (passed-few w across)
+        (λ same. cc) reported
 
     -- at the end of the bytes all lines were passed
     all-passed : (w : Walk) → IsAcross k meaning bytes w → w.offset ≡ length bytes → w.line ≡ n
@@ -123,21 +126,31 @@ module _ {State E F : Type 0} (step : Steps State E) (errors : ErrorMakers E) (m
   abbrev IsFaulty : E → State → Type 0
   IsFaulty e new = IsFaultIn step errors matcher (calls_across k matcher.meaning) k bytes first e new
 
-  failed-run : (e : E) (new : State) → AreReported step k first (turns k matcher.meaning bytes) (failed e) new → IsFaulty e new
-  failed-run e new reported = of_sink (record { outcome = failed e; mid = new; reported = reported; finished = (refl, refl) })
+  failed-run : (e : E) (new : State) → AreReported step k first (turns k matcher.meaning bytes) (failed e) new
+      → IsFaulty e new
+  failed-run e new reported = of_sink (record {
+    outcome = failed e;
+    mid = new;
+    reported = reported;
+    finished =
+        (refl, refl);
+  })
 
   pub fault-begin : (e : E) (new : State) → step first k begins (Err e) new → IsFaulty e new
   fault-begin e new fails = failed-run e new (inr (inr (e, refl, fails)))
 
   pub fault-sink : (w : Walk) (e : E) (new : State) → IsAcross k matcher.meaning bytes w
-      → AreReported step k first (turns_before k matcher.meaning bytes w.next_unreported) (failed e) new → IsFaulty e new
-  fault-sink w e new across reported = failed-run e new (failed-whole k matcher.meaning bytes step first w e new across reported)
+      → AreReported step k first (turns_before k matcher.meaning bytes w.next_unreported) (failed e) new
+      → IsFaulty e new
+  fault-sink w e new across reported = failed-run e new
+      (failed-whole k matcher.meaning bytes step first w e new across reported)
 
   -- a question at the line that a walk is at
   pub fault-matcher : (w : Walk) (now : State) → IsAcross k matcher.meaning bytes w
       → AreReported step k first (turns_before k matcher.meaning bytes w.next_unreported) all_true now
       → (haystack : List ℕ) (error : F) (e : E) → IsAskedAt k matcher.meaning bytes w.line haystack
-      → is_done k w ≡ false → matcher.fails haystack error → errors.is_message (matcher.text_of error) e → IsFaulty e now
+      → is_done k w ≡ false → matcher.fails haystack error → errors.is_message (matcher.text_of error) e
+      → IsFaulty e now
   fault-matcher w now across reported haystack error e asked goes fails message =
       of_matcher haystack error (turns_before k matcher.meaning bytes w.next_unreported)
       (record {
@@ -168,7 +181,8 @@ module _ {State E F : Type 0} (step : Steps State E) (errors : ErrorMakers E) (m
       limited inverted none =
           let all : match_limit k ≡ k.max_matches =
           ap (λ b. if b then None else k.max_matches) (ap (λ b. k.invert_match && b) none ∙ and-false k.invert_match) in
-          clash (limit-some k matcher.meaning bytes _ (sym (ap (is_below (length asked.found)) all) ∙ asked.question.room)) none
+          clash (limit-some k matcher.meaning bytes _ (sym (ap (is_below (length asked.found)) all)
+          ∙ asked.question.room)) none
 
       goes : is_done k start ≡ false
       goes = ⊎_elim

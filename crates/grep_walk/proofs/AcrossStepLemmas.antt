@@ -1,5 +1,6 @@
 -- A walk across lines, from line to line and from unit to unit.
-use Rattle.std.proofs.Common.{◌≡◌, ℕ, zero, suc, ◌+◌, ◌-◌, ◌<◌, ◌≤◌, Bool, true, false, not, ◌&&◌, List, [], ◌++◌, length, drop}
+use Rattle.std.proofs.Common.{◌≡◌, ℕ, zero, suc, ◌+◌, ◌-◌, ◌<◌, ◌≤◌, Bool, true, false, not, ◌&&◌, List, [], ◌++◌}
+use Rattle.std.proofs.Common.{length, drop}
 use Rattle.std.proofs.Common.{refl, sym, ◌∙◌, ap, subst, arith, ⊎_elim, if◌then◌else◌, length-take, length-drop}
 use Rattle.std.proofs.Math.Path.{ap₂}
 use Rattle.std.proofs.lemmas.Bool.{cases_Bool}
@@ -64,7 +65,8 @@ module _ (k : Settings) (meaning : Meaning) (bytes : List ℕ) where
       (λ (room : is_at c k.max_matches ≡ false).
       let none : free i ≡ false =
       sym (and-true (free i))
-      ∙ (ap (λ b. free i && b) (sym (limited.below ∙ ap not room)) ∙ (sym (selected-inverted k meaning bytes inverted i) ∙ missed)) in
+      ∙ (ap (λ b. free i && b) (sym (limited.below ∙ ap not room))
+      ∙ (sym (selected-inverted k meaning bytes inverted i) ∙ missed)) in
       let same : count_below free (i + 1) ≡ count_below free i =
       count-next free i ∙ ap (λ b. if b then count_below free i + 1 else count_below free i) none in
       record {
@@ -77,7 +79,8 @@ module _ (k : Settings) (meaning : Meaning) (bytes : List ℕ) where
       and-true true = refl
       and-true false = refl
 
-  limited-lines : k.invert_match ≡ true → (m i c : ℕ) → Limited i c → ((j : ℕ) → i ≤ j → j < i + m → S j ≡ false) → Limited (i + m) c
+  limited-lines : k.invert_match ≡ true → (m i c : ℕ) → Limited i c → ((j : ℕ) → i ≤ j → j < i + m → S j ≡ false)
+      → Limited (i + m) c
   limited-lines inverted zero i c limited missed =
       let same : i ≡ i + zero = omega arith in
       subst (λ j. Limited j c) same limited
@@ -87,15 +90,21 @@ module _ (k : Settings) (meaning : Meaning) (bytes : List ℕ) where
       (limited-lines inverted m (i + 1) c (limited-missed inverted i c limited (missed i (omega arith) (omega arith)))
       (λ j low high. missed j (omega (arith, low)) (omega (arith, high))))
 
-  limited-hit : k.invert_match ≡ true → (i c : ℕ) → Limited i c → is_at c k.max_matches ≡ false → S i ≡ true → Limited (i + 1) (c + 1)
+  limited-hit : k.invert_match ≡ true → (i c : ℕ) → Limited i c → is_at c k.max_matches ≡ false → S i ≡ true
+      → Limited (i + 1) (c + 1)
   limited-hit inverted i c limited room hit =
       let here = (both_true (free i) _ (sym (selected-inverted k meaning bytes inverted i) ∙ hit)).0 in
       let count = limited.counted room in
       let more : count_below free (i + 1) ≡ c + 1 =
-      count-next free i ∙ (ap (λ b. if b then count_below free i + 1 else count_below free i) here ∙ ap (λ m. m + 1) count) in
+      count-next free i ∙ (ap (λ b. if b then count_below free i + 1 else count_below free i) here
+      ∙ ap (λ m. m + 1) count) in
       let below : is_below c k.max_matches ≡ true =
       ap (λ m. is_below m k.max_matches) (sym count) ∙ (limited.below ∙ ap not room) in
-      record { below = ap (λ m. is_below m k.max_matches) more ∙ below_next k.max_matches c below; counted = λ room. more }
+      record {
+        below = ap (λ m. is_below m k.max_matches) more
+            ∙ below_next k.max_matches c below;
+        counted = λ room. more;
+      }
 
   -- before the first line
   pub across-start : IsAcross k meaning bytes (start_walk k meaning bytes)
@@ -130,23 +139,33 @@ module _ (k : Settings) (meaning : Meaning) (bytes : List ℕ) where
       at-start = subst (λ o. IsLineStart t bytes o w.line) same across.placed.at
 
       count : w.line + length (lines t here) ≡ next.last
-      count = omega (arith, lines-between t bytes p q w.line next.last at-start next.at next.from next.within next.low, next.low)
+      count = omega (
+        arith,
+        lines-between t bytes p q w.line next.last at-start next.at next.from next.within next.low,
+        next.low,
+      )
 
       pub across-past : k.passthru ≡ false → w.after_context_left ≡ 0 → IsAcross k meaning bytes (skip_lines k w here)
       across-past plain none =
           let near = calls.near-skipped k meaning bytes w.next_unreported w.line next.last
-          (subst (λ l. calls.Near k meaning bytes w.next_unreported w.line l) none across.near) plain next.low next.at.listed
+          (subst (λ l. calls.Near k meaning bytes w.next_unreported w.line l) none across.near) plain next.low
+          next.at.listed
           next.missed in
           record {
             placed = record {
-              at = record { listed = omega (arith, count, next.at.listed); begins = ap starts count ∙ (next.at.begins ∙ sym size) };
+              at = record {
+                listed = omega (arith, count, next.at.listed);
+                begins = ap starts count
+                    ∙ (next.at.begins ∙ sym size);
+              };
               inside = omega (arith, size, next.within);
               low = omega (arith, across.placed.low);
               few = omega (arith, across.placed.few);
             };
             near = subst (λ e. calls.Near k meaning bytes w.next_unreported e w.after_context_left) (sym count)
                 (subst (λ l. calls.Near k meaning bytes w.next_unreported next.last l) (sym none) near);
-            limited = λ inverted. limited-lines inverted (length (lines t here)) w.line w.match_count (across.limited inverted)
+            limited = λ inverted. limited-lines inverted (length (lines t here)) w.line w.match_count
+                (across.limited inverted)
                 (λ j low high. next.missed j low (omega (arith, high, count)));
             ended = All-weaker (λ turn. turn.end ≤ w.offset) (λ turn. turn.end ≤ w.offset + length here)
                 (λ turn low. omega (arith, low)) (front w.next_unreported) across.ended;
@@ -154,11 +173,14 @@ module _ (k : Settings) (meaning : Meaning) (bytes : List ℕ) where
 
     -- a line that isn't chosen
     module _ (bare : Bare) (line : IsLine t bytes w.line p q) (missed : S w.line ≡ false) where
-      pub front-missed : front (after_line k w here false).next_unreported ≡ front w.next_unreported ++ line_turns k bytes w here false false
+      pub front-missed : front (after_line k w here false).next_unreported ≡ front w.next_unreported
+          ++ line_turns k bytes w here false false
       front-missed =
-          calls.front-missed k meaning bytes bare w.next_unreported w.line w.after_context_left across.near line.listed missed
+          calls.front-missed k meaning bytes bare w.next_unreported w.line w.after_context_left across.near line.listed
+          missed
           ∙ ap (λ turns. front w.next_unreported ++ turns)
-          (ap (λ o. line-turns o (starts (w.line + 1)) (slice bytes (starts w.line) (starts (w.line + 1)))) (line.begins ∙ sym same)
+          (ap (λ o. line-turns o (starts (w.line + 1)) (slice bytes (starts w.line) (starts (w.line + 1))))
+          (line.begins ∙ sym same)
           ∙ (ap (λ e. line-turns w.offset e (slice bytes (starts w.line) (starts (w.line + 1))))
           (start-after k meaning bytes w p q same line)
           ∙ ap₂ (λ a b. line-turns w.offset (line_end w here) (slice bytes a b)) line.begins line.ends))
@@ -166,7 +188,8 @@ module _ (k : Settings) (meaning : Meaning) (bytes : List ℕ) where
       pub across-missed : IsAcross k meaning bytes (after_line k w here false)
       across-missed = record {
         placed = placed-next k meaning bytes w p q same line across.placed false;
-        near = calls.near-missed k meaning bytes bare w.next_unreported w.line w.after_context_left across.near line.listed missed;
+        near = calls.near-missed k meaning bytes bare w.next_unreported w.line w.after_context_left across.near
+            line.listed missed;
         limited = λ inverted. limited-missed inverted w.line w.match_count (across.limited inverted) missed;
         ended = subst (All (λ turn. turn.end ≤ line_end w here)) (sym front-missed)
             (ended-next k bytes w here false false (front w.next_unreported) across.ended);
@@ -180,7 +203,8 @@ module _ (k : Settings) (meaning : Meaning) (bytes : List ℕ) where
       count-chosen : w.line + length (lines t here) ≡ chosen.last
       count-chosen = omega (
         arith,
-        lines-between t bytes p q w.line chosen.last (subst (λ o. IsLineStart t bytes o w.line) same across.placed.at) chosen.at
+        lines-between t bytes p q w.line chosen.last (subst (λ o. IsLineStart t bytes o w.line) same across.placed.at)
+            chosen.at
             (omega (arith, below)) within (omega (arith, chosen.some)),
         chosen.some,
       )
@@ -198,19 +222,25 @@ module _ (k : Settings) (meaning : Meaning) (bytes : List ℕ) where
       walk-is = go k.invert_match refl
         where
           go : (b : Bool) → k.invert_match ≡ b
-              → (if true && not b then walk-to (w.line + length (lines t here)) else after_line k w here true) ≡ walk-to chosen.last
+              → (if true && not b then walk-to (w.line + length (lines t here)) else after_line k w here true)
+              ≡ walk-to chosen.last
           go true is = ap walk-to (sym (chosen.single is))
           go false is = ap walk-to count-chosen
 
-      pub front-chosen : front (after_lines k w here true).next_unreported ≡ front w.next_unreported ++ line_turns k bytes w here true false
+      pub front-chosen : front (after_lines k w here true).next_unreported ≡ front w.next_unreported
+          ++ line_turns k bytes w here true false
       front-chosen =
           ap (λ (next : Walk). front next.next_unreported) walk-is
-          ∙ (calls.front-unit k meaning bytes w.next_unreported w.line w.after_context_left chosen.last across.near chosen.some
+          ∙ (calls.front-unit k meaning bytes w.next_unreported w.line w.after_context_left chosen.last across.near
+          chosen.some
           chosen.at.listed chosen.hits chosen.closed chosen.single chosen.first
           ∙ ap (λ turns. front w.next_unreported ++ turns)
-          (ap (λ e. unit-turns (starts w.line) e (slice bytes (starts w.line) (starts chosen.last))) (chosen.at.begins ∙ sym unit-end)
-          ∙ (ap (λ o. unit-turns o (line_end w here) (slice bytes (starts w.line) (starts chosen.last))) across.placed.at.begins
-          ∙ ap₂ (λ a b. unit-turns w.offset (line_end w here) (slice bytes a b)) (across.placed.at.begins ∙ same) chosen.at.begins)))
+          (ap (λ e. unit-turns (starts w.line) e (slice bytes (starts w.line) (starts chosen.last)))
+          (chosen.at.begins ∙ sym unit-end)
+          ∙ (ap (λ o. unit-turns o (line_end w here) (slice bytes (starts w.line) (starts chosen.last)))
+          across.placed.at.begins
+          ∙ ap₂ (λ a b. unit-turns w.offset (line_end w here) (slice bytes a b)) (across.placed.at.begins ∙ same)
+          chosen.at.begins)))
 
       across-to : IsAcross k meaning bytes (walk-to chosen.last)
       across-to = record {

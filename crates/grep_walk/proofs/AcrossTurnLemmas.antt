@@ -35,7 +35,8 @@ module _ (k : Settings) (meaning : Meaning) (bytes : List ℕ) where
     chosen = across.placed.few;
   }
 
-  pub in-window : (w : Walk) (start : ℕ) → w.offset ≡ start → IsAcross k meaning bytes w → IsInWindow k [] bytes bytes start w
+  pub in-window : (w : Walk) (start : ℕ) → w.offset ≡ start → IsAcross k meaning bytes w
+      → IsInWindow k [] bytes bytes start w
   in-window w start same across = record {
     shown = own-window t bytes;
     at = omega (arith, same);
@@ -57,7 +58,8 @@ module _ (k : Settings) (meaning : Meaning) (bytes : List ℕ) where
     pub offset : (after_lines k w (slice bytes start end) chosen).offset ≡ end
     pub end_is : line_end w (slice bytes start end) ≡ end
 
-  module _ (bare : Bare) (start end next : ℕ) (w : Walk) (unit : ℕ × ℕ) (blocks : Blocks) (across : IsAcross k meaning bytes w)
+  module _ (bare : Bare) (start end next : ℕ) (w : Walk) (unit : ℕ × ℕ) (blocks : Blocks)
+      (across : IsAcross k meaning bytes w)
       (same : w.offset ≡ start) (ready : IsReady k meaning bytes start w unit blocks)
       (ahead : is_done k w ≡ false → start < unit.1) (is_next : next ≡ next_chosen k bytes start unit w)
       (below : start < end) (within : end ≤ length bytes) where
@@ -81,13 +83,15 @@ module _ (k : Settings) (meaning : Meaning) (bytes : List ℕ) where
         → IsTurned start end w unit blocks chosen
     turned true is joined single =
         let there = eqb-true start next (sym is) ∙ is_next in
-        let chosen = units.chosen-is k meaning bytes start w unit blocks across at ready some ahead end there joined single in
+        let chosen = units.chosen-is k meaning bytes start w unit blocks across at ready some ahead end there joined
+        single in
         record {
           across = steps.across-chosen k meaning bytes w start end same across below within chosen;
           front = steps.front-chosen k meaning bytes w start end same across below within chosen;
           ready = units.ready-after k meaning bytes start w unit blocks across at ready some ahead _ true end
               (λ goes. open-chosen chosen) (is ∙ ap (λ p. start == p) is_next) joined single;
-          offset = ap (λ (v : Walk). v.offset) (steps.walk-is k meaning bytes w start end same across below within chosen) ∙ size;
+          offset = ap (λ (v : Walk). v.offset) (steps.walk-is k meaning bytes w start end same across below within
+              chosen) ∙ size;
           end_is = size;
         }
     turned false is joined single =

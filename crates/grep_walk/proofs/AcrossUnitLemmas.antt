@@ -1,5 +1,6 @@
 -- The unit of lines that a walk across lines comes to, the lines that aren't chosen before it, and the lines that are.
-use Rattle.std.proofs.Common.{◌≡◌, ℕ, ◌+◌, ◌-◌, ◌<◌, ◌≤◌, ◌==◌, Bool, true, false, not, ◌&&◌, List, length, if◌then◌else◌, None}
+use Rattle.std.proofs.Common.{◌≡◌, ℕ, ◌+◌, ◌-◌, ◌<◌, ◌≤◌, ◌==◌, Bool, true, false, not, ◌&&◌, List, length}
+use Rattle.std.proofs.Common.{if◌then◌else◌, None}
 use Rattle.std.proofs.Common.{refl, sym, ◌∙◌, ap, subst, arith, ⊎_elim}
 use Rattle.std.proofs.Math.Bool.{and-false}
 use Rattle.std.proofs.lemmas.Bool.{lt-ltb, le-ltb, ltb-true, ltb-false, eq-eqb, cases_Bool, cases_lt}
@@ -57,13 +58,15 @@ module _ (k : Settings) (meaning : Meaning) (bytes : List ℕ) where
       ∙ ap (λ b. is_touched k meaning bytes
       (matches_up_to meaning bytes (if b && is_below 0 k.max_matches then None else k.max_matches)) j) (sym plain)
 
-  pub selected-inverted : k.invert_match ≡ true → (j : ℕ) → S j ≡ (free j && is_below (count_below free j) k.max_matches)
+  pub selected-inverted : k.invert_match ≡ true → (j : ℕ) → S j
+      ≡ (free j && is_below (count_below free j) k.max_matches)
   selected-inverted inverted j =
       ap (λ b. if b then free j && is_below (count_below free j) k.max_matches
       else is_touched k meaning bytes (matches_up_to meaning bytes k.max_matches) j) inverted
 
   -- if the limit isn't 0
-  free-is : k.invert_match ≡ true → is_below 0 k.max_matches ≡ true → (j : ℕ) → j < n → free j ≡ not (is_hit k meaning bytes j)
+  free-is : k.invert_match ≡ true → is_below 0 k.max_matches ≡ true → (j : ℕ) → j < n → free j
+      ≡ not (is_hit k meaning bytes j)
   free-is inverted some j inside =
       let test = lt-ltb j n inside in
       ap (λ b. b && not (is_touched k meaning bytes (all_matches meaning bytes) j)) test
@@ -78,7 +81,8 @@ module _ (k : Settings) (meaning : Meaning) (bytes : List ℕ) where
       (cases_Bool (is_below 0 k.max_matches))
 
   -- the next unit, which is looked for at the end of the last one
-  module _ (start i low : ℕ) (unit : ℕ × ℕ) (some : start < length bytes) (at : IsLineStart t bytes start i) (same : start ≡ low)
+  module _ (start i low : ℕ) (unit : ℕ × ℕ) (some : start < length bytes) (at : IsLineStart t bytes start i)
+      (same : start ≡ low)
       (is_unit : IsUnit k meaning bytes low unit) where
     pub ahead-next : start < unit.1
     ahead-next = ⊎_elim
@@ -132,7 +136,8 @@ module _ (k : Settings) (meaning : Meaning) (bytes : List ℕ) where
           ));
     }
 
-  ready-next : (start : ℕ) (w : Walk) (unit : ℕ × ℕ) (old new : Blocks) → start < length bytes → IsLineStart t bytes start w.line
+  ready-next : (start : ℕ) (w : Walk) (unit : ℕ × ℕ) (old new : Blocks) → start < length bytes
+      → IsLineStart t bytes start w.line
       → (is_done k w ≡ false → start ≡ old.end) → IsUnit k meaning bytes old.end unit → new.end ≡ unit.1
       → AreLeft k meaning bytes new → IsReady k meaning bytes start w unit new
   ready-next start w unit old new some at same is_unit end left = record {
@@ -144,11 +149,14 @@ module _ (k : Settings) (meaning : Meaning) (bytes : List ℕ) where
     coming = λ goes less. coming-next start w.line old.end unit some at (same goes) is_unit;
   }
 
-  pub ready-found : {E : Type 0} (start : ℕ) (w : Walk) (old new : Blocks) (found : Result (ℕ × ℕ) E) → start < length bytes
-      → IsLineStart t bytes start w.line → (is_done k w ≡ false → start ≡ old.end) → IfOk found (IsUnit k meaning bytes old.end)
+  pub ready-found : {E : Type 0} (start : ℕ) (w : Walk) (old new : Blocks) (found : Result (ℕ × ℕ) E)
+      → start < length bytes
+      → IsLineStart t bytes start w.line → (is_done k w ≡ false → start ≡ old.end)
+      → IfOk found (IsUnit k meaning bytes old.end)
       → IfOk found (λ unit. new.end ≡ unit.1) → IfOk found (λ unit. AreLeft k meaning bytes new)
       → IfOk found (λ unit. IsReady k meaning bytes start w unit new)
-  ready-found start w old new (Ok unit) some at same is_unit end left = ready-next start w unit old new some at same is_unit end left
+  ready-found start w old new (Ok unit) some at same is_unit end left = ready-next start w unit old new some at same
+      is_unit end left
   ready-found start w old new (Err e) some at same is_unit end left = tt
 
   -- the lines from a walk's line up to a position aren't selected
@@ -172,7 +180,8 @@ module _ (k : Settings) (meaning : Meaning) (bytes : List ℕ) where
     pub room : k.invert_match ≡ true → is_at w.match_count k.max_matches ≡ false
 
   module _ (start : ℕ) (w : Walk) (unit : ℕ × ℕ) (blocks : Blocks) (across : IsAcross k meaning bytes w)
-      (at : IsLineStart t bytes start w.line) (ready : IsReady k meaning bytes start w unit blocks) (some : start < length bytes)
+      (at : IsLineStart t bytes start w.line) (ready : IsReady k meaning bytes start w unit blocks)
+      (some : start < length bytes)
       (ahead : is_done k w ≡ false → start < unit.1) where
     abbrev Chosen : Bool → Bool → Bool → ℕ
     Chosen b c d = if not b then unit.0 else (if c then length bytes else (if d then start else unit.1))
@@ -199,7 +208,8 @@ module _ (k : Settings) (meaning : Meaning) (bytes : List ℕ) where
             record {
               last = here.is_unit.first;
               at = here.is_unit.begins;
-              low = starts-ordered AreLines-lines t bytes start unit.0 w.line here.is_unit.first at here.is_unit.begins whole;
+              low = starts-ordered AreLines-lines t bytes start unit.0 w.line here.is_unit.first at here.is_unit.begins
+                  whole;
               from = whole;
               within = omega (arith, ready.ordered, ready.within);
               missed = λ j low high.
@@ -241,7 +251,8 @@ module _ (k : Settings) (meaning : Meaning) (bytes : List ℕ) where
             record {
               last = here.is_unit.last;
               at = here.is_unit.ends;
-              low = starts-ordered AreLines-lines t bytes start unit.1 w.line here.is_unit.last at here.is_unit.ends here.before;
+              low = starts-ordered AreLines-lines t bytes start unit.1 w.line here.is_unit.last at here.is_unit.ends
+                  here.before;
               from = here.before;
               within = ready.within;
               missed = λ j low high.
@@ -255,7 +266,8 @@ module _ (k : Settings) (meaning : Meaning) (bytes : List ℕ) where
                   )) in
                   let room = limit-some _ ((across.limited is_b).below ∙ ap not is_c) in
                   selected-inverted is_b j
-                  ∙ ap (λ b. b && is_below (count_below free j) k.max_matches) (free-is is_b room j inside ∙ ap not hit);
+                  ∙ ap (λ b. b && is_below (count_below free j) k.max_matches)
+                  (free-is is_b room j inside ∙ ap not hit);
             }
 
     -- past the lines that aren't chosen the walk comes to the unit, or has passed it
@@ -298,7 +310,8 @@ module _ (k : Settings) (meaning : Meaning) (bytes : List ℕ) where
         back goes = ap (λ c. k.invert_match && is_at c k.max_matches) (sym same) ∙ goes
 
     -- after a line it comes to the unit, or is in it
-    coming-line : (end : ℕ) → IsLine t bytes w.line start end → is_done k w ≡ false → (k.invert_match ≡ false → start < unit.0)
+    coming-line : (end : ℕ) → IsLine t bytes w.line start end → is_done k w ≡ false
+        → (k.invert_match ≡ false → start < unit.0)
         → IsComing k meaning bytes end unit
     coming-line end line goes plain =
         let here = come goes in
@@ -349,18 +362,21 @@ module _ (k : Settings) (meaning : Meaning) (bytes : List ℕ) where
             (λ less. less)
             (λ over.
             let same : start ≡ unit.0 = omega (arith, over, (come goes).whole plain) in
-            let next : next_chosen k bytes start unit w ≡ unit.0 = ap (λ b. Chosen b full (nat_lt start unit.0)) plain in
+            let next : next_chosen k bytes start unit w ≡ unit.0 = ap (λ b. Chosen b full (nat_lt start unit.0))
+            plain in
             let yes : chosen ≡ true = is ∙ eq-eqb start _ (same ∙ sym next) in
             absurd (clash (and-both chosen (not k.invert_match) yes (ap not plain)) part))
             (cases_lt start unit.0)
 
     pub chosen-is : (end : ℕ) → start ≡ next_chosen k bytes start unit w → (is_joined k true ≡ true → end ≡ unit.1)
-        → (is_joined k true ≡ false → (i : ℕ) → IsLineStart t bytes start i → IsLine t bytes i start end) → IsChosen w end
+        → (is_joined k true ≡ false → (i : ℕ) → IsLineStart t bytes start i → IsLine t bytes i start end)
+        → IsChosen w end
     chosen-is end = go k.invert_match full (nat_lt start unit.0) refl refl refl
       where
         go : (b c d : Bool) → k.invert_match ≡ b → full ≡ c → nat_lt start unit.0 ≡ d → start ≡ Chosen b c d
             → (is_joined k true ≡ true → end ≡ unit.1)
-            → (is_joined k true ≡ false → (i : ℕ) → IsLineStart t bytes start i → IsLine t bytes i start end) → IsChosen w end
+            → (is_joined k true ≡ false → (i : ℕ) → IsLineStart t bytes start i → IsLine t bytes i start end)
+            → IsChosen w end
         go false c d is_b is_c is_d same joined single =
             let here = come (plain-goes is_b) in
             let less = ahead (plain-goes is_b) in
@@ -391,7 +407,8 @@ module _ (k : Settings) (meaning : Meaning) (bytes : List ℕ) where
                   (λ above.
                   let miss = selected-plain is_b (w.line - 1)
                   ∙ (ap (λ i. is_hit k meaning bytes (i - 1)) index ∙ here.alone (omega (arith, above, index))) in
-                  ap (λ b. not k.invert_match && nat_lt 0 w.line && b) miss ∙ and-false (not k.invert_match && nat_lt 0 w.line))
+                  ap (λ b. not k.invert_match && nat_lt 0 w.line && b) miss
+                  ∙ and-false (not k.invert_match && nat_lt 0 w.line))
                   (λ none.
                   ap (λ b. not k.invert_match && b && S (w.line - 1)) (le-ltb 0 w.line none)
                   ∙ ap (λ b. b && S (w.line - 1)) (and-false (not k.invert_match)))
@@ -407,7 +424,8 @@ module _ (k : Settings) (meaning : Meaning) (bytes : List ℕ) where
             (omega (arith, line.begins, ltb-true start unit.0 is_d)) in
             let is_open = (across.limited is_b).below ∙ ap not is_c in
             let hit = selected-inverted is_b w.line
-            ∙ and-both (free w.line) _ (free-is is_b (limit-some _ is_open) w.line line.listed ∙ ap not missed) is_open in
+            ∙ and-both (free w.line) _ (free-is is_b (limit-some _ is_open) w.line line.listed ∙ ap not missed)
+            is_open in
             record {
               last = w.line + 1;
               at = record { listed = omega (arith, line.listed); begins = line.ends };

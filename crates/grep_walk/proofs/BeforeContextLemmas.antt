@@ -1,5 +1,6 @@
 -- The lines before a chosen one, reported one after another.
-use Rattle.std.proofs.Common.{length, ◌≡◌, ℕ, ◌+◌, ◌-◌, ◌<◌, ◌≤◌, min, List, [], ◌++◌, take, refl, sym, ◌∙◌, ap, subst, arith}
+use Rattle.std.proofs.Common.{length, ◌≡◌, ℕ, ◌+◌, ◌-◌, ◌<◌, ◌≤◌, min, List, [], ◌++◌, take, refl, sym, ◌∙◌, ap, subst}
+use Rattle.std.proofs.Common.{arith}
 use Rattle.std.proofs.Common.{if◌then◌else◌, Some, None}
 use Rattle.std.proofs.lemmas.Bool.{lt-leb}
 use Rattle.std.specs.Prelude.{count_by, ◌==◌}
@@ -72,10 +73,12 @@ module _ (k : Settings) (bytes : List ℕ) (v i end : ℕ) where
         let at : first + (q - first) ≡ q = omega arith in
         let there : at_line q ≡ at_line (first + (q - first)) = ap at_line (sym at) in
         subst (λ turns. AreReported step k old turns outcome new) (sym (joined_from-more at_line first (q - first)))
-        (AreReported-append step k (joined_from at_line first (q - first)) (at_line (first + (q - first))) old mid outcome new before
+        (AreReported-append step k (joined_from at_line first (q - first)) (at_line (first + (q - first))) old mid
+        outcome new before
         (subst (λ turns. AreReported step k mid turns outcome new)
         (ap (λ o. before_turns k v q i (number_of k q) o end own) same
-        ∙ (ap (before_turns k v q i (number_of k q) start end) (sym bytes_same) ∙ (here-is q start next line ∙ there))) here))
+        ∙ (ap (before_turns k v q i (number_of k q) start end) (sym bytes_same) ∙ (here-is q start next line ∙ there)))
+        here))
 
     -- one more line
     pub reported-more : AreReported step k old (pending_turns k bytes v i end first ((q + 1) - first)) outcome new
@@ -88,18 +91,22 @@ module _ (k : Settings) (bytes : List ℕ) (v i end : ℕ) where
         → AreReported step k old (pending_turns k bytes v i end first (i - first)) outcome new
     reported-ended less over =
         let sum : i - first ≡ ((q - first) + 1) + (i - (q + 1)) = omega arith in
-        let split = ap (λ m. joined_from at_line first m) sum ∙ joined_from-add at_line first ((q - first) + 1) (i - (q + 1)) in
+        let split = ap (λ m. joined_from at_line first m) sum
+        ∙ joined_from-add at_line first ((q - first) + 1) (i - (q + 1)) in
         subst (λ turns. AreReported step k old turns outcome new) (sym split)
         (AreReported-ended step k (joined_from at_line first ((q - first) + 1))
         (joined_from at_line (first + ((q - first) + 1)) (i - (q + 1))) old outcome new over through)
 
 -- the same of a line of a window, for the walk at `start`
-module _ (k : Settings) (gone window input : List ℕ) (w : Walk) (start : ℕ) (inside : IsInWindow k gone window input start w)
+module _ (k : Settings) (gone window input : List ℕ) (w : Walk) (start : ℕ)
+    (inside : IsInWindow k gone window input start w)
     (end : ℕ) {S E : Type 0} (step : Steps S E) (old mid new : S) (first q p next offset : ℕ)
     (at : IsLineIn k gone window p q)
-    (line : (j : ℕ) → IsLineStart (byte_of k.line_terminator) window p j → IsLine (byte_of k.line_terminator) window j p next)
+    (line : (j : ℕ) → IsLineStart (byte_of k.line_terminator) window p j
+    → IsLine (byte_of k.line_terminator) window j p next)
     (same : offset + start ≡ w.offset + p) (low : first ≤ q)
-    (before : AreReported step k old (pending_turns k input w.next_unreported w.line end first (q - first)) all_true mid)
+    (before : AreReported step k old (pending_turns k input w.next_unreported w.line end first (q - first)) all_true
+    mid)
     (outcome : Outcome E)
     (here : AreReported step k mid
     (before_turns k w.next_unreported q w.line (number_of k q) offset end (slice window p next)) outcome new) where
@@ -113,19 +120,25 @@ module _ (k : Settings) (gone window input : List ℕ) (w : Walk) (start : ℕ) 
   shown_bytes = windows.slice-in gone window inside.shown.after input inside.shown.whole p next
       (omega (arith, own_line.above)) own_line.within
 
-  pub window-more : AreReported step k old (pending_turns k input w.next_unreported w.line end first ((q + 1) - first)) outcome new
-  window-more = reported-more k input w.next_unreported w.line end step old mid new first q (length gone + p) (length gone + next) offset
+  pub window-more : AreReported step k old (pending_turns k input w.next_unreported w.line end first ((q + 1) - first))
+      outcome new
+  window-more = reported-more k input w.next_unreported w.line end step old mid new first q (length gone + p)
+      (length gone + next) offset
       shown_line (slice window p next) shown_bytes (omega (arith, same, inside.at)) low before outcome here
 
   pub window-ended : q < w.line → (outcome ≡ all_true → ⊥)
       → AreReported step k old (pending_turns k input w.next_unreported w.line end first (w.line - first)) outcome new
-  window-ended = reported-ended k input w.next_unreported w.line end step old mid new first q (length gone + p) (length gone + next) offset
+  window-ended = reported-ended k input w.next_unreported w.line end step old mid new first q (length gone + p)
+      (length gone + next) offset
       shown_line (slice window p next) shown_bytes (omega (arith, same, inside.at)) low before outcome here
 
 -- a window that has the lines before a walk does not end among them
-pub window-short : (k : Settings) (gone window input : List ℕ) (w : Walk) (start : ℕ) → IsInWindow k gone window input start w
-    → {S E : Type 0} (step : Steps S E) (old new : S) (turns : List Turn) (outcome : Outcome E) (q p : ℕ) → IsLineIn k gone window p q
-    → ((i : ℕ) → IsLineStart (byte_of k.line_terminator) window p i → i ≡ length (lines (byte_of k.line_terminator) window))
+pub window-short : (k : Settings) (gone window input : List ℕ) (w : Walk) (start : ℕ)
+    → IsInWindow k gone window input start w
+    → {S E : Type 0} (step : Steps S E) (old new : S) (turns : List Turn) (outcome : Outcome E) (q p : ℕ)
+    → IsLineIn k gone window p q
+    → ((i : ℕ) → IsLineStart (byte_of k.line_terminator) window p i → i
+    ≡ length (lines (byte_of k.line_terminator) window))
     → q < w.line → AreReported step k old turns outcome new
 window-short k gone window input w start inside step old new turns outcome q p at last below = absurd
     (let all = last (q - length (lines (byte_of k.line_terminator) gone)) at.begins in

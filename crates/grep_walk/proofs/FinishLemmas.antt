@@ -33,12 +33,15 @@ module _ {S E : Type 0} (step : Steps S E) (k : Settings) (old : S) (turns : Lis
 pub searched-finish : {S E F : Type 0} (step : Steps S E) (errors : ErrorMakers E) (matcher : MatcherFacts F)
     (k : Settings) (bytes : List ℕ) (old : S) (count : ℕ) (outcome : Outcome E) (mid : S)
     (result : Result (Unit {0}) E) (new : S)
-    → Counted step k old (search_turns k matcher.meaning bytes) (search_byte_count k matcher.meaning bytes) count outcome mid
+    → Counted step k old (search_turns k matcher.meaning bytes) (search_byte_count k matcher.meaning bytes) count
+    outcome mid
     → step mid k (finishes count None) (finish_result result) new
     → IsSearchedAlong step errors matcher k bytes old result new
 searched-finish step errors matcher k bytes old count outcome mid (Ok u) new counted finish =
-    run-finish step k old (search_turns k matcher.meaning bytes) (search_byte_count k matcher.meaning bytes) count outcome mid (Ok u) new
+    run-finish step k old (search_turns k matcher.meaning bytes) (search_byte_count k matcher.meaning bytes) count
+    outcome mid (Ok u) new
     counted finish
 searched-finish step errors matcher k bytes old count outcome mid (Err e) new counted finish = of_sink
-    (run-finish step k old (search_turns k matcher.meaning bytes) (search_byte_count k matcher.meaning bytes) count outcome mid (Err e) new
+    (run-finish step k old (search_turns k matcher.meaning bytes) (search_byte_count k matcher.meaning bytes) count
+    outcome mid (Err e) new
     counted finish)

@@ -1,5 +1,6 @@
 -- Which matches were found across lines, and which are still to be found, from one match to the next.
-use Rattle.std.proofs.Common.{◌≡◌, ℕ, ◌+◌, ◌-◌, ◌<◌, true, List, [], ◌∷◌, ◌++◌, length, drop, refl, sym, ◌∙◌, ap, arith, append_assoc, length-append, length-drop, ap₂}
+use Rattle.std.proofs.Common.{◌≡◌, ℕ, ◌+◌, ◌-◌, ◌<◌, true, List, [], ◌∷◌, ◌++◌, length, drop, refl, sym, ◌∙◌, ap, arith}
+use Rattle.std.proofs.Common.{append_assoc, length-append, length-drop, ap₂}
 use Rattle.std.proofs.Common.{Option, Some, None}
 use Rattle.std.proofs.lemmas.Bool.{lt-ltb, ltb-true}
 use Rattle.std.specs.Option.{option_map}
@@ -8,7 +9,8 @@ use Rattle.grep_definitions.specs.Below.{is_below}
 use Rattle.grep_definitions.specs.AcrossQuestions.{IsAskedAfter, match_limit}
 use Rattle.grep_definitions.specs.Settings.{Settings}
 use Rattle.grep_definitions.specs.SuccessiveMatches.{position_after, match_from, matches_left}
-use Rattle.grep_definitions.proofs.SuccessiveMatchLemmas.{matches_left-start, matches_left-found, matches_left-none, matches_left-end, position_past-last}
+use Rattle.grep_definitions.proofs.SuccessiveMatchLemmas.{matches_left-start, matches_left-found, matches_left-none}
+use Rattle.grep_definitions.proofs.SuccessiveMatchLemmas.{matches_left-end, position_past-last}
 use Rattle.grep_definitions.proofs.SuccessiveMatchLemmas.{match_from-found, match_from-missed}
 use Rattle.grep_walk.specs.declared.blocks.Blocks.{Blocks}
 use Rattle.grep_walk.specs.Units.{AreFound, IsFound, HasNoMore}
@@ -39,29 +41,35 @@ module _ (k : Settings) (meaning : Meaning) (bytes : List ℕ) where
   }
 
   -- one more
-  pub found-more : (position : ℕ) (left : Option ℕ) (found : List (ℕ × ℕ)) (m : ℕ × ℕ) → AreFound k meaning bytes position left found
+  pub found-more : (position : ℕ) (left : Option ℕ) (found : List (ℕ × ℕ)) (m : ℕ × ℕ)
+      → AreFound k meaning bytes position left found
       → match_from meaning bytes position ≡ Some m → is_below 0 left ≡ true
       → AreFound k meaning bytes (position_after m) (option_map (λ l. l - 1) left) (found ++ m ∷ [])
   found-more position left found m so_far is room = record {
     all = so_far.all ∙ (ap (λ later. found ++ later) (matches_left-found meaning bytes position left m is room)
-        ∙ sym (append_assoc found (m ∷ []) (matches_left meaning bytes (position_after m) (option_map (λ l. l - 1) left))));
+        ∙ sym (append_assoc found (m ∷ []) (matches_left meaning bytes (position_after m)
+        (option_map (λ l. l - 1) left))));
     room = ap (option_map (λ l. l - 1)) so_far.room
-        ∙ (left_of-more (match_limit k) (length found) ∙ ap (left_of (match_limit k)) (sym (length-append found (m ∷ []))));
+        ∙ (left_of-more (match_limit k) (length found)
+        ∙ ap (left_of (match_limit k)) (sym (length-append found (m ∷ []))));
     at = λ some. position_past-last 0 found m;
   }
 
   -- no more
-  pub found-none : (position : ℕ) (left : Option ℕ) (found : List (ℕ × ℕ)) → AreFound k meaning bytes position left found
+  pub found-none : (position : ℕ) (left : Option ℕ) (found : List (ℕ × ℕ))
+      → AreFound k meaning bytes position left found
       → match_from meaning bytes position ≡ None → AreFound k meaning bytes (length bytes) left found
   found-none position left found so_far is = record {
     all = so_far.all ∙ ap (λ later. found ++ later)
-        (matches_left-none meaning bytes position left is ∙ sym (matches_left-end meaning bytes (length bytes) left (omega arith)));
+        (matches_left-none meaning bytes position left is
+        ∙ sym (matches_left-end meaning bytes (length bytes) left (omega arith)));
     room = so_far.room;
     at = λ some. absurd (omega (arith, some));
   }
 
   -- what is asked for the next match
-  pub asked-next : (position : ℕ) (left : Option ℕ) (found : List (ℕ × ℕ)) → AreFound k meaning bytes position left found
+  pub asked-next : (position : ℕ) (left : Option ℕ) (found : List (ℕ × ℕ))
+      → AreFound k meaning bytes position left found
       → position < length bytes → is_below 0 left ≡ true → IsAskedAfter k meaning bytes found (drop position bytes)
   asked-next position left found so_far below room = record {
     later = matches_left meaning bytes position left;
@@ -87,9 +95,11 @@ module _ (k : Settings) (meaning : Meaning) (bytes : List ℕ) where
       }
 
   -- it finds one
-  pub found-next : (b : Blocks) (m found : ℕ × ℕ) (position : ℕ) (left : Option ℕ) → b.position < length bytes → is_below 0 b.left ≡ true
+  pub found-next : (b : Blocks) (m found : ℕ × ℕ) (position : ℕ) (left : Option ℕ) → b.position < length bytes
+      → is_below 0 b.left ≡ true
       → meaning.first (drop b.position bytes) ≡ Some m → IsWithin (drop b.position bytes) (Some m)
-      → found ≡ (m.0 + b.position, m.1 + b.position) → position ≡ position_after found → left ≡ option_map (λ l. l - 1) b.left
+      → found ≡ (m.0 + b.position, m.1 + b.position) → position ≡ position_after found → left
+      ≡ option_map (λ l. l - 1) b.left
       → IsFound k meaning bytes b (record b { position = position; left = left }) found
   found-next b m found position left below room is inside at position_is left_is =
       let start : found.0 ≡ m.0 + b.position = ap (λ x. x.0) at in

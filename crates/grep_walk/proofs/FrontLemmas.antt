@@ -1,5 +1,6 @@
 -- The front of an input, by whole lines, and how many bytes the line after it has.
-use Rattle.std.proofs.Common.{◌≡◌, ◌≢◌, ℕ, ◌+◌, ◌-◌, ◌<◌, ◌≤◌, List, [], ◌∷◌, ◌++◌, length, take, drop, get_or, inl, inr}
+use Rattle.std.proofs.Common.{◌≡◌, ◌≢◌, ℕ, ◌+◌, ◌-◌, ◌<◌, ◌≤◌, List, [], ◌∷◌, ◌++◌, length, take, drop, get_or, inl}
+use Rattle.std.proofs.Common.{inr}
 use Rattle.std.proofs.Common.{refl, sym, ◌∙◌, ap, subst, arith, ⊎_elim, append-nil, append_assoc, length-append}
 use Rattle.std.proofs.Math.Seq.{take-append-add}
 use Rattle.std.proofs.lemmas.Bool.{cases_lt}
@@ -28,13 +29,16 @@ pub longer-front : (front back whole rest : List ℕ) → front ++ back ≡ whol
     → whole ≡ front ++ drop (length front) whole
 longer-front front back whole rest same long =
     let first : take (length front) whole ≡ front =
-    sym (take-append-le (length front) whole rest long) ∙ (ap (take (length front)) (sym same) ∙ take_at front back (length front) refl) in
+    sym (take-append-le (length front) whole rest long)
+    ∙ (ap (take (length front)) (sym same) ∙ take_at front back (length front) refl) in
     sym (take-append-drop (length front) whole) ∙ ap (λ xs. xs ++ drop (length front) whole) first
 
 -- no line of some bytes is too long for a buffer that holds them, if it ends or leaves room
-pub lines-fit : LinesJoin → (t size : ℕ) (bytes : List ℕ) → length bytes ≤ size → (length bytes ≡ size → IsClosed t bytes)
+pub lines-fit : LinesJoin → (t size : ℕ) (bytes : List ℕ) → length bytes ≤ size
+    → (length bytes ≡ size → IsClosed t bytes)
     → All (λ line. IsTooLong t size line → ⊥) (lines t bytes)
-lines-fit join t size bytes within full = λ k x below. go (get_or (lines t bytes) k x) (lines-within join t bytes k x below)
+lines-fit join t size bytes within full = λ k x below. go (get_or (lines t bytes) k x)
+    (lines-within join t bytes k x below)
     (λ closed. lines-end join t bytes closed k x below)
   where
     go : (line : List ℕ) → length line ≤ length bytes → (IsClosed t bytes → slice_index line (length line - 1) ≡ t)
@@ -45,7 +49,8 @@ lines-fit join t size bytes within full = λ k x below. go (get_or (lines t byte
 
 module _ (join : LinesJoin) (append : LinesAppend) (t : ℕ) (front back : List ℕ) (closed : IsClosed t front) where
   -- where the lines after a front begin
-  pub start-after : (i : ℕ) → line_start t (front ++ back) (length (lines t front) + i) ≡ length front + line_start t back i
+  pub start-after : (i : ℕ) → line_start t (front ++ back) (length (lines t front) + i)
+      ≡ length front + line_start t back i
   start-after i =
       ap (λ ls. length (concat (take (length (lines t front) + i) ls))) (append t front back closed)
       ∙ (ap (λ ls. length (concat ls)) (take-append-add (lines t front) (lines t back) i)
@@ -67,7 +72,8 @@ module _ (join : LinesJoin) (append : LinesAppend) (t : ℕ) (front back : List 
       }
 
   -- the first of them
-  pub line-after : slice_index_or (lines t (front ++ back)) (length (lines t front)) [] ≡ slice_index_or (lines t back) 0 []
+  pub line-after : slice_index_or (lines t (front ++ back)) (length (lines t front)) []
+      ≡ slice_index_or (lines t back) 0 []
   line-after =
       let none : length (lines t front) ≡ length (lines t front) + 0 = omega arith in
       ap (λ ls. get_or ls (length (lines t front)) []) (append t front back closed)
@@ -100,19 +106,23 @@ open-long t least tail more lacks some enough =
         ))
         (cases_lt least (length line))
 
--- a buffer that shows some lines after those that are gone, and holds bytes after them that end none, can't hold the next line
+-- a buffer that shows some lines after those that are gone, and holds bytes after them that end none, can't hold the
+-- next line
 pub crowded : LinesJoin → LinesAppend → (k : Settings) (meaning : Meaning) (gone shown tail later : List ℕ) (least : ℕ)
     → IsClosed (byte_of k.line_terminator) gone → IsClosed (byte_of k.line_terminator) shown
     → All (λ b. b ≢ byte_of k.line_terminator) tail
-    → length (lines (byte_of k.line_terminator) shown) ≤ k.before_context → 0 < least → least ≤ length shown + length tail
+    → length (lines (byte_of k.line_terminator) shown) ≤ k.before_context → 0 < least
+    → least ≤ length shown + length tail
     → IsCrowded k meaning ((gone ++ shown) ++ (tail ++ later)) (gone ++ shown) least
 crowded join append k meaning gone shown tail later least opens shut lacks few some enough =
     let seen_closed = closed-append t gone shown opens shut in
     let count : length (lines t (gone ++ shown)) ≡ length (lines t gone) + length (lines t shown) =
     count-after join append t gone shown opens in
     let first = start-after join append t gone (shown ++ (tail ++ later)) opens 0 in
-    let none : length (lines t gone) + 0 ≡ length (lines t (gone ++ shown)) - length (lines t shown) = omega (arith, count) in
-    let from : line_start t ((gone ++ shown) ++ (tail ++ later)) (length (lines t (gone ++ shown)) - length (lines t shown))
+    let none : length (lines t gone) + 0 ≡ length (lines t (gone ++ shown)) - length (lines t shown) =
+    omega (arith, count) in
+    let from : line_start t ((gone ++ shown) ++ (tail ++ later))
+    (length (lines t (gone ++ shown)) - length (lines t shown))
     ≡ length gone + 0 = ap (line_start t ((gone ++ shown) ++ (tail ++ later))) (sym none)
     ∙ (ap (λ xs. line_start t xs (length (lines t gone) + 0)) (append_assoc gone shown (tail ++ later)) ∙ first) in
     let next = start-after join append t (gone ++ shown) (tail ++ later) seen_closed 1 in
@@ -149,7 +159,8 @@ turns-seen join append k meaning seen back closed within = go back closed within
     few : (bytes : List ℕ) → LineSearch.turn_count k meaning bytes ≤ length (lines t bytes)
     few bytes = laws.turn_count-le k meaning bytes
 
-    above : (bytes : List ℕ) (m : ℕ) → line_start t bytes m ≡ length seen → LineSearch.byte_count k meaning bytes ≤ length seen
+    above : (bytes : List ℕ) (m : ℕ) → line_start t bytes m ≡ length seen
+        → LineSearch.byte_count k meaning bytes ≤ length seen
         → LineSearch.turn_count k meaning bytes ≤ m
     above bytes m is within = ⊎_elim
         (λ more. absurd (omega (
@@ -162,9 +173,11 @@ turns-seen join append k meaning seen back closed within = go back closed within
         (λ over. over)
         (cases_lt m (LineSearch.turn_count k meaning bytes))
 
-    go : (back : List ℕ) → (0 < length back → IsClosed t seen) → LineSearch.byte_count k meaning (seen ++ back) ≤ length seen
+    go : (back : List ℕ) → (0 < length back → IsClosed t seen)
+        → LineSearch.byte_count k meaning (seen ++ back) ≤ length seen
         → LineSearch.turn_count k meaning (seen ++ back) ≤ length (lines t seen)
-    go [] closed within = subst (λ xs. LineSearch.turn_count k meaning xs ≤ length (lines t seen)) (sym (append-nil seen)) (few seen)
+    go [] closed within = subst (λ xs. LineSearch.turn_count k meaning xs ≤ length (lines t seen))
+        (sym (append-nil seen)) (few seen)
     go (b ∷ back) closed within =
         let shut = closed (omega arith) in
         let last = start-after join append t seen (b ∷ back) shut 0 in

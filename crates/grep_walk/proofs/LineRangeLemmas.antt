@@ -14,7 +14,8 @@ use Rattle.grep_definitions.specs.InputFronts.{IsClosed}
 use Rattle.grep_walk.proofs.WindowLemmas.{closed-take}
 
 -- how many lines there are between the starts of two
-pub lines-between : (t : ℕ) (window : List ℕ) (p q i j : ℕ) → IsLineStart t window p i → IsLineStart t window q j → p ≤ q → q ≤ length window
+pub lines-between : (t : ℕ) (window : List ℕ) (p q i j : ℕ) → IsLineStart t window p i → IsLineStart t window q j
+    → p ≤ q → q ≤ length window
     → i ≤ j → length (lines t (slice window p q)) ≡ j - i
 lines-between t window p q i j from to low within ordered = ⊎_elim inner outer (cases_lt q (length window))
   where
@@ -75,7 +76,8 @@ line-at t window i listed =
     }
 
 -- line starts ascend
-pub starts-ordered : LinesJoin → (t : ℕ) (window : List ℕ) (p q i j : ℕ) → IsLineStart t window p i → IsLineStart t window q j
+pub starts-ordered : LinesJoin → (t : ℕ) (window : List ℕ) (p q i j : ℕ) → IsLineStart t window p i
+    → IsLineStart t window q j
     → p ≤ q → i ≤ j
 starts-ordered join t window p q i j from to low = ⊎_elim
     (λ less. absurd (omega (

@@ -1,5 +1,7 @@
 -- What a matcher's result for the lines from a position on says of a window's lines.
-use Rattle.std.proofs.Common.{◌≡◌, inl, inr, ℕ, ◌+◌, ◌-◌, ◌<◌, ◌≤◌, ◌==◌, true, false, cond, List, [], ◌++◌, length, take, drop, slice_index, get_or, is_some, Some, None, refl, sym, subst, ◌∙◌, ap, arith, ⊎_elim, length-append, length-drop, take_all}
+use Rattle.std.proofs.Common.{◌≡◌, inl, inr, ℕ, ◌+◌, ◌-◌, ◌<◌, ◌≤◌, ◌==◌, true, false, cond, List, [], ◌++◌, length}
+use Rattle.std.proofs.Common.{take, drop, slice_index, get_or, is_some, Some, None, refl, sym, subst, ◌∙◌, ap, arith}
+use Rattle.std.proofs.Common.{⊎_elim, length-append, length-drop, take_all}
 use Rattle.std.proofs.lemmas.Bool.{cases_lt, cases_eq, le-ltb}
 use Rattle.std.proofs.lemmas.List.{get_or-drop}
 use Rattle.std.proofs.lemmas.List.Folds.{concat-append}
@@ -33,7 +35,8 @@ pub record IsLocated (t : ℕ) (bytes : List ℕ) (position : ℕ) (line : ℕ �
   pub high : position ≤ line.1
 
 -- the whole lines of an empty match are that line
-pub IsLocated-empty : (t u position : ℕ) (bytes part : List ℕ) (m line : ℕ × ℕ) → u ≡ t → part ≡ bytes → m ≡ (position, position)
+pub IsLocated-empty : (t u position : ℕ) (bytes part : List ℕ) (m line : ℕ × ℕ) → u ≡ t → part ≡ bytes → m
+    ≡ (position, position)
     → line ≡ (block_start u part m, block_end u part m) → line.0 ≤ m.0 → m.1 ≤ line.1 → IsLocated t bytes position line
 IsLocated-empty t u position bytes part m line same whole empty is low high = record {
   begins = ap (λ (x : ℕ × ℕ). x.0) block;
@@ -44,7 +47,8 @@ IsLocated-empty t u position bytes part m line same whole empty is low high = re
   where
     block : line ≡ (block_start t bytes (position, position), block_end t bytes (position, position))
     block = is ∙ (ap (λ b. (block_start b part m, block_end b part m)) same
-        ∙ (ap (λ xs. (block_start t xs m, block_end t xs m)) whole ∙ ap (λ x. (block_start t bytes x, block_end t bytes x)) empty))
+        ∙ (ap (λ xs. (block_start t xs m, block_end t xs m)) whole
+        ∙ ap (λ x. (block_start t bytes x, block_end t bytes x)) empty))
 
 -- at most as many lines end before a position as there are lines
 before-few : (t : ℕ) (bytes : List ℕ) (position : ℕ) → lines_before t bytes position ≤ length (lines t bytes)
@@ -74,7 +78,12 @@ module _ (terminator : LineTerminator) (meaning : Meaning) (bytes : List ℕ) (p
 
   -- a line before its line doesn't
   unheld : (i : ℕ) → i < holder → HoldsPosition terminator meaning bytes i position → ⊥
-  unheld i before (low, inl below) = omega (arith, line_start-le byte bytes (i + 1) holder (omega arith), at.begins, at.low)
+  unheld i before (low, inl below) = omega (
+    arith,
+    line_start-le byte bytes (i + 1) holder (omega arith),
+    at.begins,
+    at.low,
+  )
   unheld i before (low, inr (last, end, other)) =
       omega (arith, before-all end, lines-unclosed byte bytes (omega (arith, lines-at-most byte bytes)) other)
 
@@ -83,7 +92,12 @@ module _ (terminator : LineTerminator) (meaning : Meaning) (bytes : List ℕ) (p
   held listed = (
     omega (arith, at.begins, at.low),
     ⊎_elim (λ below. inl below) (λ over. ⊎_elim
-        (λ more. absurd (omega (arith, lines-numbered byte bytes (holder + 1) more, ap (λ p. count byte (take p bytes)) (same over))))
+        (λ more. absurd (omega (
+          arith,
+          lines-numbered byte bytes (holder + 1) more,
+          ap (λ p. count byte (take p bytes))
+              (same over),
+        )))
         (λ last. inr (
           omega arith,
           end over last,
@@ -99,7 +113,8 @@ module _ (terminator : LineTerminator) (meaning : Meaning) (bytes : List ℕ) (p
       same : line_start byte bytes (holder + 1) ≤ position → position ≡ line_start byte bytes (holder + 1)
       same over = omega (arith, at.ends, at.high)
 
-      end : line_start byte bytes (holder + 1) ≤ position → length (lines byte bytes) ≤ holder + 1 → position ≡ length bytes
+      end : line_start byte bytes (holder + 1) ≤ position → length (lines byte bytes) ≤ holder + 1 → position
+          ≡ length bytes
       end over last =
           let all : holder + 1 ≡ length (lines byte bytes) = omega arith in
           same over ∙ (ap (line_start byte bytes) all ∙ line_start-last AreLines-lines byte bytes)
@@ -115,7 +130,8 @@ module _ (t : ℕ) (bytes : List ℕ) (start first : ℕ) (here : IsLineStart t 
   -- in the bytes they start as much later
   later-start : (j : ℕ) → line_start t bytes (first + j) ≡ start + line_start t rest j
   later-start j =
-      ap (λ ls. length (concat ls)) (take-add first j (lines t bytes) ∙ ap (λ ls. take first (lines t bytes) ++ take j ls) later)
+      ap (λ ls. length (concat ls)) (take-add first j (lines t bytes)
+      ∙ ap (λ ls. take first (lines t bytes) ++ take j ls) later)
       ∙ (ap length (concat-append (take first (lines t bytes)) (take j (lines t rest)))
       ∙ (length-append (concat (take first (lines t bytes))) (concat (take j (lines t rest)))
       ∙ ap (λ n. n + line_start t rest j) here.begins))
@@ -134,7 +150,13 @@ module _ (t : ℕ) (bytes : List ℕ) (start first : ℕ) (here : IsLineStart t 
   IsLater-line : (i p q : ℕ) → IsLine t bytes i p q → start ≤ p → IsLater p q (i - first)
   IsLater-line i p q line low =
       let after : first ≤ i = ⊎_elim
-      (λ less. absurd (omega (arith, line_start-le t bytes (i + 1) first (omega arith), line.ends, line.above, here.begins)))
+      (λ less. absurd (omega (
+        arith,
+        line_start-le t bytes (i + 1) first (omega arith),
+        line.ends,
+        line.above,
+        here.begins,
+      )))
       (λ over. over)
       (cases_lt i first) in
       let sum : first + (i - first) ≡ i = omega arith in
@@ -142,7 +164,8 @@ module _ (t : ℕ) (bytes : List ℕ) (start first : ℕ) (here : IsLineStart t 
         listed = omega (arith, line.listed, later-count);
         begins = sym line.begins ∙ (ap (line_start t bytes) (sym sum) ∙ later-start (i - first));
         line = ap (λ ls. get_or ls (i - first) []) (sym later)
-            ∙ (get_or-drop first (lines t bytes) (i - first) [] ∙ (ap (λ n. get_or (lines t bytes) n []) sum ∙ line.line));
+            ∙ (get_or-drop first (lines t bytes) (i - first) []
+            ∙ (ap (λ n. get_or (lines t bytes) n []) sum ∙ line.line));
       }
 
 -- what a result for the bytes from the start of a line on says
@@ -174,7 +197,8 @@ module _ (k : Settings) (meaning : Meaning) (window : List ℕ) (start first : �
 
   -- if a line was found
   module _ (found : LineMatchKind) (lawful : IsLawfulResult k.line_terminator meaning asked (Some found))
-      (line : ℕ × ℕ) (at : IsLocated t asked (position_of found) line) (candidate : ℕ) (begins : candidate ≡ start + line.0) where
+      (line : ℕ × ℕ) (at : IsLocated t asked (position_of found) line) (candidate : ℕ)
+      (begins : candidate ≡ start + line.0) where
     abbrev located : ℕ
     located = lines_before t asked (position_of found)
 
@@ -185,12 +209,19 @@ module _ (k : Settings) (meaning : Meaning) (window : List ℕ) (start first : �
     }
 
     -- no line before it matches
-    miss-before : (i p q : ℕ) → IsLine t window i p q → start ≤ p → p < candidate → matches_line k meaning (slice window p q) ≡ false
+    miss-before : (i p q : ℕ) → IsLine t window i p q → start ≤ p → p < candidate
+        → matches_line k meaning (slice window p q) ≡ false
     miss-before i p q own after early =
         let inside = IsLater-line t window start first here i p q own after in
         let before : i - first < located = ⊎_elim
         (λ less. less)
-        (λ over. absurd (omega (arith, line_start-le t asked located (i - first) over, inside.begins, begins, at.begins)))
+        (λ over. absurd (omega (
+          arith,
+          line_start-le t asked located (i - first) over,
+          inside.begins,
+          begins,
+          at.begins,
+        )))
         (cases_lt (i - first) located) in
         matches-later p q (i - first) inside ∙ lawful.0 (i - first) inside.listed (
           omega (arith, line_start-le t asked ((i - first) + 1) located (omega arith), at.begins, at.low),
@@ -217,7 +248,8 @@ module _ (k : Settings) (meaning : Meaning) (window : List ℕ) (start first : �
           let listed : located < length (lines t asked) = ⊎_elim (λ less. less)
           (λ over. absurd (omega (arith, some, begins, ends, at.begins, at.ends, none-after over)))
           (cases_lt located (length (lines t asked))) in
-          let same : i ≡ first + located = start-same AreLines-lines lines-append t window candidate i (first + located) begun start-located in
+          let same : i ≡ first + located = start-same AreLines-lines lines-append t window candidate i (first + located)
+          begun start-located in
           let next : (first + located) + 1 ≡ first + (located + 1) = omega arith in
           let is_start : line_start t window (first + located) ≡ candidate = start-located.begins in
           let is_end : line_start t window ((first + located) + 1) ≡ match_end =
@@ -234,7 +266,8 @@ module _ (k : Settings) (meaning : Meaning) (window : List ℕ) (start first : �
           (omega (arith, inside.begins, begins, at.begins)) (omega (arith, inside.begins, ends, at.ends)) in
           let listed : located < length (lines t asked) = omega (arith, inside.listed, same) in
           matches-later p q (i - first) inside ∙ (ap (matches_at k.line_terminator meaning asked) same
-          ∙ lawful.1 located listed (held k.line_terminator meaning asked (position_of found) line at listed) confirmed);
+          ∙ lawful.1 located listed (held k.line_terminator meaning asked (position_of found) line at listed)
+          confirmed);
     }
       where
         -- after the last line none begins
@@ -244,7 +277,8 @@ module _ (k : Settings) (meaning : Meaning) (window : List ℕ) (start first : �
             ∙ sym (take_all located (lines t asked) over))
 
         -- a line that begins in it is the line itself
-        only : (j : ℕ) → line_start t asked j < line_start t asked (j + 1) → line_start t asked located ≤ line_start t asked j
+        only : (j : ℕ) → line_start t asked j < line_start t asked (j + 1)
+            → line_start t asked located ≤ line_start t asked j
             → line_start t asked j < line_start t asked (located + 1) → j ≡ located
         only j above low high = ⊎_elim
             (λ less. absurd (omega (arith, line_start-le t asked (j + 1) located (omega arith))))

@@ -69,7 +69,8 @@ module _ (k : Settings) (meaning : Meaning) (bytes : List ℕ) where
       untouched (m ∷ found) none = absurd (omega (arith, none))
 
   -- before a match was found, at the first line
-  pub asked-first : (haystack : List ℕ) → IsAskedAfter k meaning bytes [] haystack → IsAskedAt k meaning bytes 0 haystack
+  pub asked-first : (haystack : List ℕ) → IsAskedAfter k meaning bytes [] haystack
+      → IsAskedAt k meaning bytes 0 haystack
   asked-first haystack question = record {
     found = [];
     question = question;
@@ -79,11 +80,13 @@ module _ (k : Settings) (meaning : Meaning) (bytes : List ℕ) where
     last = 0;
     low = omega arith;
     some = λ above. absurd (omega (arith, above));
-    run = λ j low. and-false (nat_lt j n) ∙ sym (ap (λ b. nat_le 0 j && b) (le-ltb j 0 (omega arith)) ∙ and-false (nat_le 0 j));
+    run = λ j low. and-false (nat_lt j n) ∙ sym (ap (λ b. nat_le 0 j && b) (le-ltb j 0 (omega arith))
+        ∙ and-false (nat_le 0 j));
   }
 
   -- while a unit is put together, at the line after the one before it
-  module _ (end position : ℕ) (found : List (ℕ × ℕ)) (u : ℕ × ℕ) (touched : AreTouched k meaning bytes end position found (Some u))
+  module _ (end position : ℕ) (found : List (ℕ × ℕ)) (u : ℕ × ℕ)
+      (touched : AreTouched k meaning bytes end position found (Some u))
       (left : position < length bytes) (i : ℕ) (at : IsLineStart t bytes end i) where
     begins-inside : u.0 < length bytes
     begins-inside = omega (arith, touched.later, block_start-low t bytes (position, position) left, left)
@@ -139,9 +142,11 @@ module _ (k : Settings) (meaning : Meaning) (bytes : List ℕ) where
         (cases_lt j n)
 
     low-is : i ≤ touched.range.first
-    low-is = starts-ordered AreLines-lines t bytes end u.0 i touched.range.first at touched.range.begins touched.range.after
+    low-is = starts-ordered AreLines-lines t bytes end u.0 i touched.range.first at touched.range.begins
+        touched.range.after
 
-    pub asked-unit : (haystack : List ℕ) → IsAskedAfter k meaning bytes found haystack → IsAskedAt k meaning bytes i haystack
+    pub asked-unit : (haystack : List ℕ) → IsAskedAfter k meaning bytes found haystack
+        → IsAskedAt k meaning bytes i haystack
     asked-unit haystack question = record {
       found = found;
       question = question;
@@ -149,7 +154,8 @@ module _ (k : Settings) (meaning : Meaning) (bytes : List ℕ) where
           let back : (i - 1) + 1 ≡ i = omega (arith, above) in
           let inside : i - 1 < n = omega (arith, above, at.listed) in
           and-both (nat_lt (i - 1) n) _ (lt-ltb (i - 1) n inside)
-          (touched.before (omega (arith, touched.range.after, begins-inside)) (i - 1) inside (ap from back ∙ at.begins));
+          (touched.before (omega (arith, touched.range.after, begins-inside)) (i - 1) inside
+          (ap from back ∙ at.begins));
       apart = λ above.
           let some : 0 < end = omega (
             arith,
@@ -158,7 +164,8 @@ module _ (k : Settings) (meaning : Meaning) (bytes : List ℕ) where
             at.begins,
           ) in
           let over = touched.range.apart some (omega (arith, touched.range.after, begins-inside)) in
-          let later = earlier k meaning bytes i touched.range.first (omega (arith, over, at.begins, touched.range.begins.begins)) in
+          let later = earlier k meaning bytes i touched.range.first
+          (omega (arith, over, at.begins, touched.range.begins.begins)) in
           run-is i (omega arith) ∙ ap (λ b. b && nat_lt i touched.range.last) (lt-leb touched.range.first i later);
       first = touched.range.first;
       last = touched.range.last;

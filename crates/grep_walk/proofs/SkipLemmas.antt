@@ -1,5 +1,6 @@
 -- A walk that skips lines which don't match.
-use Rattle.std.proofs.Common.{◌≡◌, ℕ, zero, suc, ◌+◌, ◌-◌, ◌<◌, ◌≤◌, Bool, true, false, not, ◌&&◌, ◌||◌, ◌==◌, if◌then◌else◌}
+use Rattle.std.proofs.Common.{◌≡◌, ℕ, zero, suc, ◌+◌, ◌-◌, ◌<◌, ◌≤◌, Bool, true, false, not, ◌&&◌, ◌||◌, ◌==◌}
+use Rattle.std.proofs.Common.{if◌then◌else◌}
 use Rattle.std.proofs.Common.{List, [], length, drop, Option, Some, None, refl, sym, ◌∙◌, ap, subst, arith, ⊎_elim}
 use Rattle.std.proofs.Common.{length-take, length-drop}
 use Rattle.std.proofs.lemmas.Bool.{cases_lt, cases_Bool, eqb-true, ltb-true, ltb-false}
@@ -50,9 +51,17 @@ is_skipping k w can =
     }
 
 -- walks of the same numbers are the same
-same-walk : (w : Walk) (offset line reported left count : ℕ) → offset ≡ w.offset → line ≡ w.line → reported ≡ w.next_unreported
+same-walk : (w : Walk) (offset line reported left count : ℕ) → offset ≡ w.offset → line ≡ w.line → reported
+    ≡ w.next_unreported
     → left ≡ w.after_context_left → count ≡ w.match_count
-    → record { offset = offset; line = line; next_unreported = reported; after_context_left = left; match_count = count } ≡ w
+    → record {
+      offset = offset;
+      line = line;
+      next_unreported = reported;
+      after_context_left = left;
+      match_count =
+          count;
+    } ≡ w
 same-walk w offset line reported left count a b c d e = rw (a, b, c, d, e) refl
 
 and-false : (b : Bool) → (b && false) ≡ false
@@ -81,18 +90,21 @@ module _ (k : Settings) (meaning : Meaning) (window : List ℕ) where
   }
 
   -- and is so of the line there
-  pub known-line : (a : Ahead) (i p q : ℕ) → IsKnown k meaning window p a → IsLine (byte_of k.line_terminator) window i p q
+  pub known-line : (a : Ahead) (i p q : ℕ) → IsKnown k meaning window p a
+      → IsLine (byte_of k.line_terminator) window i p q
       → IfSome (known_at a p) (λ matches. matches ≡ matches_line k meaning (slice window p q))
   known-line a i p q known line = go (nat_lt p a.candidate) (nat_lt p a.match_end) refl refl
     where
       go : (b c : Bool) → nat_lt p a.candidate ≡ b → nat_lt p a.match_end ≡ c
-          → IfSome (if b then Some false else (if c then Some true else None)) (λ m. m ≡ matches_line k meaning (slice window p q))
+          → IfSome (if b then Some false else (if c then Some true else None))
+          (λ m. m ≡ matches_line k meaning (slice window p q))
       go true c is_b is_c = sym (known.miss i p q line (omega arith) (ltb-true p a.candidate is_b))
       go false true is_b is_c = sym (known.hit i p q line (ltb-false p a.candidate is_b) (ltb-true p a.match_end is_c))
       go false false is_b is_c = tt
 
 module _ {S E F : Type 0} (join : LinesJoin) (append : LinesAppend) (step : Steps S E) (errors : ErrorMakers E)
-    (matcher : MatcherFacts F) (k : Settings) (gone window input : List ℕ) (first now : S) (bare : Bare k matcher.meaning input) where
+    (matcher : MatcherFacts F) (k : Settings) (gone window input : List ℕ) (first now : S)
+    (bare : Bare k matcher.meaning input) where
   abbrev t : ℕ
   t = byte_of k.line_terminator
 
@@ -101,7 +113,8 @@ module _ {S E F : Type 0} (join : LinesJoin) (append : LinesAppend) (step : Step
 
   -- the lines from one position up to another don't match
   abbrev Misses : ℕ → ℕ → Type 0
-  Misses p q = (i a b : ℕ) → IsLine t window i a b → p ≤ a → a < q → matches_line k matcher.meaning (slice window a b) ≡ false
+  Misses p q = (i a b : ℕ) → IsLine t window i a b → p ≤ a → a < q → matches_line k matcher.meaning (slice window a b)
+      ≡ false
 
   abbrev moved : Walk → ℕ → ℕ → Walk
   moved w bytes count = record w { offset = w.offset + bytes; line = w.line + count }
@@ -116,7 +129,8 @@ module _ {S E F : Type 0} (join : LinesJoin) (append : LinesAppend) (step : Step
       (λ over. let all : length (lines t window) ≡ i = omega (arith, over, from.listed) in
       absurd (omega (arith, less, from.begins, ap (line_start t window) all, line_start-last join t window)))
       (cases_lt i (length (lines t window))) in
-      let line = subst (λ s. IsLine t window i s (line_start t window (i + 1))) from.begins (line-at t window i listed) in (
+      let line = subst (λ s. IsLine t window i s (line_start t window (i + 1))) from.begins
+      (line-at t window i listed) in (
         line_start t window (i + 1),
         line.above,
         line.within,
@@ -133,14 +147,16 @@ module _ {S E F : Type 0} (join : LinesJoin) (append : LinesAppend) (step : Step
       failed-matcher step errors matcher k gone window input first bare p there.0 w now so_far there.1 there.2 there.3
       (ap (λ full. not full || nat_lt 0 w.after_context_left) may.room)
       (drop p window) error e
-      (asked-ahead step errors matcher k gone window input first bare p there.0 w now so_far there.1 there.2 there.3 join may)
+      (asked-ahead step errors matcher k gone window input first bare p there.0 w now so_far there.1 there.2 there.3
+      join may)
       message fails
 
   -- one line is skipped
   walked-one : (w : Walk) (p q i : ℕ) → Walked p w → IsSkipping k w → IsLine t window i p q
       → matches_line k matcher.meaning (slice window p q) ≡ false → Walked q (moved w (q - p) 1)
   walked-one w p q i so_far skipping line missed = subst (Walked q) same
-      (searched-next step errors matcher k gone window input first bare p q w now so_far line.above line.within there false false value now
+      (searched-next step errors matcher k gone window input first bare p q w now so_far line.above line.within there
+      false false value now
       silent goes_on)
     where
       here : List ℕ
@@ -148,13 +164,15 @@ module _ {S E F : Type 0} (join : LinesJoin) (append : LinesAppend) (step : Step
 
       there : (j : ℕ) → IsLineStart t window p j → IsLine t window j p q
       there j start = subst (λ m. IsLine t window m p q)
-          (start-same join append t window p i j (record { listed = omega (arith, line.listed); begins = line.begins }) start) line
+          (start-same join append t window p i j (record { listed = omega (arith, line.listed); begins = line.begins })
+          start) line
 
       full : Bool
       full = is_at w.match_count k.max_matches
 
       missed-is : (b : Bool) → false ≡ (b && differ (matches_line k matcher.meaning here) k.invert_match)
-      missed-is b = sym (ap (λ m. b && differ m k.invert_match) missed ∙ (ap (λ v. b && differ false v) skipping.plain ∙ and-false b))
+      missed-is b = sym (ap (λ m. b && differ m k.invert_match) missed
+          ∙ (ap (λ v. b && differ false v) skipping.plain ∙ and-false b))
 
       value : IsDecided k matcher.meaning w here false false
       value = record { chosen_is = missed-is (not full); trailing_is = λ some. missed-is full }
@@ -167,7 +185,8 @@ module _ {S E F : Type 0} (join : LinesJoin) (append : LinesAppend) (step : Step
         where
           go : (a b : Bool) → a ≡ false → b ≡ false → AreReported step k now
               (if a then context_turns After (number_of k w.line) w.offset (line_end w here) here
-              else (if b then context_turns Other (number_of k w.line) w.offset (line_end w here) here else [])) all_true now
+              else (if b then context_turns Other (number_of k w.line) w.offset (line_end w here) here else []))
+              all_true now
           go true b is_a is_b = cc
           go false true is_a is_b = cc
           go false false is_a is_b = (refl, refl)
@@ -179,12 +198,14 @@ module _ {S E F : Type 0} (join : LinesJoin) (append : LinesAppend) (step : Step
           (cases_Bool full)
 
       goes_on : is_over k (after_line k w here false) false ≡ false
-      goes_on = ap (λ x. (x && true) || ((not k.passthru && full) && (w.after_context_left - 1 == 0))) skipping.unstopped
+      goes_on = ap (λ x. (x && true) || ((not k.passthru && full) && (w.after_context_left - 1 == 0)))
+          skipping.unstopped
           ∙ (ap (λ y. (not k.passthru && y) && (w.after_context_left - 1 == 0)) room
           ∙ ap (λ z. z && (w.after_context_left - 1 == 0)) (and-false (not k.passthru)))
 
       same : after_line k w here false ≡ moved w (q - p) 1
-      same = same-walk (moved w (q - p) 1) _ _ _ _ _ (omega (arith, length-take (q - p) (drop p window), length-drop p window, line.within))
+      same = same-walk (moved w (q - p) 1) _ _ _ _ _
+          (omega (arith, length-take (q - p) (drop p window), length-drop p window, line.within))
           refl
           (ap (λ b. if b then w.line + 1 else w.next_unreported)
           (ap (λ b. b || k.passthru) none_left ∙ skipping.selects))
@@ -202,7 +223,8 @@ module _ {S E F : Type 0} (join : LinesJoin) (append : LinesAppend) (step : Step
       let end = line_start t window (i + 1) in
       let line = subst (λ s. IsLine t window i s end) from.begins (line-at t window i (omega (arith, to.listed))) in
       let within : end ≤ q = omega (arith, line_start-le t window (i + 1) (i + suc n) (omega arith), to.begins) in
-      let one = walked-one w p end i so_far skipping line (misses i p end line (omega arith) (omega (arith, line.above, within))) in
+      let one = walked-one w p end i so_far skipping line
+      (misses i p end line (omega arith) (omega (arith, line.above, within))) in
       let sum : (i + 1) + n ≡ i + suc n = omega arith in
       let later = walked-lines n (moved w (end - p) 1) end q (i + 1) one
       (record {
@@ -215,7 +237,8 @@ module _ {S E F : Type 0} (join : LinesJoin) (append : LinesAppend) (step : Step
       (subst (IsLineStart t window q) (sym sum) to)
       (λ j a b line low high. misses j a b line (omega (arith, low, line.above)) high) in
       subst (Walked q)
-      (same-walk (moved w (q - p) (suc n)) _ _ _ _ _ (omega (arith, line.above, within)) (omega arith) refl refl refl) later
+      (same-walk (moved w (q - p) (suc n)) _ _ _ _ _ (omega (arith, line.above, within)) (omega arith) refl refl refl)
+      later
 
   -- the lines that don't match are passed, if the walk may skip them
   pub walked-past : (w : Walk) (p : ℕ) (a : Ahead) → Walked p w → a.candidate ≤ length window
@@ -228,10 +251,12 @@ module _ {S E F : Type 0} (join : LinesJoin) (append : LinesAppend) (step : Step
       let from = so_far.inside.line.begins in
       let ordered = starts-ordered join t window p a.candidate i known.index from known.at (omega (arith, less)) in
       let sum : i + (known.index - i) ≡ known.index = omega (arith, ordered) in
-      let many = lines-between t window p a.candidate i known.index from known.at (omega (arith, less)) within ordered in
+      let many = lines-between t window p a.candidate i known.index from known.at (omega (arith, less)) within
+      ordered in
       let size : w.offset + (a.candidate - p) ≡ w.offset + length (slice window p a.candidate) =
       omega (arith, length-take (a.candidate - p) (drop p window), length-drop p window, within) in
       subst (Walked a.candidate)
-      (same-walk (skip_lines k w (slice window p a.candidate)) _ _ _ _ _ size (ap (λ n. w.line + n) (sym many)) refl refl refl)
+      (same-walk (skip_lines k w (slice window p a.candidate)) _ _ _ _ _ size (ap (λ n. w.line + n) (sym many)) refl
+      refl refl)
       (walked-lines (known.index - i) w p a.candidate i so_far (is_skipping k w parts.1) from
       (subst (IsLineStart t window a.candidate) (sym sum) known.at) known.miss)

@@ -1,7 +1,9 @@
 -- Which lines the matches that were found across lines touch, from one match to the next.
-use Rattle.std.proofs.Common.{◌≡◌, ℕ, ◌+◌, ◌-◌, ◌<◌, ◌≤◌, Bool, true, false, ◌||◌, List, [], ◌∷◌, ◌++◌, length, drop, refl, sym, ◌∙◌, ap, ap₂, subst, arith, ⊎_elim}
+use Rattle.std.proofs.Common.{◌≡◌, ℕ, ◌+◌, ◌-◌, ◌<◌, ◌≤◌, Bool, true, false, ◌||◌, List, [], ◌∷◌, ◌++◌, length, drop}
+use Rattle.std.proofs.Common.{refl, sym, ◌∙◌, ap, ap₂, subst, arith, ⊎_elim}
 use Rattle.std.proofs.Common.{Some, None}
-use Rattle.std.proofs.lemmas.Bool.{cases_lt, lt-ltb, le-ltb, le-leb, lt-leb, leb-true, ltb-true, false_from_ne_true, and_left, or_from, or_left}
+use Rattle.std.proofs.lemmas.Bool.{cases_lt, lt-ltb, le-ltb, le-leb, lt-leb, leb-true, ltb-true, false_from_ne_true}
+use Rattle.std.proofs.lemmas.Bool.{and_left, or_from, or_left}
 use Rattle.std.proofs.lemmas.List.{append-nil}
 use Rattle.std.proofs.Math.Bool.{or-false}
 use Rattle.std.proofs.lemmas.List.Elements.{All-weaker}
@@ -18,7 +20,8 @@ use Rattle.grep_definitions.specs.AcrossQuestions.{counted_matches}
 use Rattle.grep_definitions.specs.LineSearch.{line_count, start}
 use Rattle.grep_definitions.specs.Settings.{Settings}
 use Rattle.grep_definitions.specs.SuccessiveMatches.{position_after}
-use Rattle.grep_definitions.proofs.BlockLemmas.{within-block, block_start-edge, block_end-edge, block_start-le, block_start-low, block_end-within, block-some}
+use Rattle.grep_definitions.proofs.BlockLemmas.{within-block, block_start-edge, block_end-edge, block_start-le}
+use Rattle.grep_definitions.proofs.BlockLemmas.{block_start-low, block_end-within, block-some}
 use Rattle.grep_definitions.proofs.BlockLemmas.{block_start-part, block_end-part}
 use Rattle.grep_definitions.proofs.BoolLemmas.{and-both, both_true}
 use Rattle.grep_definitions.proofs.LineStartLemmas.{line_start-within, line_start-last}
@@ -52,7 +55,8 @@ or-joins u o s low mid high = ⊎_elim
     let two = not-in o s (λ more _. omega (arith, more, before, low)) in
     let all = not-in (u.0, o.1) s (λ more _. omega (arith, more, before)) in rw (one, two, all) refl)
     (λ inside. ⊎_elim
-    (λ below. let one = in-range u s inside below in let all = in-range (u.0, o.1) s inside (omega arith) in rw (one, all) refl)
+    (λ below. let one = in-range u s inside below in let all = in-range (u.0, o.1) s inside (omega arith) in
+    rw (one, all) refl)
     (λ past. ⊎_elim
     (λ below.
     let one = not-in u s (λ _ less. omega (arith, less, past)) in
@@ -97,7 +101,8 @@ module _ (k : Settings) (meaning : Meaning) (bytes : List ℕ) where
       rw (yes, all) (list_any-append (touches k meaning bytes j) found later)
 
   -- matches whose blocks start after a line starts don't touch it
-  missed-before : (later : List (ℕ × ℕ)) (j : ℕ) → All (λ m. from j < block_start t bytes m) later → touched_of later j ≡ false
+  missed-before : (later : List (ℕ × ℕ)) (j : ℕ) → All (λ m. from j < block_start t bytes m) later → touched_of later j
+      ≡ false
   missed-before later j after =
       list_any_none (touches k meaning bytes j) later
       (All-weaker (λ m. from j < block_start t bytes m) (λ m. touches k meaning bytes j m ≡ false)
@@ -118,7 +123,8 @@ module _ (k : Settings) (meaning : Meaning) (bytes : List ℕ) where
   }
 
   -- after the range no line is touched
-  pub touched-passed : (low position next : ℕ) (found : List (ℕ × ℕ)) (u : ℕ × ℕ) → AreTouched k meaning bytes low position found (Some u)
+  pub touched-passed : (low position next : ℕ) (found : List (ℕ × ℕ)) (u : ℕ × ℕ)
+      → AreTouched k meaning bytes low position found (Some u)
       → AreTouched k meaning bytes u.1 next found None
   touched-passed low position next found u touched = record {
     same = λ j inside past. touched.same j inside (omega (arith, past, touched.range.after, touched.range.ordered))
@@ -131,7 +137,14 @@ module _ (k : Settings) (meaning : Meaning) (bytes : List ℕ) where
         line_start-le t bytes touched.range.first j (omega (arith, less)) in
         absurd (⊎_elim
         (λ less. omega (arith, early, touched.range.begins.begins, order less))
-        (λ over. omega (arith, at, here, touched.range.begins.begins, line_start-le t bytes (j + 1) touched.range.first over))
+        (λ over. omega (
+          arith,
+          at,
+          here,
+          touched.range.begins.begins,
+          line_start-le t bytes (j + 1) touched.range.first
+              over,
+        ))
         (cases_lt touched.range.first (j + 1))))
         (λ late.
         touched.same j inside (omega (arith, late, touched.range.after))
@@ -141,7 +154,8 @@ module _ (k : Settings) (meaning : Meaning) (bytes : List ℕ) where
   }
 
   -- the lines of the first match after that
-  pub touched-first : (e position : ℕ) (found : List (ℕ × ℕ)) (m u : ℕ × ℕ) → AreTouched k meaning bytes e position found None
+  pub touched-first : (e position : ℕ) (found : List (ℕ × ℕ)) (m u : ℕ × ℕ)
+      → AreTouched k meaning bytes e position found None
       → u ≡ block m → e ≤ u.0 → (0 < e → e < u.0) → u.0 ≤ m.0 → m.0 ≤ m.1 → m.1 ≤ u.1 → u.1 ≤ length bytes
       → AreTouched k meaning bytes e (position_after m) (found ++ m ∷ []) (Some u)
   touched-first e position found m u touched is after apart low order high within =
@@ -177,7 +191,8 @@ module _ (k : Settings) (meaning : Meaning) (bytes : List ℕ) where
       }
 
   -- a match whose lines are in the range
-  module _ (low position : ℕ) (found : List (ℕ × ℕ)) (u m : ℕ × ℕ) (touched : AreTouched k meaning bytes low position found (Some u))
+  module _ (low position : ℕ) (found : List (ℕ × ℕ)) (u m : ℕ × ℕ)
+      (touched : AreTouched k meaning bytes low position found (Some u))
       (next : position ≤ m.0) (order : m.0 ≤ m.1) where
     -- the block of the next match starts no earlier than the range
     starts-later : u.0 ≤ block_start t bytes m
@@ -187,7 +202,8 @@ module _ (k : Settings) (meaning : Meaning) (bytes : List ℕ) where
     still-later = omega (
       arith,
       touched.later,
-      block_start-le t bytes (position, position) (position_after m, position_after m) (omega (arith, next, position_after-start m order)),
+      block_start-le t bytes (position, position) (position_after m, position_after m)
+          (omega (arith, next, position_after-start m order)),
     )
 
     absorbed : ((j : ℕ) → j < n → from j < block_end t bytes m → from j < u.1)
@@ -198,7 +214,8 @@ module _ (k : Settings) (meaning : Meaning) (bytes : List ℕ) where
           ∙ (or-absorbs (touched_of found j) (is_in (Some (block m)) (from j))
           (λ is.
           let parts = range-in (block m) (from j) is in
-          touched.same j inside over ∙ in-range u (from j) (omega (arith, starts-later, parts.0)) (early j inside parts.1))
+          touched.same j inside over ∙ in-range u (from j) (omega (arith, starts-later, parts.0))
+          (early j inside parts.1))
           ∙ touched.same j inside over);
       range = touched.range;
       before = λ below j inside at. touched-still found m j inside (touched.before below j inside at);
@@ -206,10 +223,16 @@ module _ (k : Settings) (meaning : Meaning) (bytes : List ℕ) where
     }
 
     -- a match that starts before the end of the range, and ends no later
-    pub touched-inside : m.0 < u.1 → m.1 ≤ u.1 → AreTouched k meaning bytes low (position_after m) (found ++ m ∷ []) (Some u)
+    pub touched-inside : m.0 < u.1 → m.1 ≤ u.1 → AreTouched k meaning bytes low (position_after m) (found ++ m ∷ [])
+        (Some u)
     touched-inside starts ends =
         absorbed (λ j inside less.
-        omega (arith, less, block_end-within t bytes m u.1 touched.range.last touched.range.ends touched.range.within starts order ends))
+        omega (
+          arith,
+          less,
+          block_end-within t bytes m u.1 touched.range.last touched.range.ends touched.range.within
+              starts order ends,
+        ))
 
     -- a match whose lines lead on from the range
     touched-joined : block_start t bytes m ≤ u.1 → u.1 ≤ block_end t bytes m → block_end t bytes m ≤ length bytes
@@ -245,8 +268,10 @@ module _ (k : Settings) (meaning : Meaning) (bytes : List ℕ) where
   starts-inside j inside = omega (arith, rises t bytes j inside, line_start-within AreLines-lines t bytes (j + 1))
 
   -- a unit is the range of the matches that were found, if the lines of those after them are after it
-  pub unit-of : (low position : ℕ) (found later : List (ℕ × ℕ)) (u : ℕ × ℕ) → AreTouched k meaning bytes low position found (Some u)
-      → counted_matches k meaning bytes ≡ found ++ later → All (λ m. u.1 < block_start t bytes m) later → IsUnit k meaning bytes low u
+  pub unit-of : (low position : ℕ) (found later : List (ℕ × ℕ)) (u : ℕ × ℕ)
+      → AreTouched k meaning bytes low position found (Some u)
+      → counted_matches k meaning bytes ≡ found ++ later → All (λ m. u.1 < block_start t bytes m) later
+      → IsUnit k meaning bytes low u
   unit-of low position found later u touched all after = record {
     first = touched.range.first;
     begins = touched.range.begins;
@@ -263,7 +288,8 @@ module _ (k : Settings) (meaning : Meaning) (bytes : List ℕ) where
         (missed j (omega (arith, before, touched.range.ordered)));
     hit = λ j inside over before.
         hit-of found later all j inside
-        ∙ or_left _ _ (touched.same j inside (omega (arith, over, touched.range.after)) ∙ in-range u (from j) over before);
+        ∙ or_left _ _ (touched.same j inside (omega (arith, over, touched.range.after))
+        ∙ in-range u (from j) over before);
     past = λ j inside at.
         hit-of found later all j inside
         ∙ or_from _ _ (touched.same j inside (omega (arith, at, touched.range.after, touched.range.ordered))
@@ -278,7 +304,8 @@ module _ (k : Settings) (meaning : Meaning) (bytes : List ℕ) where
 
   -- if there are no more matches, there is no other unit
   pub unit-none : (low position : ℕ) (found : List (ℕ × ℕ)) → AreTouched k meaning bytes low position found None
-      → counted_matches k meaning bytes ≡ found → low ≤ length bytes → IsUnit k meaning bytes low (length bytes, length bytes)
+      → counted_matches k meaning bytes ≡ found → low ≤ length bytes
+      → IsUnit k meaning bytes low (length bytes, length bytes)
   unit-none low position found touched all inside = record {
     first = n;
     begins = last_start;
@@ -290,7 +317,8 @@ module _ (k : Settings) (meaning : Meaning) (bytes : List ℕ) where
     apart = λ some below. below;
     some = λ below. absurd (omega (arith, below));
     miss = λ j here over before.
-        let none : is_hit k meaning bytes j ≡ (touched_of found j || false) = hit-of found [] (all ∙ sym (append-nil found)) j here in
+        let none : is_hit k meaning bytes j ≡ (touched_of found j || false) = hit-of found []
+        (all ∙ sym (append-nil found)) j here in
         none ∙ (or-false (touched_of found j) ∙ touched.same j here over);
     hit = λ j here over before. absurd (omega (arith, over, before));
     past = λ j here at. absurd (omega (arith, at, starts-inside j here));
@@ -313,7 +341,8 @@ module _ (k : Settings) (meaning : Meaning) (bytes : List ℕ) where
     part-before : m.0 < e → p.0 ≡ e
     part-before before =
         let none : m.0 - e ≡ 0 = omega arith in
-        let first : block_start t (drop e bytes) (m.0 - e, m.1 - e) ≡ 0 = ap (λ x. block_start t (drop e bytes) (x, m.1 - e)) none in
+        let first : block_start t (drop e bytes) (m.0 - e, m.1 - e)
+        ≡ 0 = ap (λ x. block_start t (drop e bytes) (x, m.1 - e)) none in
         omega (arith, part.begins, first)
 
     -- if not, they start with the block of the match
@@ -349,7 +378,8 @@ module _ (k : Settings) (meaning : Meaning) (bytes : List ℕ) where
         ap₂ (λ x y. (x, y)) (part-start below after) (part-end below (λ before. absurd (omega (arith, before, after))))
 
   -- a match whose lines lead on from the range
-  pub touched-part : (low position : ℕ) (found : List (ℕ × ℕ)) (u m p : ℕ × ℕ) → AreTouched k meaning bytes low position found (Some u)
+  pub touched-part : (low position : ℕ) (found : List (ℕ × ℕ)) (u m p : ℕ × ℕ)
+      → AreTouched k meaning bytes low position found (Some u)
       → position ≤ m.0 → m.0 ≤ m.1 → (m.0 < u.1 → u.1 < m.1) → IsPart t bytes u.1 m p → p.0 ≤ u.1
       → AreTouched k meaning bytes low (position_after m) (found ++ m ∷ []) (Some (u.0, p.1))
   touched-part low position found u m p touched next order over part joins = ⊎_elim
@@ -365,7 +395,8 @@ module _ (k : Settings) (meaning : Meaning) (bytes : List ℕ) where
       (λ all.
       let same : u.1 ≡ p.1 = omega (arith, all, touched.range.within, part.past, part.within, reach) in
       subst (λ x. AreTouched k meaning bytes low (position_after m) (found ++ m ∷ []) (Some (u.0, x))) same
-      (absorbed low position found u m touched next order (λ j inside less. omega (arith, starts-inside j inside, all))))
+      (absorbed low position found u m touched next order
+      (λ j inside less. omega (arith, starts-inside j inside, all))))
       (cases_lt u.1 (length bytes))
     where
       last : ℕ

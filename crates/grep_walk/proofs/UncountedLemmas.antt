@@ -1,6 +1,7 @@
 -- A walk that may have skipped lines uncounted, against the calls that are defined for the input: where lines aren't
 -- counted, no call depends on their count.
-use Rattle.std.proofs.Common.{◌≡◌, ℕ, ◌+◌, ◌-◌, ◌<◌, ◌≤◌, ◌||◌, min, Bool, true, false, if◌then◌else◌, List, [], ◌++◌, length, drop}
+use Rattle.std.proofs.Common.{◌≡◌, ℕ, ◌+◌, ◌-◌, ◌<◌, ◌≤◌, ◌||◌, min, Bool, true, false, if◌then◌else◌, List, [], ◌++◌}
+use Rattle.std.proofs.Common.{length, drop}
 use Rattle.std.proofs.Common.{Option, refl, sym, ◌∙◌, ap, ap₂, subst, arith, ⊎_elim, length-take}
 use Rattle.std.proofs.lemmas.Bool.{cases_Bool, cases_lt, false≢true, lt-ltb, ltb-false}
 use Rattle.std.specs.Prelude.{nat_lt, IfSome}
@@ -19,7 +20,8 @@ use Rattle.grep_definitions.specs.SinkRuns.{Steps, Outcome, all_true, failed, st
 use Rattle.grep_walk.specs.declared.look_ahead.Ahead.{Ahead}
 use Rattle.grep_walk.specs.declared.walk.Walk.{Walk}
 use Rattle.grep_walk.specs.LookAheads.{IsBounded, IsExact, IsKnown, MayAskAhead, known_at, skips}
-use Rattle.grep_walk.specs.Walks.{AreCounts, Counted, IsDecided, can_hit, counts_lines, is_over, line_end, line_turns, after_line}
+use Rattle.grep_walk.specs.Walks.{AreCounts, Counted, IsDecided, can_hit, counts_lines, is_over, line_end, line_turns}
+use Rattle.grep_walk.specs.Walks.{after_line}
 use Rattle.grep_walk.specs.Walks.{recounted, reports_line, skip_unmatched, skip_lines}
 use Rattle.grep_walk.specs.Windows.{HasSearched, IsInWindow}
 use Rattle.grep_walk.proofs.BeforeContextLemmas.{pending-none}
@@ -50,7 +52,8 @@ is_uncounted k un = go k.line_number (nat_lt 0 k.after_context) (nat_lt 0 k.befo
 
 -- with lines before a match they are counted
 pub counts-before : (k : Settings) → 0 < k.before_context → counts_lines k ≡ true
-counts-before k some = go k.line_number (nat_lt 0 k.after_context) (nat_lt 0 k.before_context) (lt-ltb 0 k.before_context some)
+counts-before k some = go k.line_number (nat_lt 0 k.after_context) (nat_lt 0 k.before_context)
+    (lt-ltb 0 k.before_context some)
   where
     go : (a b c : Bool) → c ≡ true → (a || b || c) ≡ true
     go true b c is = refl
@@ -95,8 +98,10 @@ module _ (k : Settings) (w : Walk) (line through : ℕ) (counts : AreCounts k w 
       uncounted un false t left = rw (un.none_after, un.unnumbered) refl
 
       go : (b : Bool) → counts_lines k ≡ b
-          → line_turns k input w here chosen trailing ≡ line_turns k input (recounted w line through) here chosen trailing
-      go true is = ap₂ (λ l v. line_turns k input (recounted w l v) here chosen trailing) (sym (counts is).0) (sym (counts is).1)
+          → line_turns k input w here chosen trailing ≡ line_turns k input (recounted w line through) here chosen
+          trailing
+      go true is = ap₂ (λ l v. line_turns k input (recounted w l v) here chosen trailing) (sym (counts is).0)
+          (sym (counts is).1)
       go false is = uncounted (is_uncounted k is) chosen trailing w.after_context_left
 
   -- the next walk's counts
@@ -129,7 +134,8 @@ module _ {S E F : Type 0} (step : Steps S E) (errors : ErrorMakers E) (matcher :
       Counted step k first (turns k matcher.meaning input) (byte_count k matcher.meaning input) count outcome new
 
   -- where lines are counted, the walk is in the window as it is
-  pub inside-counted : (p : ℕ) (w : Walk) (now : S) → Searched p w now → counts_lines k ≡ true → IsInWindow k gone window input p w
+  pub inside-counted : (p : ℕ) (w : Walk) (now : S) → Searched p w now → counts_lines k ≡ true
+      → IsInWindow k gone window input p w
   inside-counted p w now so_far is =
       let counts = so_far.counts is in
       subst (λ v. IsInWindow k gone window input p (recounted w w.line v)) counts.1
@@ -154,36 +160,44 @@ module _ {S E F : Type 0} (step : Steps S E) (errors : ErrorMakers E) (matcher :
       -- the matcher's error for that line
       pub failed-asked : can_hit k w ≡ true → (error : F) (e : E) → errors.is_message (matcher.text_of error) e
           → matcher.fails (strip k.line_terminator here) error → IsLineFault step errors matcher k input first e now
-      failed-asked can error e message fails = search.failed-matcher step errors matcher k gone window input first bare p q exact now
+      failed-asked can error e message fails = search.failed-matcher step errors matcher k gone window input first bare
+          p q exact now
           so_far.walked below within line can (strip k.line_terminator here) error e
-          (search.asked-line step errors matcher k gone window input first bare p q exact now so_far.walked below within line)
+          (search.asked-line step errors matcher k gone window input first bare p q exact now so_far.walked below within
+          line)
           message fails
 
       module _ (chosen trailing : Bool) (decided : IsDecided k matcher.meaning w here chosen trailing) where
         decided-exact : IsDecided k matcher.meaning exact here chosen trailing
         decided-exact = record { chosen_is = decided.chosen_is; trailing_is = decided.trailing_is }
 
-        reported-exact : (outcome : Outcome E) (new : S) → AreReported step k now (line_turns k input w here chosen trailing) outcome new
+        reported-exact : (outcome : Outcome E) (new : S)
+            → AreReported step k now (line_turns k input w here chosen trailing) outcome new
             → AreReported step k now (line_turns k input exact here chosen trailing) outcome new
         reported-exact outcome new = subst (λ turns. AreReported step k now turns outcome new)
             (turns-same k w so_far.line so_far.through so_far.counts input here chosen trailing)
 
-        pub failed-line : (e : E) (new : S) → AreReported step k now (line_turns k input w here chosen trailing) (failed e) new
+        pub failed-line : (e : E) (new : S) → AreReported step k now (line_turns k input w here chosen trailing)
+            (failed e) new
             → IsLineFault step errors matcher k input first e new
-        failed-line e new reported = search.failed-line step errors matcher k gone window input first bare p q exact now so_far.walked
+        failed-line e new reported = search.failed-line step errors matcher k gone window input first bare p q exact now
+            so_far.walked
             below within line chosen trailing decided-exact e new (reported-exact (failed e) new reported)
 
         pub counted-stopped : (new : S)
             → AreReported step k now (line_turns k input w here chosen trailing) (stopped (line_end w here)) new
             → IsCounted (line_end w here) (stopped (line_end w here)) new
-        counted-stopped new reported = search.counted-stopped step errors matcher k gone window input first bare p q exact now
+        counted-stopped new reported = search.counted-stopped step errors matcher k gone window input first bare p q
+            exact now
             so_far.walked below within line chosen trailing decided-exact new
             (reported-exact (stopped (line_end w here)) new reported)
 
         pub counted-over : (new : S) → AreReported step k now (line_turns k input w here chosen trailing) all_true new
             → is_over k (after_line k w here chosen) chosen ≡ true → IsCounted (line_end w here) all_true new
-        counted-over new reported over = search.counted-over step errors matcher k gone window input first bare p q exact now
-            so_far.walked below within line chosen trailing decided-exact new (reported-exact all_true new reported) over
+        counted-over new reported over = search.counted-over step errors matcher k gone window input first bare p q
+            exact now
+            so_far.walked below within line chosen trailing decided-exact new (reported-exact all_true new reported)
+            over
 
         pub searched-next : (new : S) → AreReported step k now (line_turns k input w here chosen trailing) all_true new
             → is_over k (after_line k w here chosen) chosen ≡ false → Searched q (after_line k w here chosen) new
@@ -200,7 +214,8 @@ module _ {S E F : Type 0} (step : Steps S E) (errors : ErrorMakers E) (matcher :
       pub failed-ahead : (w : Walk) (p : ℕ) → Searched p w now → p < length window → MayAskAhead k matcher.meaning w
           → (error : F) (e : E) → errors.is_message (matcher.text_of error) e → matcher.fails (drop p window) error
           → IsLineFault step errors matcher k input first e now
-      failed-ahead w p so_far less may = skips.failed-ahead join append step errors matcher k gone window input first now bare
+      failed-ahead w p so_far less may = skips.failed-ahead join append step errors matcher k gone window input first
+          now bare
           (recounted w so_far.line so_far.through) p so_far.walked less
           (record { allowed = may.allowed; room = may.room; unstopped = may.unstopped })
 
@@ -220,7 +235,8 @@ module _ {S E F : Type 0} (step : Steps S E) (errors : ErrorMakers E) (matcher :
             line = so_far.line + length (lines t (slice window p a.candidate));
             through = so_far.through;
             counts = counts-past k w so_far.line so_far.through so_far.counts (slice window p a.candidate);
-            walked = skips.walked-past join append step errors matcher k gone window input first now bare exact p a so_far.walked within
+            walked = skips.walked-past join append step errors matcher k gone window input first now bare exact p a
+                so_far.walked within
                 known is;
           }
 
@@ -228,7 +244,8 @@ module _ {S E F : Type 0} (step : Steps S E) (errors : ErrorMakers E) (matcher :
       pub searched-on : (w : Walk) (p : ℕ) (a : Ahead) → Searched p w now → a.candidate ≤ length window
           → IsKnown k matcher.meaning window p a → (r : ℕ) (next : Walk)
           → r ≡ (if skips k w p a.candidate then a.candidate else p)
-          → next ≡ (if skips k w p a.candidate then skip_unmatched k w (slice window p a.candidate) else w) → Searched r next now
+          → next ≡ (if skips k w p a.candidate then skip_unmatched k w (slice window p a.candidate) else w)
+          → Searched r next now
       searched-on w p a so_far within known r next is_r is_next = subst (λ q. Searched q next now) (sym is_r)
           (subst (λ v. Searched (if skips k w p a.candidate then a.candidate else p) v now) (sym is_next)
           (searched-skipped w p a so_far within known))
@@ -241,8 +258,10 @@ module _ {S E F : Type 0} (step : Steps S E) (errors : ErrorMakers E) (matcher :
           → (b q : ℕ) → b ≡ t → (IsExact b window a → (i : ℕ) → IsLineStart b window r i → IsLine b window i r q)
           → (o : Option Bool) → o ≡ known_at a r → HasLine r q next now o
       line-reached w p a so_far bounded known r next low is_r is_next b q is_b ends o is_o =
-          let here = searched-on w p a so_far (omega (arith, bounded.ordered, bounded.within)) known r next is_r is_next in
-          let line = subst (λ b. IsExact b window a → (i : ℕ) → IsLineStart b window r i → IsLine b window i r q) is_b ends known.exact in
+          let here = searched-on w p a so_far (omega (arith, bounded.ordered, bounded.within)) known r next is_r
+          is_next in
+          let line = subst (λ b. IsExact b window a → (i : ℕ) → IsLineStart b window r i → IsLine b window i r q) is_b
+          ends known.exact in
           record {
             here = here;
             line = line;

@@ -1,5 +1,6 @@
 -- A walk over lines, against the calls that are defined.
-use Rattle.std.proofs.Common.{◌≡◌, ℕ, ◌+◌, ◌-◌, ◌<◌, ◌≤◌, Bool, true, false, not, ◌&&◌, ◌||◌, List, [], ◌∷◌, ◌++◌, length, take, drop}
+use Rattle.std.proofs.Common.{◌≡◌, ℕ, ◌+◌, ◌-◌, ◌<◌, ◌≤◌, Bool, true, false, not, ◌&&◌, ◌||◌, List, [], ◌∷◌, ◌++◌}
+use Rattle.std.proofs.Common.{length, take, drop}
 use Rattle.std.proofs.Common.{refl, sym, ◌∙◌, ap, subst, arith, ⊎_elim, inl, inr, Some, None, Ok, Err, if◌then◌else◌}
 use Rattle.std.proofs.Common.{length-take, length-drop}
 use Rattle.std.proofs.lemmas.Bool.{lt-ltb, le-leb, lt-leb, eqb-true, cases_lt}
@@ -16,7 +17,8 @@ use Rattle.grep_definitions.specs.SinkCalls.{Turn, begins, context}
 use Rattle.grep_definitions.specs.Below.{is_at, joined_from}
 use Rattle.grep_definitions.specs.LineSearch
 use Rattle.grep_definitions.specs.LineSearch.{differ, turns_at, turns, turns_through, byte_count, in_context}
-use Rattle.grep_definitions.specs.LineTurns.{after_turns, context_turns, match_turns, pending_turns, matches_line, number_of}
+use Rattle.grep_definitions.specs.LineTurns.{after_turns, context_turns, match_turns, pending_turns, matches_line}
+use Rattle.grep_definitions.specs.LineTurns.{number_of}
 use Rattle.grep_definitions.specs.SinkRuns.{Steps, Outcome, all_true, stopped, failed, AreReported}
 use Rattle.grep_definitions.specs.Searches.{ErrorMakers, MatcherFacts, IsLineFault, of_sink, of_matcher}
 use Rattle.grep_definitions.specs.LineWalks.{IsNear, IsOpen}
@@ -24,9 +26,11 @@ use Rattle.grep_definitions.specs.Questions.{IsAsked}
 use Rattle.grep_definitions.proofs.SinkRunLemmas.{AreReported-append, AreReported-ended}
 use Rattle.grep_definitions.proofs.BelowLemmas.{joined_from-equal, joined_from-none, headed-through, headed-many}
 use Rattle.grep_definitions.proofs.LimitLemmas.{IsOpen-none, IsOpen-chosen, IsOpen-missed, turn_above, turn_all}
-use Rattle.grep_definitions.proofs.LimitLemmas.{IsDone, IsDone-chosen, IsDone-limit, IsDone-stop, IsDone-none, selected-is, chosen-is}
+use Rattle.grep_definitions.proofs.LimitLemmas.{IsDone, IsDone-chosen, IsDone-limit, IsDone-stop, IsDone-none}
+use Rattle.grep_definitions.proofs.LimitLemmas.{selected-is, chosen-is}
 use Rattle.grep_definitions.proofs.SelectionLemmas.{headed-missed}
-use Rattle.grep_definitions.proofs.ContextLemmas.{IsNear-none, IsNear-hit, IsNear-missed, follows-selected, turns_at-done}
+use Rattle.grep_definitions.proofs.ContextLemmas.{IsNear-none, IsNear-hit, IsNear-missed, follows-selected}
+use Rattle.grep_definitions.proofs.ContextLemmas.{turns_at-done}
 use Rattle.grep_definitions.proofs.ContextLemmas.{turns_at-passed, turns_at-hit, turns_at-after, turns_at-other}
 use Rattle.grep_definitions.proofs.TurnEndLemmas.{ends-one, ends-pending, ends-match, ends-late, ends-passed}
 use Rattle.grep_walk.specs.declared.walk.Walk.{Walk}
@@ -41,20 +45,24 @@ pub ended-next : (k : Settings) (window : List ℕ) (w : Walk) (line : List ℕ)
     → All (λ turn. turn.end ≤ line_end w line) (made ++ line_turns k window w line chosen trailing)
 ended-next k window w line chosen trailing made ended =
     All-append (λ turn. turn.end ≤ line_end w line) made (line_turns k window w line chosen trailing)
-    (All-weaker (λ turn. turn.end ≤ w.offset) (λ turn. turn.end ≤ line_end w line) (λ turn low. omega (arith, low)) made ended)
-    (All-weaker E (λ turn. turn.end ≤ line_end w line) (λ turn is. omega (arith, is)) (line_turns k window w line chosen trailing)
+    (All-weaker (λ turn. turn.end ≤ w.offset) (λ turn. turn.end ≤ line_end w line) (λ turn low. omega (arith, low)) made
+    ended)
+    (All-weaker E (λ turn. turn.end ≤ line_end w line) (λ turn is. omega (arith, is))
+    (line_turns k window w line chosen trailing)
     (go chosen trailing (nat_lt 0 w.after_context_left) k.passthru))
   where
     E : Turn → Type 0
     E turn = turn.end ≡ line_end w line
 
     go : (b r a p : Bool) → All E (if b
-        then pending_turns k window w.next_unreported w.line (line_end w line) w.next_unreported (w.line - w.next_unreported)
+        then pending_turns k window w.next_unreported w.line (line_end w line) w.next_unreported
+        (w.line - w.next_unreported)
         ++ match_turns k w.next_unreported w.line w.offset (line_end w line) line
         else (if a then after_turns k r w.next_unreported w.line w.offset (line_end w line) line
         else (if p then context_turns Other (number_of k w.line) w.offset (line_end w line) line else [])))
     go true r a p = All-append E _ _
-        (ends-pending k window w.next_unreported w.line (line_end w line) w.next_unreported (w.line - w.next_unreported))
+        (ends-pending k window w.next_unreported w.line (line_end w line) w.next_unreported
+        (w.line - w.next_unreported))
         (ends-match k window w.next_unreported w.line (line_end w line) w.offset line)
     go false true true p = ends-match k window w.next_unreported w.line (line_end w line) w.offset line
     go false false true p = ends-one (context After (number_of k w.line) w.offset line) (line_end w line)
@@ -97,7 +105,8 @@ module _ (k : Settings) (meaning : Meaning) (bytes : List ℕ) where
 
   -- the turn of `begin` has ended
   pub ended-start : All (λ turn. turn.end ≤ 0) (front 0)
-  ended-start = All-cons (λ turn. turn.end ≤ 0) (record { call = begins; end = 0 }) [] (omega arith) (All-nil (λ turn. turn.end ≤ 0))
+  ended-start = All-cons (λ turn. turn.end ≤ 0) (record { call = begins; end = 0 }) [] (omega arith)
+      (All-nil (λ turn. turn.end ≤ 0))
 
   walk-start : (k.passthru ≡ false → is_at 0 k.max_matches ≡ true → ⊥) → IsWalk k meaning bytes start_walk
   walk-start busy = record {
@@ -116,7 +125,13 @@ module _ (k : Settings) (meaning : Meaning) (bytes : List ℕ) where
     here = slice bytes start end
 
     pub end-is : line_end w here ≡ end
-    end-is = omega (arith, length-take (end - start) (drop start bytes), length-drop start bytes, line.above, line.within)
+    end-is = omega (
+      arith,
+      length-take (end - start) (drop start bytes),
+      length-drop start bytes,
+      line.above,
+      line.within,
+    )
 
     start-is : starts w.line ≡ w.offset
     start-is = line.begins ∙ sym same
@@ -132,8 +147,15 @@ module _ (k : Settings) (meaning : Meaning) (bytes : List ℕ) where
     within = omega (arith, end-is, line.within)
 
     -- where the walk is after the line
-    pub placed-next : IsPlaced k meaning bytes w → (chosen : Bool) → IsPlaced k meaning bytes (after_line k w here chosen)
-    placed-next placed chosen = record { at = after; inside = within; low = low (reports_line k w chosen); few = few chosen }
+    pub placed-next : IsPlaced k meaning bytes w → (chosen : Bool)
+        → IsPlaced k meaning bytes (after_line k w here chosen)
+    placed-next placed chosen = record {
+      at = after;
+      inside = within;
+      low = low (reports_line k w chosen);
+      few = few
+          chosen;
+    }
       where
         low : (b : Bool) → (if b then w.line + 1 else w.next_unreported) ≤ w.line + 1
         low true = omega arith
@@ -168,7 +190,8 @@ module _ (k : Settings) (meaning : Meaning) (bytes : List ℕ) where
       trailing-here b r decided some =
           ap (λ h. h && not (LineSearch.is_open_at k meaning bytes w.line)) hits-here
           ∙ (ap (λ o. differ (matches_line k meaning here) k.invert_match && not o) walk.opened.below
-          ∙ (ap (λ f. differ (matches_line k meaning here) k.invert_match && f) (not-not (is_at w.match_count k.max_matches))
+          ∙ (ap (λ f. differ (matches_line k meaning here) k.invert_match && f)
+          (not-not (is_at w.match_count k.max_matches))
           ∙ (and-swap (differ (matches_line k meaning here) k.invert_match) (is_at w.match_count k.max_matches)
           ∙ sym (decided.trailing_is some))))
         where
@@ -184,19 +207,22 @@ module _ (k : Settings) (meaning : Meaning) (bytes : List ℕ) where
           ∙ (ap (λ f. not (is_at w.match_count k.max_matches) || f)
           (follows-selected k meaning bytes w.next_unreported w.line w.after_context_left walk.near) ∙ can)
 
-      selected : (b : Bool) → LineSearch.is_chosen k meaning bytes w.line ≡ b → LineSearch.is_selected k meaning bytes w.line ≡ b
+      selected : (b : Bool) → LineSearch.is_chosen k meaning bytes w.line ≡ b
+          → LineSearch.is_selected k meaning bytes w.line ≡ b
       selected b is = selected-is k meaning bytes w.line w.after_context_left w.match_count walk.opened ∙ is
 
       pending-is : LineSearch.is_selected k meaning bytes w.line ≡ true
           → joined_from T w.next_unreported (w.line - w.next_unreported)
-          ≡ pending_turns k bytes w.next_unreported w.line (line_end w here) w.next_unreported (w.line - w.next_unreported)
+          ≡ pending_turns k bytes w.next_unreported w.line (line_end w here) w.next_unreported
+          (w.line - w.next_unreported)
       pending-is hit = joined_from-equal T _ w.next_unreported (w.line - w.next_unreported) (λ j low high.
           turns_at-passed k meaning bytes w.next_unreported w.line w.after_context_left walk.near line.listed has hit
           j _ (line_end w here) _ low (omega (arith, walk.near.low)) refl start-after refl)
 
       hit-is : LineSearch.is_selected k meaning bytes w.line ≡ true → T w.line
           ≡ match_turns k w.next_unreported w.line w.offset (line_end w here) here
-      hit-is hit = turns_at-hit k meaning bytes w.next_unreported w.line w.after_context_left walk.near line.listed has hit
+      hit-is hit = turns_at-hit k meaning bytes w.next_unreported w.line w.after_context_left walk.near line.listed has
+          hit
           w.offset (line_end w here) _ number-is start-is start-after line.line
 
       -- the calls of the line
@@ -212,7 +238,8 @@ module _ (k : Settings) (meaning : Meaning) (bytes : List ℕ) where
           ∙ (ap (λ xs. front w.next_unreported ++ (xs ++ T w.line)) (pending-is hit)
           ∙ ap (λ xs. front w.next_unreported ++ (pending ++ xs)) (hit-is hit))
       front-step false trailing is late =
-          headed-missed k (LineSearch.is_selected k meaning bytes) (LineSearch.is_trailing k meaning bytes) n turned w.next_unreported w.line w.after_context_left walk.near
+          headed-missed k (LineSearch.is_selected k meaning bytes) (LineSearch.is_trailing k meaning bytes) n turned
+          w.next_unreported w.line w.after_context_left walk.near
           (record { call = begins; end = 0 }) T _ _ after_is other_is
         where
           miss : LineSearch.is_selected k meaning bytes w.line ≡ false
@@ -234,15 +261,18 @@ module _ (k : Settings) (meaning : Meaning) (bytes : List ℕ) where
       pub near-next : (chosen : Bool) → LineSearch.is_chosen k meaning bytes w.line ≡ chosen
           → IsNear k meaning bytes (after_line k w here chosen).next_unreported (w.line + 1)
           (after_line k w here chosen).after_context_left
-      near-next true is = IsNear-hit k meaning bytes w.next_unreported w.line w.after_context_left walk.near line.listed has
+      near-next true is = IsNear-hit k meaning bytes w.next_unreported w.line w.after_context_left walk.near line.listed
+          has
           (selected true is)
       near-next false is =
           IsNear-missed k meaning bytes w.next_unreported w.line w.after_context_left walk.near line.listed has
           (λ is_p. (bare is_p).1) (selected false is)
 
-      open-next : (chosen : Bool) → LineSearch.is_chosen k meaning bytes w.line ≡ chosen → is_over k (after_line k w here chosen) chosen
+      open-next : (chosen : Bool) → LineSearch.is_chosen k meaning bytes w.line ≡ chosen
+          → is_over k (after_line k w here chosen) chosen
           ≡ false
-          → IsOpen k meaning bytes (w.line + 1) (after_line k w here chosen).after_context_left (after_line k w here chosen).match_count
+          → IsOpen k meaning bytes (w.line + 1) (after_line k w here chosen).after_context_left
+          (after_line k w here chosen).match_count
       open-next true is goes =
           let parts = neither _ _ goes in
           IsOpen-chosen k meaning bytes w.line w.after_context_left w.match_count walk.opened line.listed is
@@ -257,7 +287,8 @@ module _ (k : Settings) (meaning : Meaning) (bytes : List ℕ) where
           ≡ true = ap (λ s. s && nat_lt 0 w.match_count && true) stop ∙ ap (λ s. s && true) yes in all) parts.0))
           (λ none. omega arith)
           (cases_lt 0 w.match_count))
-          (λ plain full. let more = above_zero (not k.passthru) (is_at w.match_count k.max_matches) (w.after_context_left - 1) parts.1
+          (λ plain full. let more = above_zero (not k.passthru) (is_at w.match_count k.max_matches)
+          (w.after_context_left - 1) parts.1
           (ap not plain) full in omega arith)
 
       pub walk-next : (chosen trailing : Bool) → LineSearch.is_chosen k meaning bytes w.line ≡ chosen
@@ -280,19 +311,22 @@ module _ (k : Settings) (meaning : Meaning) (bytes : List ℕ) where
           (λ full.
           let outer = both_true _ _ full in
           let inner = both_true _ _ outer.0 in
-          IsDone-chosen k meaning bytes w.line w.after_context_left w.match_count walk.opened line.listed is (not_false _ inner.0) inner.1
+          IsDone-chosen k meaning bytes w.line w.after_context_left w.match_count walk.opened line.listed is
+          (not_false _ inner.0) inner.1
           (eqb-true _ _ outer.1))
           (or-cases _ _ over)
       done-next false is over = ⊎_elim
           (λ stop.
           let outer = both_true _ _ stop in
           let inner = both_true _ _ outer.0 in
-          IsDone-stop k meaning bytes w.line w.after_context_left w.match_count walk.opened line.listed is inner.0 inner.1)
+          IsDone-stop k meaning bytes w.line w.after_context_left w.match_count walk.opened line.listed is inner.0
+          inner.1)
           (λ full.
           let outer = both_true _ _ full in
           let inner = both_true _ _ outer.0 in
           let none : w.after_context_left - 1 ≡ 0 = eqb-true (w.after_context_left - 1) 0 outer.1 in
-          IsDone-limit k meaning bytes w.line w.after_context_left w.match_count walk.opened line.listed is (not_false _ inner.0) inner.1
+          IsDone-limit k meaning bytes w.line w.after_context_left w.match_count walk.opened line.listed is
+          (not_false _ inner.0) inner.1
           (omega arith))
           (or-cases _ _ over)
 
@@ -300,11 +334,15 @@ module _ (k : Settings) (meaning : Meaning) (bytes : List ℕ) where
       through-is : turns_through k meaning bytes (starts w.line) ≡ front w.next_unreported
       through-is =
           let split = ap (filter passes) (front-through w.next_unreported turned (omega (arith, has, walk.near.low)))
-          ∙ filter-append passes (front w.next_unreported) (joined_from T w.next_unreported (turned - w.next_unreported)) in
-          let early = filter-all passes (front w.next_unreported) (All-weaker (λ turn. turn.end ≤ w.offset) (λ turn. passes turn ≡ true)
-          (λ turn low. le-leb turn.end (starts w.line) (omega (arith, low, start-is))) (front w.next_unreported) walk.ended) in
+          ∙ filter-append passes (front w.next_unreported)
+          (joined_from T w.next_unreported (turned - w.next_unreported)) in
+          let early = filter-all passes (front w.next_unreported)
+          (All-weaker (λ turn. turn.end ≤ w.offset) (λ turn. passes turn ≡ true)
+          (λ turn low. le-leb turn.end (starts w.line) (omega (arith, low, start-is))) (front w.next_unreported)
+          walk.ended) in
           let late = filter-none passes (joined_from T w.next_unreported (turned - w.next_unreported))
-          (All-joined_from (λ turn. passes turn ≡ false) T w.next_unreported (turned - w.next_unreported) (λ j low high. later j low))
+          (All-joined_from (λ turn. passes turn ≡ false) T w.next_unreported (turned - w.next_unreported)
+          (λ j low high. later j low))
           in
           split ∙ (ap (λ xs. xs ++ filter passes (joined_from T w.next_unreported (turned - w.next_unreported))) early
           ∙ (ap (λ xs. front w.next_unreported ++ xs) late ∙ append-nil (front w.next_unreported)))
@@ -317,7 +355,8 @@ module _ (k : Settings) (meaning : Meaning) (bytes : List ℕ) where
 
           later : (j : ℕ) → w.next_unreported ≤ j → All (λ turn. passes turn ≡ false) (T j)
           later j low = All-weaker (λ turn. starts (w.line + 1) ≤ turn.end) (λ turn. passes turn ≡ false) fails (T j)
-              (⊎_elim (λ less. ends-passed k meaning bytes w.next_unreported w.line w.after_context_left walk.near j low less)
+              (⊎_elim (λ less. ends-passed k meaning bytes w.next_unreported w.line w.after_context_left walk.near j low
+              less)
               (λ above. ends-late k meaning bytes w.line j above) (cases_lt j w.line))
 
   -- after the last line
@@ -329,7 +368,8 @@ module _ (k : Settings) (meaning : Meaning) (bytes : List ℕ) where
   }
 
   -- after the last turn nothing is reported of the lines that were passed
-  rest-is : (w : Walk) → IsNear k meaning bytes w.next_unreported w.line w.after_context_left → IsDone k meaning bytes w.line
+  rest-is : (w : Walk) → IsNear k meaning bytes w.next_unreported w.line w.after_context_left
+      → IsDone k meaning bytes w.line
       → joined_from T w.next_unreported (turned - w.next_unreported) ≡ []
   rest-is w near done = joined_from-none T w.next_unreported (turned - w.next_unreported) (λ j low high.
       turns_at-done k meaning bytes w.next_unreported w.line w.after_context_left near done.silent j low
@@ -344,7 +384,8 @@ module _ (k : Settings) (meaning : Meaning) (bytes : List ℕ) where
         (AreReported-ended step k (front i) (joined_from T i (turned - i)) old outcome new ended reported)
 
     abbrev IsCounted : ℕ → Outcome E → S → Type 0
-    IsCounted count outcome new = Counted step k old (turns k meaning bytes) (byte_count k meaning bytes) count outcome new
+    IsCounted count outcome new = Counted step k old (turns k meaning bytes) (byte_count k meaning bytes) count outcome
+        new
 
     -- no more calls are to come
     counted-done : (w : Walk) (new : S) → IsLineStart t bytes w.offset w.line
@@ -353,15 +394,18 @@ module _ (k : Settings) (meaning : Meaning) (bytes : List ℕ) where
     counted-done w new at near done reported = record {
       reported = subst (λ ts. AreReported step k old ts all_true new)
           (sym (front-through w.next_unreported turned (omega (arith, done.last, near.low))))
-          (AreReported-append step k (front w.next_unreported) (joined_from T w.next_unreported (turned - w.next_unreported)) old new
+          (AreReported-append step k (front w.next_unreported)
+          (joined_from T w.next_unreported (turned - w.next_unreported)) old new
           all_true
           new reported
           (subst (λ ts. AreReported step k new ts all_true new) (sym (rest-is w near done)) (refl, refl)));
       is_count = sym at.begins ∙ ap starts (sym done.last);
     }
 
-    pub counted-end : (w : Walk) (new : S) → HasReported k meaning bytes step old w new → w.line ≡ n → IsCounted w.offset all_true new
-    counted-end w new so_far all = counted-done w new so_far.walk.placed.at so_far.walk.near (done-end w so_far.walk all) so_far.reported
+    pub counted-end : (w : Walk) (new : S) → HasReported k meaning bytes step old w new → w.line ≡ n
+        → IsCounted w.offset all_true new
+    counted-end w new so_far all = counted-done w new so_far.walk.placed.at so_far.walk.near
+        (done-end w so_far.walk all) so_far.reported
 
     pub counted-unbegun : (new : S) → step old k begins (Ok false) new → IsCounted 0 (stopped 0) new
     counted-unbegun new stops = record { reported = inr (inl (refl, stops)); is_count = refl }
@@ -380,7 +424,8 @@ module _ (k : Settings) (meaning : Meaning) (bytes : List ℕ) where
         → HasReported k meaning bytes step old start_walk new
     reported-start new busy goes = record {
       walk = walk-start (λ plain full. clash
-          (let all : (not k.passthru && is_at 0 k.max_matches) ≡ true = ap (λ p. not p && is_at 0 k.max_matches) plain ∙ full in all)
+          (let all : (not k.passthru && is_at 0 k.max_matches) ≡ true = ap (λ p. not p && is_at 0 k.max_matches) plain
+          ∙ full in all)
           busy);
       reported = reported-begin new goes;
     }
@@ -415,7 +460,8 @@ module _ (k : Settings) (meaning : Meaning) (bytes : List ℕ) where
           go true = omega (arith, has w start end same line bare so_far.walk)
           go false = omega (arith, has w start end same line bare so_far.walk, so_far.walk.near.low)
 
-      pub counted-stopped : (new : S) → AreReported step k mid own (stopped (line_end w (here w start end same line))) new
+      pub counted-stopped : (new : S) → AreReported step k mid own (stopped (line_end w (here w start end same line)))
+          new
           → IsCounted (line_end w (here w start end same line)) (stopped (line_end w (here w start end same line))) new
       counted-stopped new reported = record {
         reported = AreReported-whole _ (stopped (line_end w (here w start end same line))) new few (λ e. cc)
@@ -430,7 +476,8 @@ module _ (k : Settings) (meaning : Meaning) (bytes : List ℕ) where
           (done-next w start end same line bare so_far.walk chosen is over)
           (reported-line all_true new reported)
 
-      pub reported-next : (new : S) → AreReported step k mid own all_true new → is_over k next chosen ≡ false → HasReported k meaning bytes step old next new
+      pub reported-next : (new : S) → AreReported step k mid own all_true new → is_over k next chosen ≡ false
+          → HasReported k meaning bytes step old next new
       reported-next new reported goes_on = record {
         walk = walk-next w start end same line bare so_far.walk chosen trailing is late goes_on;
         reported = reported-line all_true new reported;
@@ -438,25 +485,35 @@ module _ (k : Settings) (meaning : Meaning) (bytes : List ℕ) where
 
       pub failed-line : (e : E) (new : S) → AreReported step k mid own (failed e) new
           → AreReported step k old (turns k meaning bytes) (failed e) new
-      failed-line e new reported = AreReported-whole _ (failed e) new few (λ x. cc) (reported-line (failed e) new reported)
+      failed-line e new reported = AreReported-whole _ (failed e) new few (λ x. cc)
+          (reported-line (failed e) new reported)
 
 -- how a search ends in a fault
-module _ {S E F : Type 0} (step : Steps S E) (errors : ErrorMakers E) (matcher : MatcherFacts F) (k : Settings) (bytes : List ℕ)
+module _ {S E F : Type 0} (step : Steps S E) (errors : ErrorMakers E) (matcher : MatcherFacts F) (k : Settings)
+    (bytes : List ℕ)
     (old : S) where
-  pub fault-begin : (e : E) (new : S) → step old k begins (Err e) new → IsLineFault step errors matcher k bytes old e new
+  pub fault-begin : (e : E) (new : S) → step old k begins (Err e) new
+      → IsLineFault step errors matcher k bytes old e new
   fault-begin e new fails = of_sink
       (record { outcome = failed e; mid = new; reported = inr (inr (e, refl, fails)); finished = (refl, refl) })
 
   pub fault-line : (e : E) (new : S) → AreReported step k old (turns k matcher.meaning bytes) (failed e) new
       → IsLineFault step errors matcher k bytes old e new
-  fault-line e new reported = of_sink (record { outcome = failed e; mid = new; reported = reported; finished = (refl, refl) })
+  fault-line e new reported = of_sink (record {
+    outcome = failed e;
+    mid = new;
+    reported = reported;
+    finished =
+        (refl, refl);
+  })
 
   pub fault-matcher : (w : Walk) (new : S) → HasReported k matcher.meaning bytes step old w new
       → (start end : ℕ) (same : w.offset ≡ start) (line : IsLine (byte_of k.line_terminator) bytes w.line start end)
       → Bare k matcher.meaning bytes → can_hit k w ≡ true → (haystack : List ℕ) (error : F) (e : E)
       → IsAsked k matcher.meaning bytes w.line haystack → errors.is_message (matcher.text_of error) e
       → matcher.fails haystack error → IsLineFault step errors matcher k bytes old e new
-  fault-matcher w new so_far start end same line bare room haystack error e asked message fails = of_matcher haystack error
+  fault-matcher w new so_far start end same line bare room haystack error e asked message fails = of_matcher haystack
+      error
       (front k matcher.meaning bytes w.next_unreported)
       (record {
         index = w.line;

@@ -1,9 +1,12 @@
 -- A window of an input: where its lines are in the input, and which of them are kept when the next window is shown.
-use Rattle.std.proofs.Common.{◌≡◌, ℕ, ◌+◌, ◌-◌, ◌<◌, ◌≤◌, ◌==◌, min, List, [], ◌∷◌, ◌++◌, length, take, drop, get_or, arith}
-use Rattle.std.proofs.Common.{refl, sym, ◌∙◌, ap, ap₂, subst, ⊎_elim, append-nil, append_assoc, length-append, length-drop, slice_index}
+use Rattle.std.proofs.Common.{◌≡◌, ℕ, ◌+◌, ◌-◌, ◌<◌, ◌≤◌, ◌==◌, min, List, [], ◌∷◌, ◌++◌, length, take, drop, get_or}
+use Rattle.std.proofs.Common.{arith}
+use Rattle.std.proofs.Common.{refl, sym, ◌∙◌, ap, ap₂, subst, ⊎_elim, append-nil, append_assoc, length-append}
+use Rattle.std.proofs.Common.{length-drop, slice_index}
 use Rattle.std.proofs.Math.Seq.{drop-append-add, take-append-add, take-append_seam, get_or-append_right}
 use Rattle.std.proofs.lemmas.Bool.{cases_lt}
-use Rattle.std.proofs.lemmas.List.{take-append-drop, take-append-le, drop-append-le, get_or_append_left, get_or-append-add}
+use Rattle.std.proofs.lemmas.List.{take-append-drop, take-append-le, drop-append-le, get_or_append_left}
+use Rattle.std.proofs.lemmas.List.{get_or-append-add}
 use Rattle.std.proofs.lemmas.List.{get_or-drop, get_or-take, length-take-le, drop_all}
 use Rattle.std.proofs.lemmas.List.Folds.{concat-append}
 use Rattle.std.specs.Prelude.{count_by}
@@ -33,7 +36,8 @@ own-window t bytes = record {
 }
 
 -- bytes of a window are bytes of the input
-pub slice-in : (gone window after input : List ℕ) → input ≡ gone ++ (window ++ after) → (p q : ℕ) → p ≤ q → q ≤ length window
+pub slice-in : (gone window after input : List ℕ) → input ≡ gone ++ (window ++ after) → (p q : ℕ) → p ≤ q
+    → q ≤ length window
     → slice input (length gone + p) (length gone + q) ≡ slice window p q
 slice-in gone window after input whole p q low high =
     let size : (length gone + q) - (length gone + p) ≡ q - p = omega arith in
@@ -44,7 +48,8 @@ slice-in gone window after input whole p q low high =
 
 -- a line of the input that extends from p up to q of the window
 module _ (k : Settings) (gone window input : List ℕ) (i p q : ℕ) (at : IsLineIn k gone window p i)
-    (line : (j : ℕ) → IsLineStart (byte_of k.line_terminator) window p j → IsLine (byte_of k.line_terminator) window j p q) where
+    (line : (j : ℕ) → IsLineStart (byte_of k.line_terminator) window p j
+    → IsLine (byte_of k.line_terminator) window j p q) where
   abbrev before : ℕ
   before = length (lines (byte_of k.line_terminator) gone)
 
@@ -55,7 +60,8 @@ module _ (k : Settings) (gone window input : List ℕ) (i p q : ℕ) (at : IsLin
       → IsLine (byte_of k.line_terminator) input i (length gone + p) (length gone + q)
   input-line shown =
       let sum : before + (i - before) ≡ i = omega (arith, at.low) in
-      subst (λ j. IsLine (byte_of k.line_terminator) input j (length gone + p) (length gone + q)) sum (shown.line (i - before) p q own)
+      subst (λ j. IsLine (byte_of k.line_terminator) input j (length gone + p) (length gone + q)) sum
+      (shown.line (i - before) p q own)
 
   -- the line after it
   pub next-line : IsLineIn k gone window q (i + 1)
@@ -76,7 +82,8 @@ module _ (t : ℕ) where
   closed-append front (b ∷ back) shut closed = λ some.
       let last : (length (front ++ (b ∷ back)) - 1) - length front ≡ length (b ∷ back) - 1 =
       omega (arith, length-append front (b ∷ back)) in
-      get_or-append_right front (b ∷ back) (length (front ++ (b ∷ back)) - 1) 0 (omega (arith, length-append front (b ∷ back)))
+      get_or-append_right front (b ∷ back) (length (front ++ (b ∷ back)) - 1) 0
+      (omega (arith, length-append front (b ∷ back)))
       ∙ (ap (λ i. get_or (b ∷ back) i 0) last ∙ closed (omega arith))
 
   -- so is what follows a position in closed bytes
@@ -87,7 +94,8 @@ module _ (t : ℕ) where
       ∙ (ap (λ i. get_or bytes i 0) last ∙ closed (omega (arith, length-drop r bytes)))
 
   -- and what comes before a position right after the terminator
-  pub closed-take : (bytes : List ℕ) (r : ℕ) → r ≤ length bytes → (0 < r → slice_index bytes (r - 1) ≡ t) → IsClosed t (take r bytes)
+  pub closed-take : (bytes : List ℕ) (r : ℕ) → r ≤ length bytes → (0 < r → slice_index bytes (r - 1) ≡ t)
+      → IsClosed t (take r bytes)
   closed-take bytes r within ends = λ some.
       let size = length-take-le r bytes within in
       ap (λ n. get_or (take r bytes) (n - 1) 0) size
@@ -95,7 +103,8 @@ module _ (t : ℕ) where
 
 module _ (join : LinesJoin) (append : LinesAppend) (t : ℕ) where
   -- two lines that start at one position are the same
-  pub start-same : (bytes : List ℕ) (position i j : ℕ) → IsLineStart t bytes position i → IsLineStart t bytes position j → i ≡ j
+  pub start-same : (bytes : List ℕ) (position i j : ℕ) → IsLineStart t bytes position i → IsLineStart t bytes position j
+      → i ≡ j
   start-same bytes position i j first second =
       omega (arith, none i j first second, none j i second first)
     where
@@ -112,13 +121,15 @@ module _ (join : LinesJoin) (append : LinesAppend) (t : ℕ) where
           (cases_lt i j)
 
   -- the lines of closed bytes end where the bytes after them begin
-  start-seam : (front back : List ℕ) → IsClosed t front → IsLineStart t (front ++ back) (length front) (length (lines t front))
+  start-seam : (front back : List ℕ) → IsClosed t front
+      → IsLineStart t (front ++ back) (length front) (length (lines t front))
   start-seam front back shut =
       let both = append t front back shut in
       record {
         listed = omega (arith, ap length both, length-append (lines t front) (lines t back));
         begins = ap (λ ls. length (concat (take (length (lines t front)) ls))) both
-            ∙ (ap (λ ls. length (concat ls)) (take-append_seam (lines t front) (lines t back)) ∙ ap length (join t front).joined);
+            ∙ (ap (λ ls. length (concat ls)) (take-append_seam (lines t front) (lines t back))
+            ∙ ap length (join t front).joined);
       }
 
   -- how many lines are before a position
@@ -134,7 +145,8 @@ module _ (join : LinesJoin) (append : LinesAppend) (t : ℕ) where
   split-count : (window : List ℕ) (r : ℕ) → IsClosed t (take r window)
       → length (lines t window) ≡ length (lines t (take r window)) + length (lines t (drop r window))
   split-count window r shut = ap (λ bs. length (lines t bs)) (sym (take-append-drop r window))
-      ∙ (ap length (append t (take r window) (drop r window) shut) ∙ length-append (lines t (take r window)) (lines t (drop r window)))
+      ∙ (ap length (append t (take r window) (drop r window) shut)
+      ∙ length-append (lines t (take r window)) (lines t (drop r window)))
 
   pub start-all : (window : List ℕ) → IsLineStart t window (length window) (length (lines t window))
   start-all window = record { listed = omega arith; begins = line_start-last join t window }
@@ -147,7 +159,8 @@ module _ (join : LinesJoin) (append : LinesAppend) (t : ℕ) where
   rest-few window r near within ends back = ⊎_elim
       (λ less.
       let shut = closed-take t window r within (λ some. ends some less) in
-      let count = start-count window r (length (lines t window) - near) within shut (back (length (lines t window)) (start-all window)) in
+      let count = start-count window r (length (lines t window) - near) within shut
+      (back (length (lines t window)) (start-all window)) in
       omega (arith, split-count window r shut, count))
       (λ over. let none = ap (λ bs. length (lines t bs)) (drop_all r window over) in omega (arith, none))
       (cases_lt r (length window))
@@ -161,7 +174,8 @@ module _ (join : LinesJoin) (append : LinesAppend) (numbered : LinesAreNumbered)
   parts : lines t input ≡ lines t gone ++ (lines t window ++ lines t after)
   parts = append t gone (window ++ after) opens ∙ ap (λ ls. lines t gone ++ ls) (later after closes)
     where
-      later : (after : List ℕ) → (0 < length after → IsClosed t window) → lines t (window ++ after) ≡ lines t window ++ lines t after
+      later : (after : List ℕ) → (0 < length after → IsClosed t window) → lines t (window ++ after) ≡ lines t window
+          ++ lines t after
       later [] closes = ap (lines t) (append-nil window) ∙ sym (append-nil (lines t window))
       later (b ∷ after) closes = append t window (b ∷ after) (closes (omega arith))
 
@@ -183,7 +197,8 @@ module _ (join : LinesJoin) (append : LinesAppend) (numbered : LinesAreNumbered)
         ∙ ap₂ ◌+◌ (ap length (join t gone).joined) here.begins)));
   }
 
-  line-in : (i p q : ℕ) → IsLine t window i p q → IsLine t input (length (lines t gone) + i) (length gone + p) (length gone + q)
+  line-in : (i p q : ℕ) → IsLine t window i p q → IsLine t input (length (lines t gone) + i) (length gone + p)
+      (length gone + q)
   line-in i p q line =
       let from = start-in p i (record { listed = omega (arith, line.listed); begins = line.begins }) in
       let to = start-in q (i + 1) (record { listed = omega (arith, line.listed); begins = line.ends }) in
@@ -246,9 +261,11 @@ module _ (join : LinesJoin) (append : LinesAppend) (numbered : LinesAreNumbered)
       → IsInWindow k (gone ++ front) (rest ++ more) (gone ++ (window ++ (more ++ after))) (length window - r) w
   rolled more after w is closes back inside =
       let before = length (lines t gone) in
-      let all = start-same join append t window (length window) (w.line - before) (length (lines t window)) inside.line.begins
+      let all = start-same join append t window (length window) (w.line - before) (length (lines t window))
+      inside.line.begins
       (start-all join append t window) in
-      let count = start-count join append t window r ((w.line - before) - near) within shut (back (w.line - before) inside.line.begins) in
+      let count = start-count join append t window r ((w.line - before) - near) within shut
+      (back (w.line - before) inside.line.begins) in
       let split = split-count join append t window r shut in
       let gone_lines = ap length (append t gone front opens) ∙ length-append (lines t gone) (lines t front) in
       let index : length (lines t rest) ≡ w.line - length (lines t (gone ++ front)) =
@@ -259,7 +276,8 @@ module _ (join : LinesJoin) (append : LinesAppend) (numbered : LinesAreNumbered)
         at = omega (arith, inside.at, length-append gone front, length-take-le r window within, within);
         line = record {
           low = omega (arith, all, split, gone_lines, inside.line.low);
-          begins = subst (λ p. IsLineStart t (rest ++ more) p (w.line - length (lines t (gone ++ front)))) (length-drop r window)
+          begins = subst (λ p. IsLineStart t (rest ++ more) p (w.line - length (lines t (gone ++ front))))
+              (length-drop r window)
               (subst (IsLineStart t (rest ++ more) (length rest)) index
               (start-seam join append t rest more (closed-drop t window r closed)));
         };

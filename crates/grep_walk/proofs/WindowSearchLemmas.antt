@@ -1,5 +1,6 @@
 -- A walk over the lines of a window, against the calls that are defined for the input.
-use Rattle.std.proofs.Common.{◌∙◌, ◌≡◌, ℕ, ◌+◌, ◌-◌, ◌<◌, ◌≤◌, ◌&&◌, min, Bool, true, false, not, List, [], length, drop, arith}
+use Rattle.std.proofs.Common.{◌∙◌, ◌≡◌, ℕ, ◌+◌, ◌-◌, ◌<◌, ◌≤◌, ◌&&◌, min, Bool, true, false, not, List, [], length}
+use Rattle.std.proofs.Common.{drop, arith}
 use Rattle.std.proofs.Common.{Ok, refl, sym, ap, ap₂, subst, inl, inr, if◌then◌else◌, length-take, length-drop}
 use Rattle.std.proofs.lemmas.List.{take_rest}
 use Rattle.grep_matcher.specs.Lines.{lines, line_start, strip}
@@ -27,7 +28,8 @@ use Rattle.grep_walk.proofs.WalkLemmas.{Bare, start_walk}
 use Rattle.grep_walk.proofs.WindowLemmas as windows
 
 -- a line leaves the counts of a walk in order
-pub ordered-next : (k : Settings) (w : Walk) (p q : ℕ) (window : List ℕ) (chosen : Bool) → p < q → q ≤ length window → IsOrdered w
+pub ordered-next : (k : Settings) (w : Walk) (p q : ℕ) (window : List ℕ) (chosen : Bool) → p < q → q ≤ length window
+    → IsOrdered w
     → IsOrdered (after_line k w (slice window p q) chosen)
 ordered-next k w p q window chosen below within ordered = record {
   few = omega (arith, ordered.few, length-take (q - p) (drop p window), length-drop p window);
@@ -44,7 +46,8 @@ ordered-next k w p q window chosen below within ordered = record {
     count false = omega (arith, ordered.chosen)
 
 -- a walk begins with the first window of the input, once `begin` returned true
-pub searched-start : {S E : Type 0} (step : Steps S E) (k : Settings) (meaning : Meaning) (window input : List ℕ) (first now : S)
+pub searched-start : {S E : Type 0} (step : Steps S E) (k : Settings) (meaning : Meaning) (window input : List ℕ)
+    (first now : S)
     → IsWindow (byte_of k.line_terminator) [] window input
     → (not k.passthru && is_at 0 k.max_matches) ≡ false → step first k begins (Ok true) now
     → HasSearched step k meaning [] window input first 0 (start_walk k meaning input) now
@@ -64,7 +67,8 @@ searched-start step k meaning window input first now shown busy begun = record {
 }
 
 -- it goes on with the next window: nothing of what was reported changes
-pub searched-rolled : {S E : Type 0} (step : Steps S E) (k : Settings) (meaning : Meaning) (gone window input : List ℕ) (first : S)
+pub searched-rolled : {S E : Type 0} (step : Steps S E) (k : Settings) (meaning : Meaning) (gone window input : List ℕ)
+    (first : S)
     (w : Walk) (now : S) (passed : HasPassed step k meaning gone window input first w now)
     → (gone' window' : List ℕ) (start : ℕ)
     → IsInWindow k gone' window' input start (recounted w passed.searched.line passed.searched.through)
@@ -77,16 +81,19 @@ searched-rolled step k meaning gone window input first w now passed gone' window
 }
 
 -- at the end of the window all its lines are passed
-pub passed-all : {S E : Type 0} (step : Steps S E) (k : Settings) (meaning : Meaning) (gone window input : List ℕ) (first : S)
+pub passed-all : {S E : Type 0} (step : Steps S E) (k : Settings) (meaning : Meaning) (gone window input : List ℕ)
+    (first : S)
     (p : ℕ) (w : Walk) (now : S) → HasSearched step k meaning gone window input first p w now → p ≡ length window
-    → ((i : ℕ) → IsLineStart (byte_of k.line_terminator) window p i → i ≡ length (lines (byte_of k.line_terminator) window))
+    → ((i : ℕ) → IsLineStart (byte_of k.line_terminator) window p i → i
+    ≡ length (lines (byte_of k.line_terminator) window))
     → HasPassed step k meaning gone window input first w now
 passed-all step k meaning gone window input first p w now so_far end last = record {
   searched = record {
     line = so_far.line;
     through = so_far.through;
     counts = so_far.counts;
-    walked = subst (λ p. HasWalked step k meaning gone window input first p (recounted w so_far.line so_far.through) now) end
+    walked = subst (λ p. HasWalked step k meaning gone window input first p (recounted w so_far.line so_far.through)
+        now) end
         so_far.walked;
   };
   all =
@@ -95,7 +102,8 @@ passed-all step k meaning gone window input first p w now so_far end last = reco
 }
 
 -- once all lines of the input are passed, all calls were made and returned true
-pub counted-passed : {S E : Type 0} (step : Steps S E) (k : Settings) (meaning : Meaning) (gone window input : List ℕ) (first : S)
+pub counted-passed : {S E : Type 0} (step : Steps S E) (k : Settings) (meaning : Meaning) (gone window input : List ℕ)
+    (first : S)
     (w : Walk) (now : S) → HasPassed step k meaning gone window input first w now
     → length (lines (byte_of k.line_terminator) gone) + length (lines (byte_of k.line_terminator) window)
     ≡ length (lines (byte_of k.line_terminator) input)
@@ -125,7 +133,8 @@ module _ {S E F : Type 0} (step : Steps S E) (errors : ErrorMakers E) (matcher :
 
   -- one line, from p up to q of the window
   module _ (bare : Bare k matcher.meaning input) (p q : ℕ) (w : Walk) (now : S)
-      (so_far : HasWalked step k matcher.meaning gone window input first p w now) (below : p < q) (within : q ≤ length window)
+      (so_far : HasWalked step k matcher.meaning gone window input first p w now) (below : p < q)
+      (within : q ≤ length window)
       (line : (i : ℕ) → IsLineStart t window p i → IsLine t window i p q) where
     abbrev here : List ℕ
     here = slice window p q
@@ -135,22 +144,27 @@ module _ {S E F : Type 0} (step : Steps S E) (errors : ErrorMakers E) (matcher :
 
     -- what holds of the bytes in the input holds of them in the window
     shifted : (P : List ℕ → Type 0) → P (slice input (length gone + p) (length gone + q)) → P here
-    shifted P = subst P (windows.slice-in gone window so_far.inside.shown.after input so_far.inside.shown.whole p q (omega arith) within)
+    shifted P = subst P (windows.slice-in gone window so_far.inside.shown.after input so_far.inside.shown.whole p q
+        (omega arith) within)
 
     -- the matcher's error for a question at that line
     pub failed-matcher : can_hit k w ≡ true → (haystack : List ℕ) (error : F) (e : E)
         → IsAsked k matcher.meaning input w.line haystack → errors.is_message (matcher.text_of error) e
         → matcher.fails haystack error → IsLineFault step errors matcher k input first e now
-    failed-matcher room haystack error e asked message fails = walks.fault-matcher step errors matcher k input first w now
-        so_far.reported (length gone + p) (length gone + q) so_far.inside.at at bare room haystack error e asked message fails
+    failed-matcher room haystack error e asked message fails = walks.fault-matcher step errors matcher k input first w
+        now
+        so_far.reported (length gone + p) (length gone + q) so_far.inside.at at bare room haystack error e asked message
+        fails
 
     -- a question about that line alone
     pub asked-line : IsAsked k matcher.meaning input w.line (strip k.line_terminator here)
     asked-line = inl (ap (strip k.line_terminator) (sym (at.line
-        ∙ windows.slice-in gone window so_far.inside.shown.after input so_far.inside.shown.whole p q (omega arith) within)))
+        ∙ windows.slice-in gone window so_far.inside.shown.after input so_far.inside.shown.whole p q (omega arith)
+        within)))
 
     -- a question about the lines from there to the end of the window
-    pub asked-ahead : LinesJoin → MayAskAhead k matcher.meaning w → IsAsked k matcher.meaning input w.line (drop p window)
+    pub asked-ahead : LinesJoin → MayAskAhead k matcher.meaning w
+        → IsAsked k matcher.meaning input w.line (drop p window)
     asked-ahead join may =
         let before = length (lines t gone) in
         let count = length (lines t window) in
@@ -169,7 +183,8 @@ module _ {S E F : Type 0} (step : Steps S E) (errors : ErrorMakers E) (matcher :
           within = omega (arith, there.listed, own.listed);
           lines = sym (ap₂ (λ a b. slice input a b) at.begins
               (ap (line_start t input) (sym sum) ∙ (there.ends ∙ ap (λ n. length gone + n) end))
-              ∙ (windows.slice-in gone window so_far.inside.shown.after input so_far.inside.shown.whole p (length window)
+              ∙ (windows.slice-in gone window so_far.inside.shown.after input so_far.inside.shown.whole p
+              (length window)
               (omega (arith, within)) (omega arith) ∙ take_rest window p));
         })
 
@@ -180,15 +195,19 @@ module _ {S E F : Type 0} (step : Steps S E) (errors : ErrorMakers E) (matcher :
           → P (slice input (length gone + p) (length gone + q))) → P here
       matched P holds = shifted (λ xs. IsDecided k matcher.meaning w xs chosen trailing → P xs) holds decided
 
-      pub failed-line : (e : E) (new : S) → AreReported step k now (line_turns k input w here chosen trailing) (failed e) new
+      pub failed-line : (e : E) (new : S) → AreReported step k now (line_turns k input w here chosen trailing)
+          (failed e) new
           → IsLineFault step errors matcher k input first e new
       failed-line e new = matched
-          (λ xs. AreReported step k now (line_turns k input w xs chosen trailing) (failed e) new → IsLineFault step errors matcher k input first e new)
+          (λ xs. AreReported step k now (line_turns k input w xs chosen trailing) (failed e) new
+          → IsLineFault step errors matcher k input first e new)
           (λ is reported. walks.fault-line step errors matcher k input first e new
-          (walks.failed-line k matcher.meaning input step first bare w now so_far.reported (length gone + p) (length gone + q)
+          (walks.failed-line k matcher.meaning input step first bare w now so_far.reported (length gone + p)
+          (length gone + q)
           so_far.inside.at at chosen trailing is e new reported))
 
-      pub counted-stopped : (new : S) → AreReported step k now (line_turns k input w here chosen trailing) (stopped (line_end w here)) new
+      pub counted-stopped : (new : S) → AreReported step k now (line_turns k input w here chosen trailing)
+          (stopped (line_end w here)) new
           → IsCounted (line_end w here) (stopped (line_end w here)) new
       counted-stopped new = matched
           (λ xs. AreReported step k now (line_turns k input w xs chosen trailing) (stopped (line_end w xs)) new
@@ -205,11 +224,13 @@ module _ {S E F : Type 0} (step : Steps S E) (errors : ErrorMakers E) (matcher :
           (length gone + p) (length gone + q) so_far.inside.at at chosen trailing is new reported over)
 
       -- the window still has the lines that may be reported
-      kept-next : length (lines t gone) + min k.before_context ((w.line + 1) - (after_line k w here chosen).next_unreported) ≤ w.line + 1
+      kept-next : length (lines t gone) + min k.before_context
+          ((w.line + 1) - (after_line k w here chosen).next_unreported) ≤ w.line + 1
       kept-next = go (reports_line k w chosen)
         where
           go : (b : Bool)
-              → length (lines t gone) + min k.before_context ((w.line + 1) - (if b then w.line + 1 else w.next_unreported)) ≤ w.line + 1
+              → length (lines t gone) + min k.before_context
+              ((w.line + 1) - (if b then w.line + 1 else w.next_unreported)) ≤ w.line + 1
           go true = omega (arith, so_far.inside.line.low)
           go false = omega (arith, so_far.inside.kept)
 

@@ -1,5 +1,5 @@
--- The walk of a search across lines: what it knows of the lines before it and of the unit that it comes to, and how
--- lines move it on. No contract of grep_searcher cites these definitions.
+-- The walk of a search across lines: what it knows of the lines before it and of the unit that it
+-- comes to, and how lines move it on. No contract of grep_searcher cites these definitions.
 use Rattle.std.specs.Prelude.{◌≡◌, ℕ, ◌+◌, ◌-◌, ◌<◌, ◌≤◌, Bool, true, false, not, ◌&&◌, nat_lt}
 use Rattle.std.specs.Prelude.{if◌then◌else◌, List, ◌∷◌, length, All}
 use Rattle.grep_matcher.specs.Lines.{lines}
@@ -20,7 +20,8 @@ use Rattle.grep_walk.specs.Walks.{IsPlaced, line_end, after_line}
 abbrev pub is_done : Settings → Walk → Bool
 is_done settings w = settings.invert_match && is_at w.match_count settings.max_matches
 
--- where the next chosen line begins, as far as is known from the unit that a walk at `start` comes to or is in
+-- where the next chosen line begins, as far as is known from the unit that a walk at `start` comes
+-- to or is in
 abbrev pub next_chosen : Settings → List ℕ → ℕ → ℕ × ℕ → Walk → ℕ
 next_chosen settings bytes start unit w =
     if not settings.invert_match then unit.0
@@ -66,8 +67,8 @@ module _ (settings : Settings) (meaning : Meaning) (bytes : List ℕ) where
     pub limited : settings.invert_match ≡ true → IsLimited w.line w.match_count
     pub ended : All (λ turn. turn.end ≤ w.offset) (turns_before w.next_unreported)
 
-  -- a walk at `start` comes to a unit or is in it: without inversion it comes to it. No match touches the line before
-  -- the unit
+  -- a walk at `start` comes to a unit or is in it: without inversion it comes to it. No match
+  -- touches the line before the unit
   pub record IsComing (start : ℕ) (unit : ℕ × ℕ) : Type 0 where
     pub low : ℕ
     pub is_unit : IsUnit settings meaning bytes low unit
@@ -76,8 +77,8 @@ module _ (settings : Settings) (meaning : Meaning) (bytes : List ℕ) where
     pub whole : settings.invert_match ≡ false → start ≤ unit.0
     pub alone : 0 < is_unit.first → is_hit settings meaning bytes (is_unit.first - 1) ≡ false
 
-  -- a walk at `start` has come to a unit or is in it, or is at its end. Nothing is known of it if no more lines are
-  -- chosen
+  -- a walk at `start` has come to a unit or is in it, or is at its end. Nothing is known of it if
+  -- no more lines are chosen
   pub record IsReady (start : ℕ) (w : Walk) (unit : ℕ × ℕ) (blocks : Blocks) : Type 0 where
     pub left : AreLeft settings meaning bytes blocks
     pub end : blocks.end ≡ unit.1

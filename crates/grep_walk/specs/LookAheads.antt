@@ -1,6 +1,7 @@
--- What a walk knows of the lines from its line on, and which of them it may skip. No contract of grep_searcher cites
--- these definitions.
-use Rattle.std.specs.Prelude.{◌≡◌, ℕ, ◌<◌, ◌≤◌, Bool, true, false, not, ◌&&◌, ◌==◌, if◌then◌else◌, nat_lt}
+-- What a walk knows of the lines from its line on, and which of them it may skip. No contract of
+-- grep_searcher cites these definitions.
+use Rattle.std.specs.Prelude.{◌≡◌, ℕ, ◌<◌, ◌≤◌, Bool, true, false, not, ◌&&◌, ◌==◌, if◌then◌else◌}
+use Rattle.std.specs.Prelude.{nat_lt}
 use Rattle.std.specs.Prelude.{List, length, Option, Some, None}
 use Rattle.grep_lines.specs.Positions.{slice, IsLine, IsLineStart}
 use Rattle.grep_matcher.specs.Matching.{Meaning}

@@ -1,5 +1,5 @@
--- The units of lines that the matches of a search across lines touch, one after another. No contract of grep_searcher
--- cites these definitions.
+-- The units of lines that the matches of a search across lines touch, one after another. No
+-- contract of grep_searcher cites these definitions.
 use Rattle.std.specs.Prelude.{◌≡◌, ℕ, ◌+◌, ◌-◌, ◌<◌, ◌≤◌, Bool, true, false, ◌&&◌, nat_lt, nat_le}
 use Rattle.std.specs.Prelude.{List, [], ◌∷◌, ◌++◌, length, drop, Option, Some, None, IfSome, IfNone}
 use Rattle.std.specs.List.{list_any}
@@ -34,8 +34,8 @@ module _ (settings : Settings) (meaning : Meaning) (bytes : List ℕ) where
   abbrev pub is_hit : ℕ → Bool
   is_hit j = is_touched settings meaning bytes (counted_matches settings meaning bytes) j
 
-  -- a range of whole lines. It begins at `low`, or after it if `low` is neither 0 nor the end, and it has a line unless
-  -- it is at the end
+  -- a range of whole lines. It begins at `low`, or after it if `low` is neither 0 nor the end, and
+  -- it has a line unless it is at the end
   pub record IsRange (low : ℕ) (unit : ℕ × ℕ) : Type 0 where
     -- its first line, and one more than its last
     pub first : ℕ
@@ -48,7 +48,8 @@ module _ (settings : Settings) (meaning : Meaning) (bytes : List ℕ) where
     pub apart : 0 < low → low < length bytes → low < unit.0
     pub some : unit.0 < length bytes → unit.0 < unit.1
 
-  -- the next longest run of lines that matches touch, if the lines before `low` were passed: such a range
+  -- the next longest run of lines that matches touch, if the lines before `low` were passed: such a
+  -- range
   pub record IsUnit (low : ℕ) (unit : ℕ × ℕ) : Type 0 where
     pub first : ℕ
     pub begins : IsLineStart (byte_of settings.line_terminator) bytes unit.0 first
@@ -95,8 +96,8 @@ module _ (settings : Settings) (meaning : Meaning) (bytes : List ℕ) where
     pub found : (asked : List (ℕ × ℕ)) → AreFound old.position old.left asked
         → AreFound new.position new.left asked
 
-  -- the matches that were found touch the lines of one range, of those from a position on, and no match that is still
-  -- to be found touches a line before it
+  -- the matches that were found touch the lines of one range, of those from a position on, and no
+  -- match that is still to be found touches a line before it
   pub record AreTouched (end position : ℕ) (asked : List (ℕ × ℕ)) (unit : Option (ℕ × ℕ))
       : Type 0 where
     pub same : (j : ℕ) → j < line_count settings meaning bytes

@@ -1,6 +1,7 @@
--- The walk over the lines of some bytes: what it reports of the line that it is at, how that line moves it on, and what
--- it comes to. No contract of grep_searcher cites these definitions.
-use Rattle.std.specs.Prelude.{◌≡◌, ℕ, ◌+◌, ◌-◌, ◌<◌, ◌≤◌, Bool, true, false, not, ◌&&◌, ◌||◌, ◌==◌, if◌then◌else◌, nat_lt, List, []}
+-- The walk over the lines of some bytes: what it reports of the line that it is at, how that line
+-- moves it on, and what it comes to. No contract of grep_searcher cites these definitions.
+use Rattle.std.specs.Prelude.{◌≡◌, ℕ, ◌+◌, ◌-◌, ◌<◌, ◌≤◌, Bool, true, false, not, ◌&&◌, ◌||◌, ◌==◌}
+use Rattle.std.specs.Prelude.{if◌then◌else◌, nat_lt, List, []}
 use Rattle.std.specs.Prelude.{◌++◌, length, All}
 use Rattle.grep_matcher.specs.Terminators.{byte_of}
 use Rattle.grep_matcher.specs.Lines.{lines}
@@ -30,11 +31,13 @@ trails Chosen = false
 trails Trailing = true
 trails Missed = false
 
--- whether the line that a walk is at may be a match: the limit has room, or lines are left in the context after a match
+-- whether the line that a walk is at may be a match: the limit has room, or lines are left in the
+-- context after a match
 abbrev pub can_hit : Settings → Walk → Bool
 can_hit settings w = not (is_at w.match_count settings.max_matches) || nat_lt 0 w.after_context_left
 
--- whether the line that a walk is at is chosen, and in the context after a match whether it is trailing
+-- whether the line that a walk is at is chosen, and in the context after a match whether it is
+-- trailing
 pub record IsDecided (settings : Settings) (meaning : Meaning) (w : Walk) (line : List ℕ)
     (chosen trailing : Bool) : Type 0 where
   pub chosen_is : chosen ≡ (not (is_at w.match_count settings.max_matches)
@@ -116,7 +119,8 @@ IsCount all_true whole count = count ≡ whole
 IsCount (stopped end) whole count = count ≡ end
 IsCount (failed e) whole count = ⊥
 
--- the calls were made up to the first false or the last, with this outcome, and that is the byte count
+-- the calls were made up to the first false or the last, with this outcome, and that is the byte
+-- count
 pub record Counted {S E : Type 0} (step : Steps S E) (settings : Settings) (old : S)
     (turns : List Turn)
     (whole count : ℕ) (outcome : Outcome E) (new : S) : Type 0 where
@@ -137,8 +141,8 @@ module _ (settings : Settings) (meaning : Meaning) (bytes : List ℕ) where
     pub low : w.next_unreported ≤ w.line
     pub few : w.match_count ≤ w.line
 
-  -- a walk that goes on: which lines were reported, what is known of limit and stop, and that the turns so far have
-  -- ended
+  -- a walk that goes on: which lines were reported, what is known of limit and stop, and that the
+  -- turns so far have ended
   pub record IsWalk (w : Walk) : Type 0 where
     pub placed : IsPlaced w
     pub near : IsNear settings meaning bytes w.next_unreported w.line w.after_context_left

@@ -1,4 +1,5 @@
--- A walk over the lines of an input of which a window is shown. No contract of grep_searcher cites these definitions.
+-- A walk over the lines of an input of which a window is shown. No contract of grep_searcher cites
+-- these definitions.
 use Rattle.std.specs.Prelude.{◌≡◌, ℕ, ◌+◌, ◌-◌, ◌≤◌, min, List, ◌++◌, length}
 use Rattle.grep_matcher.specs.Terminators.{byte_of}
 use Rattle.grep_matcher.specs.Lines.{lines}
@@ -9,7 +10,8 @@ use Rattle.grep_definitions.specs.SinkRuns.{Steps}
 use Rattle.grep_walk.specs.declared.walk.Walk.{Walk}
 use Rattle.grep_walk.specs.Walks.{AreCounts, HasReported, recounted}
 
--- a window shows bytes of the input, after those that are gone, and its lines are lines of the input
+-- a window shows bytes of the input, after those that are gone, and its lines are lines of the
+-- input
 pub record IsWindow (t : ℕ) (gone window input : List ℕ) : Type 0 where
   pub after : List ℕ
   pub whole : input ≡ gone ++ (window ++ after)
@@ -22,8 +24,8 @@ pub record IsLineIn (settings : Settings) (gone window : List ℕ) (position i :
   pub begins : IsLineStart (byte_of settings.line_terminator) window position
       (i - length (lines (byte_of settings.line_terminator) gone))
 
--- a walk is at `start` of a window, and of the lines before that which weren't reported the window has as many as are
--- reported with a match
+-- a walk is at `start` of a window, and of the lines before that which weren't reported the window
+-- has as many as are reported with a match
 pub record IsInWindow (settings : Settings) (gone window input : List ℕ) (start : ℕ)
     (w : Walk) : Type 0 where
   pub shown : IsWindow (byte_of settings.line_terminator) gone window input

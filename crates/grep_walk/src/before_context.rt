@@ -1,6 +1,7 @@
-//! The lines before a match: which of them are reported with it, which are kept for a match that is still to come, and
-//! where a break is.
-ghost use Rattle.std.specs.Prelude.{◌≡◌, ◌≤◌, ◌<◌, ◌-◌, ◌&&◌, ◌++◌, ℕ, List, nat_lt, length, take, drop};
+//! The lines before a match: which of them are reported with it, which are kept for a match that is
+//! still to come, and where a break is.
+ghost use Rattle.std.specs.Prelude.{◌≡◌, ◌≤◌, ◌<◌, ◌-◌, ◌&&◌, ◌++◌, ℕ, List, nat_lt, length, take};
+ghost use Rattle.std.specs.Prelude.{drop};
 ghost use Rattle.std.specs.Prelude.{slice_index, min};
 ghost use Rattle.grep_matcher.specs.Terminators.{byte_of};
 ghost use Rattle.grep_matcher.specs.Lines.{lines};
@@ -25,8 +26,8 @@ impl Config {
         self.before_context.min(passed)
     }
 
-    /// Where the last lines before a position begin, so many of them; 0 if there are fewer. The caller ensures that the
-    /// position is within the window.
+    /// Where the last lines before a position begin, so many of them; 0 if there are fewer. The
+    /// caller ensures that the position is within the window.
     pub fn step_back(&self, window: &[u8], position: usize, lines: usize) -> usize
         requires { position ≤ length window.now }
         ensures within { result ≤ position }
@@ -44,8 +45,9 @@ impl Config {
         preceding_by_pos(window, position, terminator, lines - 1)
     }
 
-    /// The index in a window, over whose lines a walk has gone, from which on bytes are kept when the next window is
-    /// shown: those of the last lines that weren't reported, as many as are reported with a match.
+    /// The index in a window, over whose lines a walk has gone, from which on bytes are kept when
+    /// the next window is shown: those of the last lines that weren't reported, as many as are
+    /// reported with a match.
     pub fn first_kept(&self, window: &[u8], walk: &Walk) -> usize
         ensures within { result ≤ length window.now }
         ensures few { length
@@ -76,8 +78,8 @@ impl Config {
         self.step_back(window, window.len(), near)
     }
 
-    /// Whether lines were left out before the one with this index, which is reported before the chosen one that a walk
-    /// is at, or is that line: the caller ensures that it is no later one.
+    /// Whether lines were left out before the one with this index, which is reported before the
+    /// chosen one that a walk is at, or is that line: the caller ensures that it is no later one.
     pub fn is_gap(&self, index: u64, walk: &Walk) -> bool
         requires { index ≤ walk.now.line }
         ensures { result ≡ is_gap self.now walk.now.next_unreported index walk.now.line }
@@ -86,8 +88,8 @@ impl Config {
         walk.next_unreported > 0 && walk.next_unreported < index && is_first
     }
 
-    /// Whether lines were left out before the chosen one that a walk is at. If there are lines before a match, the
-    /// break comes before the first of them.
+    /// Whether lines were left out before the chosen one that a walk is at. If there are lines
+    /// before a match, the break comes before the first of them.
     pub fn is_gap_before_match(&self, walk: &Walk) -> bool
         ensures { result ≡ (nat_lt 0 self.now.after_context
             && is_gap self.now walk.now.next_unreported walk.now.line walk.now.line) }

@@ -13,8 +13,8 @@ use crate::config::Config;
 use grep_lines::locate;
 use grep_matcher::{Match, Matcher};
 
-/// How far a search across lines has looked for matches. The block of a match is the whole lines that it extends over,
-/// and a unit is a longest run of lines that matches touch.
+/// How far a search across lines has looked for matches. The block of a match is the whole lines
+/// that it extends over, and a unit is a longest run of lines that matches touch.
 #[derive(Clone, Copy)]
 pub struct Blocks {
     /// Where the next match is looked for.
@@ -49,8 +49,8 @@ impl Config {
         Ok(blocks)
     }
 
-    // How many matches count, if there is a limit: under inversion the limit is one of lines, and all count unless it
-    // is 0.
+    // How many matches count, if there is a limit: under inversion the limit is one of lines, and
+    // all count unless it is 0.
     fn match_limit(&self) -> Option<u64>
         ensures { result ≡ match_limit self.now }
     {
@@ -60,8 +60,9 @@ impl Config {
         self.max_matches
     }
 
-    /// Returns the next unit, and moves past it. At the end of the bytes, if there is no other, it is empty. The error is
-    /// the matcher's. The caller ensures that the blocks are those that the step before left.
+    /// Returns the next unit, and moves past it. At the end of the bytes, if there is no other, it
+    /// is empty. The error is the matcher's. The caller ensures that the blocks are those that the
+    /// step before left.
     pub fn next_unit<M: Matcher>(
         &self,
         matcher: &M,
@@ -157,7 +158,8 @@ fn is_passed(found: Match, position: usize) -> bool
     found.start() < position && found.end() <= position
 }
 
-// Where the match after a match is looked for: from its end, and after an empty match from one byte later.
+// Where the match after a match is looked for: from its end, and after an empty match from one byte
+// later.
 fn position_after(found: Match) -> usize
     requires { found.1 + 1 < 2 ^ 64 }
     ensures { result ≡ position_after found }

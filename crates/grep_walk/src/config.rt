@@ -10,7 +10,8 @@ use grep_matcher::{LineTerminator, Matcher};
 use grep_report::{BinaryDetection, ConfigError, Encoding, MmapChoice};
 use std::marker::Model;
 
-/// The settings: what a builder sets and a searcher keeps. A searcher's are 0 in both contexts under `passthru`.
+/// The settings: what a builder sets and a searcher keeps. A searcher's are 0 in both contexts
+/// under `passthru`.
 #[derive(Clone, Copy, Debug)]
 pub struct Config {
     /// What ends a line.
@@ -39,7 +40,8 @@ pub struct Config {
     pub bom_sniffing: bool,
     /// Whether the first line that isn't selected, after one that is, ends the search.
     pub stop_on_nonmatch: bool,
-    /// How many lines are selected at most, or across lines how many matches count, if there is a limit.
+    /// How many lines are selected at most, or across lines how many matches count, if there is a
+    /// limit.
     pub max_matches: Option<u64>,
 }
 
@@ -100,9 +102,9 @@ impl Config {
         }
     }
 
-    /// Whether a search with this matcher runs across lines: if `multi_line` is set, and the matcher doesn't say that
-    /// no match contains the line terminator. It says so by declaring the searcher's terminator, or by having its byte
-    /// among the bytes that no match contains.
+    /// Whether a search with this matcher runs across lines: if `multi_line` is set, and the
+    /// matcher doesn't say that no match contains the line terminator. It says so by declaring the
+    /// searcher's terminator, or by having its byte among the bytes that no match contains.
     pub fn is_across<M: Matcher>(&self, matcher: &M) -> bool
         ensures { result ≡ is_across self.now (M.meaning matcher.now) }
     {
@@ -136,7 +138,8 @@ impl Config {
         }
     }
 
-    /// Whether a search reads after `begin`: some line may have a turn, or a binary byte is looked for.
+    /// Whether a search reads after `begin`: some line may have a turn, or a binary byte is looked
+    /// for.
     pub fn reads_lines(&self) -> bool
         ensures { result ≡ reads_lines self.now }
     {

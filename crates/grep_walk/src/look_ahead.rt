@@ -1,5 +1,5 @@
-//! What a walk knows of the lines from its line on: what a matcher found in many lines at once, and which of them the
-//! walk skips.
+//! What a walk knows of the lines from its line on: what a matcher found in many lines at once, and
+//! which of them the walk skips.
 ghost use Rattle.std.specs.Prelude.{◌≡◌, ◌≤◌, ◌<◌, ◌+◌, ◌-◌, ◌^◌, ℕ, true, if◌then◌else◌};
 ghost use Rattle.std.specs.Prelude.{length, drop, IfOk, IfErr, IfSome, IfNone};
 ghost use Rattle.grep_lines.specs.Positions.{slice, IsLine, IsLineStart};
@@ -66,9 +66,9 @@ impl Ahead {
 }
 
 impl Config {
-    /// Learns more if nothing is known of the line at `start`, and the matcher may be asked about many lines at once.
-    /// The caller ensures that a line of the window begins there. What is learnt is true of a matcher that is lawful
-    /// for the terminator. The error is the matcher's.
+    /// Learns more if nothing is known of the line at `start`, and the matcher may be asked about
+    /// many lines at once. The caller ensures that a line of the window begins there. What is
+    /// learnt is true of a matcher that is lawful for the terminator. The error is the matcher's.
     pub fn look_ahead<M: Matcher>(
         &self,
         matcher: &M,
@@ -146,11 +146,18 @@ impl Config {
         }
     }
 
-    /// Skips the lines from `start` on that are known not to match, if none of them can be reported: moves the walk
-    /// past them and returns where it is then, in bytes of the window. They are counted only if lines are numbered or
-    /// have contexts. The caller ensures that `start` is in the window, where the walk is, and that the offset of the
-    /// window's end is below 2^64.
-    pub fn skip_unmatched(&self, window: &[u8], start: usize, ahead: &Ahead, walk: &mut Walk) -> usize
+    /// Skips the lines from `start` on that are known not to match, if none of them can be
+    /// reported: moves the walk past them and returns where it is then, in bytes of the window.
+    /// They are counted only if lines are numbered or have contexts. The caller ensures that
+    /// `start` is in the window, where the walk is, and that the offset of the window's end is
+    /// below 2^64.
+    pub fn skip_unmatched(
+        &self,
+        window: &[u8],
+        start: usize,
+        ahead: &Ahead,
+        walk: &mut Walk,
+    ) -> usize
         requires bounded { IsBounded window.now ahead.now }
         requires inside { start ≤ length window.now }
         requires fits { walk.old.offset + (length window.now - start) < 2 ^ 64 }

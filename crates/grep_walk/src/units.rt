@@ -1,5 +1,6 @@
 //! The steps of a walk across lines, from one unit of lines that matches touch to the next.
-ghost use Rattle.std.specs.Prelude.{◌≡◌, ◌≤◌, ◌<◌, ◌+◌, ◌^◌, ℕ, true, false, List, length, IfOk, IfErr};
+ghost use Rattle.std.specs.Prelude.{◌≡◌, ◌≤◌, ◌<◌, ◌+◌, ◌^◌, ℕ, true, false, List, length, IfOk};
+ghost use Rattle.std.specs.Prelude.{IfErr};
 ghost use Rattle.grep_matcher.specs.Terminators.{byte_of};
 ghost use Rattle.grep_lines.specs.Positions.{IsLine, IsLineStart};
 ghost use Rattle.grep_definitions.specs.AcrossQuestions.{IsAskedAt};
@@ -15,9 +16,10 @@ use grep_lines::line_count;
 use grep_matcher::{Match, Matcher};
 
 impl Config {
-    /// The unit that a walk at `start` comes to or is in: the next one, if the last one is passed. None is looked for
-    /// if no more lines are chosen. The error is the matcher's. The caller ensures that a line begins at `start`, and
-    /// that the unit and the blocks are those of the step before.
+    /// The unit that a walk at `start` comes to or is in: the next one, if the last one is passed.
+    /// None is looked for if no more lines are chosen. The error is the matcher's. The caller
+    /// ensures that a line begins at `start`, and that the unit and the blocks are those of the
+    /// step before.
     pub fn unit_at<M: Matcher>(
         &self,
         matcher: &M,
@@ -48,7 +50,8 @@ impl Config {
         self.next_unit(matcher, bytes, blocks)
     }
 
-    /// Where the next chosen line begins, as far as is known from the unit that a walk at `start` comes to or is in.
+    /// Where the next chosen line begins, as far as is known from the unit that a walk at `start`
+    /// comes to or is in.
     pub fn next_chosen(&self, bytes: &[u8], start: usize, unit: &Match, walk: &Walk) -> usize
         ensures { result ≡ next_chosen self.now bytes.now start unit.now walk.now }
     {
@@ -63,8 +66,9 @@ impl Config {
         }
     }
 
-    /// Where the unit ends that begins at `start`, if it is chosen, and the line, if it isn't. Under inversion a unit
-    /// is one line. The caller ensures that `start` is before the end of the bytes, and of a chosen unit.
+    /// Where the unit ends that begins at `start`, if it is chosen, and the line, if it isn't.
+    /// Under inversion a unit is one line. The caller ensures that `start` is before the end of the
+    /// bytes, and of a chosen unit.
     pub fn end_across(&self, bytes: &[u8], start: usize, unit: &Match, chosen: bool) -> usize
         requires some { start < length bytes.now }
         requires within { unit.now.1 ≤ length bytes.now }
@@ -85,8 +89,8 @@ impl Config {
         }
     }
 
-    /// The walk after a line, or after a unit of chosen lines. The caller ensures that it has a byte, and that the
-    /// offset of its end is below 2^64.
+    /// The walk after a line, or after a unit of chosen lines. The caller ensures that it has a
+    /// byte, and that the offset of its end is below 2^64.
     pub fn after_lines(&self, walk: &Walk, lines: &[u8], chosen: bool) -> Walk
         requires fits { walk.now.offset + length lines.now < 2 ^ 64 }
         requires some { 0 < length lines.now }

@@ -1,5 +1,5 @@
-//! A walk over the lines of some bytes: how far it has come, which line comes next, what it decides of that, and whether
-//! more lines have a turn.
+//! A walk over the lines of some bytes: how far it has come, which line comes next, what it decides
+//! of that, and whether more lines have a turn.
 ghost use Rattle.std.specs.Prelude.{◌≡◌, ◌≤◌, ◌<◌, ◌+◌, ◌^◌, ◌&&◌, ℕ, not, true, false, length};
 ghost use Rattle.std.specs.Prelude.{IfOk, IfErr, IfSome, IfNone, MatchBool, None};
 ghost use Rattle.grep_matcher.specs.Terminators.{byte_of};
@@ -17,8 +17,9 @@ use grep_lines::laws::lines_are_few;
 use grep_lines::{LineStep, line_count, without_terminator};
 use grep_matcher::Matcher;
 
-/// How far a walk over lines has come. Offsets and counts of lines are those of the whole input. A walk may skip lines
-/// that don't match, and counts them only if lines are numbered or have contexts.
+/// How far a walk over lines has come. Offsets and counts of lines are those of the whole input. A
+/// walk may skip lines that don't match, and counts them only if lines are numbered or have
+/// contexts.
 #[derive(Clone, Copy)]
 pub struct Walk {
     /// Where the next line begins, in bytes.
@@ -75,8 +76,8 @@ impl Verdict {
 }
 
 impl Config {
-    /// Where the line ends that begins at a position, in bytes; none at the end of the bytes. The caller ensures that
-    /// the position is within them.
+    /// Where the line ends that begins at a position, in bytes; none at the end of the bytes. The
+    /// caller ensures that the position is within them.
     pub fn next_line(&self, bytes: &[u8], start: usize) -> Option<usize>
         requires { start ≤ length bytes.now }
         ensures within { IfSome result (λ end. (start < end) × (end ≤ length bytes.now)) }
@@ -102,8 +103,8 @@ impl Config {
         window[window.len() - 1] == self.line_terminator.as_byte()
     }
 
-    /// The number of the line with this index, counted from 1, if lines are numbered. The caller ensures that it is
-    /// below 2^64.
+    /// The number of the line with this index, counted from 1, if lines are numbered. The caller
+    /// ensures that it is below 2^64.
     pub fn number(&self, index: u64) -> Option<u64>
         requires { index + 1 < 2 ^ 64 }
         ensures { result ≡ number_of self.now index }
@@ -151,9 +152,10 @@ impl Config {
             || !self.passthru && self.is_full(walk) && walk.after_context_left == 0
     }
 
-    /// Decides whether the line that a walk is at is chosen, or trailing in the context after a match. The matcher is
-    /// asked about it without its terminator, but not if it is `known` whether the line matches, nor past both the limit
-    /// and that context. The error is the matcher's.
+    /// Decides whether the line that a walk is at is chosen, or trailing in the context after a
+    /// match. The matcher is asked about it without its terminator, but not if it is `known`
+    /// whether the line matches, nor past both the limit and that context. The error is the
+    /// matcher's.
     pub fn judge<M: Matcher>(
         &self,
         matcher: &M,
@@ -206,7 +208,8 @@ impl Config {
         }
     }
 
-    /// The walk after a line, by whether it was chosen. The caller ensures that the offset of its end is below 2^64.
+    /// The walk after a line, by whether it was chosen. The caller ensures that the offset of its
+    /// end is below 2^64.
     pub fn after_line(&self, walk: &Walk, line: &[u8], chosen: bool) -> Walk
         requires fits { walk.now.offset + length line.now < 2 ^ 64 }
         requires number { walk.now.line + 1 < 2 ^ 64 }
@@ -235,7 +238,8 @@ impl Config {
         }
     }
 
-    /// The walk after lines that are passed unreported. The caller ensures that the offset of their end is below 2^64.
+    /// The walk after lines that are passed unreported. The caller ensures that the offset of their
+    /// end is below 2^64.
     pub fn skip_lines(&self, walk: &Walk, lines: &[u8]) -> Walk
         requires fits { walk.now.offset + length lines.now < 2 ^ 64 }
         requires ordered { IsOrdered walk.now }

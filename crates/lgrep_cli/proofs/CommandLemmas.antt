@@ -1,6 +1,7 @@
 -- Arguments that are read one after another.
 use Rattle.std.proofs.Common.{◌≡◌, ℕ, List, [], ◌∷◌, length, refl, sym, ap, subst, ◌∙◌, inl, inr, Iter}
-use Rattle.std.specs.Prelude.{Bool, true, false, ◌||◌, ◌⊎◌, ◌↔◌, codes, String, Option, Some, None, Result, Ok, Err, IfOk, if◌then◌else◌}
+use Rattle.std.specs.Prelude.{Bool, true, false, ◌||◌, ◌⊎◌, ◌↔◌, codes, String, Option, Some, None, Result, Ok, Err}
+use Rattle.std.specs.Prelude.{IfOk, if◌then◌else◌}
 use Rattle.std.specs.Prelude.{MatchOption, string_bytes}
 use Rattle.std.specs.Bool.{Decides}
 use Rattle.std.specs.Borrow.{Bor}
@@ -12,8 +13,10 @@ use Rattle.std.proofs.lemmas.Slice.Eq.{bytes_eq-Decides}
 use Rattle.lgrep_cli.specs.declared.options.Options.{Options}
 use Rattle.lgrep_cli.specs.declared.options.OptionsFault.{OptionsFault}
 use Rattle.lgrep_cli.specs.declared.options.OptionsFault.TheVariants.{Usage, Memory}
-use Rattle.lgrep_cli.specs.CommandLine.{Request, AreLast, AreOptionsOf, AskFor, bare, is_dashed, operands, operands_in, operands_of}
-use Rattle.lgrep_cli.specs.CommandLine.{with_number, request_of, text_of, texts, with_invert, with_multi_line, with_passthru, with_count}
+use Rattle.lgrep_cli.specs.CommandLine.{Request, AreLast, AreOptionsOf, AskFor, bare, is_dashed, operands, operands_in}
+use Rattle.lgrep_cli.specs.CommandLine.{operands_of}
+use Rattle.lgrep_cli.specs.CommandLine.{with_number, request_of, text_of, texts, with_invert, with_multi_line}
+use Rattle.lgrep_cli.specs.CommandLine.{with_passthru, with_count}
 use Rattle.lgrep_cli.specs.CommandLine.{with_after, with_before, with_max}
 use Rattle.lgrep_cli.specs.Numerals.{number_of}
 
@@ -60,11 +63,13 @@ over options request = record {
 pub record IsRead (all later : List (String Global)) (options : Options) : Type 0 where
   pub same : option_map settled (request_of (texts all)) ≡ option_map (over options) (request_of (texts later))
 
-option_map-same : {A B : Type 0} → (f g : A → B) → ((x : A) → f x ≡ g x) → (o : Option A) → option_map f o ≡ option_map g o
+option_map-same : {A B : Type 0} → (f g : A → B) → ((x : A) → f x ≡ g x) → (o : Option A) → option_map f o
+    ≡ option_map g o
 option_map-same f g same None = refl
 option_map-same f g same (Some x) = ap Some (same x)
 
-option_map-map : {A B C : Type 0} → (f : B → C) (g : A → B) (o : Option A) → option_map f (option_map g o) ≡ option_map (λ x. f (g x)) o
+option_map-map : {A B C : Type 0} → (f : B → C) (g : A → B) (o : Option A) → option_map f (option_map g o)
+    ≡ option_map (λ x. f (g x)) o
 option_map-map f g None = refl
 option_map-map f g (Some x) = refl
 
@@ -81,7 +86,8 @@ option_or-some None n = refl
 option_or-some (Some x) n = refl
 
 -- nothing is read yet
-pub read-none : (all : List (String Global)) (options : Options) → AreOptionsOf (bare []) options → IsRead all all options
+pub read-none : (all : List (String Global)) (options : Options) → AreOptionsOf (bare []) options
+    → IsRead all all options
 read-none all options none = record { same = option_map-same settled (over options) unset (request_of (texts all)) }
   where
     unset : (request : Request) → settled request ≡ over options request
@@ -103,10 +109,12 @@ read-none all options none = record { same = option_map-same settled (over optio
 -- one more option
 read-option : (all before later : List (String Global)) (options new : Options) (set : Request → Request)
     → request_of (texts before) ≡ option_map set (request_of (texts later))
-    → ((request : Request) → over options (set request) ≡ over new request) → IsRead all before options → IsRead all later new
+    → ((request : Request) → over options (set request) ≡ over new request) → IsRead all before options
+    → IsRead all later new
 read-option all before later options new set is same read = record {
   same =
-      read.same ∙ (ap (λ r. option_map (over options) r) is ∙ (option_map-map (over options) set (request_of (texts later))
+      read.same ∙ (ap (λ r. option_map (over options) r) is
+      ∙ (option_map-map (over options) set (request_of (texts later))
       ∙ option_map-same (λ r. over options (set r)) (over new) same (request_of (texts later))));
 }
 
@@ -142,9 +150,12 @@ count-flag : IsFlag (codes "-c") with_count
 count-flag [] = refl
 count-flag (next ∷ later) = refl
 
-pub invert-read : (all before later : List (String Global)) (argument : String Global) (options : Options) → before ≡ argument ∷ later
-    → string_bytes argument ≡ codes "-v" → IsRead all before options → IsRead all later (record options { invert = true })
-invert-read all before later argument options = flag-read all before later argument options (record options { invert = true })
+pub invert-read : (all before later : List (String Global)) (argument : String Global) (options : Options) → before
+    ≡ argument ∷ later
+    → string_bytes argument ≡ codes "-v" → IsRead all before options
+    → IsRead all later (record options { invert = true })
+invert-read all before later argument options = flag-read all before later argument options
+    (record options { invert = true })
     (codes "-v") with_invert invert-flag (λ request. rw (or-true request.invert) refl)
 
 pub multi_line-read : (all before later : List (String Global)) (argument : String Global) (options : Options)
@@ -157,12 +168,16 @@ multi_line-read all before later argument options = flag-read all before later a
 pub passthru-read : (all before later : List (String Global)) (argument : String Global) (options : Options)
     → before ≡ argument ∷ later → string_bytes argument ≡ codes "--passthru" → IsRead all before options
     → IsRead all later (record options { passthru = true })
-passthru-read all before later argument options = flag-read all before later argument options (record options { passthru = true })
+passthru-read all before later argument options = flag-read all before later argument options
+    (record options { passthru = true })
     (codes "--passthru") with_passthru passthru-flag (λ request. rw (or-true request.passthru) refl)
 
-pub count-read : (all before later : List (String Global)) (argument : String Global) (options : Options) → before ≡ argument ∷ later
-    → string_bytes argument ≡ codes "-c" → IsRead all before options → IsRead all later (record options { count = true })
-count-read all before later argument options = flag-read all before later argument options (record options { count = true })
+pub count-read : (all before later : List (String Global)) (argument : String Global) (options : Options) → before
+    ≡ argument ∷ later
+    → string_bytes argument ≡ codes "-c" → IsRead all before options
+    → IsRead all later (record options { count = true })
+count-read all before later argument options = flag-read all before later argument options
+    (record options { count = true })
     (codes "-c") with_count count-flag (λ request. rw (or-true request.count) refl)
 
 -- an option needs a number
@@ -204,28 +219,34 @@ number-option before argument mid after None flag set n needs split flagged next
 number-option before argument mid after (Some text) flag set n needs split flagged next is =
     ap (λ xs. request_of (texts xs)) (split ∙ ap (λ xs. argument ∷ xs) next)
     ∙ (ap (λ a. request_of (a ∷ string_bytes text.now ∷ texts after.rest.now)) flagged
-    ∙ (needs.more (string_bytes text.now) (texts after.rest.now) ∙ ap (λ o. with_number set o (request_of (texts after.rest.now)))
+    ∙ (needs.more (string_bytes text.now) (texts after.rest.now)
+    ∙ ap (λ o. with_number set o (request_of (texts after.rest.now)))
     (ok-some (number_of (string_bytes text.now)) n is)))
 
 pub after-read : (all before : List (String Global)) (argument : String Global) (mid after : Iter (String Global))
     (read : Option (Bor (String Global))) (options : Options) (n : ℕ)
-    → before ≡ argument ∷ mid.rest.now → string_bytes argument ≡ codes "-A" → IsNext mid read after → number_read read ≡ Ok n
+    → before ≡ argument ∷ mid.rest.now → string_bytes argument ≡ codes "-A" → IsNext mid read after → number_read read
+    ≡ Ok n
     → IsRead all before options → IsRead all after.rest.now (record options { after = n })
 after-read all before argument mid after read options n split flagged next is =
     read-option all before after.rest.now options (record options { after = n }) (with_after n)
-    (number-option before argument mid after read (codes "-A") with_after n after-needs split flagged next is) (λ request. refl)
+    (number-option before argument mid after read (codes "-A") with_after n after-needs split flagged next is)
+    (λ request. refl)
 
 pub before-read : (all before : List (String Global)) (argument : String Global) (mid after : Iter (String Global))
     (read : Option (Bor (String Global))) (options : Options) (n : ℕ)
-    → before ≡ argument ∷ mid.rest.now → string_bytes argument ≡ codes "-B" → IsNext mid read after → number_read read ≡ Ok n
+    → before ≡ argument ∷ mid.rest.now → string_bytes argument ≡ codes "-B" → IsNext mid read after → number_read read
+    ≡ Ok n
     → IsRead all before options → IsRead all after.rest.now (record options { before = n })
 before-read all before argument mid after read options n split flagged next is =
     read-option all before after.rest.now options (record options { before = n }) (with_before n)
-    (number-option before argument mid after read (codes "-B") with_before n before-needs split flagged next is) (λ request. refl)
+    (number-option before argument mid after read (codes "-B") with_before n before-needs split flagged next is)
+    (λ request. refl)
 
 pub max-read : (all before : List (String Global)) (argument : String Global) (mid after : Iter (String Global))
     (read : Option (Bor (String Global))) (options : Options) (n : ℕ)
-    → before ≡ argument ∷ mid.rest.now → string_bytes argument ≡ codes "-m" → IsNext mid read after → number_read read ≡ Ok n
+    → before ≡ argument ∷ mid.rest.now → string_bytes argument ≡ codes "-m" → IsNext mid read after → number_read read
+    ≡ Ok n
     → IsRead all before options → IsRead all after.rest.now (record options { max = Some n })
 max-read all before argument mid after read options n split flagged next is =
     read-option all before after.rest.now options (record options { max = Some n }) (with_max n)
@@ -254,7 +275,8 @@ ended-usage all before after options read ended = read-usage all before.rest.now
 
 -- an option without its number
 pub number-usage : (all before : List (String Global)) (argument : String Global) (mid after : Iter (String Global))
-    (read : Option (Bor (String Global))) (options : Options) (flag : List ℕ) (set : ℕ → Request → Request) (error : OptionsFault)
+    (read : Option (Bor (String Global))) (options : Options) (flag : List ℕ) (set : ℕ → Request → Request)
+    (error : OptionsFault)
     (result : Result Options OptionsFault)
     → NeedsNumber flag set → before ≡ argument ∷ mid.rest.now → string_bytes argument ≡ flag → IsNext mid read after
     → number_read read ≡ Err error → result ≡ Err error → IsRead all before options → IsUsage all result
@@ -263,7 +285,8 @@ number-usage all before argument mid after None options flag set error result ne
     read-usage all before options result reading
     (ap (λ xs. request_of (texts xs)) (split ∙ ap (λ xs. argument ∷ xs) (empty mid.rest.now next.0))
     ∙ (ap (λ a. request_of (a ∷ [])) flagged ∙ needs.alone)) (same ∙ ap Err error_is)
-number-usage all before argument mid after (Some text) options flag set error result needs split flagged next is same reading =
+number-usage all before argument mid after (Some text) options flag set error result needs split flagged next is same
+    reading =
     let none = err-none (number_of (string_bytes text.now)) error is in
     read-usage all before options result reading
     (ap (λ xs. request_of (texts xs)) (split ∙ ap (λ xs. argument ∷ xs) next)
@@ -306,8 +329,10 @@ no-option argument (next ∷ later) otherwise =
       other argument (codes "--") otherwise.end,
     ) refl
 
-pub dashed-usage : (all before later : List (String Global)) (argument : String Global) (options : Options) → before ≡ argument ∷ later
-    → is_dashed (string_bytes argument) ≡ true → IsNoOption (string_bytes argument) → IsRead all before options → IsUsage all (Err Usage)
+pub dashed-usage : (all before later : List (String Global)) (argument : String Global) (options : Options) → before
+    ≡ argument ∷ later
+    → is_dashed (string_bytes argument) ≡ true → IsNoOption (string_bytes argument) → IsRead all before options
+    → IsUsage all (Err Usage)
 dashed-usage all before later argument options split dashed otherwise reading =
     read-usage all before options (Err Usage) reading (ap (λ xs. request_of (texts xs)) split
     ∙ (no-option (string_bytes argument) (texts later) otherwise ∙ rw dashed refl)) refl
@@ -322,10 +347,11 @@ pub record IsEnd (all : List (String Global)) (result : Result Options OptionsFa
   pub usage : IsUsage all result
 
 -- what `with_operands` ensures, if these are the arguments after the options
-pub record IsWithOperands (options : Options) (given : List (List ℕ)) (result : Result Options OptionsFault) : Type 0 where
-  pub same : IfOk result (λ new. new ≡ record options { literal = new.literal; path = new.path })
-  pub are : IfOk result (λ new. operands_in new ≡ given)
-  pub usage : (result ≡ Err Usage) ↔ (operands_of given ≡ None)
+pub record IsWithOperands (options : Options) (given : List (List ℕ)) (result : Result Options OptionsFault) : Type 0
+  where
+    pub same : IfOk result (λ new. new ≡ record options { literal = new.literal; path = new.path })
+    pub are : IfOk result (λ new. operands_in new ≡ given)
+    pub usage : (result ≡ Err Usage) ↔ (operands_of given ≡ None)
 
 operands-request : (literal : List ℕ) (path : Option (List ℕ))
     → operands_of (operands literal path) ≡ Some (record (bare literal) { path = path })
@@ -333,8 +359,10 @@ operands-request literal None = refl
 operands-request literal (Some path) = refl
 
 -- the options are those of a request that comes to their values
-same-options : (request : Request) (options new : Options) → new ≡ record options { literal = new.literal; path = new.path }
-    → settled request ≡ over options (record (bare (string_bytes new.literal)) { path = option_map string_bytes new.path })
+same-options : (request : Request) (options new : Options) → new
+    ≡ record options { literal = new.literal; path = new.path }
+    → settled request ≡ over options (record (bare (string_bytes new.literal))
+    { path = option_map string_bytes new.path })
     → AreOptionsOf request new
 same-options request options new same values = record {
   invert = ap (λ (o : Options). o.invert) same ∙ sym (ap (λ (v : Values). v.invert) values);
@@ -354,7 +382,8 @@ settled-asked None values is = absurd (cc)
 settled-asked (Some request) values is = (request, refl, let same : settled request ≡ values = cc in same)
 
 -- the arguments after the options end the command line
-operands-end : (all : List (String Global)) (given : List (List ℕ)) (options : Options) (result : Result Options OptionsFault)
+operands-end : (all : List (String Global)) (given : List (List ℕ)) (options : Options)
+    (result : Result Options OptionsFault)
     → option_map settled (request_of (texts all)) ≡ option_map (over options) (operands_of given)
     → IsWithOperands options given result → IsEnd all result
 operands-end all given options (Err Usage) same ends =
@@ -381,7 +410,8 @@ operands-end all given options (Ok new) same ends =
     }
 
 pub undashed-end : (all before later rest : List (String Global)) (argument : Bor (String Global)) (options : Options)
-    (result : Result Options OptionsFault) → before ≡ argument.now ∷ later → is_dashed (string_bytes argument.now) ≡ false
+    (result : Result Options OptionsFault) → before ≡ argument.now ∷ later → is_dashed (string_bytes argument.now)
+    ≡ false
     → IsNoOption (string_bytes argument.now) → IsRead all before options → rest ≡ later
     → IsWithOperands options (texts (argument.now ∷ rest)) result → IsEnd all result
 undashed-end all before later rest argument options result split undashed otherwise reading same ends =
@@ -405,13 +435,16 @@ pub marked-end : (all before later rest : List (String Global)) (argument : Stri
 marked-end all before later rest argument mid literal options result split marked reading next same ends =
     operands-end all (texts (literal.now ∷ rest)) options result
     (marked-asked all before mid argument options split marked reading
-    ∙ ap (λ xs. option_map (over options) (operands_of (texts xs))) (next ∙ ap (λ xs. literal.now ∷ xs) (sym same))) ends
+    ∙ ap (λ xs. option_map (over options) (operands_of (texts xs))) (next ∙ ap (λ xs. literal.now ∷ xs) (sym same)))
+    ends
 
 pub marked-usage : (all before : List (String Global)) (argument : String Global) (mid after : Iter (String Global))
-    (options : Options) → before ≡ argument ∷ mid.rest.now → string_bytes argument ≡ codes "--" → IsRead all before options
+    (options : Options) → before ≡ argument ∷ mid.rest.now → string_bytes argument ≡ codes "--"
+    → IsRead all before options
     → IsNext mid None after → IsUsage all (Err Usage)
 marked-usage all before argument mid after options split marked reading ended =
-    let none = map-none settled (request_of (texts all)) (marked-asked all before mid.rest.now argument options split marked reading
+    let none = map-none settled (request_of (texts all))
+    (marked-asked all before mid.rest.now argument options split marked reading
     ∙ ap (λ xs. option_map (over options) (operands_of (texts xs))) (empty mid.rest.now ended.0)) in
     (λ _. none, λ _. refl)
 
@@ -429,7 +462,8 @@ last-more argument last later are = record { front = argument ∷ are.front; spl
 
 last-set : (set : Request → Request) (arguments : List (List ℕ))
     → ((request : Request) → asked_operands (set request) ≡ asked_operands request)
-    → (asked : Option Request) → ((request : Request) → asked ≡ Some request → AreLast (asked_operands request) arguments)
+    → (asked : Option Request) → ((request : Request) → asked ≡ Some request
+    → AreLast (asked_operands request) arguments)
     → (request : Request) → option_map set asked ≡ Some request → AreLast (asked_operands request) arguments
 last-set set arguments keeps None last request is = absurd (cc)
 last-set set arguments keeps (Some later) last request is =
@@ -438,10 +472,12 @@ last-set set arguments keeps (Some later) last request is =
 
 last-numbered : (set : ℕ → Request → Request) (arguments : List (List ℕ))
     → ((n : ℕ) (request : Request) → asked_operands (set n request) ≡ asked_operands request) → (number : Option ℕ)
-    → (asked : Option Request) → ((request : Request) → asked ≡ Some request → AreLast (asked_operands request) arguments)
+    → (asked : Option Request) → ((request : Request) → asked ≡ Some request
+    → AreLast (asked_operands request) arguments)
     → (request : Request) → with_number set number asked ≡ Some request → AreLast (asked_operands request) arguments
 last-numbered set arguments keeps None asked last request is = absurd (cc)
-last-numbered set arguments keeps (Some n) asked last request is = last-set (set n) arguments (keeps n) asked last request is
+last-numbered set arguments keeps (Some n) asked last request is = last-set (set n) arguments (keeps n) asked last
+    request is
 
 operands-last : (arguments : List (List ℕ)) (request : Request) → operands_of arguments ≡ Some request
     → AreLast (asked_operands request) arguments
@@ -470,7 +506,8 @@ request-last (argument ∷ next ∷ later) request is =
     let numbered = λ (are : AreLast (asked_operands request) later).
     more (last-more next (asked_operands request) later are) in
     elim (either (bytes_eq argument (codes "-v")) _ _ request is) [
-      | inl is ↦ more (last-set with_invert (next ∷ later) (λ r. refl) (request_of (next ∷ later)) (request-last (next ∷ later))
+      | inl is ↦ more (last-set with_invert (next ∷ later) (λ r. refl) (request_of (next ∷ later))
+          (request-last (next ∷ later))
           request is)
       | inr is ↦ elim (either (bytes_eq argument (codes "-U")) _ _ request is) [
         | inl is ↦ more (last-set with_multi_line (next ∷ later) (λ r. refl) (request_of (next ∷ later))

@@ -69,7 +69,8 @@ pub path : request_of (codes "a" ∷ codes "b" ∷ []) ≡ Some (record (bare (c
 path = refl
 
 -- lgrep a -v
-pub dashed_path : request_of (codes "a" ∷ codes "-v" ∷ []) ≡ Some (record (bare (codes "a")) { path = Some (codes "-v") })
+pub dashed_path : request_of (codes "a" ∷ codes "-v" ∷ [])
+    ≡ Some (record (bare (codes "a")) { path = Some (codes "-v") })
 dashed_path = refl
 
 -- lgrep -- a b

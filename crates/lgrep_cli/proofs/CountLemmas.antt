@@ -1,7 +1,8 @@
 -- What a search of a reader whose matches are counted has written.
 use Rattle.std.proofs.Common.{◌≡◌, ℕ, ◌-◌, ◌^◌, min, List, [], ◌∷◌, ◌++◌, length, refl, sym, ap, ◌∙◌, subst, arith}
 use Rattle.std.proofs.lemmas.Bool.{lt-ltb}
-use Rattle.std.specs.Prelude.{Bool, true, false, not, ◌||◌, decimal, if◌then◌else◌, nat_lt, Option, None, Result, Ok, Err, IfOk, IfErr, MatchResult}
+use Rattle.std.specs.Prelude.{Bool, true, false, not, ◌||◌, decimal, if◌then◌else◌, nat_lt, Option, None, Result, Ok}
+use Rattle.std.specs.Prelude.{Err, IfOk, IfErr, MatchResult}
 use Rattle.std.specs.Global.{Global}
 use Rattle.std.specs.declared.io.Error.{Error}
 use Rattle.grep_decode.specs.Source.{ReadResult}
@@ -47,86 +48,102 @@ pub allowed : (options : Options) (state : SearcherState) (literal : List ℕ) �
     → refusal_of state.settings (literal_meaning literal) ≡ None
 allowed options state literal same = ap (λ (s : SearcherState). refusal_of s.settings (literal_meaning literal)) same
 
-module _ {R W : Type 0} (remaining : R → Option (List ℕ)) (read_step : R → ReadResult → R → Type 0) (write_step : W → OutputCall → W → Type 0) (options : Options) (counts : options.count ≡ true) (reader reader' : R) where
-  -- some text, if matches are counted
-  counted-text : (lines counted : List ℕ) (old : W) (result : Result (Unit {0}) Error) (new : W)
-      → Writes write_step old counted result new → Writes write_step old (if options.count then counted else lines) result new
-  counted-text lines counted old result new written =
-      subst (λ b. Writes write_step old (if b then counted else lines) result new) (sym counts) written
+module _ {R W : Type 0} (remaining : R → Option (List ℕ)) (read_step : R → ReadResult → R → Type 0)
+    (write_step : W → OutputCall → W → Type 0) (options : Options) (counts : options.count ≡ true) (reader reader' : R)
+  where
+    -- some text, if matches are counted
+    counted-text : (lines counted : List ℕ) (old : W) (result : Result (Unit {0}) Error) (new : W)
+        → Writes write_step old counted result new → Writes write_step old (if options.count then counted else lines)
+        result new
+    counted-text lines counted old result new written =
+        subst (λ b. Writes write_step old (if b then counted else lines) result new) (sym counts) written
 
-  -- a search counted the matches of its calls, whatever follows what was taken
-  pub record IsCounted (n : ℕ) : Type 0 where
-    pub taken : Taken remaining read_step reader reader'
-    pub is : (bytes : List ℕ) → Input options taken bytes → n ≡ match_count (calls_of options bytes)
+    -- a search counted the matches of its calls, whatever follows what was taken
+    pub record IsCounted (n : ℕ) : Type 0 where
+      pub taken : Taken remaining read_step reader reader'
+      pub is : (bytes : List ℕ) → Input options taken bytes → n ≡ match_count (calls_of options bytes)
 
-  pub counted : (state : SearcherState) (literal : List ℕ) (n : ℕ) (taken : Taken remaining read_step reader reader')
-      (end : List ℕ → ℕ) (start : ℕ)
-      → NumbersChangeNoCount → NumbersChangeNoBytes → RunsCountAll (SearchError Global)
-      → state ≡ searcher_of options → literal_meaning literal ≡ meaning_of options → start ≡ 0
-      → ((bytes : List ℕ) → IsInput state.settings taken.ended taken.pieces bytes
-      → IsRun {E = SearchError Global} IsCountStep state.settings start (search_turns state.settings (literal_meaning literal) bytes)
-      (end bytes) None (Ok tt) n)
-      → IsCounted n
-  counted state literal n taken end start no_count no_bytes count same_state same_meaning none run = record {
-    taken = taken;
-    is = λ bytes input.
-        let seen : IsInput state.settings taken.ended taken.pieces bytes =
-        subst (λ (s : SearcherState). IsInput s.settings taken.ended taken.pieces bytes) (sym same_state)
-        (input.0, input.1, input.2 ∙ sym (no_bytes (settings_of_options options) (not options.count) _)) in
-        count state.settings (search_turns state.settings (literal_meaning literal) bytes) (end bytes) None n
-        (subst (λ m. IsRun {E = SearchError Global} IsCountStep state.settings m
-        (search_turns state.settings (literal_meaning literal) bytes) (end bytes) None (Ok tt) n) none (run bytes seen))
-        ∙ ap (λ (s : SearcherState). min (length (match_calls (search_turns s.settings (literal_meaning literal) bytes))) (2 ^ 64 - 1))
-        same_state
-        ∙ ap (λ m. min (length (match_calls (search_turns (searched_settings options) m bytes))) (2 ^ 64 - 1)) same_meaning
-        ∙ ap (λ m. min m (2 ^ 64 - 1)) (no_count (settings_of_options options) (not options.count) (meaning_of options) bytes);
-  }
+    pub counted : (state : SearcherState) (literal : List ℕ) (n : ℕ) (taken : Taken remaining read_step reader reader')
+        (end : List ℕ → ℕ) (start : ℕ)
+        → NumbersChangeNoCount → NumbersChangeNoBytes → RunsCountAll (SearchError Global)
+        → state ≡ searcher_of options → literal_meaning literal ≡ meaning_of options → start ≡ 0
+        → ((bytes : List ℕ) → IsInput state.settings taken.ended taken.pieces bytes
+        → IsRun {E = SearchError Global} IsCountStep state.settings start
+        (search_turns state.settings (literal_meaning literal) bytes)
+        (end bytes) None (Ok tt) n)
+        → IsCounted n
+    counted state literal n taken end start no_count no_bytes count same_state same_meaning none run = record {
+      taken = taken;
+      is = λ bytes input.
+          let seen : IsInput state.settings taken.ended taken.pieces bytes =
+          subst (λ (s : SearcherState). IsInput s.settings taken.ended taken.pieces bytes) (sym same_state)
+          (input.0, input.1, input.2 ∙ sym (no_bytes (settings_of_options options) (not options.count) _)) in
+          count state.settings (search_turns state.settings (literal_meaning literal) bytes) (end bytes) None n
+          (subst (λ m. IsRun {E = SearchError Global} IsCountStep state.settings m
+          (search_turns state.settings (literal_meaning literal) bytes) (end bytes) None (Ok tt) n) none
+          (run bytes seen))
+          ∙ ap (λ (s : SearcherState). min (length (match_calls
+          (search_turns s.settings (literal_meaning literal) bytes))) (2 ^ 64 - 1))
+          same_state
+          ∙ ap (λ m. min (length (match_calls (search_turns (searched_settings options) m bytes))) (2 ^ 64 - 1))
+          same_meaning
+          ∙ ap (λ m. min m (2 ^ 64 - 1)) (no_count (settings_of_options options) (not options.count)
+          (meaning_of options)
+          bytes);
+    }
 
-  -- the count is written
-  count-printed : (n : ℕ) (found : Bool) (old new : W) → IsCounted n → found ≡ nat_lt 0 n
-      → Writes write_step old (decimal n ++ 10 ∷ []) (Ok tt) new
-      → IsPrinted remaining read_step write_step options reader old found reader' new
-  count-printed n found old new count is written = record {
-    taken = count.taken;
-    written = λ bytes input. counted-text (text (calls_of options bytes)) (count_text (calls_of options bytes)) old (Ok tt) new
-        (subst (λ m. Writes write_step old (decimal m ++ 10 ∷ []) (Ok tt) new) (count.is bytes input) written);
-    is_found = λ bytes input. is ∙ ap (nat_lt 0) (count.is bytes input) ∙ found-count (calls_of options bytes);
-  }
+    -- the count is written
+    count-printed : (n : ℕ) (found : Bool) (old new : W) → IsCounted n → found ≡ nat_lt 0 n
+        → Writes write_step old (decimal n ++ 10 ∷ []) (Ok tt) new
+        → IsPrinted remaining read_step write_step options reader old found reader' new
+    count-printed n found old new count is written = record {
+      taken = count.taken;
+      written = λ bytes input. counted-text (text (calls_of options bytes)) (count_text (calls_of options bytes)) old
+          (Ok tt) new
+          (subst (λ m. Writes write_step old (decimal m ++ 10 ∷ []) (Ok tt) new) (count.is bytes input) written);
+      is_found = λ bytes input. is ∙ ap (nat_lt 0) (count.is bytes input) ∙ found-count (calls_of options bytes);
+    }
 
-  -- or the writer failed
-  count-cut : (n : ℕ) (e : SearchError Global) (error : Error) (old new : W) → IsCounted n → e ≡ Io error
-      → Writes write_step old (decimal n ++ 10 ∷ []) (Err error) new
-      → IsFailure remaining read_step write_step options reader old e reader' new
-  count-cut n e error old new count is written =
-      subst (λ x. IsFailure remaining read_step write_step options reader old x reader' new) (sym is)
-      (of_write count.taken (λ bytes input.
-      counted-text (text (calls_of options bytes)) (count_text (calls_of options bytes)) old (Err error) new
-      (subst (λ m. Writes write_step old (decimal m ++ 10 ∷ []) (Err error) new) (count.is bytes input) written)))
+    -- or the writer failed
+    count-cut : (n : ℕ) (e : SearchError Global) (error : Error) (old new : W) → IsCounted n → e ≡ Io error
+        → Writes write_step old (decimal n ++ 10 ∷ []) (Err error) new
+        → IsFailure remaining read_step write_step options reader old e reader' new
+    count-cut n e error old new count is written =
+        subst (λ x. IsFailure remaining read_step write_step options reader old x reader' new) (sym is)
+        (of_write count.taken (λ bytes input.
+        counted-text (text (calls_of options bytes)) (count_text (calls_of options bytes)) old (Err error) new
+        (subst (λ m. Writes write_step old (decimal m ++ 10 ∷ []) (Err error) new) (count.is bytes input) written)))
 
-  -- or the input wasn't read to its end, and nothing is written
-  pub count-unread : (state : SearcherState) (literal : List ℕ) (seen : Option (List ℕ)) (e : SearchError Global) (error : Error)
-      (old new : W) (flushed : Result (Unit {0}) Error) → state ≡ searcher_of options → literal_meaning literal ≡ meaning_of options
-      → IsUnread remaining read_step state (literal_meaning literal) reader seen error reader' → e ≡ Io error
-      → write_step old (flushes flushed) new → IsFailure remaining read_step write_step options reader old e reader' new
-  count-unread state literal seen e error old new flushed same_state same_meaning unread is last =
-      subst (λ x. IsFailure remaining read_step write_step options reader old x reader' new) (sym is)
-      (of_reader seen flushed
-      (subst (λ m. IsUnread remaining read_step (searcher_of options) m reader seen error reader') same_meaning
-      (subst (λ s. IsUnread remaining read_step s (literal_meaning literal) reader seen error reader') same_state unread))
-      (counted-text (text (calls_over options seen)) [] old (Ok tt) old (Writes-none write_step old)) last)
+    -- or the input wasn't read to its end, and nothing is written
+    pub count-unread : (state : SearcherState) (literal : List ℕ) (seen : Option (List ℕ)) (e : SearchError Global)
+        (error : Error)
+        (old new : W) (flushed : Result (Unit {0}) Error) → state ≡ searcher_of options → literal_meaning literal
+        ≡ meaning_of options
+        → IsUnread remaining read_step state (literal_meaning literal) reader seen error reader' → e ≡ Io error
+        → write_step old (flushes flushed) new → IsFailure remaining read_step write_step options reader old e reader'
+        new
+    count-unread state literal seen e error old new flushed same_state same_meaning unread is last =
+        subst (λ x. IsFailure remaining read_step write_step options reader old x reader' new) (sym is)
+        (of_reader seen flushed
+        (subst (λ m. IsUnread remaining read_step (searcher_of options) m reader seen error reader') same_meaning
+        (subst (λ s. IsUnread remaining read_step s (literal_meaning literal) reader seen error reader') same_state
+        unread))
+        (counted-text (text (calls_over options seen)) [] old (Ok tt) old (Writes-none write_step old)) last)
 
-  -- what was written of a count, by what was returned
-  abbrev pub IsWritten : ℕ → Result Bool (SearchError Global) → W → W → Type 0
-  IsWritten n result old new = MatchResult result
-      (λ found. (found ≡ nat_lt 0 n) × Writes write_step old (decimal n ++ 10 ∷ []) (Ok tt) new)
-      (λ e. (error : Error) × (e ≡ Io error) × Writes write_step old (decimal n ++ 10 ∷ []) (Err error) new)
+    -- what was written of a count, by what was returned
+    abbrev pub IsWritten : ℕ → Result Bool (SearchError Global) → W → W → Type 0
+    IsWritten n result old new = MatchResult result
+        (λ found. (found ≡ nat_lt 0 n) × Writes write_step old (decimal n ++ 10 ∷ []) (Ok tt) new)
+        (λ e. (error : Error) × (e ≡ Io error) × Writes write_step old (decimal n ++ 10 ∷ []) (Err error) new)
 
-  pub written-printed : (n : ℕ) (result : Result Bool (SearchError Global)) (old new : W) → IsCounted n → IsWritten n result old new
-      → IfOk result (λ found. IsPrinted remaining read_step write_step options reader old found reader' new)
-  written-printed n (Ok found) old new count written = count-printed n found old new count written.0 written.1
-  written-printed n (Err e) old new count written = tt
+    pub written-printed : (n : ℕ) (result : Result Bool (SearchError Global)) (old new : W) → IsCounted n
+        → IsWritten n result old new
+        → IfOk result (λ found. IsPrinted remaining read_step write_step options reader old found reader' new)
+    written-printed n (Ok found) old new count written = count-printed n found old new count written.0 written.1
+    written-printed n (Err e) old new count written = tt
 
-  pub written-failed : (n : ℕ) (result : Result Bool (SearchError Global)) (old new : W) → IsCounted n → IsWritten n result old new
-      → IfErr result (λ e. IsFailure remaining read_step write_step options reader old e reader' new)
-  written-failed n (Ok found) old new count written = tt
-  written-failed n (Err e) old new count written = count-cut n e written.0 old new count written.1 written.2
+    pub written-failed : (n : ℕ) (result : Result Bool (SearchError Global)) (old new : W) → IsCounted n
+        → IsWritten n result old new
+        → IfErr result (λ e. IsFailure remaining read_step write_step options reader old e reader' new)
+    written-failed n (Ok found) old new count written = tt
+    written-failed n (Err e) old new count written = count-cut n e written.0 old new count written.1 written.2

@@ -19,19 +19,23 @@ both false b h = absurd (cc)
 
 -- a result that is a value exactly if that is below a bound
 read_below : {E : Type 0} → (r : Result ℕ E) (digits : Bool) (length value bound : ℕ) → digits ≡ true → 0 < length
-    → OkIff r ((0 < length) × (value < bound)) value → result_ok r ≡ (if digits && nat_lt value bound then Some value else None)
+    → OkIff r ((0 < length) × (value < bound)) value → result_ok r
+    ≡ (if digits && nat_lt value bound then Some value else None)
 read_below (Ok n) digits length value bound whole some (fits, is) = let below = lt-ltb value bound fits.1 in
     rw (whole, below) (ap Some is)
 read_below (Err e) digits length value bound whole some misfits =
-    let below : nat_lt value bound ≡ false = le-ltb value bound (over (λ fits. misfits (some, fits))) in rw (whole, below) refl
+    let below : nat_lt value bound ≡ false = le-ltb value bound (over (λ fits. misfits (some, fits))) in
+    rw (whole, below) refl
   where
     over : (value < bound → ⊥) → bound ≤ value
     over h = omega (arith, h)
 
-pub number-parsed : {E : Type 0} → (text : List ℕ) (r : Result ℕ E) → is_numeral text ≡ true → ParsesUnsigned 32 10 text r
+pub number-parsed : {E : Type 0} → (text : List ℕ) (r : Result ℕ E) → is_numeral text ≡ true
+    → ParsesUnsigned 32 10 text r
     → result_ok r ≡ number_of text
 number-parsed text r digits parsed =
     let parts = both _ (list_all is_ascii_digit text) digits in
     let sizes = both (nat_lt 0 (length text)) _ parts.0 in
-    read_below r (is_numeral text) (length text) (digits_value 10 text) (2 ^ 32) digits (ltb-true 0 (length text) sizes.0)
+    read_below r (is_numeral text) (length text) (digits_value 10 text) (2 ^ 32) digits
+    (ltb-true 0 (length text) sizes.0)
     (parse_digits numerals 32 text r parsed parts.1)

@@ -9,7 +9,8 @@ use Rattle.grep_matcher.specs.Matching.{Meaning}
 use Rattle.grep_searcher.specs.Below.{joined_from}
 use Rattle.grep_searcher.specs.LineSearch
 use Rattle.grep_searcher.specs.Modes.{is_declared}
-use Rattle.grep_searcher.specs.SearchLaws.{MatchesAreMatchedLines, is_match, is_matched, match_calls, match_of, matched_lines}
+use Rattle.grep_searcher.specs.SearchLaws.{MatchesAreMatchedLines, is_match, is_matched, match_calls, match_of}
+use Rattle.grep_searcher.specs.SearchLaws.{matched_lines}
 use Rattle.grep_searcher.specs.SearchTurns.{search_turns}
 use Rattle.grep_searcher.specs.Settings.{Settings}
 use Rattle.grep_searcher.specs.SinkCalls.{Call, Turn, begins, matches, context, breaks, binary_data, finishes}
@@ -20,10 +21,12 @@ abbrev IsAlone : ℕ → List ℕ → Type 0
 IsAlone t line = lines t line ≡ line ∷ []
 
 one_byte : (t b : ℕ) → IsAlone t (b ∷ [])
-one_byte t b = elim (b == t) as (λ e. ◌≡◌ {A = List (List ℕ)} (if e then (b ∷ []) ∷ [] else (b ∷ []) ∷ []) ((b ∷ []) ∷ [])) [ true ↦ refl | false ↦ refl ]
+one_byte t b = elim (b == t) as (λ e. ◌≡◌ {A = List (List ℕ)} (if e then (b ∷ []) ∷ [] else (b ∷ []) ∷ [])
+    ((b ∷ []) ∷ [])) [ true ↦ refl | false ↦ refl ]
 
 -- a byte in front of the first line
-onto-alone : (t b : ℕ) → (b == t) ≡ false → (pieces : List (List ℕ)) → All (IsAlone t) pieces → All (IsAlone t) (onto_first b pieces)
+onto-alone : (t b : ℕ) → (b == t) ≡ false → (pieces : List (List ℕ)) → All (IsAlone t) pieces
+    → All (IsAlone t) (onto_first b pieces)
 onto-alone t b inner [] all = All-cons (IsAlone t) (b ∷ []) [] (one_byte t b) all
 onto-alone t b inner (line ∷ later) all = All-cons (IsAlone t) (b ∷ line) later
     (ap (λ e. if e then (b ∷ []) ∷ lines t line else onto_first b (lines t line)) inner
@@ -58,17 +61,19 @@ inside true b c d e f is = refl
 inside false b c d true f is = is
 inside false b c d false f is = is
 
-module _ (settings : Settings) (meaning : Meaning) (bytes : List ℕ) (feeds : byte_of settings.line_terminator ≡ 10) where
-  matched-inside : (i : ℕ) → is_matched settings meaning bytes i ≡ true → i < LineSearch.line_count settings meaning bytes
-  matched-inside i is = ltb-true i (LineSearch.line_count settings meaning bytes)
-      (inside (nat_lt i (LineSearch.line_count settings meaning bytes)) _ _ _ _ _ is)
+module _ (settings : Settings) (meaning : Meaning) (bytes : List ℕ) (feeds : byte_of settings.line_terminator ≡ 10)
+  where
+    matched-inside : (i : ℕ) → is_matched settings meaning bytes i ≡ true
+        → i < LineSearch.line_count settings meaning bytes
+    matched-inside i is = ltb-true i (LineSearch.line_count settings meaning bytes)
+        (inside (nat_lt i (LineSearch.line_count settings meaning bytes)) _ _ _ _ _ is)
 
-  matched-alone : All IsOneLine (map (match_of settings meaning bytes) (matched_lines settings meaning bytes))
-  matched-alone = All-map IsOneLine (match_of settings meaning bytes) (matched_lines settings meaning bytes)
-      (passing (λ i. IsOneLine (match_of settings meaning bytes i)) (is_matched settings meaning bytes)
-      (λ i is. subst (λ t. IsAlone t (LineSearch.line settings meaning bytes i)) feeds
-      (lines-alone (byte_of settings.line_terminator) bytes i [] (matched-inside i is)))
-      0 (LineSearch.turn_count settings meaning bytes))
+    matched-alone : All IsOneLine (map (match_of settings meaning bytes) (matched_lines settings meaning bytes))
+    matched-alone = All-map IsOneLine (match_of settings meaning bytes) (matched_lines settings meaning bytes)
+        (passing (λ i. IsOneLine (match_of settings meaning bytes i)) (is_matched settings meaning bytes)
+        (λ i is. subst (λ t. IsAlone t (LineSearch.line settings meaning bytes i)) feeds
+        (lines-alone (byte_of settings.line_terminator) bytes i [] (matched-inside i is)))
+        0 (LineSearch.turn_count settings meaning bytes))
 
 -- if each match of some calls is one line, each of the calls is so
 calls-alone : (turns : List Turn) → All IsOneLine (match_calls turns) → All (λ turn. IsOneLine turn.call) turns
@@ -91,10 +96,12 @@ calls-alone (turn ∷ later) all =
 
 -- the calls are as a search makes them
 pub calls-made : MatchesAreMatchedLines → (settings : Settings) (meaning : Meaning) (bytes : List ℕ)
-    → byte_of settings.line_terminator ≡ 10 → All (λ turn. IsMade settings turn.call) (search_turns settings meaning bytes)
+    → byte_of settings.line_terminator ≡ 10 → All (λ turn. IsMade settings turn.call)
+    (search_turns settings meaning bytes)
 calls-made law settings meaning bytes feeds k d within by_line =
     calls-alone (search_turns settings meaning bytes)
     (subst (All IsOneLine)
     (sym (law settings meaning bytes
-    (ap (λ b. b && not (is_declared meaning.terminator settings.line_terminator) && not (meaning.absent (byte_of settings.line_terminator))) by_line)))
+    (ap (λ b. b && not (is_declared meaning.terminator settings.line_terminator)
+    && not (meaning.absent (byte_of settings.line_terminator))) by_line)))
     (matched-alone settings meaning bytes feeds)) k d within

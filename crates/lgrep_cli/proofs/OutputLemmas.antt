@@ -1,5 +1,6 @@
 -- Texts that are written one after another, and known bytes that grow by them.
-use Rattle.std.proofs.Common.{◌≡◌, ◌≢◌, ℕ, ◌+◌, ◌-◌, ◌^◌, ◌<◌, ◌≤◌, List, [], ◌∷◌, ◌++◌, length, arith, refl, sym, ap, ◌∙◌, append_assoc, subst, take, drop}
+use Rattle.std.proofs.Common.{◌≡◌, ◌≢◌, ℕ, ◌+◌, ◌-◌, ◌^◌, ◌<◌, ◌≤◌, List, [], ◌∷◌, ◌++◌, length, arith, refl, sym, ap}
+use Rattle.std.proofs.Common.{◌∙◌, append_assoc, subst, take, drop}
 use Rattle.std.specs.Prelude.{Option, Some, None, Result, Ok, Err}
 use Rattle.std.specs.Io.KnownBytes.{Appends}
 use Rattle.std.specs.IoError.{error_kind}
@@ -8,7 +9,8 @@ use Rattle.std.specs.declared.io.Error.{Error}
 use Rattle.std.specs.declared.io.ErrorKind.TheVariants.{Interrupted}
 use Rattle.std.proofs.lemmas.List.{append-nil, length-append, length-take-le, take-append-drop}
 use Rattle.std.proofs.lemmas.List.Elements.{All-append, All-cons, All-nil}
-use Rattle.lgrep_cli.specs.Outputs.{OutputCall, writes, write_call, taken_by, taken_by_all, IsInterrupted, GoesOn, EndsIn, Calls}
+use Rattle.lgrep_cli.specs.Outputs.{OutputCall, writes, write_call, taken_by, taken_by_all, IsInterrupted, GoesOn}
+use Rattle.lgrep_cli.specs.Outputs.{EndsIn, Calls}
 use Rattle.lgrep_cli.specs.Outputs.{WritesAll, Writes, Repeats}
 
 -- nothing more
@@ -21,7 +23,8 @@ pub Appends-more : (a b c : Option (List ℕ)) (xs ys : List ℕ) → Appends a 
 Appends-more None b c xs ys first later = tt
 Appends-more (Some all) None c xs ys first later = absurd first
 Appends-more (Some all) (Some more) None xs ys first later = absurd later
-Appends-more (Some all) (Some more) (Some end) xs ys first later = later ∙ (ap (λ zs. zs ++ ys) first ∙ append_assoc all xs ys)
+Appends-more (Some all) (Some more) (Some end) xs ys first later = later
+    ∙ (ap (λ zs. zs ++ ys) first ∙ append_assoc all xs ys)
 
 -- some calls, and then others
 taken-more : (first later : List OutputCall) → taken_by_all (first ++ later) ≡ taken_by_all first ++ taken_by_all later
@@ -34,17 +37,20 @@ at-least : {n : ℕ} (first later : List OutputCall) → n ≤ length later → 
 at-least {n} first later enough = subst (λ m. n ≤ m) (sym (length-append first later)) (omega arith)
 
 module _ {W : Type 0} (write_step : W → OutputCall → W → Type 0) where
-  Calls-more : (old mid new : W) (first later : List OutputCall) → Calls write_step old first mid → Calls write_step mid later new
+  Calls-more : (old mid new : W) (first later : List OutputCall) → Calls write_step old first mid
+      → Calls write_step mid later new
       → Calls write_step old (first ++ later) new
   Calls-more old mid new [] later same made = subst (λ s. Calls write_step s later new) (sym same) made
-  Calls-more old mid new (call ∷ first) later (next, step, made) rest = (next, step, Calls-more next mid new first later made rest)
+  Calls-more old mid new (call ∷ first) later (next, step, made) rest =
+      (next, step, Calls-more next mid new first later made rest)
 
   -- nothing is written
   pub Writes-none : (writer : W) → WritesAll write_step writer [] writer
   Writes-none writer = record { calls = []; made = refl; go_on = All-nil GoesOn; taken = refl }
 
   -- a text, and then another one
-  abbrev all-more : (old mid new : W) (xs ys : List ℕ) → WritesAll write_step old xs mid → WritesAll write_step mid ys new
+  abbrev all-more : (old mid new : W) (xs ys : List ℕ) → WritesAll write_step old xs mid
+      → WritesAll write_step mid ys new
       → WritesAll write_step old (xs ++ ys) new
   all-more old mid new xs ys first later = record {
     calls = first.calls ++ later.calls;
@@ -65,7 +71,8 @@ module _ {W : Type 0} (write_step : W → OutputCall → W → Type 0) where
         taken = append-nil (taken_by call);
       })
 
-  pub Writes-more : (old mid new : W) (xs ys : List ℕ) (result : Result (Unit {0}) Error) → Writes write_step old xs (Ok tt) mid
+  pub Writes-more : (old mid new : W) (xs ys : List ℕ) (result : Result (Unit {0}) Error)
+      → Writes write_step old xs (Ok tt) mid
       → Writes write_step mid ys result new → Writes write_step old (xs ++ ys) result new
   Writes-more old mid new xs ys (Ok u) first later = all-more old mid new xs ys first later
   Writes-more old mid new xs ys (Err e) first later = record {
@@ -103,7 +110,8 @@ module _ {W : Type 0} (write_step : W → OutputCall → W → Type 0) where
   writing-none writer buffer = record { bytes = []; split = refl; written = Writes-none writer }
 
   -- all of it is written
-  pub writing-whole : (old new : W) (buffer : List ℕ) → IsWriting old new buffer [] → WritesAll write_step old buffer new
+  pub writing-whole : (old new : W) (buffer : List ℕ) → IsWriting old new buffer []
+      → WritesAll write_step old buffer new
   writing-whole old new buffer writing = subst (λ xs. WritesAll write_step old xs new)
       (sym (writing.split ∙ append-nil writing.bytes)) writing.written
 
@@ -132,7 +140,8 @@ module _ {W : Type 0} (write_step : W → OutputCall → W → Type 0) where
   }
 
   -- a write failed
-  pub writing-fails : (old mid new : W) (buffer left : List ℕ) (error : Error) (call : OutputCall) → IsWriting old mid buffer left
+  pub writing-fails : (old mid new : W) (buffer left : List ℕ) (error : Error) (call : OutputCall)
+      → IsWriting old mid buffer left
       → Repeats write_step mid call new → EndsIn error call → Writes write_step old buffer (Err error) new
   writing-fails old mid new buffer left error call writing repeats ends = record {
     part = writing.bytes;
@@ -184,13 +193,16 @@ module _ {W : Type 0} (write_step : W → OutputCall → W → Type 0) where
       → ((s t : W) (call : OutputCall) → write_step s call t → Appends (contents s) (contents t) (taken_by call))
       → (old new : W) (calls : List OutputCall) → Calls write_step old calls new
       → Appends (contents old) (contents new) (taken_by_all calls)
-  calls-append contents grows old new [] same = subst (λ s. Appends (contents old) (contents s) []) same (Appends-none (contents old))
+  calls-append contents grows old new [] same = subst (λ s. Appends (contents old) (contents s) []) same
+      (Appends-none (contents old))
   calls-append contents grows old new (call ∷ calls) (mid, step, made) =
-      Appends-more (contents old) (contents mid) (contents new) (taken_by call) (taken_by_all calls) (grows old mid call step)
+      Appends-more (contents old) (contents mid) (contents new) (taken_by call) (taken_by_all calls)
+      (grows old mid call step)
       (calls-append contents grows mid new calls made)
 
   pub written-appends : (contents : W → Option (List ℕ))
       → ((s t : W) (call : OutputCall) → write_step s call t → Appends (contents s) (contents t) (taken_by call))
       → (old new : W) (text : List ℕ) → WritesAll write_step old text new → Appends (contents old) (contents new) text
-  written-appends contents grows old new text written = subst (λ xs. Appends (contents old) (contents new) xs) written.taken
+  written-appends contents grows old new text written = subst (λ xs. Appends (contents old) (contents new) xs)
+      written.taken
       (calls-append contents grows old new written.calls written.made)

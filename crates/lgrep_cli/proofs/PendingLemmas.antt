@@ -8,8 +8,10 @@ use Rattle.lgrep_cli.specs.PendingTexts.{PutsAll, Puts}
 use Rattle.lgrep_cli.proofs.OutputLemmas.{Writes-none, Writes-more, Writes-cut}
 
 -- what is pending and two texts after it
-both : (pending xs kept ys bytes : List ℕ) → pending ++ xs ≡ bytes ++ kept → pending ++ (xs ++ ys) ≡ bytes ++ (kept ++ ys)
-both pending xs kept ys bytes split = sym (append_assoc pending xs ys) ∙ (ap (λ zs. zs ++ ys) split ∙ append_assoc bytes kept ys)
+both : (pending xs kept ys bytes : List ℕ) → pending ++ xs ≡ bytes ++ kept → pending ++ (xs ++ ys) ≡ bytes
+    ++ (kept ++ ys)
+both pending xs kept ys bytes split = sym (append_assoc pending xs ys)
+    ∙ (ap (λ zs. zs ++ ys) split ∙ append_assoc bytes kept ys)
 
 module _ {W : Type 0} (write_step : W → OutputCall → W → Type 0) where
   -- nothing is written
@@ -33,7 +35,8 @@ module _ {W : Type 0} (write_step : W → OutputCall → W → Type 0) where
     written = Writes-more write_step old mid new pending text (Ok tt) first later;
     split = sym (append-nil (pending ++ text));
   }
-  Puts-through old mid new pending text (Err e) first later = Writes-more write_step old mid new pending text (Err e) first later
+  Puts-through old mid new pending text (Err e) first later = Writes-more write_step old mid new pending text (Err e)
+      first later
 
   -- a text, and then another one
   pub Puts-more : (old mid new : W) (pending xs kept ys later : List ℕ) (result : Result (Unit {0}) Error)
@@ -50,7 +53,8 @@ module _ {W : Type 0} (write_step : W → OutputCall → W → Type 0) where
       (Writes-more write_step old mid new first.bytes (kept ++ ys) (Err e) first.written rest)
 
   -- a text that isn't written whole, and one after it that isn't begun
-  pub Puts-cut : (old new : W) (pending xs ys : List ℕ) (error : Error) → Writes write_step old (pending ++ xs) (Err error) new
+  pub Puts-cut : (old new : W) (pending xs ys : List ℕ) (error : Error)
+      → Writes write_step old (pending ++ xs) (Err error) new
       → Writes write_step old (pending ++ (xs ++ ys)) (Err error) new
   Puts-cut old new pending xs ys error fails =
       subst (λ text. Writes write_step old text (Err error) new) (append_assoc pending xs ys)
@@ -58,7 +62,8 @@ module _ {W : Type 0} (write_step : W → OutputCall → W → Type 0) where
 
   -- a text is put together from the start, and what is pending then is written
   pub Puts-written : (old mid new : W) (text later : List ℕ) (result : Result (Unit {0}) Error)
-      → PutsAll write_step old [] text mid later → Writes write_step mid later result new → Writes write_step old text result new
+      → PutsAll write_step old [] text mid later → Writes write_step mid later result new
+      → Writes write_step old text result new
   Puts-written old mid new text later result first rest =
       subst (λ bytes. Writes write_step old bytes result new) (sym first.split)
       (Writes-more write_step old mid new first.bytes later result first.written rest)

@@ -58,9 +58,11 @@ module _ {W : Type 0} (write_step : W → OutputCall → W → Type 0) (settings
       → PrintsCall write_step old settings turn.call true mid → ArePut mid later new → ArePut old (turn ∷ later) new
   put-more old mid new turn later made first rest = record {
     same_writer = rest.same_writer ∙ first.same_writer;
-    put = Puts-more write_step old.writer.now mid.writer.now new.writer.now old.pending.now (call_text turn.call) mid.pending.now (text later)
+    put = Puts-more write_step old.writer.now mid.writer.now new.writer.now old.pending.now (call_text turn.call)
+        mid.pending.now (text later)
         new.pending.now (Ok tt) (first.put made) rest.put;
-    is_found = rest.is_found ∙ (ap (λ b. b || has_match later) first.found ∙ or_assoc old.found (is_match turn.call) (has_match later));
+    is_found = rest.is_found ∙ (ap (λ b. b || has_match later) first.found
+        ∙ or_assoc old.found (is_match turn.call) (has_match later));
     has_failed = rest.has_failed ∙ first.has_failed;
   }
 
@@ -73,7 +75,8 @@ module _ {W : Type 0} (write_step : W → OutputCall → W → Type 0) (settings
     has_failed = rest.has_failed;
     error = rest.error;
     is_io = rest.is_io;
-    put = Puts-more write_step old.writer.now mid.writer.now new.writer.now old.pending.now (call_text turn.call) mid.pending.now (text later)
+    put = Puts-more write_step old.writer.now mid.writer.now new.writer.now old.pending.now (call_text turn.call)
+        mid.pending.now (text later)
         new.pending.now (Err rest.error) (first.put made) rest.put;
   }
 
@@ -91,15 +94,18 @@ module _ {W : Type 0} (write_step : W → OutputCall → W → Type 0) (settings
   reported-put (turn ∷ later) made old (failed e) new (inl (mid, first, reported)) =
       cut-more old mid new turn later e (All-head (λ turn. IsMade settings turn.call) turn later made) first
       (reported-put later (All-tail (λ turn. IsMade settings turn.call) turn later made) mid (failed e) new reported)
-  reported-put (turn ∷ later) made old outcome new (inr (inl (is, reported))) = let never : false ≡ true = reported.continues in
+  reported-put (turn ∷ later) made old outcome new (inr (inl (is, reported))) = let never : false
+      ≡ true = reported.continues in
       absurd (cc)
-  reported-put (turn ∷ later) made old outcome new (inr (inr (e, is, fails))) = subst (λ o. IsOutcome old (turn ∷ later) o new) (sym is)
+  reported-put (turn ∷ later) made old outcome new (inr (inr (e, is, fails))) = subst
+      (λ o. IsOutcome old (turn ∷ later) o new) (sym is)
       (record {
         same_writer = fails.same_writer;
         has_failed = fails.has_failed;
         error = fails.error;
         is_io = fails.is_io;
-        put = Puts-cut write_step old.writer.now new.writer.now old.pending.now (call_text turn.call) (text later) fails.error
+        put = Puts-cut write_step old.writer.now new.writer.now old.pending.now (call_text turn.call) (text later)
+            fails.error
             (fails.put (All-head (λ turn. IsMade settings turn.call) turn later made));
       })
 
@@ -108,8 +114,10 @@ module _ {W : Type 0} (write_step : W → OutputCall → W → Type 0) (settings
       → PrintsCall write_step mid settings (finishes count binary) true new → ArePut old calls new
   finished-put old mid new calls count binary all finish = record {
     same_writer = finish.same_writer ∙ all.same_writer;
-    put = subst (λ bytes. PutsAll write_step old.writer.now old.pending.now bytes new.writer.now new.pending.now) (append-nil (text calls))
-        (Puts-more write_step old.writer.now mid.writer.now new.writer.now old.pending.now (text calls) mid.pending.now [] new.pending.now (Ok tt)
+    put = subst (λ bytes. PutsAll write_step old.writer.now old.pending.now bytes new.writer.now new.pending.now)
+        (append-nil (text calls))
+        (Puts-more write_step old.writer.now mid.writer.now new.writer.now old.pending.now (text calls) mid.pending.now
+        [] new.pending.now (Ok tt)
         all.put (finish.put (λ _. tt)));
     is_found = finish.found ∙ (or-false mid.found ∙ all.is_found);
     has_failed = finish.has_failed ∙ all.has_failed;
@@ -120,14 +128,16 @@ module _ {W : Type 0} (write_step : W → OutputCall → W → Type 0) (settings
   IsEnd old calls (Ok u) new = ArePut old calls new
   IsEnd old calls (Err e) new = IsCut old calls e new
 
-  pub run-put : (calls : List Turn) → All (λ turn. IsMade settings turn.call) calls → (count : ℕ) (binary : Option ℕ) (old : Printer W)
+  pub run-put : (calls : List Turn) → All (λ turn. IsMade settings turn.call) calls
+      → (count : ℕ) (binary : Option ℕ) (old : Printer W)
       (result : Result (Unit {0}) (SearchError Global)) (new : Printer W)
       → IsRun (Prints write_step) settings old calls count binary result new → IsEnd old calls result new
   run-put calls made count binary old result new run =
       go run.outcome run.mid result (reported-put calls made old run.outcome run.mid run.reported) run.finished
     where
       go : (outcome : Outcome (SearchError Global)) (mid : Printer W) (result : Result (Unit {0}) (SearchError Global))
-          → IsOutcome old calls outcome mid → IsFinished (Prints write_step) settings outcome mid count binary result new
+          → IsOutcome old calls outcome mid → IsFinished (Prints write_step) settings outcome mid count binary result
+          new
           → IsEnd old calls result new
       go all_true mid (Ok u) put finish = finished-put old mid new calls count binary put finish
       go all_true mid (Err e) put fails = let never : false ≡ true = fails.has_text in absurd (cc)
@@ -137,11 +147,14 @@ module _ {W : Type 0} (write_step : W → OutputCall → W → Type 0) (settings
 
   -- a fault of a search with a matcher that never fails
   pub fault-put : {F : Type 0} → (errors : ErrorMakers (SearchError Global)) (matcher : MatcherFacts F) (bytes : List ℕ)
-      → All (λ turn. IsMade settings turn.call) (search_turns settings matcher.meaning bytes) → IsInfallible matcher.fails → (old : Printer W) (e : SearchError Global) (new : Printer W)
+      → All (λ turn. IsMade settings turn.call) (search_turns settings matcher.meaning bytes)
+      → IsInfallible matcher.fails → (old : Printer W) (e : SearchError Global) (new : Printer W)
       → IsFault (Prints write_step) errors matcher settings bytes old e new
       → IsCut old (search_turns settings matcher.meaning bytes) e new
   fault-put errors matcher bytes made infallible old e new (of_sink run) =
-      run-put (search_turns settings matcher.meaning bytes) made (search_byte_count settings matcher.meaning bytes) None old
+      run-put (search_turns settings matcher.meaning bytes) made (search_byte_count settings matcher.meaning bytes) None
+      old
       (Err e) new run
-  fault-put errors matcher bytes made infallible old e new (of_matcher haystack error before asked fails message reported) =
+  fault-put errors matcher bytes made infallible old e new
+      (of_matcher haystack error before asked fails message reported) =
       absurd (infallible haystack error fails)

@@ -1,5 +1,6 @@
 -- Bytes that are put into a text at a position.
-use Rattle.std.proofs.Common.{◌≡◌, ℕ, ◌+◌, ◌/◌, ◌%◌, ◌^◌, ◌<◌, ◌≤◌, List, [], ◌∷◌, ◌++◌, length, take, set, decimal, arith, rules, refl, sym, ap, ◌∙◌, subst, append_assoc}
+use Rattle.std.proofs.Common.{◌≡◌, ℕ, ◌+◌, ◌/◌, ◌%◌, ◌^◌, ◌<◌, ◌≤◌, List, [], ◌∷◌, ◌++◌, length, take, set, decimal}
+use Rattle.std.proofs.Common.{arith, rules, refl, sym, ap, ◌∙◌, subst, append_assoc}
 use Rattle.std.proofs.Math.Seq.{take-append-add}
 use Rattle.std.proofs.lemmas.List.{length-take-le, take-append-le, take_more_set}
 use Rattle.std.proofs.lemmas.Slice.{overwrites, take-put_mid}
@@ -10,14 +11,18 @@ use Rattle.itoa.proofs.Decimal.{pair, decimal_pair}
 pub take-copied : (at count k : ℕ) (xs ys : List ℕ) → at ≤ length xs → count ≤ length ys
     → take (at + count) (put_mid at k xs ys) ≡ take at xs ++ take count ys
 take-copied at count k xs ys within enough =
-    subst (λ n. take (n + count) (take at xs ++ (ys ++ post_of at k xs)) ≡ take at xs ++ take count ys) (length-take-le at xs within)
-    (take-append-add (take at xs) (ys ++ post_of at k xs) count ∙ ap (λ zs. take at xs ++ zs) (take-append-le count ys (post_of at k xs) enough))
+    subst (λ n. take (n + count) (take at xs ++ (ys ++ post_of at k xs)) ≡ take at xs ++ take count ys)
+    (length-take-le at xs within)
+    (take-append-add (take at xs) (ys ++ post_of at k xs) count
+    ∙ ap (λ zs. take at xs ++ zs) (take-append-le count ys (post_of at k xs) enough))
 
 -- a line, and a line feed after it
-pub ended-put : (at k : ℕ) (xs line copied : List ℕ) → copied ≡ line → k ≡ length line → at + length line + 1 ≤ length xs
+pub ended-put : (at k : ℕ) (xs line copied : List ℕ) → copied ≡ line → k ≡ length line
+    → at + length line + 1 ≤ length xs
     → take (at + length line + 1) (set (put_mid at k xs copied) (at + length line) 10) ≡ take at xs ++ (line ++ 10 ∷ [])
 ended-put at k xs line copied same count room =
-    subst (λ ys. take (at + length line + 1) (set (put_mid at k xs ys) (at + length line) 10) ≡ take at xs ++ (line ++ 10 ∷ [])) (sym same)
+    subst (λ ys. take (at + length line + 1) (set (put_mid at k xs ys) (at + length line) 10) ≡ take at xs
+    ++ (line ++ 10 ∷ [])) (sym same)
     (take_more_set (put_mid at k xs line) (at + length line) 10 (search (rules, overwrites))
     ∙ (ap (λ zs. zs ++ 10 ∷ []) (take-put_mid at k xs line (at + length line) refl (omega (arith, room)))
     ∙ append_assoc (take at xs) line (10 ∷ [])))
@@ -27,4 +32,5 @@ pub marked : (front : List ℕ) (n mark : ℕ) → 100 ≤ n → n < 2 ^ 64
     → (front ++ decimal (n / 100)) ++ (pair (n % 100) ++ mark ∷ []) ≡ front ++ (decimal n ++ mark ∷ [])
 marked front n mark large fits =
     append_assoc front (decimal (n / 100)) (pair (n % 100) ++ mark ∷ [])
-    ∙ ap (λ zs. front ++ zs) (sym (append_assoc (decimal (n / 100)) (pair (n % 100)) (mark ∷ [])) ∙ ap (λ zs. zs ++ mark ∷ []) (sym (decimal_pair n large fits)))
+    ∙ ap (λ zs. front ++ zs) (sym (append_assoc (decimal (n / 100)) (pair (n % 100)) (mark ∷ []))
+    ∙ ap (λ zs. zs ++ mark ∷ []) (sym (decimal_pair n large fits)))

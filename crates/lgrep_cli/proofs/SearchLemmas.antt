@@ -1,7 +1,8 @@
 -- What a search of a reader with a printer has put, and what is written in the end.
 use Rattle.std.proofs.Common.{◌≡◌, ℕ, List, [], ◌++◌, refl, sym, ap, ◌∙◌, subst}
 use Rattle.std.proofs.lemmas.List.{append-nil}
-use Rattle.std.specs.Prelude.{Bool, true, false, ◌||◌, if◌then◌else◌, Option, Some, None, Result, Ok, Err, IfErr, OnOk, string_bytes, All}
+use Rattle.std.specs.Prelude.{Bool, true, false, ◌||◌, if◌then◌else◌, Option, Some, None, Result, Ok, Err, IfErr, OnOk}
+use Rattle.std.specs.Prelude.{string_bytes, All}
 use Rattle.std.specs.Global.{Global}
 use Rattle.std.specs.Io.KnownBytes.{Appends, Consumes, IsAtEnd}
 use Rattle.std.specs.List.{concat}
@@ -22,7 +23,8 @@ use Rattle.grep_searcher.specs.SearchLaws.{MatchesAreMatchedLines}
 use Rattle.grep_searcher.specs.SearchTurns.{search_calls}
 use Rattle.lgrep_cli.specs.OptionSettings.{numbered_unless, settings_of_options}
 use Rattle.lgrep_cli.specs.Printers.{Prints, IsMade}
-use Rattle.lgrep_cli.specs.ProgramRuns.{searcher_of, meaning_of, calls_of, calls_over, whole_text, partial_text, Input, IsPrinted}
+use Rattle.lgrep_cli.specs.ProgramRuns.{searcher_of, meaning_of, calls_of, calls_over, whole_text, partial_text, Input}
+use Rattle.lgrep_cli.specs.ProgramRuns.{IsPrinted}
 use Rattle.lgrep_cli.specs.ProgramRuns.{IsPrintedAndFlushed, IsPrintedWhole, IsProgramRun}
 use Rattle.lgrep_cli.specs.ProgramRuns.{IsFailure, of_memory, of_reader, of_reader_and_write, of_write}
 use Rattle.lgrep_cli.specs.Texts.{count_text, text, has_match}
@@ -39,7 +41,8 @@ use Rattle.lgrep_cli.proofs.PrinterLemmas.{ArePut, IsCut, put-none, reported-put
 abbrev bytes_of : Settings → List (List ℕ) → List ℕ
 bytes_of settings pieces = searched_bytes settings (concat pieces ++ [])
 
-nothing-more : (settings : Settings) (ended : Bool) (pieces : List (List ℕ)) → IsInput settings ended pieces (bytes_of settings pieces)
+nothing-more : (settings : Settings) (ended : Bool) (pieces : List (List ℕ))
+    → IsInput settings ended pieces (bytes_of settings pieces)
 nothing-more settings ended pieces = ([], (λ _. refl), refl)
 
 -- an error is made of one error
@@ -47,7 +50,8 @@ same-error : (e : SearchError Global) (a b : Error) → e ≡ Io a → e ≡ Io 
 same-error e a b first second = cc
 
 -- the text of some calls if they aren't counted
-uncounted : {W : Type 0} (write_step : W → OutputCall → W → Type 0) (options : Options) (counted lines : List ℕ) (old : W)
+uncounted : {W : Type 0} (write_step : W → OutputCall → W → Type 0) (options : Options) (counted lines : List ℕ)
+    (old : W)
     (result : Result (Unit {0}) Error) (new : W) → options.count ≡ false → Writes write_step old lines result new
     → Writes write_step old (if options.count then counted else lines) result new
 uncounted write_step options counted lines old result new is written =
@@ -55,18 +59,24 @@ uncounted write_step options counted lines old result new is written =
 
 -- a searcher that numbers lines or not
 abbrev numbering : Options → Bool → SearcherState
-numbering options is_count = record { settings = numbered_unless is_count (settings_of_options options); has_buffers = true }
+numbering options is_count = record {
+  settings = numbered_unless is_count (settings_of_options options);
+  has_buffers =
+      true;
+}
 
 -- a value isn't both true and false
 not-both : (b : Bool) → b ≡ true → b ≡ false → ⊥
 not-both b is isnt = let never : true ≡ false = sym is ∙ isnt in absurd (cc)
 
-module _ {R W : Type 0} (remaining : R → Option (List ℕ)) (read_step : R → ReadResult → R → Type 0) (write_step : W → OutputCall → W → Type 0) where
+module _ {R W : Type 0} (remaining : R → Option (List ℕ)) (read_step : R → ReadResult → R → Type 0)
+    (write_step : W → OutputCall → W → Type 0) where
   -- out of memory, before the reader and the writer had a call
   pub out_of_memory : (options : Options) (reader : R) (writer : W) (e : SearchError Global) → IsOutOfMemory e
       → IsFailure remaining read_step write_step options reader writer e reader writer
   out_of_memory options reader writer e (error, io, kind) =
-      subst (λ x. IsFailure remaining read_step write_step options reader writer x reader writer) (sym io) (of_memory kind)
+      subst (λ x. IsFailure remaining read_step write_step options reader writer x reader writer) (sym io)
+      (of_memory kind)
 
   -- of a reader that says which bytes remain, whatever was taken
   whole-input : (settings : Settings) (input : List ℕ) (reader reader' : R) → remaining reader ≡ Some input
@@ -81,7 +91,12 @@ module _ {R W : Type 0} (remaining : R → Option (List ℕ)) (read_step : R →
           → IsInput settings ended pieces (searched_bytes settings input)
       go ended pieces calls None is takes = absurd takes
       go false pieces calls (Some rest) is takes = (rest, (λ ended. absurd (cc)), ap (searched_bytes settings) takes)
-      go true pieces calls (Some rest) is takes = (rest, (λ ended. subst IsAtEnd is calls.3), ap (searched_bytes settings) takes)
+      go true pieces calls (Some rest) is takes = (
+        rest,
+        (λ ended. subst IsAtEnd is calls.3),
+        ap
+            (searched_bytes settings) takes,
+      )
 
   -- what is printed for each input that begins with what was taken is printed for the reader's whole input
   printed-whole : (contents : W → Option (List ℕ))
@@ -91,14 +106,18 @@ module _ {R W : Type 0} (remaining : R → Option (List ℕ)) (read_step : R →
       → IsPrintedWhole contents options (remaining reader) writer found writer'
   printed-whole contents grows options reader writer found reader' writer' flushed = go (remaining reader) refl
     where
-      go : (left : Option (List ℕ)) → remaining reader ≡ left → IsPrintedWhole contents options left writer found writer'
+      go : (left : Option (List ℕ)) → remaining reader ≡ left
+          → IsPrintedWhole contents options left writer found writer'
       go None is = tt
       go (Some input) is =
           let bytes = searched_bytes (settings_of_options options) input in
           let whole = whole-input (settings_of_options options) input reader reader' is flushed.printed.taken in (
-            subst (λ xs. Appends (contents writer) (contents writer') xs) (append-nil (whole_text options (calls_of options bytes)))
-                (Appends-more (contents writer) (contents flushed.unflushed) (contents writer') (whole_text options (calls_of options bytes)) []
-                (written-appends write_step contents grows writer flushed.unflushed (whole_text options (calls_of options bytes))
+            subst (λ xs. Appends (contents writer) (contents writer') xs)
+                (append-nil (whole_text options (calls_of options bytes)))
+                (Appends-more (contents writer) (contents flushed.unflushed) (contents writer')
+                (whole_text options (calls_of options bytes)) []
+                (written-appends write_step contents grows writer flushed.unflushed
+                (whole_text options (calls_of options bytes))
                 (flushed.printed.written bytes whole))
                 (grows flushed.unflushed writer' (flushes (Ok tt)) flushed.flushed)),
             flushed.printed.is_found bytes whole,
@@ -116,7 +135,9 @@ module _ {R W : Type 0} (remaining : R → Option (List ℕ)) (read_step : R →
     failed = tt;
   }
 
-module _ {R W : Type 0} (remaining : R → Option (List ℕ)) (read_step : R → ReadResult → R → Type 0) (write_step : W → OutputCall → W → Type 0) (law : MatchesAreMatchedLines) (options : Options) (uncounts : options.count ≡ false) (reader reader' : R) (old new : Printer W) (empty : old.pending.now ≡ []) where
+module _ {R W : Type 0} (remaining : R → Option (List ℕ)) (read_step : R → ReadResult → R → Type 0)
+    (write_step : W → OutputCall → W → Type 0) (law : MatchesAreMatchedLines) (options : Options)
+    (uncounts : options.count ≡ false) (reader reader' : R) (old new : Printer W) (empty : old.pending.now ≡ []) where
   -- the calls are as a search makes them
   made : (bytes : List ℕ) → All (λ turn. IsMade (settings_of_options options) turn.call) (calls_of options bytes)
   made bytes = calls-made law (settings_of_options options) (meaning_of options) bytes refl
@@ -127,12 +148,14 @@ module _ {R W : Type 0} (remaining : R → Option (List ℕ)) (read_step : R →
 
   -- how a run ends whose search ended well, by what writing the pending text returned
   abbrev EndsRun : Result (Unit {0}) Error → W → Type 0
-  EndsRun (Ok u) writer = IsPrinted remaining read_step write_step options reader old.writer.now new.found reader' writer
+  EndsRun (Ok u) writer = IsPrinted remaining read_step write_step options reader old.writer.now new.found reader'
+      writer
   EndsRun (Err error) writer = Fails (Io error) writer
 
   -- and one whose search ended in an error of reading: on `Ok` a flush follows
   abbrev EndsUnread : SearchError Global → Result (Unit {0}) Error → W → Type 0
-  EndsUnread e (Ok u) writer = (flushed : Result (Unit {0}) Error) (last : W) → write_step writer (flushes flushed) last → Fails e last
+  EndsUnread e (Ok u) writer = (flushed : Result (Unit {0}) Error) (last : W) → write_step writer (flushes flushed) last
+      → Fails e last
   EndsUnread e (Err error) writer = Fails (Io error) writer
 
   -- what a search leaves: on an error the writer failed, or what is pending may still be written
@@ -145,15 +168,18 @@ module _ {R W : Type 0} (remaining : R → Option (List ℕ)) (read_step : R →
         → Writes write_step new.writer.now new.pending.now written writer → EndsUnread e written writer)
 
   -- at first nothing was pending
-  from_first : (xs : List ℕ) (error : Error) → Writes write_step old.writer.now (old.pending.now ++ xs) (Err error) new.writer.now
+  from_first : (xs : List ℕ) (error : Error) → Writes write_step old.writer.now (old.pending.now ++ xs) (Err error)
+      new.writer.now
       → Writes write_step old.writer.now xs (Err error) new.writer.now
-  from_first xs error written = subst (λ p. Writes write_step old.writer.now (p ++ xs) (Err error) new.writer.now) empty written
+  from_first xs error written = subst (λ p. Writes write_step old.writer.now (p ++ xs) (Err error) new.writer.now) empty
+      written
 
   -- a text is written as far as what is pending is
   then_written : (xs : List ℕ) → PutsAll write_step old.writer.now old.pending.now xs new.writer.now new.pending.now
       → (result : Result (Unit {0}) Error) (writer : W) → Writes write_step new.writer.now new.pending.now result writer
       → Writes write_step old.writer.now xs result writer
-  then_written xs put result writer rest = Puts-written write_step old.writer.now new.writer.now writer xs new.pending.now result
+  then_written xs put result writer rest = Puts-written write_step old.writer.now new.writer.now writer xs
+      new.pending.now result
       (subst (λ p. PutsAll write_step old.writer.now p xs new.writer.now new.pending.now) empty put) rest
 
   -- the writer failed, whatever follows what was taken
@@ -168,30 +194,38 @@ module _ {R W : Type 0} (remaining : R → Option (List ℕ)) (read_step : R →
         same_writer = first.same_writer;
         printed = tt;
         of_writer = λ failed. subst (λ x. Fails x new.writer.now) (sym first.is_io) (of_write taken (λ bytes input.
-            uncounted write_step options (count_text (calls_of options bytes)) (text (calls_of options bytes)) old.writer.now
+            uncounted write_step options (count_text (calls_of options bytes)) (text (calls_of options bytes))
+            old.writer.now
             (Err first.error) new.writer.now uncounts
-            (subst (λ error. Writes write_step old.writer.now (text (calls_of options bytes)) (Err error) new.writer.now)
+            (subst (λ error. Writes write_step old.writer.now (text (calls_of options bytes)) (Err error)
+            new.writer.now)
             (same-error e (all bytes input).error first.error (all bytes input).is_io first.is_io)
             (from_first (text (calls_of options bytes)) (all bytes input).error (all bytes input).put))));
         of_reading = λ ok. absurd (not-both new.has_failed first.has_failed ok);
       }
 
   -- the calls were made over the lines that were seen, and the input wasn't read to its end
-  module _ (seen : Option (List ℕ)) (error : Error) (unread : IsUnread remaining read_step (numbering options false) (meaning_of options) reader seen error reader') (put : ArePut write_step (settings_of_options options) old (calls_over options seen) new) where
+  module _ (seen : Option (List ℕ)) (error : Error)
+      (unread : IsUnread remaining read_step (numbering options false) (meaning_of options) reader seen error reader')
+      (put : ArePut write_step (settings_of_options options) old (calls_over options seen) new) where
     its_unread : IsUnread remaining read_step (searcher_of options) (meaning_of options) reader seen error reader'
-    its_unread = subst (λ b. IsUnread remaining read_step (numbering options b) (meaning_of options) reader seen error reader')
+    its_unread = subst (λ b. IsUnread remaining read_step (numbering options b) (meaning_of options) reader seen error
+        reader')
         (sym uncounts) unread
 
-    its_text : (result : Result (Unit {0}) Error) (writer : W) → Writes write_step new.writer.now new.pending.now result writer
+    its_text : (result : Result (Unit {0}) Error) (writer : W)
+        → Writes write_step new.writer.now new.pending.now result writer
         → Writes write_step old.writer.now (partial_text options (calls_over options seen)) result writer
-    its_text result writer rest = uncounted write_step options [] (text (calls_over options seen)) old.writer.now result writer uncounts
+    its_text result writer rest = uncounted write_step options [] (text (calls_over options seen)) old.writer.now result
+        writer uncounts
         (then_written (text (calls_over options seen)) put.put result writer rest)
 
     its_end : (e : SearchError Global) → e ≡ Io error → (result : Result (Unit {0}) Error) (writer : W)
         → Writes write_step new.writer.now new.pending.now result writer → EndsUnread e result writer
     its_end e io (Ok u) writer rest = λ flushed last flush. subst (λ x. Fails x last) (sym io)
         (of_reader seen flushed its_unread (its_text (Ok u) writer rest) flush)
-    its_end e io (Err failed) writer rest = of_reader_and_write seen error its_unread (its_text (Err failed) writer rest)
+    its_end e io (Err failed) writer rest = of_reader_and_write seen error its_unread
+        (its_text (Err failed) writer rest)
 
   unread : (seen : Option (List ℕ)) (error : Error) (e : SearchError Global) → e ≡ Io error → old.has_failed ≡ false
       → IsUnread remaining read_step (numbering options false) (meaning_of options) reader seen error reader'
@@ -219,7 +253,8 @@ module _ {R W : Type 0} (remaining : R → Option (List ℕ)) (read_step : R →
     }
 
     -- the calls over the lines that were seen, or none
-    reported : (seen : Option (List ℕ)) → HasReportedIn (Prints write_step) errors (facts (string_bytes options.literal))
+    reported : (seen : Option (List ℕ)) → HasReportedIn (Prints write_step) errors
+        (facts (string_bytes options.literal))
         (search_calls (settings_of_options options) (meaning_of options)) (settings_of_options options) seen old new
         → ArePut write_step (settings_of_options options) old (calls_over options seen) new
     reported None same = subst (ArePut write_step (settings_of_options options) old []) (sym same)
@@ -240,14 +275,16 @@ module _ {R W : Type 0} (remaining : R → Option (List ℕ)) (read_step : R →
       of_reading = tt;
     }
       where
-        its_text : (result : Result (Unit {0}) Error) (writer : W) → Writes write_step new.writer.now new.pending.now result writer
+        its_text : (result : Result (Unit {0}) Error) (writer : W)
+            → Writes write_step new.writer.now new.pending.now result writer
             → (bytes : List ℕ) → Input options taken bytes
             → Writes write_step old.writer.now (whole_text options (calls_of options bytes)) result writer
         its_text result writer rest bytes input = uncounted write_step options (count_text (calls_of options bytes))
             (text (calls_of options bytes)) old.writer.now result writer uncounts
             (then_written (text (calls_of options bytes)) (all bytes input).put result writer rest)
 
-        end : (result : Result (Unit {0}) Error) (writer : W) → Writes write_step new.writer.now new.pending.now result writer
+        end : (result : Result (Unit {0}) Error) (writer : W)
+            → Writes write_step new.writer.now new.pending.now result writer
             → EndsRun result writer
         end (Ok u) writer rest = record {
           taken = taken;
@@ -256,7 +293,8 @@ module _ {R W : Type 0} (remaining : R → Option (List ℕ)) (read_step : R →
         }
         end (Err error) writer rest = of_write taken (its_text (Err error) writer rest)
 
-    -- under the options' settings, with the matcher of their literal, no search is refused, and none looks for binary bytes
+    -- under the options' settings, with the matcher of their literal, no search is refused, and none looks for binary
+    -- bytes
     searched : (result : Result (Unit {0}) (SearchError Global)) → old.found ≡ false → old.has_failed ≡ false
         → IsReaderSearched remaining read_step (Prints write_step) errors (facts (string_bytes options.literal))
         (numbering options false) reader old result reader' new
@@ -264,11 +302,13 @@ module _ {R W : Type 0} (remaining : R → Option (List ℕ)) (read_step : R →
     searched (Ok u) none ok (is_valid, search) =
         let whole : IsReaderRun remaining read_step (Prints write_step) errors (facts (string_bytes options.literal))
         (settings_of_options options) reader old reader' new = search (λ _. tt) in
-        run whole.taken (λ bytes input. run-put write_step (settings_of_options options) (calls_of options bytes) (made bytes) _ None old
+        run whole.taken (λ bytes input. run-put write_step (settings_of_options options) (calls_of options bytes)
+        (made bytes) _ None old
         (Ok tt) new (whole.run bytes input)) none
     searched (Err e) none ok search = go (search (λ _. tt))
       where
-        go : IsReaderFault remaining read_step (Prints write_step) errors (facts (string_bytes options.literal)) (numbering options false)
+        go : IsReaderFault remaining read_step (Prints write_step) errors (facts (string_bytes options.literal))
+            (numbering options false)
             reader old e reader' new → IsSearched (Err e)
         go (of_search taken seen ended fault all) =
             cut e taken (λ bytes input. fault-put write_step (settings_of_options options) errors
@@ -279,12 +319,14 @@ module _ {R W : Type 0} (remaining : R → Option (List ℕ)) (read_step : R →
     pub reader-searched : (state : SearcherState) (literal : List ℕ) (result : Result (Unit {0}) (SearchError Global))
         → state ≡ searcher_of options → literal ≡ string_bytes options.literal → old.found ≡ false
         → old.has_failed ≡ false
-        → IsReaderSearched remaining read_step (Prints write_step) errors (facts literal) state reader old result reader' new
+        → IsReaderSearched remaining read_step (Prints write_step) errors (facts literal) state reader old result
+        reader' new
         → IsSearched result
     reader-searched state literal result same_state same_literal none ok search =
         searched result none ok
         (subst (λ l. IsReaderSearched remaining read_step (Prints write_step) errors (facts l)
         (numbering options false) reader old result reader' new)
         same_literal
-        (subst (λ s. IsReaderSearched remaining read_step (Prints write_step) errors (facts literal) s reader old result reader' new)
+        (subst (λ s. IsReaderSearched remaining read_step (Prints write_step) errors (facts literal) s reader old result
+        reader' new)
         (same_state ∙ ap (numbering options) uncounts) search))

@@ -15,8 +15,8 @@ settings_of_options options = built (record default_settings {
   max_matches = options.max;
 })
 
--- those with which the search is made: it numbers no lines if the matches are only counted, since no
--- number is written then
+-- those with which the search is made: it numbers no lines if the matches are only counted, since
+-- no number is written then
 abbrev pub numbered_unless : Bool → Settings → Settings
 numbered_unless is_count settings = record settings { line_number = not is_count }
 

@@ -49,8 +49,8 @@ module _ {W : Type 0} (write_step : W → OutputCall → W → Type 0) where
     pub found : new.found ≡ (old.found || is_match call)
     pub has_failed : new.has_failed ≡ old.has_failed
 
-  -- a call that has a text fails with the writer's error, after some first bytes of what was pending
-  -- and of the text
+  -- a call that has a text fails with the writer's error, after some first bytes of what was
+  -- pending and of the text
   pub record FailsAtCall (old : Printer W) (settings : Settings) (call : Call)
       (e : SearchError Global) (new : Printer W) : Type 0 where
     pub same_writer : new.writer.ghost_name ≡ old.writer.ghost_name

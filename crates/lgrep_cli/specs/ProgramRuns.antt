@@ -50,8 +50,8 @@ abbrev pub calls_over : Options → Option (List ℕ) → List Turn
 calls_over options None = []
 calls_over options (Some seen) = calls_of options seen
 
--- the text that is written for all calls of a search: how many report a match if the options ask for
--- the count, else what is reported
+-- the text that is written for all calls of a search: how many report a match if the options ask
+-- for the count, else what is reported
 abbrev pub whole_text : Options → List Turn → List ℕ
 whole_text options calls = if options.count then count_text calls else text calls
 
@@ -108,12 +108,13 @@ module _ {R W : Type 0} (remaining : R → Option (List ℕ)) (read_step : R →
         (flushed : Result (Unit {0}) Error)
         → IsUnread remaining read_step (searcher_of options) (meaning_of options)
         reader seen error reader'
-        → Writes write_step writer (partial_text options (calls_over options seen)) (Ok tt) unflushed
+        → Writes write_step writer (partial_text options (calls_over options seen)) (Ok tt)
+        unflushed
         → write_step unflushed (flushes flushed) writer'
         → IsFailure options reader writer (Io error) reader' writer'
-    -- by an error of reading the input wasn't read to its end either, and then the writer failed with
-    -- this error: the text of the calls over the lines that were seen is written as far as some first
-    -- bytes
+    -- by an error of reading the input wasn't read to its end either, and then the writer failed
+    -- with this error: the text of the calls over the lines that were seen is written as far as
+    -- some first bytes
     of_reader_and_write : {error : Error} {reader' : R} {writer' : W} (seen : Option (List ℕ))
         (read_error : Error)
         → IsUnread remaining read_step (searcher_of options) (meaning_of options)
@@ -126,7 +127,8 @@ module _ {R W : Type 0} (remaining : R → Option (List ℕ)) (read_step : R →
     of_write : {error : Error} {reader' : R} {writer' : W}
         (taken : Taken remaining read_step reader reader')
         → ((bytes : List ℕ) → Input options taken bytes
-        → Writes write_step writer (whole_text options (calls_of options bytes)) (Err error) writer')
+        → Writes write_step writer (whole_text options (calls_of options bytes)) (Err error)
+        writer')
         → IsFailure options reader writer (Io error) reader' writer'
     -- whatever follows what was taken of the reader, all is written, and the flush failed with this
     -- error

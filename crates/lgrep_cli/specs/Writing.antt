@@ -1,4 +1,5 @@
--- What contracts see of a standard writer as an output: the writer, and what its last call returned.
+-- What contracts see of a standard writer as an output: the writer, and what its last call
+-- returned.
 use Rattle.std.specs.Prelude.{length, Ok, Err}
 use Rattle.lgrep_cli.specs.Outputs.{OutputCall, writes, flushes}
 use Rattle.lgrep_cli.specs.declared.writing.LastCall.{LastCall}

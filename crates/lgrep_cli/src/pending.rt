@@ -1,5 +1,6 @@
 //! Text that is put together before it is written.
-ghost use Rattle.std.specs.Prelude.{◌≡◌, ◌∷◌, ◌++◌, ◌+◌, ◌≤◌, [], IfOk, MatchBool, OnOk, length, take};
+ghost use Rattle.std.specs.Prelude.{◌≡◌, ◌∷◌, ◌++◌, ◌+◌, ◌≤◌, [], IfOk, MatchBool, OnOk, length};
+ghost use Rattle.std.specs.Prelude.{take};
 ghost use Rattle.lgrep_cli.specs.Outputs.{Writes};
 ghost use Rattle.lgrep_cli.specs.PendingTexts.{Puts};
 ghost use Rattle.lgrep_cli.specs.Texts.{ended, numbered};
@@ -104,8 +105,8 @@ impl Pending {
     }
 }
 
-// Puts a line after its number, if it has one, and a mark into a text at a position, and returns the
-// position after them. What comes after is overwritten. The caller ensures that there is room.
+// Puts a line after its number, if it has one, and a mark into a text at a position, and returns
+// the position after them. What comes after is overwritten. The caller ensures that there is room.
 #[inline]
 fn put_line(
     numeral: &mut Numeral,

@@ -5,7 +5,8 @@ ghost use Rattle.std.specs.declared.io.Error.{Error};
 ghost use Rattle.lgrep_cli.specs.OptionSettings.{searched_settings};
 ghost use Rattle.grep_searcher.specs.SearchErrors.{IsOutOfMemory};
 ghost use Rattle.lgrep_cli.specs.Outputs.{Writes};
-ghost use Rattle.lgrep_cli.specs.ProgramRuns.{IsPrinted, IsFailure, IsProgramRun, IsPathRun, IsRunAt};
+ghost use Rattle.lgrep_cli.specs.ProgramRuns.{IsPrinted, IsFailure, IsProgramRun, IsPathRun};
+ghost use Rattle.lgrep_cli.specs.ProgramRuns.{IsRunAt};
 
 use crate::lines::write_number;
 use crate::options::Options;
@@ -29,9 +30,9 @@ use std::rt::Files;
 /// the search needs. With `multi_line` and a literal that contains a line feed the search is across
 /// lines: then the reader is read to its end first.
 ///
-/// The text is put together in 64 KiB of memory, and written whenever a line doesn't fit into what is
-/// left of them, and at the end; a line that never fits is written by itself. So the writer needs no
-/// buffer of its own.
+/// The text is put together in 64 KiB of memory, and written whenever a line doesn't fit into what
+/// is left of them, and at the end; a line that never fits is written by itself. So the writer
+/// needs no buffer of its own.
 ///
 /// With `count` nothing is written for what is found: once the search is done, the number of match
 /// reports and a line feed are.

@@ -1,5 +1,6 @@
-//! Runs `lgrep` as a library, with the arguments of this program, no input, and an output that is kept in memory. Its
-//! stored run, beside `lgrep`'s own, shows the exit status of arguments that are no arguments of `lgrep`.
+//! Runs `lgrep` as a library, with the arguments of this program, no input, and an output that is
+//! kept in memory. Its stored run, beside `lgrep`'s own, shows the exit status of arguments that
+//! are no arguments of `lgrep`.
 #![tactic(auto)]
 
 use lgrep_cli::{Writing, run_arguments};

@@ -1,11 +1,13 @@
-//! Does once what asks for memory, and what asks for none, and writes of each what came of it. If a request is refused,
-//! that has to be returned as documented, and done again it succeeds; what takes no memory has to succeed whichever
-//! request is refused. `bench/refused` runs the program once for each request, and refuses that one.
+//! Does once what asks for memory, and what asks for none, and writes of each what came of it. If a
+//! request is refused, that has to be returned as documented, and done again it succeeds; what
+//! takes no memory has to succeed whichever request is refused. `bench/refused` runs the program
+//! once for each request, and refuses that one.
 //!
-//! First it makes as many requests more as standard input has bytes, 4,096 at most, so that which request of the steps
-//! is refused can be chosen by the input alone.
+//! First it makes as many requests more as standard input has bytes, 4,096 at most, so that which
+//! request of the steps is refused can be chosen by the input alone.
 //!
-//! It exits with 3 if a step was refused and each step came to what it has to, and otherwise with 0.
+//! It exits with 3 if a step was refused and each step came to what it has to, and otherwise with
+//! 0.
 #![tactic(auto)]
 
 mod memoryless;

@@ -39,7 +39,8 @@ fn outcome_of(ended: Result<(), SearchError>, row: &Row, calls: &str) -> Outcome
     }
 }
 
-// What is left of a text after some first calls of a row, if nothing else comes before another call.
+// What is left of a text after some first calls of a row, if nothing else comes before another
+// call.
 fn rest_of<'a>(row: &Row, text: &'a str) -> Option<&'a str> {
     let mut rest = text;
     for call in row.calls {

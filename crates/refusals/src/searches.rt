@@ -94,8 +94,8 @@ fn search_slice<M: Matcher + Drop, E: SinkError<Global>, S: Sink<Error = E>>(
     searcher.search_slice(matcher, bytes, sink)
 }
 
-/// Searches a reader of these bytes, which gives so many at a read, or as many as are asked for if that is 0. The contract
-/// of the search isn't passed on.
+/// Searches a reader of these bytes, which gives so many at a read, or as many as are asked for if
+/// that is 0. The contract of the search isn't passed on.
 pub(crate) fn search_reader<M: Matcher + Drop, S: Sink<Error = SearchError>>(
     searcher: &mut Searcher,
     matcher: M,

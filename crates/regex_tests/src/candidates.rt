@@ -3,7 +3,8 @@ use crate::engine::answer_of;
 use grep_matcher::LineTerminator;
 use std::alloc::Global;
 
-// Options by their letters, a pattern, lines, and the position that is found in them, with whether it is confirmed.
+// Options by their letters, a pattern, lines, and the position that is found in them, with whether
+// it is confirmed.
 type Row = (
     &'static str,
     &'static str,

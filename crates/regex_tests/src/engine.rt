@@ -1,4 +1,5 @@
-//! What is built and asked, as plain values. An expression is dropped in this file alone, since that costs much to prove.
+//! What is built and asked, as plain values. An expression is dropped in this file alone, since
+//! that costs much to prove.
 use grep_matcher::{LineTerminator, Matcher};
 use grep_regex::{Error, Regex, RegexMatcherBuilder};
 use std::alloc::Global;
@@ -14,9 +15,9 @@ pub struct Answer {
     pub terminator: Option<LineTerminator>,
 }
 
-// The builder with the options that the letters name: case-insensitive, fixed strings, word, whole lines (`x`), multi-line,
-// `.` for line feeds (`s`), ASCII (`a`), a line feed as the terminator (`n`) or CRLF (`r`), the byte 200 as the terminator
-// (`T`), and a limit of 1,000 bytes (`L`).
+// The builder with the options that the letters name: case-insensitive, fixed strings, word, whole
+// lines (`x`), multi-line, `.` for line feeds (`s`), ASCII (`a`), a line feed as the terminator
+// (`n`) or CRLF (`r`), the byte 200 as the terminator (`T`), and a limit of 1,000 bytes (`L`).
 fn builder_of(letters: &str) -> RegexMatcherBuilder {
     let mut builder = RegexMatcherBuilder::default();
     builder.case_insensitive(letters.contains('i'));

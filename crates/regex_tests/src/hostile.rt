@@ -11,8 +11,8 @@ fn repeated(alloc: Global, text: &str, count: usize) -> Result<String, AllocErro
     Ok(all)
 }
 
-// What becomes of `count` times the opening text, a pattern and `count` times the closing one: whether it finds the haystack
-// as a whole, or `None` if it is refused.
+// What becomes of `count` times the opening text, a pattern and `count` times the closing one:
+// whether it finds the haystack as a whole, or `None` if it is refused.
 fn nests(
     alloc: Global,
     opening: &str,

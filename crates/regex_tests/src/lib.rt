@@ -1,6 +1,7 @@
 //! Tests of the matcher of regular expressions, with values worked by hand.
 //!
-//! Each call of `grep_regex` that needs memory succeeds here at least once, which no contract can promise.
+//! Each call of `grep_regex` that needs memory succeeds here at least once, which no contract can
+//! promise.
 #![tactic(auto)]
 
 #[cfg(test)]

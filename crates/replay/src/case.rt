@@ -9,7 +9,8 @@ use std::{slice, str};
 /// Why a line is no case that can be run.
 #[derive(Clone, Copy)]
 pub(crate) enum CaseError {
-    /// A field isn't known, or its value isn't one of the field's, or the input or the literal is missing.
+    /// A field isn't known, or its value isn't one of the field's, or the input or the literal is
+    /// missing.
     Malformed,
     /// The label of `enc` isn't one of an encoding that is known.
     UnknownEncoding,
@@ -117,7 +118,8 @@ const PLACES: &[Place] = &[
 /// A way to make the search of a case.
 #[derive(Clone, Copy)]
 pub(crate) struct Way {
-    /// Whether the matcher has neither terminator nor byte set, so that it is asked about one line at a time.
+    /// Whether the matcher has neither terminator nor byte set, so that it is asked about one line
+    /// at a time.
     pub(crate) plain: bool,
     /// Where the input is.
     pub(crate) place: Place,
@@ -162,9 +164,10 @@ pub(crate) struct Case {
 impl Case {
     /// The case of a line: fields `key=value` with a space between.
     ///
-    /// An error is that of the first field that can't be read: `OutOfMemory` if there is none for the input, a literal
-    /// or a label, `UnknownEncoding` if the label isn't known, else `Malformed`, which is also the error of a line that
-    /// isn't UTF-8 or lacks the input or the literal. `OutOfMemory` for the whole input comes after these.
+    /// An error is that of the first field that can't be read: `OutOfMemory` if there is none for
+    /// the input, a literal or a label, `UnknownEncoding` if the label isn't known, else
+    /// `Malformed`, which is also the error of a line that isn't UTF-8 or lacks the input or the
+    /// literal. `OutOfMemory` for the whole input comes after these.
     pub(crate) fn parse(alloc: Global, line: &[u8]) -> Result<Case, CaseError> {
         let line = str::from_utf8(line).map_err(|_| CaseError::Malformed)?;
         let mut fields = Fields {
@@ -181,9 +184,10 @@ impl Case {
         fields.into_case()
     }
 
-    /// Where the same search makes the same calls, plain or not: a slice, a reader in one piece and one in single bytes,
-    /// or just the case's own place if a reader fails, if there is a heap limit, or if binary bytes are looked for by
-    /// line. Nowhere if the matcher's terminator is named, or if it can't be asked about one line at a time.
+    /// Where the same search makes the same calls, plain or not: a slice, a reader in one piece and
+    /// one in single bytes, or just the case's own place if a reader fails, if there is a heap
+    /// limit, or if binary bytes are looked for by line. Nowhere if the matcher's terminator is
+    /// named, or if it can't be asked about one line at a time.
     pub(crate) fn places(&self, searcher: &Searcher) -> &[Place] {
         let options = &self.options;
         if options.names.is_some() || matches!(options.pattern, Pattern::Candidates) {
@@ -198,7 +202,8 @@ impl Case {
         }
     }
 
-    // Whether binary bytes are looked for by line: in a slice that is all there, but in a reader as it is read.
+    // Whether binary bytes are looked for by line: in a slice that is all there, but in a reader as
+    // it is read.
     fn detects_by_line(&self, searcher: &Searcher) -> bool {
         *searcher.binary_detection() != BinaryDetection::None && !self.is_across(searcher)
     }

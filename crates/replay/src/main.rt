@@ -1,5 +1,5 @@
-//! Reads cases of searches from standard input, one a line, and writes the calls that each search makes, one line a
-//! case. An empty line is skipped.
+//! Reads cases of searches from standard input, one a line, and writes the calls that each search
+//! makes, one line a case. An empty line is skipped.
 #![tactic(auto)]
 
 mod case;

@@ -9,8 +9,9 @@ use grep_testing::{
 use std::alloc::{AllocError, Global};
 use std::io;
 
-/// Runs the case of a line, and writes its calls and how it ended. A line that is no case that can be run, and a search
-/// that fails, are reported in what is written. An error is that of the write to `output`.
+/// Runs the case of a line, and writes its calls and how it ended. A line that is no case that can
+/// be run, and a search that fails, are reported in what is written. An error is that of the write
+/// to `output`.
 pub(crate) fn replay<W: io::Write>(alloc: Global, line: &[u8], output: &mut W) -> io::Result<()> {
     let case = match Case::parse(alloc, line) {
         Ok(case) => case,
@@ -44,8 +45,8 @@ fn write_calls<W: io::Write>(
     writeln!(output)
 }
 
-// Whether the search of a case makes the same calls at a place and ends so, plain or not. Under `multi_line` that can be
-// a search in the other mode, so it is only made again as it was.
+// Whether the search of a case makes the same calls at a place and ends so, plain or not. Under
+// `multi_line` that can be a search in the other mode, so it is only made again as it was.
 fn repeats(
     alloc: Global,
     searcher: &mut Searcher,
@@ -127,7 +128,8 @@ fn search_fault(error: &SearchError) -> &'static str {
     }
 }
 
-// Why a search failed that ended in an error of this kind. The error of a reader has another kind than these.
+// Why a search failed that ended in an error of this kind. The error of a reader has another kind
+// than these.
 fn io_fault(kind: io::ErrorKind) -> &'static str {
     match kind {
         io::ErrorKind::Other => "err heap",

@@ -40,7 +40,8 @@ fn modes(rt: HostRuntime) -> Result<(), Fail> {
     Ok(())
 }
 
-// How often a closure is called in a search of the input, and how often with line 2 and the text of the three lines.
+// How often a closure is called in a search of the input, and how often with line 2 and the text of
+// the three lines.
 fn texts(alloc: Global) -> io::Result<(usize, usize)> {
     let mut searcher = match searcher(alloc, None, None) {
         Ok(searcher) => searcher,
@@ -66,8 +67,8 @@ fn a_closure_is_called_with_the_text_of_all_lines(rt: HostRuntime) -> Result<(),
     Ok(())
 }
 
-// Whether a search of a reader for the literal `a`, across lines and under a heap limit, makes these calls, and ends in
-// the error of the limit or not.
+// Whether a search of a reader for the literal `a`, across lines and under a heap limit, makes
+// these calls, and ends in the error of the limit or not.
 fn has_calls(
     alloc: Global,
     input: &[u8],
@@ -103,7 +104,8 @@ fn a_large_input_under_a_heap_limit(rt: HostRuntime) -> Result<(), Fail> {
     Ok(())
 }
 
-// A limit of matches, which call of the matcher fails, counted from 1, and how many calls a search makes of it.
+// A limit of matches, which call of the matcher fails, counted from 1, and how many calls a search
+// makes of it.
 const ASKED_ROWS: &[(Option<u64>, Option<u64>, u64)] = &[
     (None, None, 3),
     (Some(2), None, 2),

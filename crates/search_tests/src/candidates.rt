@@ -140,8 +140,9 @@ fn asks(alloc: Global, row: &Row, piece: Option<usize>) -> Result<bool, ConfigEr
     Ok(has_asked(&matcher, row, ended.is_err()) && recorder.text() == row.calls)
 }
 
-// One question for each line that matches, and none after an error. In the context after the limit, and after a chosen
-// line if the search stops, each line is asked about alone. In single bytes each line is a window of its own.
+// One question for each line that matches, and none after an error. In the context after the limit,
+// and after a chosen line if the search stops, each line is asked about alone. In single bytes each
+// line is a window of its own.
 #[test]
 fn questions(rt: HostRuntime) -> Result<(), Fail> {
     for (index, row) in ROWS.iter().enumerate() {

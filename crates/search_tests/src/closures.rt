@@ -17,7 +17,8 @@ enum Calls {
     Bytes,
 }
 
-// How often a closure was called, and how often with line 1 and some text. It returns whether it goes on.
+// How often a closure was called, and how often with line 1 and some text. It returns whether it
+// goes on.
 #[derive(Drop)]
 struct Seen<'t> {
     text: &'t [u8],
@@ -75,8 +76,8 @@ fn search(
     }
 }
 
-// A sink, whether lines are numbered, the bytes, whether the closure goes on, how often it is called, the text of its
-// first call, and the kind of the error.
+// A sink, whether lines are numbered, the bytes, whether the closure goes on, how often it is
+// called, the text of its first call, and the kind of the error.
 type Row = (
     Calls,
     bool,

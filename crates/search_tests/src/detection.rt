@@ -6,7 +6,8 @@ use grep_testing::{Pieces, Recorder};
 use std::alloc::Global;
 use std::test::Fail;
 
-// A detection, and the calls of a search for the literal `a` under it, over a slice and over a reader in threes.
+// A detection, and the calls of a search for the literal `a` under it, over a slice and over a
+// reader in threes.
 type Row = (BinaryDetection, &'static str, &'static str);
 
 const INPUT: &[u8] = b"a\nb\0a\n";
@@ -88,7 +89,8 @@ const REPLACED: &[(&[u8], &[u8])] = &[
     (b"aaaaaaaa\0bbbbbbbb\0aaaa", b"aaaaaaaa\nbbbbbbbb\naaaa"),
 ];
 
-// Whether it is inverted, how many lines of context there are on both sides, and how many matches there are at most.
+// Whether it is inverted, how many lines of context there are on both sides, and how many matches
+// there are at most.
 type Settings = (bool, usize, Option<u64>);
 
 const SETTINGS: &[Settings] = &[

@@ -39,7 +39,8 @@ fn finds_in_path(rt: &HostRuntime, path: Path<'_>) -> Result<bool, SearchError> 
     Ok(true)
 }
 
-// Whether a search of an open file makes the calls, and another at its end none but the first and the last.
+// Whether a search of an open file makes the calls, and another at its end none but the first and
+// the last.
 fn finds_in_file(rt: &HostRuntime, path: Path<'_>) -> Result<bool, SearchError> {
     let mut file = File::open(rt, path)?;
     let mut searcher = searcher(rt.alloc())?;
@@ -67,8 +68,8 @@ const NO_ENTRY: i32 = 2;
 
 const NOT_A_DIRECTORY: i32 = 20;
 
-// The system's number of the error of a search of a path that can't be opened, by a searcher that refuses each search,
-// if the sink had no call.
+// The system's number of the error of a search of a path that can't be opened, by a searcher that
+// refuses each search, if the sink had no call.
 fn unopened(rt: &HostRuntime, path: Path<'_>) -> Result<Option<i32>, ConfigError> {
     let mut searcher = SearcherBuilder::new()
         .heap_limit(Some(0))
@@ -117,8 +118,8 @@ fn checks_after_opening(rt: HostRuntime) -> Result<(), Fail> {
     Ok(())
 }
 
-// Whether a search of 131,072 bytes, whose lines end where the line buffer does, reads them in two reads, and is at the
-// end at the third.
+// Whether a search of 131,072 bytes, whose lines end where the line buffer does, reads them in two
+// reads, and is at the end at the third.
 fn has_large_reads(alloc: Global) -> Result<bool, SearchError> {
     let input = vec![in alloc; b'\n'; 1 << 17]?;
     let mut searcher = SearcherBuilder::new().bom_sniffing(false).build(alloc)?;
@@ -134,8 +135,8 @@ fn reads_as_much_as_there_is_room_for(rt: HostRuntime) -> Result<(), Fail> {
     Ok(())
 }
 
-// Whether a search of a file whose second read fails reports the line before, and then ends in the file's error,
-// without another read.
+// Whether a search of a file whose second read fails reports the line before, and then ends in the
+// file's error, without another read.
 fn is_cut(alloc: Global, kind: ErrorKind) -> Result<bool, ConfigError> {
     let mut searcher = SearcherBuilder::new().bom_sniffing(false).build(alloc)?;
     let mut file = Pieces::new(b"a\n", 0, Some((2, io::Error::from(kind))));

@@ -1,7 +1,9 @@
-//! Tests of searches that cases of `replay` can't show: searchers that are used again or copied, the window around a
-//! match, large inputs, and which calls a search makes of its reader and its matcher.
+//! Tests of searches that cases of `replay` can't show: searchers that are used again or copied,
+//! the window around a match, large inputs, and which calls a search makes of its reader and its
+//! matcher.
 //!
-//! Each call of `grep_searcher` that needs memory succeeds here at least once, which no contract can promise.
+//! Each call of `grep_searcher` that needs memory succeeds here at least once, which no contract
+//! can promise.
 #![tactic(auto)]
 
 #[cfg(test)]

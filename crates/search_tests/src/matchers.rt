@@ -155,8 +155,8 @@ fn reader_asks(alloc: Global, row: &Row) -> Result<bool, ConfigError> {
     Ok(has_asked(&matcher, row, ended.is_err()))
 }
 
-// No line is asked about twice, none out of order, none after the context of the last selected one that the limit
-// allows, and none after an error or false.
+// No line is asked about twice, none out of order, none after the context of the last selected one
+// that the limit allows, and none after an error or false.
 #[test]
 fn lines_of_a_slice(rt: HostRuntime) -> Result<(), Fail> {
     for (index, row) in ROWS.iter().enumerate() {
@@ -178,7 +178,8 @@ const HAYSTACK: &[u8] = b"xabab";
 
 const HAYSTACKS: &[&[u8]] = &[HAYSTACK, HAYSTACK, HAYSTACK, HAYSTACK];
 
-// The counted calls of the matcher of the literal `ab`, of which one fails, counted from 1, or none at 0.
+// The counted calls of the matcher of the literal `ab`, of which one fails, counted from 1, or none
+// at 0.
 type Counted<'a> = Counting<'a, LiteralMatcher<'a>>;
 
 fn counted(fails_at: u64) -> Counted<'static> {
@@ -191,7 +192,8 @@ fn has_counts(counted: &Counted<'_>, counts: Counts) -> bool {
     counted.counts() == counts && counted.strays() == 0
 }
 
-// Whether `find`, `shortest_match` and `is_match` find the literal, but for the one that fails, counted from 1.
+// Whether `find`, `shortest_match` and `is_match` find the literal, but for the one that fails,
+// counted from 1.
 fn finds<M: Matcher<Error = io::Error> + Drop>(matcher: &M, fails_at: u64) -> bool {
     let found = match matcher.find(HAYSTACK) {
         Ok(Some(found)) => fails_at != 1 && found.start() == 1 && found.end() == 3,
@@ -238,8 +240,8 @@ fn reference_asks(fails_at: u64) -> bool {
     finds(&&counted, fails_at) && confirms(&&counted, fails_at) && has_counts(&counted, counts)
 }
 
-// Whether each call of the defaults is passed on once as `find`, but for the question about many lines, which asks
-// nothing.
+// Whether each call of the defaults is passed on once as `find`, but for the question about many
+// lines, which asks nothing.
 fn defaults_ask(fails_at: u64) -> bool {
     let counted = counted(fails_at);
     let plain = Plain(&counted);

@@ -11,8 +11,9 @@ use std::io::ErrorKind;
 use std::process::Abort;
 use std::test::Fail;
 
-// How many bytes a read gives at most, the read that fails, counted from 1, the kind of its error, and the calls of the
-// sink: the first three bytes are read ahead, and lines that came whole before the error are reported.
+// How many bytes a read gives at most, the read that fails, counted from 1, the kind of its error,
+// and the calls of the sink: the first three bytes are read ahead, and lines that came whole before
+// the error are reported.
 const FAULT_ROWS: &[(usize, u64, ErrorKind, &str)] = &[
     (8, 1, ErrorKind::Interrupted, "begin;"),
     (8, 1, ErrorKind::BrokenPipe, "begin;"),
@@ -28,7 +29,8 @@ fn cut(kind: ErrorKind) -> io::Error {
 
 const CUT: &str = "the line was cut";
 
-// The error of its reader in which a search for the literal `a` ends, after these calls of its sink.
+// The error of its reader in which a search for the literal `a` ends, after these calls of its
+// sink.
 fn fault_of<R: Source>(alloc: Global, reader: &mut R, calls: &str) -> Option<io::Error> {
     let mut recorder = Recorder::new(alloc, None, None);
     let ended = search_reader_for_a(alloc, reader, &mut recorder);
@@ -83,7 +85,8 @@ fn pulls(reader: &mut Reading<Pieces<'_>>, expected: Result<usize, ErrorKind>) -
     }
 }
 
-// Whether the reads of `abcde` in pieces of 2, of which the second fails, are made once each and passed on.
+// Whether the reads of `abcde` in pieces of 2, of which the second fails, are made once each and
+// passed on.
 fn is_asked_once(kind: ErrorKind) -> bool {
     let fault = Some((2, io::Error::from(kind)));
     let mut reader = Reading::new(Pieces::new(b"abcde", 2, fault));
@@ -158,8 +161,8 @@ fn a_slice_as_a_reader(rt: HostRuntime) -> Result<(), Fail> {
     Ok(())
 }
 
-// Which call of the sink returns false, counted from 1, how many matches there are at most, an input, and how often a
-// search for the literal `a` reads it, a byte at a time.
+// Which call of the sink returns false, counted from 1, how many matches there are at most, an
+// input, and how often a search for the literal `a` reads it, a byte at a time.
 type ReadRow = (Option<u64>, Option<u64>, &'static [u8], u64);
 
 const READ_ROWS: &[ReadRow] = &[
@@ -183,7 +186,8 @@ fn has_reads(alloc: Global, row: &ReadRow) -> Result<bool, SearchError> {
     Ok(reader.reads() == row.3)
 }
 
-// Nothing is read before `begin` returned true, after the end of a search, or after an unterminated last line.
+// Nothing is read before `begin` returned true, after the end of a search, or after an unterminated
+// last line.
 #[test]
 fn reads_that_a_search_needs(rt: HostRuntime) -> Result<(), Fail> {
     for (index, row) in READ_ROWS.iter().enumerate() {
@@ -192,8 +196,8 @@ fn reads_that_a_search_needs(rt: HostRuntime) -> Result<(), Fail> {
     Ok(())
 }
 
-// Whether a search for one match, with a heap limit of 8 bytes, takes at most 13 bytes of an input whose first line
-// matches, in pieces of some size.
+// Whether a search for one match, with a heap limit of 8 bytes, takes at most 13 bytes of an input
+// whose first line matches, in pieces of some size.
 fn takes_few(alloc: Global, input: &[u8], piece: usize) -> Result<bool, SearchError> {
     let mut reader = Pieces::new(input, piece, None);
     let calls = "begin;match 1 0 610a;finish 2 -;";

@@ -1,4 +1,5 @@
-//! Searches whose contracts aren't passed on: a test doesn't need them, and is proved sooner without them.
+//! Searches whose contracts aren't passed on: a test doesn't need them, and is proved sooner
+//! without them.
 use grep_decode::Source;
 use grep_matcher::{LiteralMatcher, Matcher};
 use grep_searcher::{SearchError, Searcher, Sink};

@@ -5,8 +5,8 @@ use grep_testing::Pieces;
 use std::alloc::Allocator;
 use std::test::Fail;
 
-// Counts the matches of a search of `input`, those whose window is the whole input, and those whose window has the
-// match's bytes at its range, which are one line.
+// Counts the matches of a search of `input`, those whose window is the whole input, and those whose
+// window has the match's bytes at its range, which are one line.
 #[derive(Drop)]
 struct Windows<'a> {
     input: &'a [u8],

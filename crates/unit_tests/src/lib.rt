@@ -1,6 +1,7 @@
 //! Tests of the crates below the search, each alone, with values worked by hand.
 //!
-//! Each of their calls that needs memory succeeds here at least once, which no contract can promise.
+//! Each of their calls that needs memory succeeds here at least once, which no contract can
+//! promise.
 #![tactic(auto)]
 
 #[cfg(test)]

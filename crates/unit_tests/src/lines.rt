@@ -98,7 +98,8 @@ fn counts_in_many_bytes(rt: HostRuntime) -> Result<(), Fail> {
     Ok(())
 }
 
-// Some bytes, where a match in them starts and ends, and where the whole lines that it reaches into start and end.
+// Some bytes, where a match in them starts and ends, and where the whole lines that it reaches into
+// start and end.
 const LOCATE_ROWS: &[(&[u8], usize, usize, usize, usize)] = &[
     (b"", 0, 0, 0, 0),
     (b"\n", 0, 1, 0, 1),
@@ -133,7 +134,8 @@ fn located(rt: HostRuntime) {
     }
 }
 
-// Some bytes, a position in them, a count of lines, and where the line that many lines before starts.
+// Some bytes, a position in them, a count of lines, and where the line that many lines before
+// starts.
 const PRECEDING_ROWS: &[(&[u8], usize, usize, usize)] = &[
     (b"abc\nxyz\n", 7, 0, 4),
     (b"abc\nxyz\n", 8, 0, 4),
@@ -200,7 +202,8 @@ fn stripped(rt: HostRuntime) {
     }
 }
 
-// Some bytes, the byte that is replaced, the byte it becomes, the bytes after that, and the index of the first.
+// Some bytes, the byte that is replaced, the byte it becomes, the bytes after that, and the index
+// of the first.
 const REPLACED_ROWS: &[(&[u8], u8, u8, &[u8], Option<usize>)] = &[
     (b"", b'b', b'z', b"", None),
     (b"abc", b'x', b'z', b"abc", None),

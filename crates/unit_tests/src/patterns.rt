@@ -188,7 +188,8 @@ fn ranges(rt: HostRuntime) {
     assert!(rt; debugs(rt.alloc(), &range, "Match { start: 2, end: 5 }"));
 }
 
-// A terminator, the byte at which lines are split, the bytes that a line is stripped of, and the debug form.
+// A terminator, the byte at which lines are split, the bytes that a line is stripped of, and the
+// debug form.
 const TERMINATOR_ROWS: &[(LineTerminator, u8, &[u8], &str)] = &[
     (LineTerminator::Byte(b'\n'), b'\n', b"\n", "Byte(10)"),
     (LineTerminator::Byte(0), 0, b"\0", "Byte(0)"),

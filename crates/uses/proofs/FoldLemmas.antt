@@ -1,5 +1,6 @@
 -- What the sinks of these callers make of some matches.
-use Rattle.std.proofs.Common.{◌≡◌, ℕ, ◌+◌, ◌<◌, ◌-◌, ◌^◌, min, true, false, List, [], ◌∷◌, ◌++◌, length, refl, sym, ◌∙◌, arith}
+use Rattle.std.proofs.Common.{◌≡◌, ℕ, ◌+◌, ◌<◌, ◌-◌, ◌^◌, min, true, false, List, [], ◌∷◌, ◌++◌, length, refl, sym, ◌∙◌}
+use Rattle.std.proofs.Common.{arith}
 use Rattle.std.proofs.Common.{append_assoc}
 use Rattle.std.proofs.lemmas.List.{append-nil}
 use Rattle.std.specs.Prelude.{Option, None, Some, map, slice_get}
@@ -26,11 +27,13 @@ fold_while-counted_all calls = omega (arith, fold_while-counted (record { count 
 
 -- the first of some matches, and where it is
 pub fold_while-kept : (calls : List Call)
-    → (fold_while (λ _ _. false) kept (record { position = None }) calls).position ≡ option_and_then position_of (slice_get calls 0)
+    → (fold_while (λ _ _. false) kept (record { position = None }) calls).position
+    ≡ option_and_then position_of (slice_get calls 0)
 fold_while-kept [] = refl
 fold_while-kept (call ∷ later) = refl
 
-pub position_of-match : (settings : Settings) (meaning : Meaning) (bytes : List ℕ) → settings.line_number ≡ true → (found : Option ℕ)
+pub position_of-match : (settings : Settings) (meaning : Meaning) (bytes : List ℕ) → settings.line_number ≡ true
+    → (found : Option ℕ)
     → option_and_then position_of (option_map (match_of settings meaning bytes) found)
     ≡ option_map (λ i. (i + 1, start settings meaning bytes i)) found
 position_of-match settings meaning bytes numbered None = refl
@@ -45,16 +48,19 @@ fold_while-joined settings meaning bytes text (i ∷ later) =
     fold_while-joined settings meaning bytes (text ++ line settings meaning bytes i) later
     ∙ append_assoc text (line settings meaning bytes i) (concat (map (line settings meaning bytes) later))
 
-pub fold_while-matched : (settings : Settings) (meaning : Meaning) (bytes text : List ℕ) (calls : List Call) (listed : List ℕ)
+pub fold_while-matched : (settings : Settings) (meaning : Meaning) (bytes text : List ℕ) (calls : List Call)
+    (listed : List ℕ)
     → text ≡ [] → calls ≡ map (match_of settings meaning bytes) listed
     → fold_while (λ _ _. true) joined text calls ≡ concat (map (line settings meaning bytes) listed)
 fold_while-matched settings meaning bytes text calls listed empty is =
     rw (empty, is) (fold_while-joined settings meaning bytes [] listed)
 
 -- what a report has of some calls
-pub fold-reported : (text : List ℕ) (turns : List Turn) → fold reported text (map (λ turn. turn.call) turns) ≡ text ++ report_of turns
+pub fold-reported : (text : List ℕ) (turns : List Turn) → fold reported text (map (λ turn. turn.call) turns) ≡ text
+    ++ report_of turns
 fold-reported text [] = sym (append-nil text)
-fold-reported text (turn ∷ later) = fold-reported (reported text turn.call) later ∙ append_assoc text (marked turn.call) (report_of later)
+fold-reported text (turn ∷ later) = fold-reported (reported text turn.call) later
+    ∙ append_assoc text (marked turn.call) (report_of later)
 
 -- what a report has of a whole run, of which `finish` adds nothing
 pub reported-run : (old : List ℕ) (turns : List Turn) → old ≡ []

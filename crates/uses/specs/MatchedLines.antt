@@ -1,4 +1,5 @@
--- What these callers return, said of the matched lines: those that are selected, or trailing after a selected one.
+-- What these callers return, said of the matched lines: those that are selected, or trailing after
+-- a selected one.
 use Rattle.std.specs.Prelude.{ℕ, ◌+◌, List, map, Option}
 use Rattle.std.specs.List.{concat}
 use Rattle.std.specs.Option.{option_map}

@@ -16,10 +16,10 @@ use grep_searcher::{
 };
 use std::alloc::{Allocator, Global};
 
-/// Returns how many lines of `bytes` are matched: selected, or hit past the limit in the context after
-/// a selected line. If the bytes have to be decoded, it is how many of the decoded lines are, up to
-/// the largest `u64`. The count is promised of a search by line:
-/// across lines, under `multi_line`, a match may be several lines.
+/// Returns how many lines of `bytes` are matched: selected, or hit past the limit in the context
+/// after a selected line. If the bytes have to be decoded, it is how many of the decoded lines are,
+/// up to the largest `u64`. The count is promised of a search by line: across lines, under
+/// `multi_line`, a match may be several lines.
 ///
 /// An error is made of the matcher's, or of a configuration that the searcher refuses. If the bytes
 /// have to be decoded, it may also be of the heap limit, of being out of memory, or of more than

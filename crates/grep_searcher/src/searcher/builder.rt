@@ -9,7 +9,8 @@ use grep_walk::Config;
 use std::alloc::{AllocError, Allocator};
 use std::marker::Model;
 
-/// The settings of a searcher that is to be built. Each setter changes its own setting alone, and returns the builder.
+/// The settings of a searcher that is to be built. Each setter changes its own setting alone, and
+/// returns the builder.
 #[derive(Debug, Drop)]
 pub struct SearcherBuilder {
     config: Config,
@@ -48,8 +49,8 @@ impl Clone for SearcherBuilder {
 }
 
 impl SearcherBuilder {
-    /// The default settings: lines end at a line feed and are numbered; nothing is inverted, limited or stopped early,
-    /// and only matching lines are reported.
+    /// The default settings: lines end at a line feed and are numbered; nothing is inverted,
+    /// limited or stopped early, and only matching lines are reported.
     pub fn new() -> SearcherBuilder
         ensures { result ≡ default_settings }
     {
@@ -73,8 +74,9 @@ impl SearcherBuilder {
         }
     }
 
-    /// A searcher with these settings, except that both contexts are 0 under `passthru`. It keeps `alloc` for what it
-    /// needs memory for. The only error is `Memory`, if there is none for its buffers.
+    /// A searcher with these settings, except that both contexts are 0 under `passthru`. It keeps
+    /// `alloc` for what it needs memory for. The only error is `Memory`, if there is none for its
+    /// buffers.
     pub fn build<A: Allocator + Copy>(&self, alloc: A) -> Result<Searcher<A>, ConfigError>
         ensures settings { IfOk result (λ searcher.
             searcher ≡ record { settings = built self.now; has_buffers = true }) }
@@ -117,11 +119,12 @@ impl SearcherBuilder {
 
     /// Whether a match may extend over several lines; not by default.
     ///
-    /// Then a search runs across lines, unless the matcher says that none of its matches contains the line terminator
-    /// (`Searcher::multi_line_with_matcher`). It looks for matches in all bytes at once, and reports the lines of
-    /// matches that overlap or follow each other as one match; under inversion it reports each line that no match
-    /// extends over. The limit counts matches, and under inversion lines. `stop_on_nonmatch` is ignored. All of a
-    /// reader is read into memory before the search begins.
+    /// Then a search runs across lines, unless the matcher says that none of its matches contains
+    /// the line terminator (`Searcher::multi_line_with_matcher`). It looks for matches in all bytes
+    /// at once, and reports the lines of matches that overlap or follow each other as one match;
+    /// under inversion it reports each line that no match extends over. The limit counts matches,
+    /// and under inversion lines. `stop_on_nonmatch` is ignored. All of a reader is read into
+    /// memory before the search begins.
     pub fn multi_line(&mut self, yes: bool) -> &mut SearcherBuilder
         ensures reference { result.ghost_name ≡ self.entry.ghost_name }
         ensures set { result.now ≡ record self.old { multi_line = yes } }
@@ -148,7 +151,8 @@ impl SearcherBuilder {
         self
     }
 
-    /// Whether every line is reported, match or not, up to a stop; not by default. Both contexts then count as 0.
+    /// Whether every line is reported, match or not, up to a stop; not by default. Both contexts
+    /// then count as 0.
     pub fn passthru(&mut self, yes: bool) -> &mut SearcherBuilder
         ensures reference { result.ghost_name ≡ self.entry.ghost_name }
         ensures set { result.now ≡ record self.old { passthru = yes } }
@@ -157,10 +161,11 @@ impl SearcherBuilder {
         self
     }
 
-    /// How many decoded bytes of a reader, or of a slice that needs decoding, a search holds at most; no limit by
-    /// default. A line that doesn't fit ends the search in an error, as `Searcher::search_reader` says; across lines
-    /// all decoded bytes have to be fewer. A limit of 0 refuses each search. The bytes of any other slice don't
-    /// count, nor do the 8,192 of the decoder.
+    /// How many decoded bytes of a reader, or of a slice that needs decoding, a search holds at
+    /// most; no limit by default. A line that doesn't fit ends the search in an error, as
+    /// `Searcher::search_reader` says; across lines all decoded bytes have to be fewer. A limit of
+    /// 0 refuses each search. The bytes of any other slice don't count, nor do the 8,192 of the
+    /// decoder.
     pub fn heap_limit(&mut self, bytes: Option<usize>) -> &mut SearcherBuilder
         ensures reference { result.ghost_name ≡ self.entry.ghost_name }
         ensures set { result.now ≡ record self.old { heap_limit = bytes } }
@@ -180,8 +185,8 @@ impl SearcherBuilder {
 
     /// Which bytes mark the input as binary, and what a search does about them; none by default.
     ///
-    /// A slice that is searched as it is, and any search across lines, heed `Quit` alone. An input that is read line by
-    /// line heeds `Convert` too. What is looked at are the decoded bytes.
+    /// A slice that is searched as it is, and any search across lines, heed `Quit` alone. An input
+    /// that is read line by line heeds `Convert` too. What is looked at are the decoded bytes.
     pub fn binary_detection(&mut self, detection: BinaryDetection) -> &mut SearcherBuilder
         ensures reference { result.ghost_name ≡ self.entry.ghost_name }
         ensures set { result.now ≡ record self.old { binary_detection = detection } }
@@ -208,8 +213,8 @@ impl SearcherBuilder {
         self
     }
 
-    /// Whether the first line that isn't selected, after one that is, ends the search; not by default. Across lines it
-    /// is ignored.
+    /// Whether the first line that isn't selected, after one that is, ends the search; not by
+    /// default. Across lines it is ignored.
     pub fn stop_on_nonmatch(&mut self, yes: bool) -> &mut SearcherBuilder
         ensures reference { result.ghost_name ≡ self.entry.ghost_name }
         ensures set { result.now ≡ record self.old { stop_on_nonmatch = yes } }
@@ -218,10 +223,10 @@ impl SearcherBuilder {
         self
     }
 
-    /// How many lines are selected at most; no limit by default. The lines after the last of them that
-    /// `after_context` has are reported too, as matches if they hit. At 0 no line is selected, and without
-    /// `passthru` nothing is reported. Across lines it is how many matches count, unless `invert_match`
-    /// is set, and lines that hit after these are context lines.
+    /// How many lines are selected at most; no limit by default. The lines after the last of them
+    /// that `after_context` has are reported too, as matches if they hit. At 0 no line is selected,
+    /// and without `passthru` nothing is reported. Across lines it is how many matches count,
+    /// unless `invert_match` is set, and lines that hit after these are context lines.
     pub fn max_matches(&mut self, limit: Option<u64>) -> &mut SearcherBuilder
         ensures reference { result.ghost_name ≡ self.entry.ghost_name }
         ensures set { result.now ≡ record self.old { max_matches = limit } }

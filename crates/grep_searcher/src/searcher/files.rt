@@ -23,13 +23,14 @@ use std::path::AsPath;
 use std::rt::Files;
 
 impl<A: Allocator + Copy> Searcher<A> {
-    /// Searches a file from its position on, as `search_reader` searches a reader, with the same errors. It is read
-    /// straight into the searcher's line buffer, with no buffer between. The caller ensures that the sink may be
-    /// called.
+    /// Searches a file from its position on, as `search_reader` searches a reader, with the same
+    /// errors. It is read straight into the searcher's line buffer, with no buffer between. The
+    /// caller ensures that the sink may be called.
     ///
-    /// What is promised of the calls, but for their order, is promised of a file that says which bytes remain. Of one of the system nobody
-    /// knows that; it holds while nobody writes the file and the disk returns what was written. That an error of
-    /// reading is the file's own isn't in the contract, since `Read` says nothing of its errors.
+    /// What is promised of the calls, but for their order, is promised of a file that says which
+    /// bytes remain. Of one of the system nobody knows that; it holds while nobody writes the file
+    /// and the disk returns what was written. That an error of reading is the file's own isn't in
+    /// the contract, since `Read` says nothing of its errors.
     pub fn search_file<M: Matcher, F: Read, S: Sink>(
         &mut self,
         matcher: M,
@@ -63,11 +64,12 @@ impl<A: Allocator + Copy> Searcher<A> {
         self.search_reader(matcher, &mut Opened { file }, sink)
     }
 
-    /// Opens the file at a path and searches it from its start, as `search_file` does. If it can't be opened, the error
-    /// is made of that of opening, by `error_io`, and the sink has no call; that comes before any other error. The
-    /// caller ensures that the sink may be called.
+    /// Opens the file at a path and searches it from its start, as `search_file` does. If it can't
+    /// be opened, the error is made of that of opening, by `error_io`, and the sink has no call;
+    /// that comes before any other error. The caller ensures that the sink may be called.
     ///
-    /// `Files` says nothing of what it opens, so the contract speaks of some file that was opened, as it then was.
+    /// `Files` says nothing of what it opens, so the contract speaks of some file that was opened,
+    /// as it then was.
     pub fn search_path<R: Files, M: Matcher, P: AsPath, S: Sink>(
         &mut self,
         rt: &R,

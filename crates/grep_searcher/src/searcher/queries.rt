@@ -37,9 +37,9 @@ impl<A: Allocator + Copy> Searcher<A> {
         self.config.multi_line
     }
 
-    /// Whether a search with this matcher runs across lines: if `multi_line` is set, and the matcher doesn't say that no
-    /// match contains the line terminator. It says so by declaring the searcher's terminator, or by having its byte
-    /// among the bytes that no match contains.
+    /// Whether a search with this matcher runs across lines: if `multi_line` is set, and the
+    /// matcher doesn't say that no match contains the line terminator. It says so by declaring the
+    /// searcher's terminator, or by having its byte among the bytes that no match contains.
     pub fn multi_line_with_matcher<M: Matcher>(&self, matcher: M) -> bool
     where
         M: Drop,
@@ -104,15 +104,16 @@ impl<A: Allocator + Copy> Searcher<A> {
         self.config.binary_detection = detection;
     }
 
-    /// Whether the first line that isn't selected, after one that is, ends the search. Across lines it is ignored.
+    /// Whether the first line that isn't selected, after one that is, ends the search. Across lines
+    /// it is ignored.
     pub fn stop_on_nonmatch(&self) -> bool
         ensures { result ≡ self.now.settings.stop_on_nonmatch }
     {
         self.config.stop_on_nonmatch
     }
 
-    /// How many lines are selected at most, if there is a limit; across lines how many matches count, unless
-    /// `invert_match` is set.
+    /// How many lines are selected at most, if there is a limit; across lines how many matches
+    /// count, unless `invert_match` is set.
     pub fn max_matches(&self) -> Option<u64>
         ensures { result ≡ self.now.settings.max_matches }
     {

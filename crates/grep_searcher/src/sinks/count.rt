@@ -7,11 +7,11 @@ use grep_report::{SinkContext, SinkFinish, SinkMatch};
 use std::alloc::Allocator;
 use std::marker::{Model, PhantomData};
 
-/// Counts the matches that are reported, up to the largest `u64`. By line that is how many lines are matched; across
-/// lines a run of lines that matches touch is one.
+/// Counts the matches that are reported, up to the largest `u64`. By line that is how many lines
+/// are matched; across lines a run of lines that matches touch is one.
 ///
-/// It never ends a search, and no call fails: `E` is the error of the search, as `SearchError` or `io::Error`. A sink
-/// that several searches report to counts the matches of them all.
+/// It never ends a search, and no call fails: `E` is the error of the search, as `SearchError` or
+/// `io::Error`. A sink that several searches report to counts the matches of them all.
 #[derive(Drop)]
 pub struct Count<E> {
     matches: u64,

@@ -13,5 +13,6 @@ pub returns-in-Big-clause-text : goal.returns-in-Big-clause-text
 returns-in-Big-clause-text c = λ done more.
     let made = c.put_lows-in-Big.ensures in
     let output = c.put_lows-in-Big.new.output in
-    rw c.in-Big.is (big-block c.args.input.now c.halves.result.1 c.halves.result.0 output more c.requires.input c.halves.ensures.firsts
+    rw c.in-Big.is (big-block c.args.input.now c.halves.result.1 c.halves.result.0 output more c.requires.input
+    c.halves.ensures.firsts
     c.halves.ensures.seconds (made.bytes done) (made.lows done) (made.highs done))

@@ -1,6 +1,7 @@
 use Rattle.std.proofs.Common.{◌⊎◌, ◌<◌, ◌≤◌, drop, inl, inr, ap, ◌∙◌, ◌++◌, encode_utf8, arith}
 use Rattle.grep_decode.specs.Decoded.{utf16_text}
-use Rattle.grep_decode.proofs.UnitLemmas.{high_is, low_is, not_low, not_high, alone-plain, alone-surrogate, text-alone, text-high}
+use Rattle.grep_decode.proofs.UnitLemmas.{high_is, low_is, not_low, not_high, alone-plain, alone-surrogate, text-alone}
+use Rattle.grep_decode.proofs.UnitLemmas.{text-high}
 use Rattle.grep_decode.proofs.UnitLemmas.{unfinished-few, unfinished-pair, text-pair, text-waiting, text-odd}
 use Rattle.grep_decode.proofs.utf16.next_scalar.Goals as goal
 use Rattle.grep_decode.proofs.utf16.next_scalar.Goals.{then-unit-lt55296-via-then-unit-lt55296}
@@ -22,8 +23,10 @@ returns-then-unit-lt55296-clause-first c = λ more when.
 pub returns-then-unit-ge56320-clause-first : goal.returns-then-unit-ge56320-clause-first
 returns-then-unit-ge56320-clause-first c = λ more when.
     let u = c.unit_at-unit.result in
-    text-alone c.args.order c.args.input.now more u (omega arith) c.unit_at-unit.ensures.value (not_high u (inr c.if-unit-ge56320.true))
-    ∙ ap (λ k. encode_utf8 k ++ utf16_text c.args.order (drop 2 c.args.input.now ++ more)) (alone-surrogate u (omega arith) (omega arith))
+    text-alone c.args.order c.args.input.now more u (omega arith) c.unit_at-unit.ensures.value
+    (not_high u (inr c.if-unit-ge56320.true))
+    ∙ ap (λ k. encode_utf8 k ++ utf16_text c.args.order (drop 2 c.args.input.now ++ more))
+    (alone-surrogate u (omega arith) (omega arith))
 
 pub returns-then-is_last-2-clause-first : goal.returns-then-is_last-2-clause-first
 returns-then-is_last-2-clause-first c = λ more when.
@@ -32,13 +35,15 @@ returns-then-is_last-2-clause-first c = λ more when.
     (high_is u (omega arith) (omega arith)) (when c.if-is_last-2.true)
 
 pub returns-then-is_last-clause-first : goal.returns-then-is_last-clause-first
-returns-then-is_last-clause-first c = λ more when. text-odd c.args.order c.args.input.now more (omega arith) (when c.if-is_last.true)
+returns-then-is_last-clause-first c = λ more when. text-odd c.args.order c.args.input.now more (omega arith)
+    (when c.if-is_last.true)
 
 pub returns-then-next-lt57344-clause-first : goal.returns-then-next-lt57344-clause-first
 returns-then-next-lt57344-clause-first c = λ more when.
     let u = c.unit_at-unit.result in
     let v = c.unit_at-next.result in
-    text-pair c.args.order c.args.input.now more u v (omega arith) c.unit_at-unit.ensures.value c.unit_at-next.ensures.value
+    text-pair c.args.order c.args.input.now more u v (omega arith) c.unit_at-unit.ensures.value
+    c.unit_at-next.ensures.value
     (high_is u (omega arith) (omega arith)) (low_is v (omega arith) (omega arith))
 
 pub returns-else-next-ge56320-clause-first : goal.returns-else-next-ge56320-clause-first
@@ -49,9 +54,11 @@ returns-else-next-ge56320-clause-first c = λ more when.
       | else-next-ge56320-via-then-next-ge56320+else-next-lt57344 w ↦ inr w.if-next-lt57344.false
       | else-next-ge56320-via-else-next-ge56320 w ↦ inl w.if-next-ge56320.false
     ] in
-    text-high c.args.order c.args.input.now more u v (omega arith) c.unit_at-unit.ensures.value c.unit_at-next.ensures.value
+    text-high c.args.order c.args.input.now more u v (omega arith) c.unit_at-unit.ensures.value
+    c.unit_at-next.ensures.value
     (high_is u (omega arith) (omega arith)) (not_low v range)
-    ∙ ap (λ k. encode_utf8 k ++ utf16_text c.args.order (drop 2 c.args.input.now ++ more)) (alone-surrogate u (omega arith) (omega arith))
+    ∙ ap (λ k. encode_utf8 k ++ utf16_text c.args.order (drop 2 c.args.input.now ++ more))
+    (alone-surrogate u (omega arith) (omega arith))
 
 pub returns-in-empty-clause-unfinished : goal.returns-in-empty-clause-unfinished
 returns-in-empty-clause-unfinished c = unfinished-few c.args.order c.args.input.now (omega arith)
@@ -60,5 +67,6 @@ pub returns-else-is_last-clause-unfinished : goal.returns-else-is_last-clause-un
 returns-else-is_last-clause-unfinished c = unfinished-few c.args.order c.args.input.now (omega arith)
 
 pub returns-else-is_last-2-clause-unfinished : goal.returns-else-is_last-2-clause-unfinished
-returns-else-is_last-2-clause-unfinished c = unfinished-pair c.args.order c.args.input.now c.unit_at-unit.result (omega arith)
+returns-else-is_last-2-clause-unfinished c = unfinished-pair c.args.order c.args.input.now c.unit_at-unit.result
+    (omega arith)
     (omega arith) c.unit_at-unit.ensures.value (high_is c.unit_at-unit.result (omega arith) (omega arith))

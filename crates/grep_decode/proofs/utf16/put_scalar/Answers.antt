@@ -8,7 +8,9 @@ returns-then-code-lt2048-clause-bytes c =
 
 pub returns-then-code-lt65536-clause-bytes : goal.returns-then-code-lt65536-clause-bytes
 returns-then-code-lt65536-clause-bytes c =
-    rw (encode-three c.args.code (omega arith) (omega arith)) (put-three c.args.output.now c.args.at _ _ _ (omega arith))
+    rw (encode-three c.args.code (omega arith) (omega arith))
+    (put-three c.args.output.now c.args.at _ _ _ (omega arith))
 
 pub returns-clause-bytes : goal.returns-clause-bytes
-returns-clause-bytes c = rw (encode-four c.args.code (omega arith)) (put-four c.args.output.now c.args.at _ _ _ _ (omega arith))
+returns-clause-bytes c = rw (encode-four c.args.code (omega arith))
+    (put-four c.args.output.now c.args.at _ _ _ _ (omega arith))

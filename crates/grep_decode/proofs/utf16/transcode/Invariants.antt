@@ -8,7 +8,8 @@ invariant-loop-written l = record {
   written : l.written ≤ length l.output;
   progress : l.written ≡ 0 → l.taken ≡ 0;
   text : (more : List ℕ) → (IsTrue l.is_last → more ≡ [])
-      → utf16_text l.order (l.input ++ more) ≡ take l.written l.output ++ utf16_text l.order (drop l.taken l.input ++ more);
+      → utf16_text l.order (l.input ++ more) ≡ take l.written l.output
+      ++ utf16_text l.order (drop l.taken l.input ++ more);
 }
 
 abbrev pub decreases-loop-written : goal.decreases-loop-written

@@ -1,7 +1,8 @@
 use Rattle.std.proofs.Common.{◌≡◌, drop, Some, None, arith, ap, sym, ◌∙◌, subst}
 use Rattle.std.specs.Str.{IsValidUpTo, IsErrorLen}
 use Rattle.std.specs.Str.Lossy.{utf8_error_len}
-use Rattle.grep_decode.proofs.LossyLemmas.{unfinished-ended, utf8_lossy-ill_formed, utf8_lossy-incomplete, unfinished-taken}
+use Rattle.grep_decode.proofs.LossyLemmas.{unfinished-ended, utf8_lossy-ill_formed, utf8_lossy-incomplete}
+use Rattle.grep_decode.proofs.LossyLemmas.{unfinished-taken}
 use Rattle.grep_decode.proofs.utf8.scan.Goals as goal
 
 pub returns-then-is_last-clause-ill_formed : goal.returns-then-is_last-clause-ill_formed

@@ -2,7 +2,8 @@ use Rattle.std.proofs.Common.{◌≡◌, length, take, drop, sym, ap, subst, ◌
 use Rattle.std.proofs.lemmas.List.{with_items_is}
 use Rattle.grep_line_buffer.specs.BufferStates.{IsWithin}
 use Rattle.grep_line_buffer.specs.Room.{IsLarge}
-use Rattle.grep_line_buffer.proofs.ContentsLemmas.{below-within, contents-full, HasRead-last, IsReading-first, IsReading-room, IsReading-more}
+use Rattle.grep_line_buffer.proofs.ContentsLemmas.{below-within, contents-full, HasRead-last, IsReading-first}
+use Rattle.grep_line_buffer.proofs.ContentsLemmas.{IsReading-room, IsReading-more}
 use Rattle.grep_line_buffer.proofs.FillLemmas.{if-read-full, unless-read}
 use Rattle.grep_line_buffer.proofs.ReadLemmas.{HasRead, HasRead-failed}
 use Rattle.grep_line_buffer.proofs.contents.read_contents.Goals as goal
@@ -17,7 +18,8 @@ returns-in-Err g c =
     let all : take c.reads.len c.reads.contents.items ≡ items =
     take_all c.reads.len c.reads.contents.items (omega (arith, full.full.1)) ∙ sym full.full.0 in
     let out : HasRead rem step c.args.decoder.now c.args.reader.now items c.reads.decoder c.reads.reader =
-    subst (λ l. HasRead rem step c.args.decoder.now c.args.reader.now l c.reads.decoder c.reads.reader) all before.read in
+    subst (λ l. HasRead rem step c.args.decoder.now c.args.reader.now l c.reads.decoder c.reads.reader) all
+    before.read in
     record {
       capacity = out.capacity;
       kept = omega (arith, before.kept, full.kept);
@@ -49,16 +51,20 @@ returns-in-Ok-eq0 g c =
     let whole : length bytes ≡ w.len = omega arith in
     let same : length bytes ≡ length w.items = omega arith in
     let room = IsReading-room rem step c.args.limit c.args.contents.now.cap c.reads.contents.cap w.cap len
-    c.args.decoder.now c.reads.decoder c.args.reader.now c.reads.reader c.reads.contents.items w.items c.reads.invariant made.front made.room
+    c.args.decoder.now c.reads.decoder c.args.reader.now c.reads.reader c.reads.contents.items w.items c.reads.invariant
+    made.front made.room
     made.within made.large made.kept in
     let all = c.truncate.ensures.items ∙ ap (take len) (with_items_is w bytes whole) in
     let read = c.in-Ok-eq0.ensures.reads in
     let front = c.read_after.ensures.front ∙ ap (take len) c.deref_mut.ensures.value in
-    let out : HasRead rem step c.args.decoder.now c.args.reader.now c.truncate.new.self.items c.read_after.new.decoder c.read_after.new.reader =
-    HasRead-last rem step c.args.decoder.now c.reads.decoder c.read_after.new.decoder c.args.reader.now c.reads.reader c.read_after.new.reader
+    let out : HasRead rem step c.args.decoder.now c.args.reader.now c.truncate.new.self.items c.read_after.new.decoder
+    c.read_after.new.reader =
+    HasRead-last rem step c.args.decoder.now c.reads.decoder c.read_after.new.decoder c.args.reader.now c.reads.reader
+    c.read_after.new.reader
     len c.in-Ok-eq0.field-0 w.items bytes c.truncate.new.self.items c.reads_continue.ensures.more room.read front all
     c.in-Ok-eq0.field-0-test read c.read_after.ensures.capacity in
-    let none : take c.in-Ok-eq0.field-0 (drop len bytes) ≡ [] = ap (λ n. take n (drop len bytes)) c.in-Ok-eq0.field-0-test in
+    let none : take c.in-Ok-eq0.field-0 (drop len bytes)
+    ≡ [] = ap (λ n. take n (drop len bytes)) c.in-Ok-eq0.field-0-test in
     record {
       capacity = out.capacity;
       kept = omega (arith, room.kept, c.truncate.ensures.capacity);
@@ -67,7 +73,8 @@ returns-in-Ok-eq0 g c =
       gives = out.gives;
       done = read.done none;
       end = read.end none;
-      below = below-within c.args.limit _ (length w.items) (omega (arith, made.room, ap length all, length-take len bytes)) made.within;
+      below = below-within c.args.limit _ (length w.items)
+          (omega (arith, made.room, ap length all, length-take len bytes)) made.within;
       error = tt;
       fault = tt;
       ahead = out.ahead;
@@ -87,16 +94,20 @@ returns-in-Err-read_after g c =
     let bytes = c.read_after.new.bytes in
     let whole : length bytes ≡ w.len = omega arith in
     let room = IsReading-room rem step c.args.limit c.args.contents.now.cap c.reads.contents.cap w.cap len
-    c.args.decoder.now c.reads.decoder c.args.reader.now c.reads.reader c.reads.contents.items w.items c.reads.invariant made.front made.room
+    c.args.decoder.now c.reads.decoder c.args.reader.now c.reads.reader c.reads.contents.items w.items c.reads.invariant
+    made.front made.room
     made.within made.large made.kept in
     let all = c.truncate-in-Err-read_after.ensures.items ∙ ap (take len) (with_items_is w bytes whole) in
     let front = c.read_after.ensures.front ∙ ap (take len) c.deref_mut.ensures.value in
     let given = c.truncate-in-Err-read_after.new.self.items in
     let failed = c.in-Err-read_after.ensures.failed in
     let before : HasRead rem step c.args.decoder.now c.args.reader.now given c.reads.decoder c.reads.reader =
-    subst (λ l. HasRead rem step c.args.decoder.now c.args.reader.now l c.reads.decoder c.reads.reader) (sym (all ∙ front)) room.read in
-    let out = HasRead-failed rem step c.args.decoder.now c.reads.decoder c.read_after.new.decoder c.args.reader.now c.reads.reader
-    c.read_after.new.reader given c.in-Err-read_after.e c.reads_continue.ensures.more before failed c.read_after.ensures.capacity in
+    subst (λ l. HasRead rem step c.args.decoder.now c.args.reader.now l c.reads.decoder c.reads.reader)
+    (sym (all ∙ front)) room.read in
+    let out = HasRead-failed rem step c.args.decoder.now c.reads.decoder c.read_after.new.decoder c.args.reader.now
+    c.reads.reader
+    c.read_after.new.reader given c.in-Err-read_after.e c.reads_continue.ensures.more before failed
+    c.read_after.ensures.capacity in
     record {
       capacity = out.capacity;
       kept = omega (arith, room.kept, c.truncate-in-Err-read_after.ensures.capacity);
@@ -106,7 +117,8 @@ returns-in-Err-read_after g c =
       done = tt;
       end = tt;
       below = tt;
-      error = below-within c.args.limit _ (length w.items) (omega (arith, made.room, ap length all, length-take len bytes)) made.within;
+      error = below-within c.args.limit _ (length w.items)
+          (omega (arith, made.room, ap length all, length-take len bytes)) made.within;
       fault = c.reads_fail.ensures _ _ _ _ _ _ given _ before.decodes failed.failed;
       ahead = tt;
       settled = tt;
@@ -116,9 +128,11 @@ returns-in-Err-read_after g c =
     }
 
 pub reads-init : goal.reads-init
-reads-init g c = IsReading-first g.R.Source.remaining g.R.Source.step c.args.limit c.args.contents.now.cap c.clear.new.self.cap
+reads-init g c = IsReading-first g.R.Source.remaining g.R.Source.step c.args.limit c.args.contents.now.cap
+    c.clear.new.self.cap
     c.args.decoder.now c.args.reader.now c.clear.new.self.items
-    (c.reads_continue.ensures.none c.args.decoder.now c.args.reader.now) c.clear.ensures.items (omega (arith, c.clear.ensures.capacity))
+    (c.reads_continue.ensures.none c.args.decoder.now c.args.reader.now) c.clear.ensures.items
+    (omega (arith, c.clear.ensures.capacity))
 
 pub reads-preserved : goal.reads-preserved
 reads-preserved g c =
@@ -127,10 +141,15 @@ reads-preserved g c =
     let bytes = c.read_after.new.bytes in
     let whole : length bytes ≡ w.len = omega arith in
     let same : length bytes ≡ length w.items = omega arith in
-    let room = IsReading-room g.R.Source.remaining g.R.Source.step c.args.limit c.args.contents.now.cap c.reads.contents.cap w.cap c.reads.len
-    c.args.decoder.now c.reads.decoder c.args.reader.now c.reads.reader c.reads.contents.items w.items c.reads.invariant made.front made.room
+    let room = IsReading-room g.R.Source.remaining g.R.Source.step c.args.limit c.args.contents.now.cap
+    c.reads.contents.cap w.cap c.reads.len
+    c.args.decoder.now c.reads.decoder c.args.reader.now c.reads.reader c.reads.contents.items w.items c.reads.invariant
+    made.front made.room
     made.within made.large made.kept in
-    IsReading-more g.R.Source.remaining g.R.Source.step c.args.limit c.args.contents.now.cap w.cap c.reads.len c.in-Ok.count
-    c.args.decoder.now c.reads.decoder c.read_after.new.decoder c.args.reader.now c.reads.reader c.read_after.new.reader w.items bytes _
-    c.reads_continue.ensures.more room (c.read_after.ensures.front ∙ ap (take c.reads.len) c.deref_mut.ensures.value) same
+    IsReading-more g.R.Source.remaining g.R.Source.step c.args.limit c.args.contents.now.cap w.cap c.reads.len
+    c.in-Ok.count
+    c.args.decoder.now c.reads.decoder c.read_after.new.decoder c.args.reader.now c.reads.reader c.read_after.new.reader
+    w.items bytes _
+    c.reads_continue.ensures.more room (c.read_after.ensures.front ∙ ap (take c.reads.len) c.deref_mut.ensures.value)
+    same
     (with_items_is w bytes whole) c.in-Ok.ensures.bound c.in-Ok.ensures.reads c.read_after.ensures.capacity

@@ -9,4 +9,5 @@ returns c =
     let equals = λ (x : ℕ). eqb x c.args.terminator in
     ap (λ m. count_ones (m / 2 ^ c.args.skipped))
     (bitmask_splat w8 eqb c.args.bytes 16 c.args.terminator c.fits-bytes.0 (omega arith))
-    ∙ (ap count_ones (mask-shifted equals c.args.skipped c.args.bytes) ∙ ones-mask_l equals (drop c.args.skipped c.args.bytes))
+    ∙ (ap count_ones (mask-shifted equals c.args.skipped c.args.bytes)
+    ∙ ones-mask_l equals (drop c.args.skipped c.args.bytes))

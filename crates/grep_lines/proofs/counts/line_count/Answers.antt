@@ -4,7 +4,8 @@ use Rattle.grep_lines.proofs.counts.line_count.Goals as goal
 
 pub returns-then-bytes-terminator : goal.returns-then-bytes-terminator
 returns-then-bytes-terminator c =
-    c.count-terminators.ensures ∙ sym (lines-closed c.args.terminator c.args.bytes.now (λ some. c.if-bytes-terminator.true))
+    c.count-terminators.ensures ∙ sym (lines-closed c.args.terminator c.args.bytes.now
+    (λ some. c.if-bytes-terminator.true))
 
 pub returns-else-bytes-terminator : goal.returns-else-bytes-terminator
 returns-else-bytes-terminator c =

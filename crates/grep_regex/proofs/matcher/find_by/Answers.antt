@@ -5,7 +5,8 @@ use Rattle.grep_regex.proofs.matcher.find_by.Goals as goal
 
 pub returns-then-is_equal-clause-value : goal.returns-then-is_equal-clause-value
 returns-then-is_equal-clause-value c = c.find.ensures.value
-    ∙ first-same c.deref_mut-engine.result.now.regex.now c.args.regex.now (c.is_equal.ensures.options c.if-is_equal.true)
+    ∙ first-same c.deref_mut-engine.result.now.regex.now c.args.regex.now
+    (c.is_equal.ensures.options c.if-is_equal.true)
     (c.is_equal.ensures.patterns c.if-is_equal.true) c.args.haystack.now
 
 pub returns-then-is_equal-clause-within : goal.returns-then-is_equal-clause-within

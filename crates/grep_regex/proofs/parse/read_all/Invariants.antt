@@ -5,4 +5,5 @@ use Rattle.grep_regex.specs.Patterns.{read_re}
 use Rattle.grep_regex.proofs.parse.read_all.Given as goal
 
 abbrev pub invariant-loop-i : goal.invariant-loop-i
-invariant-loop-i l = AreAlike (map meaning l.hirs.items) (map (read_re l.options) (map (λ p. p.now) (take l.i l.patterns)))
+invariant-loop-i l = AreAlike (map meaning l.hirs.items)
+    (map (read_re l.options) (map (λ p. p.now) (take l.i l.patterns)))

@@ -9,7 +9,8 @@ loop-byte-init c = λ x. ap (λ ranges. in_ranges ranges x) c.new-ranges.ensures
 
 pub loop-byte-preserved : goal.loop-byte-preserved
 loop-byte-preserved c =
-    class-more c.args.bytes.now c.loop-byte.ranges.items c.push.new.self.items c.loop-byte.byte-index (omega arith) c.loop-byte.invariant
+    class-more c.args.bytes.now c.loop-byte.ranges.items c.push.new.self.items c.loop-byte.byte-index (omega arith)
+    c.loop-byte.invariant
     (c.in_ok-push.ensures.items ∙ ap (λ (x : ℕ). c.loop-byte.ranges.items ++ (x, x) ∷ []) c.from-member.ensures)
 
 pub returns : goal.returns

@@ -7,12 +7,14 @@ pub returns-in_err-write_number : goal.returns-in_err-write_number
 returns-in_err-write_number g c =
     let error = err_from_is_err_and c.from_residual.result c.from_residual.ensures.1 in
     rw (error.1, error.2) (print.numbered-cut g.W.Output.step c.args.writer.now c.write_number.new.writer c.args.number
-    c.in-Some.number c.args.mark c.args.line.now c.in_err-write_number.field-0.0 c.in-Some.is c.in_err-write_number.ensures)
+    c.in-Some.number c.args.mark c.args.line.now c.in_err-write_number.field-0.0 c.in-Some.is
+    c.in_err-write_number.ensures)
 
 pub returns : goal.returns
 returns g c = elim c.match-number.branch [
   | in-Some+in_ok-write_number w ↦
-      print.numbered-more g.W.Output.step c.args.writer.now w.write_number.new.writer c.write_ended.new.writer c.args.number
+      print.numbered-more g.W.Output.step c.args.writer.now w.write_number.new.writer c.write_ended.new.writer
+      c.args.number
       w.in-Some.number c.args.mark c.args.line.now c.write_ended.result w.in-Some.is w.in_ok-write_number.ensures
       (rw w.writer-is at c.write_ended.ensures)
   | in_default w ↦ rw (w.in_default.is) (rw w.writer-is at c.write_ended.ensures)

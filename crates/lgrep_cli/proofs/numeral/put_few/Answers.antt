@@ -8,7 +8,8 @@ pub returns-then-number-ge10-clause-end : goal.returns-then-number-ge10-clause-e
 returns-then-number-ge10-clause-end c = omega (arith, length_two c.args.number c.if-number-ge10.true c.requires.few)
 
 pub returns-then-number-ge10-clause-text : goal.returns-then-number-ge10-clause-text
-returns-then-number-ge10-clause-text c = rw (decimal_two c.args.number c.if-number-ge10.true c.requires.few) c.put_pair.ensures
+returns-then-number-ge10-clause-text c = rw (decimal_two c.args.number c.if-number-ge10.true c.requires.few)
+    c.put_pair.ensures
 
 pub returns-clause-end : goal.returns-clause-end
 returns-clause-end c = omega (arith, length_one c.args.number (omega arith))

@@ -8,7 +8,8 @@ use Rattle.lgrep_cli.proofs.search.run.Goals as goal
 pub returns-in-Err : goal.returns-in-Err
 returns-in-Err g c =
     let printed = c.in_ok-found.ensures.printed in
-    let flushed : g.W.Output.step c.write_text.new.writer (flushes (Err c.in-Err.error)) c.flush.new.self = search rules in
+    let flushed : g.W.Output.step c.write_text.new.writer (flushes (Err c.in-Err.error)) c.flush.new.self =
+    search rules in
     record { printed = tt; whole = tt; failed = of_flush printed.taken printed.written flushed }
 
 pub returns-in-Ok : goal.returns-in-Ok

@@ -13,7 +13,8 @@ returns-clause-decoded g c = λ lawful by_line none.
     let meaning = g.M.Matcher.meaning c.args.matcher in
     let bytes = searched_bytes settings c.args.bytes.now in
     let folded = c.runs_fold_matches.ensures (λ _ _. true) counted (λ _ _ _ _ _ h. h) _ _ _ _ _ _
-    (c.searches_run.ensures c.args.matcher c.args.searcher.now c.args.bytes.now _ _ none lawful c.in_ok-search_slice.ensures.searched) in
+    (c.searches_run.ensures c.args.matcher c.args.searcher.now c.args.bytes.now _ _ none lawful
+    c.in_ok-search_slice.ensures.searched) in
     ap (λ sink. sink.count) folded
     ∙ fold_while-counted_all (match_calls (search_turns settings meaning bytes))
     ∙ ap (λ n. min n (2 ^ 64 - 1)) (c.matches_are_counted.ensures settings meaning bytes by_line)

@@ -16,8 +16,10 @@ returns-clause-count g c = λ lawful by_line none.
         opened.0,
         λ input all.
             let bytes = searched_bytes settings input in
-            let run = c.known_files_run.ensures c.args.matcher c.args.searcher.now opened.0 input _ opened.1 _ none all lawful opened.2 in
-            ap (λ sink. sink.count) (c.runs_fold_matches.ensures (λ _ _. true) counted (λ _ _ _ _ _ h. h) _ _ _ _ _ _ run)
+            let run = c.known_files_run.ensures c.args.matcher c.args.searcher.now opened.0 input _ opened.1 _ none all
+            lawful opened.2 in
+            ap (λ sink. sink.count) (c.runs_fold_matches.ensures (λ _ _. true) counted (λ _ _ _ _ _ h. h) _ _ _ _ _ _
+            run)
             ∙ fold_while-counted_all (match_calls (search_turns settings meaning bytes))
             ∙ ap (λ n. min n (2 ^ 64 - 1)) (c.matches_are_counted.ensures settings meaning bytes by_line),
       )

@@ -16,14 +16,16 @@ pub returns-then-not-branch-clause-reported : goal.returns-then-not-branch-claus
 returns-then-not-branch-clause-reported g c =
     let unbegun : c.in_ok-begin.field-0 ≡ false = search rules in (
       stopped 0,
-      ends.counted-unbegun c.args.self.now.config (g.M.Matcher.meaning c.args.matcher.now) c.args.bytes.now g.C.Calls.step
+      ends.counted-unbegun c.args.self.now.config (g.M.Matcher.meaning c.args.matcher.now) c.args.bytes.now
+          g.C.Calls.step
           c.args.sink.now _ (rw unbegun at c.in_ok-begin.ensures.step),
     )
 
 pub returns-in_err-begin-clause-in_order : goal.returns-in_err-begin-clause-in_order
 returns-in_err-begin-clause-in_order g c =
     let p = err_from_is_err_and c.from_residual.result c.from_residual.ensures.1 in
-    rw (p.1, p.2) (order.failed-begin g.C.Calls.step c.args.self.now.config _ _ c.args.sink.now _ _ c.in_err-begin.ensures.step)
+    rw (p.1, p.2) (order.failed-begin g.C.Calls.step c.args.self.now.config _ _ c.args.sink.now _ _
+    c.in_err-begin.ensures.step)
 
 pub returns-then-not-branch-clause-in_order : goal.returns-then-not-branch-clause-in_order
 returns-then-not-branch-clause-in_order g c =

@@ -12,14 +12,16 @@ use Rattle.grep_core.proofs.search.Search.match_by_line.Goals as goal
 pub returns-in_err-begin-clause-fault : goal.returns-in_err-begin-clause-fault
 returns-in_err-begin-clause-fault g c =
     let p = err_from_is_err_and c.from_residual.result c.from_residual.ensures.1 in
-    rw (p.1, p.2) (λ lawful. walks.fault-begin g.C.Calls.step _ _ c.args.self.now.config c.args.bytes.now c.args.sink.now _ _
+    rw (p.1, p.2) (λ lawful. walks.fault-begin g.C.Calls.step _ _ c.args.self.now.config c.args.bytes.now
+    c.args.sink.now _ _
     c.in_err-begin.ensures.step)
 
 pub returns-then-not-branch-clause-reported : goal.returns-then-not-branch-clause-reported
 returns-then-not-branch-clause-reported g c = λ lawful.
     let unbegun : c.in_ok-begin.field-0 ≡ false = search rules in (
       stopped 0,
-      walks.counted-unbegun c.args.self.now.config (g.M.Matcher.meaning c.args.matcher.now) c.args.bytes.now g.C.Calls.step
+      walks.counted-unbegun c.args.self.now.config (g.M.Matcher.meaning c.args.matcher.now) c.args.bytes.now
+          g.C.Calls.step
           c.args.sink.now _ (rw unbegun at c.in_ok-begin.ensures.step),
     )
 
@@ -34,12 +36,14 @@ returns-then-reports_nothing-clause-reported g c = λ lawful.
 
 pub returns-in_err-search_window-clause-fault : goal.returns-in_err-search_window-clause-fault
 returns-in_err-search_window-clause-fault g c =
-    let p = err_from_is_err_and c.from_residual-in_err-search_window.result c.from_residual-in_err-search_window.ensures.1 in
+    let p = err_from_is_err_and c.from_residual-in_err-search_window.result
+    c.from_residual-in_err-search_window.ensures.1 in
     let idle = c.reports_nothing.ensures in
     let goes : c.in_ok-begin.field-0 ≡ true = search rules in
     let begun = rw goes at c.in_ok-begin.ensures.step in
     rw (p.1, p.2) (λ lawful. c.in_err-search_window.ensures.fault lawful [] c.args.bytes.now c.args.sink.now
-    (search.searched-start g.C.Calls.step c.args.self.now.config (g.M.Matcher.meaning c.args.matcher.now) c.args.bytes.now c.args.bytes.now
+    (search.searched-start g.C.Calls.step c.args.self.now.config (g.M.Matcher.meaning c.args.matcher.now)
+    c.args.bytes.now c.args.bytes.now
     c.args.sink.now c.begin.new.sink (own-window (byte_of c.args.self.now.config.line_terminator) c.args.bytes.now)
     (sym idle ∙ c.if-reports_nothing.false) begun))
 
@@ -48,11 +52,17 @@ returns-clause-reported g c = λ lawful.
     let idle = c.reports_nothing.ensures in
     let goes : c.in_ok-begin.field-0 ≡ true = search rules in
     let begun = rw goes at c.in_ok-begin.ensures.step in
-    let start = search.searched-start g.C.Calls.step c.args.self.now.config (g.M.Matcher.meaning c.args.matcher.now) c.args.bytes.now
+    let start = search.searched-start g.C.Calls.step c.args.self.now.config (g.M.Matcher.meaning c.args.matcher.now)
+    c.args.bytes.now
     c.args.bytes.now c.args.sink.now c.begin.new.sink (own-window (byte_of c.args.self.now.config.line_terminator)
     c.args.bytes.now) (sym idle ∙ c.if-reports_nothing.false) begun in
     search.counted-either g.C.Calls.step
-    (record { is_message = g.C.Error.SinkError.is_message; is_io = g.C.Error.SinkError.is_io; is_config = g.C.Error.SinkError.is_config })
+    (record {
+      is_message = g.C.Error.SinkError.is_message;
+      is_io = g.C.Error.SinkError.is_io;
+      is_config =
+          g.C.Error.SinkError.is_config;
+    })
     (record {
       meaning = g.M.Matcher.meaning c.args.matcher.now;
       fails = g.M.Matcher.fails c.args.matcher.now;
@@ -69,7 +79,8 @@ returns-clause-reported g c = λ lawful.
 pub returns-in_err-begin-clause-in_order : goal.returns-in_err-begin-clause-in_order
 returns-in_err-begin-clause-in_order g c =
     let p = err_from_is_err_and c.from_residual.result c.from_residual.ensures.1 in
-    rw (p.1, p.2) (order.failed-begin g.C.Calls.step c.args.self.now.config _ _ c.args.sink.now _ _ c.in_err-begin.ensures.step)
+    rw (p.1, p.2) (order.failed-begin g.C.Calls.step c.args.self.now.config _ _ c.args.sink.now _ _
+    c.in_err-begin.ensures.step)
 
 pub returns-then-not-branch-clause-in_order : goal.returns-then-not-branch-clause-in_order
 returns-then-not-branch-clause-in_order g c =
@@ -81,7 +92,8 @@ returns-then-reports_nothing-clause-in_order g c =
 
 pub returns-in_err-search_window-clause-in_order : goal.returns-in_err-search_window-clause-in_order
 returns-in_err-search_window-clause-in_order g c =
-    let p = err_from_is_err_and c.from_residual-in_err-search_window.result c.from_residual-in_err-search_window.ensures.1 in
+    let p = err_from_is_err_and c.from_residual-in_err-search_window.result
+    c.from_residual-in_err-search_window.ensures.1 in
     let goes : c.in_ok-begin.field-0 ≡ true = search rules in
     rw (p.1, p.2) (order.failed-begun g.C.Calls.step c.args.self.now.config _ _ c.args.sink.now _ _ _
     (rw goes at c.in_ok-begin.ensures.step) c.in_err-search_window.ensures.in_order)

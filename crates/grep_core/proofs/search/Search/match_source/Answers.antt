@@ -25,14 +25,16 @@ returns-in_err-begin-clause-fault g c =
     }
     in
     let p = err_from_is_err_and c.from_residual.result c.from_residual.ensures.1 in
-    rw (p.1, p.2) (λ lawful has_buffers. streams.fault-begin g.R.Source.remaining g.R.Source.step g.C.Calls.step errors facts
+    rw (p.1, p.2) (λ lawful has_buffers. streams.fault-begin g.R.Source.remaining g.R.Source.step g.C.Calls.step errors
+    facts
     (record { settings = c.args.self.now.config; has_buffers = has_buffers }) c.args.reader.now c.args.sink.now _ _
     c.in_err-begin.ensures.step)
 
 pub returns-then-not-branch-clause-counted : goal.returns-then-not-branch-clause-counted
 returns-then-not-branch-clause-counted g c = λ lawful.
     rw c.new.ensures (streams.counted-unbegun g.R.Source.remaining g.R.Source.step g.C.Calls.step c.args.self.now.config
-    (g.M.Matcher.meaning c.args.matcher.now) c.lines_join.ensures c.lines_append.ensures c.args.reader.now c.args.sink.now c.begin.new.sink
+    (g.M.Matcher.meaning c.args.matcher.now) c.lines_join.ensures c.lines_append.ensures c.args.reader.now
+    c.args.sink.now c.begin.new.sink
     (rw c.if-not-branch.true at c.in_ok-begin.ensures.step))
 
 pub returns-then-not-branch-clause-begun : goal.returns-then-not-branch-clause-begun
@@ -46,8 +48,10 @@ returns-then-not-branch-clause-begun g c = record {
 pub returns-then-not-reads_lines-clause-counted : goal.returns-then-not-reads_lines-clause-counted
 returns-then-not-reads_lines-clause-counted g c = λ lawful.
     let reads = c.reads_lines.ensures in
-    rw c.new-then-not-reads_lines.ensures (streams.counted-idle g.R.Source.remaining g.R.Source.step g.C.Calls.step c.args.self.now.config
-    (g.M.Matcher.meaning c.args.matcher.now) c.lines_join.ensures c.lines_append.ensures c.args.reader.now c.args.sink.now c.begin.new.sink
+    rw c.new-then-not-reads_lines.ensures (streams.counted-idle g.R.Source.remaining g.R.Source.step g.C.Calls.step
+    c.args.self.now.config
+    (g.M.Matcher.meaning c.args.matcher.now) c.lines_join.ensures c.lines_append.ensures c.args.reader.now
+    c.args.sink.now c.begin.new.sink
     (idle-unread (reports_nothing c.args.self.now.config) (is_detecting c.args.self.now.config.binary_detection)
     (sym reads ∙ c.if-not-reads_lines.true)) (rw c.if-not-branch.false at c.in_ok-begin.ensures.step))
 
@@ -55,7 +59,8 @@ pub returns-in-Err-clause-succeeds : goal.returns-in-Err-clause-succeeds
 returns-in-Err-clause-succeeds g c = λ never infallible lawful.
     let begun = rw c.if-not-branch.false at c.in_ok-begin.ensures.step in
     c.in-Err.ensures.succeeds never infallible lawful c.args.sink.now
-    (subst (λ s. g.C.Calls.step c.args.sink.now c.args.self.now.config begins (Ok true) s) (sym c.new-noted.ensures.sink) begun)
+    (subst (λ s. g.C.Calls.step c.args.sink.now c.args.self.now.config begins (Ok true) s)
+    (sym c.new-noted.ensures.sink) begun)
 
 pub returns-in-Err-clause-fault : goal.returns-in-Err-clause-fault
 returns-in-Err-clause-fault g c = λ lawful has_buffers.
@@ -73,10 +78,13 @@ returns-in-Err-clause-fault g c = λ lawful has_buffers.
     in
     let begun = rw c.if-not-branch.false at c.in_ok-begin.ensures.step in
     subst (λ s. IsStreamSearched g.R.Source.remaining g.R.Source.step g.C.Calls.step errors facts
-    (record { settings = c.args.self.now.config; has_buffers = has_buffers }) c.args.reader.now c.args.sink.now (Err c.in-Err.error)
-    c.read_by_line.new.reader s) (sym (c.in-Err.sink-in-Err-1-own.given.1 (sym (c.in-Err.ensures.same_sink ∙ c.new-noted.ensures.same_sink))))
+    (record { settings = c.args.self.now.config; has_buffers = has_buffers }) c.args.reader.now c.args.sink.now
+    (Err c.in-Err.error)
+    c.read_by_line.new.reader s) (sym (c.in-Err.sink-in-Err-1-own.given.1
+    (sym (c.in-Err.ensures.same_sink ∙ c.new-noted.ensures.same_sink))))
     (c.in-Err.ensures.fault lawful c.args.sink.now
-    (subst (λ s. g.C.Calls.step c.args.sink.now c.args.self.now.config begins (Ok true) s) (sym c.new-noted.ensures.sink) begun) has_buffers)
+    (subst (λ s. g.C.Calls.step c.args.sink.now c.args.self.now.config begins (Ok true) s)
+    (sym c.new-noted.ensures.sink) begun) has_buffers)
 
 pub returns-in_err-begin-clause-broken : goal.returns-in_err-begin-clause-broken
 returns-in_err-begin-clause-broken g c =
@@ -92,13 +100,16 @@ returns-then-not-branch-clause-in_order g c =
 pub returns-in-Err-clause-broken : goal.returns-in-Err-clause-broken
 returns-in-Err-clause-broken g c =
     let errors = errors_by g.C.Error.SinkError.is_message g.C.Error.SinkError.is_io g.C.Error.SinkError.is_config in
-    let facts = facts_by g.M.Matcher.meaning g.M.Matcher.fails g.M.Matcher.is_lawful g.M.Error.Display.output c.args.matcher.now in
+    let facts = facts_by g.M.Matcher.meaning g.M.Matcher.fails g.M.Matcher.is_lawful g.M.Error.Display.output
+    c.args.matcher.now in
     let begun = rw c.if-not-branch.false at c.in_ok-begin.ensures.step in
     subst (λ s. IsOrderedFault g.C.Calls.step c.args.self.now.config errors facts
-    (IsReadingError g.R.Source.remaining g.R.Source.step c.args.reader.now c.read_by_line.new.reader) c.args.sink.now c.in-Err.error s)
+    (IsReadingError g.R.Source.remaining g.R.Source.step c.args.reader.now c.read_by_line.new.reader) c.args.sink.now
+    c.in-Err.error s)
     (sym (c.in-Err.sink-in-Err-1-own.given.1 (sym (c.in-Err.ensures.same_sink ∙ c.new-noted.ensures.same_sink))))
     (order.order-read g.C.Calls.step c.args.self.now.config errors facts
     (IsReadingError g.R.Source.remaining g.R.Source.step c.args.reader.now c.read_by_line.new.reader)
     c.args.sink.now _ c.in-Err.error _
-    (subst (λ s. g.C.Calls.step c.args.sink.now c.args.self.now.config begins (Ok true) s) (sym c.new-noted.ensures.sink) begun)
+    (subst (λ s. g.C.Calls.step c.args.sink.now c.args.self.now.config begins (Ok true) s)
+    (sym c.new-noted.ensures.sink) begun)
     c.in-Err.ensures.in_order)

@@ -30,7 +30,8 @@ returns-then-not-branch-clause-quits g c = record {
 
 pub returns-in_err-binary_data-clause-quits : goal.returns-in_err-binary_data-clause-quits
 returns-in_err-binary_data-clause-quits g c =
-    let p = err_from_is_err_and c.from_residual-in_err-binary_data.result c.from_residual-in_err-binary_data.ensures.1 in
+    let p = err_from_is_err_and c.from_residual-in_err-binary_data.result
+    c.from_residual-in_err-binary_data.ensures.1 in
     record {
       outcome = all_true;
       mid = c.begin.new.sink;
@@ -53,6 +54,8 @@ returns-clause-quits g c = record {
   outcome = all_true;
   mid = c.begin.new.sink;
   reported = inl (c.begin.new.sink, (rw c.if-not-branch.false at c.in_ok-begin.ensures.step), (refl, refl));
-  ended = run-called g.C.Calls.step c.args.self.now.config c.args.offset 0 c.begin.new.sink c.binary_data.new.sink c.finish-2.new.sink
-      c.in_ok-binary_data.field-0 c.finish-2.result c.in_ok-binary_data.ensures.step (rw c.new-2.ensures at c.finish-2.ensures.step);
+  ended = run-called g.C.Calls.step c.args.self.now.config c.args.offset 0 c.begin.new.sink c.binary_data.new.sink
+      c.finish-2.new.sink
+      c.in_ok-binary_data.field-0 c.finish-2.result c.in_ok-binary_data.ensures.step
+      (rw c.new-2.ensures at c.finish-2.ensures.step);
 }

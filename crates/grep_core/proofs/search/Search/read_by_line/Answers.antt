@@ -1,4 +1,5 @@
-use Rattle.std.proofs.Common.{rules, subst, false, inl, inr, None, Err, Bool, [], ap, arith, length, refl, sym, ◌∙◌, ◌≡◌, ◌++◌, Some, true}
+use Rattle.std.proofs.Common.{rules, subst, false, inl, inr, None, Err, Bool, [], ap, arith, length, refl, sym, ◌∙◌}
+use Rattle.std.proofs.Common.{◌≡◌, ◌++◌, Some, true}
 use Rattle.std.proofs.lemmas.Option.{none-some}
 use Rattle.std.proofs.lemmas.Result.{err_from_is_err_and}
 use Rattle.grep_matcher.specs.Terminators.{byte_of}
@@ -36,13 +37,16 @@ fills-init g c =
       noted_detects = λ offset is. absurd (none-some offset (sym c.requires.binary ∙ is));
       calls = order.called-none g.C.Calls.step c.args.self.now.config c.args.sink.now.sink.now;
       noted = λ lawful. c.requires.binary ∙ sym (ap (λ b. b.binary) empty);
-      rolling = λ lawful first begun. rolling.rolling-start g.R.Source.remaining g.R.Source.step c.lines_join.ensures c.lines_append.ensures
-          (Notes g.C.Calls.step) c.args.self.now.config (g.M.Matcher.meaning c.args.matcher.now) c.lines_are_numbered.ensures
+      rolling = λ lawful first begun. rolling.rolling-start g.R.Source.remaining g.R.Source.step c.lines_join.ensures
+          c.lines_append.ensures
+          (Notes g.C.Calls.step) c.args.self.now.config (g.M.Matcher.meaning c.args.matcher.now)
+          c.lines_are_numbered.ensures
           c.lines_are_few.ensures c.args.decoder.now c.args.reader.now _ c.args.sink.now c.args.lines.now
           (ap (λ b. b.shown) empty) (ap (λ b. b.rest) empty) (ap (λ b. b.offset) empty) (ap (λ b. b.has_ended) empty)
           (ap (λ b. b.binary) empty) (ap (λ b. b.detection) empty) c.requires.fitting.terminator
           (c.reads_continue.ensures.none c.args.decoder.now c.args.reader.now) c.requires.busy
-          (noting.notes-begun g.C.Calls.step c.args.self.now.config first c.args.sink.now c.requires.binary c.requires.has_called begun);
+          (noting.notes-begun g.C.Calls.step c.args.self.now.config first c.args.sink.now c.requires.binary
+          c.requires.has_called begun);
     }
 
 pub returns-in_err-search_shown-clause-same_sink : goal.returns-in_err-search_shown-clause-same_sink
@@ -73,25 +77,32 @@ returns-in-Err-clause-fault g c = λ lawful first begun has_buffers.
     let read_to = unread.filled-to g.R.Source.remaining g.R.Source.step c.fills.lines c.fill.new.self c.fills.decoder
     c.fill.new.decoder c.fills.reader c.fill.new.reader c.in-Err.error fill.reads fill.read in
     let errors = errors_by g.C.Error.SinkError.is_message g.C.Error.SinkError.is_io g.C.Error.SinkError.is_config in
-    let facts = facts_by g.M.Matcher.meaning g.M.Matcher.fails g.M.Matcher.is_lawful g.M.Error.Display.output c.args.matcher.now in
-    cuts.fault-unread g.R.Source.remaining g.R.Source.step c.lines_join.ensures c.lines_append.ensures g.C.Calls.step k meaning
+    let facts = facts_by g.M.Matcher.meaning g.M.Matcher.fails g.M.Matcher.is_lawful g.M.Error.Display.output
+    c.args.matcher.now in
+    cuts.fault-unread g.R.Source.remaining g.R.Source.step c.lines_join.ensures c.lines_append.ensures g.C.Calls.step k
+    meaning
     c.args.decoder.now.capacity c.args.reader.now c.args.decoder.now c.requires.started c.done_gives_nothing.ensures
     first c.args.sink.now c.fills.lines c.fills.decoder c.fills.reader c.fills.walk c.fills.sink so_far ends_at
     c.fill.new.self c.fill.new.decoder read_to.0 c.fill.new.reader
     (holding.held-next g.R.Source.remaining g.R.Source.step c.fills_continue.ensures.fills c.fills.lines
-    c.fill.new.self c.args.decoder.now c.fills.decoder c.fill.new.decoder c.args.reader.now c.fills.reader read_to.0 so_far.gone
+    c.fill.new.self c.args.decoder.now c.fills.decoder c.fill.new.decoder c.args.reader.now c.fills.reader read_to.0
+    so_far.gone
     so_far.given so_far.between.offset so_far.uncut so_far.holds read_to.1) read_to.2
-    c.fills.invariant.called (c.fills.invariant.noted lawful) errors facts has_buffers c.error_io.result c.io_error.result
+    c.fills.invariant.called (c.fills.invariant.noted lawful) errors facts has_buffers c.error_io.result
+    c.io_error.result
     (unread.unread-filled g.R.Source.remaining g.R.Source.step c.lines_join.ensures c.lines_append.ensures
     (Notes g.C.Calls.step) k meaning
     c.args.decoder.now.capacity c.args.reader.now c.args.decoder.now c.requires.started _ c.fills.lines c.fill.new.self
-    c.fills.decoder c.fill.new.decoder c.fills.reader c.fill.new.reader c.fills.walk c.fills.sink so_far c.fills.invariant.fitting
+    c.fills.decoder c.fill.new.decoder c.fills.reader c.fill.new.reader c.fills.walk c.fills.sink so_far
+    c.fills.invariant.fitting
     c.fill.ensures.same
     (λ r2 fills. holding.held-next g.R.Source.remaining g.R.Source.step c.fills_continue.ensures.fills c.fills.lines
-    c.fill.new.self c.args.decoder.now c.fills.decoder c.fill.new.decoder c.args.reader.now c.fills.reader r2 so_far.gone
+    c.fill.new.self c.args.decoder.now c.fills.decoder c.fill.new.decoder c.args.reader.now c.fills.reader r2
+    so_far.gone
     so_far.given so_far.between.offset so_far.uncut so_far.holds fills)
     has_buffers c.fill.ensures.grows c.fill.ensures.within c.requires.allowed
-    c.done_gives_nothing.ensures c.in-Err.error c.io_error.result c.io_error.ensures fill.error fill.reads fill.read fill.uncut
+    c.done_gives_nothing.ensures c.in-Err.error c.io_error.result c.io_error.ensures fill.error fill.reads fill.read
+    fill.uncut
     fill.empty fill.waits)
     c.error_io.ensures
 
@@ -103,14 +114,19 @@ returns-in-Err-clause-succeeds g c = λ _ _ lawful first begun has_buffers.
       c.io_error.result,
       unread.unread-filled g.R.Source.remaining g.R.Source.step c.lines_join.ensures c.lines_append.ensures
           (Notes g.C.Calls.step) c.args.self.now.config (g.M.Matcher.meaning c.args.matcher.now)
-          c.args.decoder.now.capacity c.args.reader.now c.args.decoder.now c.requires.started _ c.fills.lines c.fill.new.self
-          c.fills.decoder c.fill.new.decoder c.fills.reader c.fill.new.reader c.fills.walk c.fills.sink so_far c.fills.invariant.fitting
+          c.args.decoder.now.capacity c.args.reader.now c.args.decoder.now c.requires.started _ c.fills.lines
+          c.fill.new.self
+          c.fills.decoder c.fill.new.decoder c.fills.reader c.fill.new.reader c.fills.walk c.fills.sink so_far
+          c.fills.invariant.fitting
           c.fill.ensures.same
-          (λ r2 fills. holding.held-next g.R.Source.remaining g.R.Source.step c.fills_continue.ensures.fills c.fills.lines
+          (λ r2 fills. holding.held-next g.R.Source.remaining g.R.Source.step c.fills_continue.ensures.fills
+          c.fills.lines
           c.fill.new.self c.args.decoder.now c.fills.decoder c.fill.new.decoder
-          c.args.reader.now c.fills.reader r2 so_far.gone so_far.given so_far.between.offset so_far.uncut so_far.holds fills)
+          c.args.reader.now c.fills.reader r2 so_far.gone so_far.given so_far.between.offset so_far.uncut so_far.holds
+          fills)
           has_buffers c.fill.ensures.grows c.fill.ensures.within c.requires.allowed
-          c.done_gives_nothing.ensures c.in-Err.error c.io_error.result c.io_error.ensures fill.error fill.reads fill.read fill.uncut
+          c.done_gives_nothing.ensures c.in-Err.error c.io_error.result c.io_error.ensures fill.error fill.reads
+          fill.read fill.uncut
           fill.empty fill.waits,
       c.error_io.ensures,
     )
@@ -125,12 +141,15 @@ returns-in_err-passes_binary-clause-fault g c =
     let meaning = g.M.Matcher.meaning c.args.matcher.now in
     let same = c.fill.ensures.same in
     let exact = c.binary_byte_offset.ensures.exact fill.fits in
-    let held_now = holding.held-next g.R.Source.remaining g.R.Source.step c.fills_continue.ensures.fills c.fills.lines c.fill.new.self
+    let held_now = holding.held-next g.R.Source.remaining g.R.Source.step c.fills_continue.ensures.fills c.fills.lines
+    c.fill.new.self
     c.args.decoder.now c.fills.decoder c.fill.new.decoder c.args.reader.now c.fills.reader c.fill.new.reader so_far.gone
     so_far.given so_far.between.offset so_far.uncut so_far.holds fill.reads in
     let errors = errors_by g.C.Error.SinkError.is_message g.C.Error.SinkError.is_io g.C.Error.SinkError.is_config in
-    let facts = facts_by g.M.Matcher.meaning g.M.Matcher.fails g.M.Matcher.is_lawful g.M.Error.Display.output c.args.matcher.now in
-    cuts.fault-cut g.R.Source.remaining g.R.Source.step c.lines_join.ensures c.lines_append.ensures g.C.Calls.step k meaning
+    let facts = facts_by g.M.Matcher.meaning g.M.Matcher.fails g.M.Matcher.is_lawful g.M.Error.Display.output
+    c.args.matcher.now in
+    cuts.fault-cut g.R.Source.remaining g.R.Source.step c.lines_join.ensures c.lines_append.ensures g.C.Calls.step k
+    meaning
     c.args.decoder.now.capacity c.args.reader.now c.args.decoder.now c.requires.started c.done_gives_nothing.ensures
     first c.args.sink.now c.fills.lines c.fills.decoder c.fills.reader c.fills.walk c.fills.sink so_far
     c.fills.invariant.fitting.terminator c.fill.new.self c.fill.new.decoder c.fill.new.reader same fill.reads held_now
@@ -138,7 +157,8 @@ returns-in_err-passes_binary-clause-fault g c =
     refl (fill.settled so_far.between.unended so_far.uncut)
     (fill.passing so_far.between.unended so_far.uncut) (c.fills.invariant.noted lawful)
     errors facts has_buffers c.in_err-passes_binary.field-0.0 c.passes_binary.new.sink
-    (subst (λ b. FailsAtBinary g.C.Calls.step k b c.fills.sink c.in_err-passes_binary.field-0.0 c.passes_binary.new.sink) exact
+    (subst (λ b. FailsAtBinary g.C.Calls.step k b c.fills.sink c.in_err-passes_binary.field-0.0
+    c.passes_binary.new.sink) exact
     c.in_err-passes_binary.ensures.fails))
 
 pub returns-then-not-branch-clause-counted : goal.returns-then-not-branch-clause-counted
@@ -149,10 +169,12 @@ returns-then-not-branch-clause-counted g c = λ lawful first begun.
     let meaning = g.M.Matcher.meaning c.args.matcher.now in
     let same = c.fill.ensures.same in
     let exact = c.binary_byte_offset.ensures.exact fill.fits in
-    let held_now = holding.held-next g.R.Source.remaining g.R.Source.step c.fills_continue.ensures.fills c.fills.lines c.fill.new.self
+    let held_now = holding.held-next g.R.Source.remaining g.R.Source.step c.fills_continue.ensures.fills c.fills.lines
+    c.fill.new.self
     c.args.decoder.now c.fills.decoder c.fill.new.decoder c.args.reader.now c.fills.reader c.fill.new.reader so_far.gone
     so_far.given so_far.between.offset so_far.uncut so_far.holds fill.reads in
-    cuts.ended-cut g.R.Source.remaining g.R.Source.step c.lines_join.ensures c.lines_append.ensures g.C.Calls.step k meaning
+    cuts.ended-cut g.R.Source.remaining g.R.Source.step c.lines_join.ensures c.lines_append.ensures g.C.Calls.step k
+    meaning
     c.args.decoder.now.capacity c.args.reader.now c.args.decoder.now c.requires.started c.done_gives_nothing.ensures
     first c.args.sink.now c.fills.lines c.fills.decoder c.fills.reader c.fills.walk c.fills.sink so_far
     c.fills.invariant.fitting.terminator c.fill.new.self c.fill.new.decoder c.fill.new.reader same fill.reads held_now
@@ -166,19 +188,24 @@ returns-then-not-branch-clause-counted g c = λ lawful first begun.
 
 pub returns-in_err-search_shown-clause-fault : goal.returns-in_err-search_shown-clause-fault
 returns-in_err-search_shown-clause-fault g c =
-    let p = err_from_is_err_and c.from_residual-in_err-search_shown.result c.from_residual-in_err-search_shown.ensures.1 in
+    let p = err_from_is_err_and c.from_residual-in_err-search_shown.result
+    c.from_residual-in_err-search_shown.ensures.1 in
     rw (p.1, p.2) (λ lawful first begun has_buffers.
     let so_far = c.fills.invariant.rolling lawful first begun in
     let fill = c.in_default.ensures in
     let k = c.args.self.now.config in
     let meaning = g.M.Matcher.meaning c.args.matcher.now in
     let same = c.fill.ensures.same in
-    let there = cuts.goes-on g.R.Source.remaining g.R.Source.step c.lines_join.ensures c.lines_append.ensures g.C.Calls.step k meaning
+    let there = cuts.goes-on g.R.Source.remaining g.R.Source.step c.lines_join.ensures c.lines_append.ensures
+    g.C.Calls.step k meaning
     c.args.decoder.now.capacity c.args.reader.now c.args.decoder.now c.requires.started c.done_gives_nothing.ensures
-    c.fills_continue.ensures.fills first c.args.sink.now c.fills.lines c.fill.new.self c.fills.decoder c.fill.new.decoder c.fills.reader
-    c.fill.new.reader c.fills.walk c.passes_binary.new.sink c.fills.sink so_far c.fills.invariant.fitting.terminator same fill.reads
+    c.fills_continue.ensures.fills first c.args.sink.now c.fills.lines c.fill.new.self c.fills.decoder
+    c.fill.new.decoder c.fills.reader
+    c.fill.new.reader c.fills.walk c.passes_binary.new.sink c.fills.sink so_far c.fills.invariant.fitting.terminator
+    same fill.reads
     (c.fills.invariant.noted lawful) c.fills.invariant.called c.binary_byte_offset.result
-    (c.binary_byte_offset.ensures.exact fill.fits) c.in_ok-passes_binary.field-0 (search rules) c.in_ok-passes_binary.ensures.passes
+    (c.binary_byte_offset.ensures.exact fill.fits) c.in_ok-passes_binary.field-0 (search rules)
+    c.in_ok-passes_binary.ensures.passes
     c.passes_binary.ensures.same_sink in
     let busy = (sym c.reports_nothing.ensures ∙ c.if-reports_nothing.false) in
     let kept = (order.goes-keeps (Notes g.C.Calls.step) c.args.self.now.config
@@ -187,12 +214,17 @@ returns-in_err-search_shown-clause-fault g c =
     (λ n. n.binary) (λ s call result t passes. passes.1) c.passes_binary.new.sink c.search_shown.result
     c.search_shown.new.walk.offset c.search_shown.new.sink c.search_shown.ensures.in_order) in
     let errors = errors_by g.C.Error.SinkError.is_message g.C.Error.SinkError.is_io g.C.Error.SinkError.is_config in
-    let facts = facts_by g.M.Matcher.meaning g.M.Matcher.fails g.M.Matcher.is_lawful g.M.Error.Display.output c.args.matcher.now in
-    cuts.fault-shown g.R.Source.remaining g.R.Source.step c.lines_join.ensures c.lines_append.ensures g.C.Calls.step k meaning
+    let facts = facts_by g.M.Matcher.meaning g.M.Matcher.fails g.M.Matcher.is_lawful g.M.Error.Display.output
+    c.args.matcher.now in
+    cuts.fault-shown g.R.Source.remaining g.R.Source.step c.lines_join.ensures c.lines_append.ensures g.C.Calls.step k
+    meaning
     c.args.decoder.now.capacity c.args.reader.now c.args.decoder.now c.requires.started c.done_gives_nothing.ensures
-    first c.args.sink.now c.fills.lines c.fills.decoder c.fills.reader c.fills.walk c.passes_binary.new.sink there.rolling
-    c.fills.invariant.fitting.terminator c.fill.new.self c.fill.new.decoder c.fill.new.reader same fill.reads there.held_now
-    busy c.fills.invariant.fitting there.uncut fill.filled c.search_shown.ensures.room c.fill.ensures.within c.fill.ensures.done
+    first c.args.sink.now c.fills.lines c.fills.decoder c.fills.reader c.fills.walk c.passes_binary.new.sink
+    there.rolling
+    c.fills.invariant.fitting.terminator c.fill.new.self c.fill.new.decoder c.fill.new.reader same fill.reads
+    there.held_now
+    busy c.fills.invariant.fitting there.uncut fill.filled c.search_shown.ensures.room c.fill.ensures.within
+    c.fill.ensures.done
     errors facts c.in_err-search_shown.field-0.0 c.search_shown.new.sink (c.in_err-search_shown.ensures.fault lawful)
     c.search_shown.ensures.may_call.1 (kept ∙ there.known) has_buffers)
 
@@ -204,17 +236,24 @@ returns-then-reports_nothing-clause-counted g c = λ lawful first begun.
     let k = c.args.self.now.config in
     let meaning = g.M.Matcher.meaning c.args.matcher.now in
     let same = c.fill.ensures.same in
-    let there = cuts.goes-on g.R.Source.remaining g.R.Source.step c.lines_join.ensures c.lines_append.ensures g.C.Calls.step k meaning
+    let there = cuts.goes-on g.R.Source.remaining g.R.Source.step c.lines_join.ensures c.lines_append.ensures
+    g.C.Calls.step k meaning
     c.args.decoder.now.capacity c.args.reader.now c.args.decoder.now c.requires.started c.done_gives_nothing.ensures
-    c.fills_continue.ensures.fills first c.args.sink.now c.fills.lines c.fill.new.self c.fills.decoder c.fill.new.decoder c.fills.reader
-    c.fill.new.reader c.fills.walk c.passes_binary.new.sink c.fills.sink so_far c.fills.invariant.fitting.terminator same fill.reads
+    c.fills_continue.ensures.fills first c.args.sink.now c.fills.lines c.fill.new.self c.fills.decoder
+    c.fill.new.decoder c.fills.reader
+    c.fill.new.reader c.fills.walk c.passes_binary.new.sink c.fills.sink so_far c.fills.invariant.fitting.terminator
+    same fill.reads
     (c.fills.invariant.noted lawful) c.fills.invariant.called c.binary_byte_offset.result
-    (c.binary_byte_offset.ensures.exact fill.fits) c.in_ok-passes_binary.field-0 (search rules) c.in_ok-passes_binary.ensures.passes
+    (c.binary_byte_offset.ensures.exact fill.fits) c.in_ok-passes_binary.field-0 (search rules)
+    c.in_ok-passes_binary.ensures.passes
     c.passes_binary.ensures.same_sink in
-    inl (cuts.counted-idle g.R.Source.remaining g.R.Source.step c.lines_join.ensures c.lines_append.ensures g.C.Calls.step k meaning
+    inl (cuts.counted-idle g.R.Source.remaining g.R.Source.step c.lines_join.ensures c.lines_append.ensures
+    g.C.Calls.step k meaning
     c.args.decoder.now.capacity c.args.reader.now c.args.decoder.now c.requires.started c.done_gives_nothing.ensures
-    first c.args.sink.now c.fills.lines c.fills.decoder c.fills.reader c.fills.walk c.passes_binary.new.sink there.rolling
-    c.fills.invariant.fitting.terminator c.fill.new.self c.fill.new.decoder c.fill.new.reader same fill.reads there.held_now
+    first c.args.sink.now c.fills.lines c.fills.decoder c.fills.reader c.fills.walk c.passes_binary.new.sink
+    there.rolling
+    c.fills.invariant.fitting.terminator c.fill.new.self c.fill.new.decoder c.fill.new.reader same fill.reads
+    there.held_now
     idle there.uncut c.binary_byte_offset.ensures.room c.fill.ensures.within
     c.fills.invariant.fitting there.called there.known
     (fill.settled so_far.between.unended so_far.uncut) (fill.passing so_far.between.unended so_far.uncut))
@@ -226,12 +265,16 @@ returns-then-not-branch-2-clause-counted g c = λ lawful first begun.
     let k = c.args.self.now.config in
     let meaning = g.M.Matcher.meaning c.args.matcher.now in
     let same = c.fill.ensures.same in
-    let there = cuts.goes-on g.R.Source.remaining g.R.Source.step c.lines_join.ensures c.lines_append.ensures g.C.Calls.step k meaning
+    let there = cuts.goes-on g.R.Source.remaining g.R.Source.step c.lines_join.ensures c.lines_append.ensures
+    g.C.Calls.step k meaning
     c.args.decoder.now.capacity c.args.reader.now c.args.decoder.now c.requires.started c.done_gives_nothing.ensures
-    c.fills_continue.ensures.fills first c.args.sink.now c.fills.lines c.fill.new.self c.fills.decoder c.fill.new.decoder c.fills.reader
-    c.fill.new.reader c.fills.walk c.passes_binary.new.sink c.fills.sink so_far c.fills.invariant.fitting.terminator same fill.reads
+    c.fills_continue.ensures.fills first c.args.sink.now c.fills.lines c.fill.new.self c.fills.decoder
+    c.fill.new.decoder c.fills.reader
+    c.fill.new.reader c.fills.walk c.passes_binary.new.sink c.fills.sink so_far c.fills.invariant.fitting.terminator
+    same fill.reads
     (c.fills.invariant.noted lawful) c.fills.invariant.called c.binary_byte_offset.result
-    (c.binary_byte_offset.ensures.exact fill.fits) c.in_ok-passes_binary.field-0 (search rules) c.in_ok-passes_binary.ensures.passes
+    (c.binary_byte_offset.ensures.exact fill.fits) c.in_ok-passes_binary.field-0 (search rules)
+    c.in_ok-passes_binary.ensures.passes
     c.passes_binary.ensures.same_sink in
     let busy = (sym c.reports_nothing.ensures ∙ c.if-reports_nothing.false) in
     let kept = (order.goes-keeps (Notes g.C.Calls.step) c.args.self.now.config
@@ -239,11 +282,15 @@ returns-then-not-branch-2-clause-counted g c = λ lawful first begun.
     (facts_by g.M.Matcher.meaning g.M.Matcher.fails g.M.Matcher.is_lawful g.M.Error.Display.output c.args.matcher.now)
     (λ n. n.binary) (λ s call result t passes. passes.1) c.passes_binary.new.sink c.search_shown.result
     c.search_shown.new.walk.offset c.search_shown.new.sink c.search_shown.ensures.in_order) in
-    inl (cuts.counted-shown g.R.Source.remaining g.R.Source.step c.lines_join.ensures c.lines_append.ensures g.C.Calls.step k meaning
+    inl (cuts.counted-shown g.R.Source.remaining g.R.Source.step c.lines_join.ensures c.lines_append.ensures
+    g.C.Calls.step k meaning
     c.args.decoder.now.capacity c.args.reader.now c.args.decoder.now c.requires.started c.done_gives_nothing.ensures
-    first c.args.sink.now c.fills.lines c.fills.decoder c.fills.reader c.fills.walk c.passes_binary.new.sink there.rolling
-    c.fills.invariant.fitting.terminator c.fill.new.self c.fill.new.decoder c.fill.new.reader same fill.reads there.held_now
-    busy c.fills.invariant.fitting there.uncut fill.filled c.search_shown.ensures.room c.fill.ensures.within c.fill.ensures.done
+    first c.args.sink.now c.fills.lines c.fills.decoder c.fills.reader c.fills.walk c.passes_binary.new.sink
+    there.rolling
+    c.fills.invariant.fitting.terminator c.fill.new.self c.fill.new.decoder c.fill.new.reader same fill.reads
+    there.held_now
+    busy c.fills.invariant.fitting there.uncut fill.filled c.search_shown.ensures.room c.fill.ensures.within
+    c.fill.ensures.done
     c.search_shown.new.walk c.search_shown.new.sink c.search_shown.ensures.may_call.1 (kept ∙ there.known)
     (c.in_ok-search_shown.ensures.ends lawful c.if-not-branch-2.true)
     (fill.settled so_far.between.unended so_far.uncut) (fill.passing so_far.between.unended so_far.uncut))
@@ -263,13 +310,16 @@ fills-preserved g c =
     let unfound : is_detecting k.binary_detection ≡ false → c.fill.new.self.binary ≡ None =
     passed.clear-filled k.binary_detection c.fills.lines c.fill.new.self fill.reads.given fill.reads.found
     c.fills.invariant.detects c.fills.invariant.clear in
-    let detects = passed.detects-passed g.C.Calls.step k c.fill.new.self.binary unfound c.fills.sink c.passes_binary.new.sink true
+    let detects = passed.detects-passed g.C.Calls.step k c.fill.new.self.binary unfound c.fills.sink
+    c.passes_binary.new.sink true
     c.fills.invariant.noted_detects passes in
     let first = order.called-then g.C.Calls.step k c.args.sink.now.sink.now c.fills.sink.sink.now all_true
     c.passes_binary.new.sink.sink.now c.fills.invariant.calls
     (passed.passes-on g.C.Calls.step k c.fill.new.self.binary unfound c.fills.sink c.passes_binary.new.sink passes) in
-    let later = order.passed g.C.Calls.step (Notes g.C.Calls.step) k (λ n. n.sink.now) (passed.DetectsNoted g.C.Calls.step k)
-    (λ n count. count) (passed.noted-one g.C.Calls.step k) c.passes_binary.new.sink all_true c.search_shown.new.sink detects
+    let later = order.passed g.C.Calls.step (Notes g.C.Calls.step) k (λ n. n.sink.now)
+    (passed.DetectsNoted g.C.Calls.step k)
+    (λ n count. count) (passed.noted-one g.C.Calls.step k) c.passes_binary.new.sink all_true c.search_shown.new.sink
+    detects
     (rw moves at c.in_ok-search_shown.ensures.in_order) in
     let kept = (order.goes-keeps (Notes g.C.Calls.step) c.args.self.now.config
     (errors_by g.C.Error.SinkError.is_message g.C.Error.SinkError.is_io g.C.Error.SinkError.is_config)
@@ -287,7 +337,8 @@ fills-preserved g c =
       called = c.search_shown.ensures.may_call.1;
       decoded = (
         c.fills.invariant.decoded.0 ++ fill.reads.given,
-        c.reads_continue.ensures.more _ c.fills.decoder _ _ c.fills.reader _ _ _ c.fills.invariant.decoded.1 fill.reads.decodes,
+        c.reads_continue.ensures.more _ c.fills.decoder _ _ c.fills.reader _ _ _ c.fills.invariant.decoded.1
+            fill.reads.decodes,
       );
       detects = c.in_ok-search_shown.ensures.detection ∙ (same.detection ∙ c.fills.invariant.detects);
       clear = λ none. c.in_ok-search_shown.ensures.binary ∙ unfound none;
@@ -296,30 +347,38 @@ fills-preserved g c =
           c.search_shown.new.sink.sink.now first later.1;
       same_sink = (order.goes-keeps (Notes g.C.Calls.step) c.args.self.now.config
           (errors_by g.C.Error.SinkError.is_message g.C.Error.SinkError.is_io g.C.Error.SinkError.is_config)
-          (facts_by g.M.Matcher.meaning g.M.Matcher.fails g.M.Matcher.is_lawful g.M.Error.Display.output c.args.matcher.now)
+          (facts_by g.M.Matcher.meaning g.M.Matcher.fails g.M.Matcher.is_lawful g.M.Error.Display.output
+          c.args.matcher.now)
           (λ n. n.sink.ghost_name) (λ s call result t passes. passes.0) c.passes_binary.new.sink c.search_shown.result
           c.search_shown.new.walk.offset c.search_shown.new.sink c.search_shown.ensures.in_order)
           ∙ (c.passes_binary.ensures.same_sink ∙ c.fills.invariant.same_sink);
       noted = λ lawful. kept
-          ∙ (ends.noted-passed g.C.Calls.step k c.fills.lines.binary c.fill.new.self.binary _ c.fills.sink c.passes_binary.new.sink
+          ∙ (ends.noted-passed g.C.Calls.step k c.fills.lines.binary c.fill.new.self.binary _ c.fills.sink
+          c.passes_binary.new.sink
           fill.reads.found (c.fills.invariant.noted lawful) passes
           ∙ sym (ap (λ b. b.binary) (c.in_ok-search_shown.ensures.goes_on lawful moves).moved));
       rolling = λ lawful first begun.
           let so_far = c.fills.invariant.rolling lawful first begun in
           let meaning = g.M.Matcher.meaning c.args.matcher.now in
-          let there = cuts.goes-on g.R.Source.remaining g.R.Source.step c.lines_join.ensures c.lines_append.ensures g.C.Calls.step k meaning
-          c.args.decoder.now.capacity c.args.reader.now c.args.decoder.now c.requires.started c.done_gives_nothing.ensures
-          c.fills_continue.ensures.fills first c.args.sink.now c.fills.lines c.fill.new.self c.fills.decoder c.fill.new.decoder
+          let there = cuts.goes-on g.R.Source.remaining g.R.Source.step c.lines_join.ensures c.lines_append.ensures
+          g.C.Calls.step k meaning
+          c.args.decoder.now.capacity c.args.reader.now c.args.decoder.now c.requires.started
+          c.done_gives_nothing.ensures
+          c.fills_continue.ensures.fills first c.args.sink.now c.fills.lines c.fill.new.self c.fills.decoder
+          c.fill.new.decoder
           c.fills.reader c.fill.new.reader c.fills.walk c.passes_binary.new.sink c.fills.sink so_far
           c.fills.invariant.fitting.terminator same fill.reads
           (c.fills.invariant.noted lawful) c.fills.invariant.called c.binary_byte_offset.result
-          (c.binary_byte_offset.ensures.exact fill.fits) c.in_ok-passes_binary.field-0 (search rules) c.in_ok-passes_binary.ensures.passes
+          (c.binary_byte_offset.ensures.exact fill.fits) c.in_ok-passes_binary.field-0 (search rules)
+          c.in_ok-passes_binary.ensures.passes
           c.passes_binary.ensures.same_sink in
           let busy = (sym c.reports_nothing.ensures ∙ c.if-reports_nothing.false) in
-          let next = rolling.rolling-next g.R.Source.remaining g.R.Source.step c.lines_join.ensures c.lines_append.ensures
+          let next = rolling.rolling-next g.R.Source.remaining g.R.Source.step c.lines_join.ensures
+          c.lines_append.ensures
           (Notes g.C.Calls.step) k meaning busy c.args.decoder.now.capacity c.args.reader.now
           c.args.decoder.now c.requires.started _ c.fills.lines c.fill.new.self c.fills.decoder c.fill.new.decoder
-          c.fills.reader c.fill.new.reader c.fills.walk c.passes_binary.new.sink there.rolling c.fills.invariant.fitting same
+          c.fills.reader c.fill.new.reader c.fills.walk c.passes_binary.new.sink there.rolling c.fills.invariant.fitting
+          same
           fill.reads there.held_now there.uncut fill.filled c.search_shown.ensures.room c.fill.ensures.within
           c.done_gives_nothing.ensures c.fill.ensures.done
           c.search_shown.new.walk c.search_shown.new.lines c.search_shown.new.sink
@@ -335,13 +394,17 @@ fills-preserved g c =
 pub returns-in-Err-clause-in_order : goal.returns-in-Err-clause-in_order
 returns-in-Err-clause-in_order g c = inr (
   c.io_error.result,
-  passed.reading-error g.R.Source.remaining g.R.Source.step c.args.reader.now c.fill.new.reader c.in-Err.error c.io_error.result
+  passed.reading-error g.R.Source.remaining g.R.Source.step c.args.reader.now c.fill.new.reader c.in-Err.error
+      c.io_error.result
       (λ e is.
-      let fails = subst (λ fault. IfRead {X = Bool} (Err fault) (λ e. FailsToFill g.R.Source.remaining g.R.Source.step e c.fills.lines
+      let fails = subst (λ fault. IfRead {X = Bool} (Err fault)
+      (λ e. FailsToFill g.R.Source.remaining g.R.Source.step e c.fills.lines
       c.fills.decoder c.fills.reader c.fill.new.self c.fill.new.decoder c.fill.new.reader)) is c.in-Err.ensures.read in
-      passed.failed-read g.R.Source.remaining g.R.Source.step c.args.reader.now c.args.decoder.now c.fill.new.decoder fails.mid
+      passed.failed-read g.R.Source.remaining g.R.Source.step c.args.reader.now c.args.decoder.now c.fill.new.decoder
+      fails.mid
       c.fill.new.reader _ e (ap (λ d. d.has_ended) c.requires.started)
-      (c.reads_continue.ensures.more _ c.fills.decoder _ _ c.fills.reader _ _ _ c.fills.invariant.decoded.1 fails.fills.decodes)
+      (c.reads_continue.ensures.more _ c.fills.decoder _ _ c.fills.reader _ _ _ c.fills.invariant.decoded.1
+      fails.fills.decodes)
       fails.unended fails.failed)
       c.io_error.ensures,
   c.error_io.ensures,
@@ -356,7 +419,8 @@ returns-in_err-passes_binary-clause-in_order g c =
     let fill = c.in_default.ensures in
     let exact = c.binary_byte_offset.ensures.exact fill.fits in
     let clear : is_detecting k.binary_detection ≡ false → c.binary_byte_offset.result ≡ None =
-    λ none. exact ∙ passed.clear-filled k.binary_detection c.fills.lines c.fill.new.self fill.reads.given fill.reads.found
+    λ none. exact ∙ passed.clear-filled k.binary_detection c.fills.lines c.fill.new.self fill.reads.given
+    fill.reads.found
     c.fills.invariant.detects c.fills.invariant.clear none in
     rw (p.1, p.2) (inl (of_call (order.called-then step k c.args.sink.now.sink.now c.fills.sink.sink.now (failed _)
     c.passes_binary.new.sink.sink.now c.fills.invariant.calls
@@ -370,11 +434,14 @@ returns-then-not-branch-clause-in_order g c =
     let fill = c.in_default.ensures in
     let exact = c.binary_byte_offset.ensures.exact fill.fits in
     let clear : is_detecting k.binary_detection ≡ false → c.binary_byte_offset.result ≡ None =
-    λ none. exact ∙ passed.clear-filled k.binary_detection c.fills.lines c.fill.new.self fill.reads.given fill.reads.found
+    λ none. exact ∙ passed.clear-filled k.binary_detection c.fills.lines c.fill.new.self fill.reads.given
+    fill.reads.found
     c.fills.invariant.detects c.fills.invariant.clear none in
-    order.called-then-to step k c.args.sink.now.sink.now c.fills.sink.sink.now c.fills.walk.offset c.passes_binary.new.sink.sink.now
+    order.called-then-to step k c.args.sink.now.sink.now c.fills.sink.sink.now c.fills.walk.offset
+    c.passes_binary.new.sink.sink.now
     c.fills.invariant.calls
-    (passed.passes-off step k c.binary_byte_offset.result clear c.fills.sink c.passes_binary.new.sink c.fills.walk.offset
+    (passed.passes-off step k c.binary_byte_offset.result clear c.fills.sink c.passes_binary.new.sink
+    c.fills.walk.offset
     (subst (λ x. PassesBinary step k c.binary_byte_offset.result c.fills.sink x c.passes_binary.new.sink)
     c.if-not-branch.true c.in_ok-passes_binary.ensures.passes))
 
@@ -385,7 +452,8 @@ returns-then-not-branch-clause-noted g c =
     let fill = c.in_default.ensures in
     let exact = c.binary_byte_offset.ensures.exact fill.fits in
     let clear : is_detecting k.binary_detection ≡ false → c.binary_byte_offset.result ≡ None =
-    λ none. exact ∙ passed.clear-filled k.binary_detection c.fills.lines c.fill.new.self fill.reads.given fill.reads.found
+    λ none. exact ∙ passed.clear-filled k.binary_detection c.fills.lines c.fill.new.self fill.reads.given
+    fill.reads.found
     c.fills.invariant.detects c.fills.invariant.clear none in
     passed.undetected-none step k c.passes_binary.new.sink
     (passed.detects-passed step k c.binary_byte_offset.result clear c.fills.sink c.passes_binary.new.sink _
@@ -398,15 +466,19 @@ returns-then-reports_nothing-clause-in_order g c =
     let fill = c.in_default.ensures in
     let exact = c.binary_byte_offset.ensures.exact fill.fits in
     let clear : is_detecting k.binary_detection ≡ false → c.binary_byte_offset.result ≡ None =
-    λ none. exact ∙ passed.clear-filled k.binary_detection c.fills.lines c.fill.new.self fill.reads.given fill.reads.found
+    λ none. exact ∙ passed.clear-filled k.binary_detection c.fills.lines c.fill.new.self fill.reads.given
+    fill.reads.found
     c.fills.invariant.detects c.fills.invariant.clear none in
     let goes : c.in_ok-passes_binary.field-0 ≡ true = search rules in
     let passes : PassesBinary step k c.binary_byte_offset.result c.fills.sink true c.passes_binary.new.sink =
     subst (λ x. PassesBinary step k c.binary_byte_offset.result c.fills.sink x c.passes_binary.new.sink) goes
     c.in_ok-passes_binary.ensures.passes in
-    let first = order.called-then step k c.args.sink.now.sink.now c.fills.sink.sink.now all_true c.passes_binary.new.sink.sink.now
-    c.fills.invariant.calls (passed.passes-on step k c.binary_byte_offset.result clear c.fills.sink c.passes_binary.new.sink passes) in
-    let detects = passed.detects-passed step k c.binary_byte_offset.result clear c.fills.sink c.passes_binary.new.sink true
+    let first = order.called-then step k c.args.sink.now.sink.now c.fills.sink.sink.now all_true
+    c.passes_binary.new.sink.sink.now
+    c.fills.invariant.calls (passed.passes-on step k c.binary_byte_offset.result clear c.fills.sink
+    c.passes_binary.new.sink passes) in
+    let detects = passed.detects-passed step k c.binary_byte_offset.result clear c.fills.sink c.passes_binary.new.sink
+    true
     c.fills.invariant.noted_detects passes in
     record { outcome = all_true; ends = tt; called = first }
 
@@ -417,41 +489,53 @@ returns-then-reports_nothing-clause-noted g c =
     let fill = c.in_default.ensures in
     let exact = c.binary_byte_offset.ensures.exact fill.fits in
     let clear : is_detecting k.binary_detection ≡ false → c.binary_byte_offset.result ≡ None =
-    λ none. exact ∙ passed.clear-filled k.binary_detection c.fills.lines c.fill.new.self fill.reads.given fill.reads.found
+    λ none. exact ∙ passed.clear-filled k.binary_detection c.fills.lines c.fill.new.self fill.reads.given
+    fill.reads.found
     c.fills.invariant.detects c.fills.invariant.clear none in
     let goes : c.in_ok-passes_binary.field-0 ≡ true = search rules in
     let passes : PassesBinary step k c.binary_byte_offset.result c.fills.sink true c.passes_binary.new.sink =
     subst (λ x. PassesBinary step k c.binary_byte_offset.result c.fills.sink x c.passes_binary.new.sink) goes
     c.in_ok-passes_binary.ensures.passes in
-    let first = order.called-then step k c.args.sink.now.sink.now c.fills.sink.sink.now all_true c.passes_binary.new.sink.sink.now
-    c.fills.invariant.calls (passed.passes-on step k c.binary_byte_offset.result clear c.fills.sink c.passes_binary.new.sink passes) in
-    let detects = passed.detects-passed step k c.binary_byte_offset.result clear c.fills.sink c.passes_binary.new.sink true
+    let first = order.called-then step k c.args.sink.now.sink.now c.fills.sink.sink.now all_true
+    c.passes_binary.new.sink.sink.now
+    c.fills.invariant.calls (passed.passes-on step k c.binary_byte_offset.result clear c.fills.sink
+    c.passes_binary.new.sink passes) in
+    let detects = passed.detects-passed step k c.binary_byte_offset.result clear c.fills.sink c.passes_binary.new.sink
+    true
     c.fills.invariant.noted_detects passes in
     passed.undetected-none step k c.passes_binary.new.sink detects
 
 pub returns-in_err-search_shown-clause-in_order : goal.returns-in_err-search_shown-clause-in_order
 returns-in_err-search_shown-clause-in_order g c =
-    let p = err_from_is_err_and c.from_residual-in_err-search_shown.result c.from_residual-in_err-search_shown.ensures.1 in
+    let p = err_from_is_err_and c.from_residual-in_err-search_shown.result
+    c.from_residual-in_err-search_shown.ensures.1 in
     let step = g.C.Calls.step in
     let k = c.args.self.now.config in
     let fill = c.in_default.ensures in
     let exact = c.binary_byte_offset.ensures.exact fill.fits in
     let clear : is_detecting k.binary_detection ≡ false → c.binary_byte_offset.result ≡ None =
-    λ none. exact ∙ passed.clear-filled k.binary_detection c.fills.lines c.fill.new.self fill.reads.given fill.reads.found
+    λ none. exact ∙ passed.clear-filled k.binary_detection c.fills.lines c.fill.new.self fill.reads.given
+    fill.reads.found
     c.fills.invariant.detects c.fills.invariant.clear none in
     let goes : c.in_ok-passes_binary.field-0 ≡ true = search rules in
     let passes : PassesBinary step k c.binary_byte_offset.result c.fills.sink true c.passes_binary.new.sink =
     subst (λ x. PassesBinary step k c.binary_byte_offset.result c.fills.sink x c.passes_binary.new.sink) goes
     c.in_ok-passes_binary.ensures.passes in
-    let first = order.called-then step k c.args.sink.now.sink.now c.fills.sink.sink.now all_true c.passes_binary.new.sink.sink.now
-    c.fills.invariant.calls (passed.passes-on step k c.binary_byte_offset.result clear c.fills.sink c.passes_binary.new.sink passes) in
-    let detects = passed.detects-passed step k c.binary_byte_offset.result clear c.fills.sink c.passes_binary.new.sink true
+    let first = order.called-then step k c.args.sink.now.sink.now c.fills.sink.sink.now all_true
+    c.passes_binary.new.sink.sink.now
+    c.fills.invariant.calls (passed.passes-on step k c.binary_byte_offset.result clear c.fills.sink
+    c.passes_binary.new.sink passes) in
+    let detects = passed.detects-passed step k c.binary_byte_offset.result clear c.fills.sink c.passes_binary.new.sink
+    true
     c.fills.invariant.noted_detects passes in
     let errors = errors_by g.C.Error.SinkError.is_message g.C.Error.SinkError.is_io g.C.Error.SinkError.is_config in
-    let facts = facts_by g.M.Matcher.meaning g.M.Matcher.fails g.M.Matcher.is_lawful g.M.Error.Display.output c.args.matcher.now in
-    rw (p.1, p.2) (inl (order.failed-then step k errors facts c.args.sink.now.sink.now c.passes_binary.new.sink.sink.now _
+    let facts = facts_by g.M.Matcher.meaning g.M.Matcher.fails g.M.Matcher.is_lawful g.M.Error.Display.output
+    c.args.matcher.now in
+    rw (p.1, p.2) (inl (order.failed-then step k errors facts c.args.sink.now.sink.now c.passes_binary.new.sink.sink.now
+    _
     c.search_shown.new.sink.sink.now first
-    (order.passed-failed step (Notes step) k (λ n. n.sink.now) (passed.DetectsNoted step k) (λ n count. count) (passed.noted-one step k)
+    (order.passed-failed step (Notes step) k (λ n. n.sink.now) (passed.DetectsNoted step k) (λ n count. count)
+    (passed.noted-one step k)
     errors facts c.passes_binary.new.sink _ c.search_shown.new.sink detects c.in_err-search_shown.ensures.in_order)))
 
 pub returns-then-not-branch-2-clause-in_order : goal.returns-then-not-branch-2-clause-in_order
@@ -461,20 +545,26 @@ returns-then-not-branch-2-clause-in_order g c =
     let fill = c.in_default.ensures in
     let exact = c.binary_byte_offset.ensures.exact fill.fits in
     let clear : is_detecting k.binary_detection ≡ false → c.binary_byte_offset.result ≡ None =
-    λ none. exact ∙ passed.clear-filled k.binary_detection c.fills.lines c.fill.new.self fill.reads.given fill.reads.found
+    λ none. exact ∙ passed.clear-filled k.binary_detection c.fills.lines c.fill.new.self fill.reads.given
+    fill.reads.found
     c.fills.invariant.detects c.fills.invariant.clear none in
     let goes : c.in_ok-passes_binary.field-0 ≡ true = search rules in
     let passes : PassesBinary step k c.binary_byte_offset.result c.fills.sink true c.passes_binary.new.sink =
     subst (λ x. PassesBinary step k c.binary_byte_offset.result c.fills.sink x c.passes_binary.new.sink) goes
     c.in_ok-passes_binary.ensures.passes in
-    let first = order.called-then step k c.args.sink.now.sink.now c.fills.sink.sink.now all_true c.passes_binary.new.sink.sink.now
-    c.fills.invariant.calls (passed.passes-on step k c.binary_byte_offset.result clear c.fills.sink c.passes_binary.new.sink passes) in
-    let detects = passed.detects-passed step k c.binary_byte_offset.result clear c.fills.sink c.passes_binary.new.sink true
+    let first = order.called-then step k c.args.sink.now.sink.now c.fills.sink.sink.now all_true
+    c.passes_binary.new.sink.sink.now
+    c.fills.invariant.calls (passed.passes-on step k c.binary_byte_offset.result clear c.fills.sink
+    c.passes_binary.new.sink passes) in
+    let detects = passed.detects-passed step k c.binary_byte_offset.result clear c.fills.sink c.passes_binary.new.sink
+    true
     c.fills.invariant.noted_detects passes in
     let ends = rw c.if-not-branch-2.true at c.in_ok-search_shown.ensures.in_order in
-    order.called-then-to step k c.args.sink.now.sink.now c.passes_binary.new.sink.sink.now c.search_shown.new.walk.offset
+    order.called-then-to step k c.args.sink.now.sink.now c.passes_binary.new.sink.sink.now
+    c.search_shown.new.walk.offset
     c.search_shown.new.sink.sink.now first
-    (order.passed-to step (Notes step) k (λ n. n.sink.now) (passed.DetectsNoted step k) (λ n count. count) (passed.noted-one step k)
+    (order.passed-to step (Notes step) k (λ n. n.sink.now) (passed.DetectsNoted step k) (λ n count. count)
+    (passed.noted-one step k)
     c.passes_binary.new.sink c.search_shown.new.walk.offset c.search_shown.new.sink detects ends)
 
 pub returns-then-not-branch-2-clause-noted : goal.returns-then-not-branch-2-clause-noted
@@ -484,15 +574,19 @@ returns-then-not-branch-2-clause-noted g c =
     let fill = c.in_default.ensures in
     let exact = c.binary_byte_offset.ensures.exact fill.fits in
     let clear : is_detecting k.binary_detection ≡ false → c.binary_byte_offset.result ≡ None =
-    λ none. exact ∙ passed.clear-filled k.binary_detection c.fills.lines c.fill.new.self fill.reads.given fill.reads.found
+    λ none. exact ∙ passed.clear-filled k.binary_detection c.fills.lines c.fill.new.self fill.reads.given
+    fill.reads.found
     c.fills.invariant.detects c.fills.invariant.clear none in
     let goes : c.in_ok-passes_binary.field-0 ≡ true = search rules in
     let passes : PassesBinary step k c.binary_byte_offset.result c.fills.sink true c.passes_binary.new.sink =
     subst (λ x. PassesBinary step k c.binary_byte_offset.result c.fills.sink x c.passes_binary.new.sink) goes
     c.in_ok-passes_binary.ensures.passes in
-    let first = order.called-then step k c.args.sink.now.sink.now c.fills.sink.sink.now all_true c.passes_binary.new.sink.sink.now
-    c.fills.invariant.calls (passed.passes-on step k c.binary_byte_offset.result clear c.fills.sink c.passes_binary.new.sink passes) in
-    let detects = passed.detects-passed step k c.binary_byte_offset.result clear c.fills.sink c.passes_binary.new.sink true
+    let first = order.called-then step k c.args.sink.now.sink.now c.fills.sink.sink.now all_true
+    c.passes_binary.new.sink.sink.now
+    c.fills.invariant.calls (passed.passes-on step k c.binary_byte_offset.result clear c.fills.sink
+    c.passes_binary.new.sink passes) in
+    let detects = passed.detects-passed step k c.binary_byte_offset.result clear c.fills.sink c.passes_binary.new.sink
+    true
     c.fills.invariant.noted_detects passes in
     let same = (order.goes-keeps (Notes g.C.Calls.step) c.args.self.now.config
     (errors_by g.C.Error.SinkError.is_message g.C.Error.SinkError.is_io g.C.Error.SinkError.is_config)

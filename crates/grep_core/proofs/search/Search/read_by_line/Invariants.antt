@@ -21,7 +21,8 @@ invariant-fills g l = record {
   ordered : IsOrdered l.walk;
   may_call : g.C.Calls.may_call l.sink.sink.now;
   called : HasNoted l.sink;
-  decoded : (given : List ℕ) × Decodes g.R.Source.remaining g.R.Source.step l.fn.decoder l.fn.reader given l.decoder l.reader;
+  decoded : (given : List ℕ) × Decodes g.R.Source.remaining g.R.Source.step l.fn.decoder l.fn.reader given l.decoder
+      l.reader;
   detects : l.lines.detection ≡ detection_of l.self.config.binary_detection;
   clear : is_detecting l.self.config.binary_detection ≡ false → l.lines.binary ≡ None;
   noted_detects : DetectsNoted g.C.Calls.step l.self.config l.sink;
@@ -31,7 +32,8 @@ invariant-fills g l = record {
       → l.sink.binary ≡ l.lines.binary;
   rolling : IsLawfulFor l.self.config (g.M.Matcher.meaning l.matcher) (g.M.Matcher.is_lawful l.matcher)
       → (first : g.row.C-Sink.Denot) → g.C.Calls.step first l.self.config begins (Ok true) l.fn.sink.sink.now
-      → IsRolling (Notes g.C.Calls.step) l.self.config (g.M.Matcher.meaning l.matcher) g.R.Source.remaining g.R.Source.step
+      → IsRolling (Notes g.C.Calls.step) l.self.config (g.M.Matcher.meaning l.matcher) g.R.Source.remaining
+      g.R.Source.step
       l.fn.decoder l.fn.reader
       (record { sink = record l.fn.sink.sink { now = first }; binary = l.sink.binary; has_called = false })
       l.lines l.decoder l.reader l.walk l.sink;

@@ -1,4 +1,5 @@
-use Rattle.std.proofs.Common.{rules, ◌≡◌, ◌==◌, arith, sym, subst, refl, true, false, [], ◌-◌, drop, length-take, length-drop}
+use Rattle.std.proofs.Common.{rules, ◌≡◌, ◌==◌, arith, sym, subst, refl, true, false, [], ◌-◌, drop, length-take}
+use Rattle.std.proofs.Common.{length-drop}
 use Rattle.std.proofs.lemmas.Result.{err_from_is_err_and}
 use Rattle.grep_matcher.specs.Terminators.{byte_of}
 use Rattle.grep_lines.specs.Positions.{slice, IsLineStart}
@@ -28,7 +29,8 @@ returns-in-Err-unit_at-clause-fault g c =
     let fault = c.in-Err-unit_at.ensures.fault in
     λ first begun. ends.fault-matcher g.C.Calls.step _ _ c.args.self.now.config c.args.bytes.now first c.lines.walk
     c.lines.sink c.lines.invariant.walk (c.lines.invariant.reported first begun)
-    fault.0 c.in-Err-unit_at.error _ fault.1 c.in-Err-unit_at.ensures.open fault.2 c.error_message-in-Err-unit_at.ensures
+    fault.0 c.in-Err-unit_at.error _ fault.1 c.in-Err-unit_at.ensures.open fault.2
+    c.error_message-in-Err-unit_at.ensures
 
 pub returns-then-next-bytes-clause-reported : goal.returns-then-next-bytes-clause-reported
 returns-then-next-bytes-clause-reported g c = λ first begun.
@@ -37,14 +39,17 @@ returns-then-next-bytes-clause-reported g c = λ first begun.
     let ready = c.in-Ok-unit_at.ensures.ready in
     let ahead = c.in-Ok-unit_at.ensures.ahead in
     let chosen = c.next_chosen-next.ensures in
-    let at = subst (λ o. IsLineStart (byte_of k.line_terminator) c.args.bytes.now o c.lines.walk.line) c.lines.invariant.same
+    let at = subst (λ o. IsLineStart (byte_of k.line_terminator) c.args.bytes.now o c.lines.walk.line)
+    c.lines.invariant.same
     c.lines.invariant.walk.placed.at in
     let next = subst (units.IsNext k meaning c.args.bytes.now c.lines.walk c.lines.start) (sym chosen)
-    (units.next-is k meaning c.args.bytes.now c.lines.start c.lines.walk c.in-Ok-unit_at.unit c.unit_at.new.blocks c.lines.invariant.walk
+    (units.next-is k meaning c.args.bytes.now c.lines.start c.lines.walk c.in-Ok-unit_at.unit c.unit_at.new.blocks
+    c.lines.invariant.walk
     at ready c.lines-test.true ahead) in
     let plain : k.passthru ≡ false = search rules in (
       all_true,
-      ends.counted-past k meaning c.args.bytes.now g.C.Calls.step first c.lines.walk c.lines.start c.next_chosen-next.result
+      ends.counted-past k meaning c.args.bytes.now g.C.Calls.step first c.lines.walk c.lines.start
+          c.next_chosen-next.result
           c.lines.invariant.same c.lines.invariant.walk next c.if-next-bytes.true plain c.if-walk-eq0.true c.lines.sink
           (c.lines.invariant.reported first begun),
     )
@@ -57,10 +62,12 @@ lines-preserved-then-walk-eq0 g c =
     let ahead = c.in-Ok-unit_at.ensures.ahead in
     let chosen = c.next_chosen-next.ensures in
     let past = c.skip_lines-walk.ensures.walk in
-    let at = subst (λ o. IsLineStart (byte_of k.line_terminator) c.args.bytes.now o c.lines.walk.line) c.lines.invariant.same
+    let at = subst (λ o. IsLineStart (byte_of k.line_terminator) c.args.bytes.now o c.lines.walk.line)
+    c.lines.invariant.same
     c.lines.invariant.walk.placed.at in
     let next = subst (units.IsNext k meaning c.args.bytes.now c.lines.walk c.lines.start) (sym chosen)
-    (units.next-is k meaning c.args.bytes.now c.lines.start c.lines.walk c.in-Ok-unit_at.unit c.unit_at.new.blocks c.lines.invariant.walk
+    (units.next-is k meaning c.args.bytes.now c.lines.start c.lines.walk c.in-Ok-unit_at.unit c.unit_at.new.blocks
+    c.lines.invariant.walk
     at ready c.lines-test.true ahead) in
     let plain : k.passthru ≡ false = search rules in
     rw past (record {
@@ -75,10 +82,12 @@ lines-preserved-then-walk-eq0 g c =
         length-drop c.lines.start c.args.bytes.now,
       );
       ordered = rw past at c.skip_lines-walk.ensures.ordered;
-      ready = units.ready-past k meaning c.args.bytes.now c.lines.start c.lines.walk c.in-Ok-unit_at.unit c.unit_at.new.blocks
+      ready = units.ready-past k meaning c.args.bytes.now c.lines.start c.lines.walk c.in-Ok-unit_at.unit
+          c.unit_at.new.blocks
           c.lines.invariant.walk at ready c.lines-test.true ahead _ c.next_chosen-next.result
           chosen refl;
-      walk = steps.across-past k meaning c.args.bytes.now c.lines.walk c.lines.start c.next_chosen-next.result c.lines.invariant.same
+      walk = steps.across-past k meaning c.args.bytes.now c.lines.walk c.lines.start c.next_chosen-next.result
+          c.lines.invariant.same
           c.lines.invariant.walk next plain c.if-walk-eq0.true;
       reported = c.lines.invariant.reported;
       called = c.lines.invariant.called;
@@ -94,10 +103,12 @@ returns-in_err-sink_line-clause-fault g c =
     let chosen = c.next_chosen-next.ensures in
     let unit = c.end_across-end.ensures.unit in
     let line = c.end_across-end.ensures.line in
-    let reported = rw (c.of-verdict.ensures.chosen, c.of-verdict.ensures.trailing) at c.in_err-sink_line.ensures.reported in
+    let reported = rw (c.of-verdict.ensures.chosen, c.of-verdict.ensures.trailing) at
+    c.in_err-sink_line.ensures.reported in
     let bare = c.requires.configured.bare in
     let p = err_from_is_err_and c.from_residual.result c.from_residual.ensures.1 in
-    let turned = turns.turned k meaning c.args.bytes.now bare c.lines.start c.end_across-end.result c.next_chosen-next.result
+    let turned = turns.turned k meaning c.args.bytes.now bare c.lines.start c.end_across-end.result
+    c.next_chosen-next.result
     c.lines.walk c.in-Ok-unit_at.unit c.unit_at.new.blocks c.lines.invariant.walk c.lines.invariant.same ready
     ahead chosen c.end_across-end.ensures.low c.end_across-end.ensures.within
     (c.lines.start == c.next_chosen-next.result) refl unit line in
@@ -105,7 +116,8 @@ returns-in_err-sink_line-clause-fault g c =
     (ends.reported-next k meaning c.args.bytes.now g.C.Calls.step first c.lines.walk _ _ c.lines.sink turned.front
     (c.lines.invariant.reported first begun) (failed _) _
     (reported [] c.args.bytes.now
-    (λ _. turns.in-window k meaning c.args.bytes.now c.lines.walk c.lines.start c.lines.invariant.same c.lines.invariant.walk))))
+    (λ _. turns.in-window k meaning c.args.bytes.now c.lines.walk c.lines.start c.lines.invariant.same
+    c.lines.invariant.walk))))
 
 pub returns-then-not-branch-clause-reported : goal.returns-then-not-branch-clause-reported
 returns-then-not-branch-clause-reported g c = λ first begun.
@@ -118,19 +130,23 @@ returns-then-not-branch-clause-reported g c = λ first begun.
     let line = c.end_across-end.ensures.line in
     let bare = c.requires.configured.bare in
     let stops : c.in_ok-sink_line.field-0 ≡ false = search rules in
-    let reported = rw (c.of-verdict.ensures.chosen, c.of-verdict.ensures.trailing, stops) at c.in_ok-sink_line.ensures.reported in
-    let turned = turns.turned k meaning c.args.bytes.now bare c.lines.start c.end_across-end.result c.next_chosen-next.result
+    let reported = rw (c.of-verdict.ensures.chosen, c.of-verdict.ensures.trailing, stops) at
+    c.in_ok-sink_line.ensures.reported in
+    let turned = turns.turned k meaning c.args.bytes.now bare c.lines.start c.end_across-end.result
+    c.next_chosen-next.result
     c.lines.walk c.in-Ok-unit_at.unit c.unit_at.new.blocks c.lines.invariant.walk c.lines.invariant.same ready
     ahead chosen c.end_across-end.ensures.low c.end_across-end.ensures.within
     (c.lines.start == c.next_chosen-next.result) refl unit line in
     let stop = line_end c.lines.walk (slice c.args.bytes.now c.lines.start c.end_across-end.result) in (
       stopped stop,
-      ends.counted-stopped k meaning c.args.bytes.now g.C.Calls.step first _ stop c.end_across-end.result _ turned.across
+      ends.counted-stopped k meaning c.args.bytes.now g.C.Calls.step first _ stop c.end_across-end.result _
+          turned.across
           (sym turned.end_is)
           (ends.reported-next k meaning c.args.bytes.now g.C.Calls.step first c.lines.walk _ _ c.lines.sink turned.front
           (c.lines.invariant.reported first begun) (stopped stop) _
           (reported [] c.args.bytes.now
-          (λ _. turns.in-window k meaning c.args.bytes.now c.lines.walk c.lines.start c.lines.invariant.same c.lines.invariant.walk))),
+          (λ _. turns.in-window k meaning c.args.bytes.now c.lines.walk c.lines.start c.lines.invariant.same
+          c.lines.invariant.walk))),
     )
 
 pub lines-preserved : goal.lines-preserved
@@ -145,9 +161,11 @@ lines-preserved g c =
     let after = c.after_lines-walk.ensures in
     let bare = c.requires.configured.bare in
     let goes : c.in_ok-sink_line.field-0 ≡ true = search rules in
-    let reported = rw (c.of-verdict.ensures.chosen, c.of-verdict.ensures.trailing, goes) at c.in_ok-sink_line.ensures.reported in
+    let reported = rw (c.of-verdict.ensures.chosen, c.of-verdict.ensures.trailing, goes) at
+    c.in_ok-sink_line.ensures.reported in
     let here = rw goes at c.in_ok-sink_line.ensures.called in
-    let turned = turns.turned k meaning c.args.bytes.now bare c.lines.start c.end_across-end.result c.next_chosen-next.result
+    let turned = turns.turned k meaning c.args.bytes.now bare c.lines.start c.end_across-end.result
+    c.next_chosen-next.result
     c.lines.walk c.in-Ok-unit_at.unit c.unit_at.new.blocks c.lines.invariant.walk c.lines.invariant.same ready
     ahead chosen c.end_across-end.ensures.low c.end_across-end.ensures.within
     (c.lines.start == c.next_chosen-next.result) refl unit line in
@@ -157,11 +175,14 @@ lines-preserved g c =
       ordered = turns.ordered-across k meaning c.args.bytes.now _ turned.across;
       ready = turned.ready;
       walk = turned.across;
-      reported = λ first begun. ends.reported-next k meaning c.args.bytes.now g.C.Calls.step first c.lines.walk _ _ c.lines.sink
+      reported = λ first begun. ends.reported-next k meaning c.args.bytes.now g.C.Calls.step first c.lines.walk _ _
+          c.lines.sink
           turned.front (c.lines.invariant.reported first begun) all_true _
           (reported [] c.args.bytes.now
-          (λ _. turns.in-window k meaning c.args.bytes.now c.lines.walk c.lines.start c.lines.invariant.same c.lines.invariant.walk));
-      called = called-then g.C.Calls.step k c.args.sink.now c.lines.sink all_true c.sink_line.new.sink c.lines.invariant.called (here 0);
+          (λ _. turns.in-window k meaning c.args.bytes.now c.lines.walk c.lines.start c.lines.invariant.same
+          c.lines.invariant.walk));
+      called = called-then g.C.Calls.step k c.args.sink.now c.lines.sink all_true c.sink_line.new.sink
+          c.lines.invariant.called (here 0);
       may_call = c.in_ok-sink_line.ensures.may_call;
     })
 
@@ -182,10 +203,16 @@ returns-in-Err-clause-in_order g c =
 
 pub returns-in-Err-unit_at-clause-in_order : goal.returns-in-Err-unit_at-clause-in_order
 returns-in-Err-unit_at-clause-in_order g c =
-    of_question _ c.in-Err-unit_at.error c.in-Err-unit_at.ensures.fault.2 c.error_message-in-Err-unit_at.ensures c.lines.invariant.called
+    of_question _ c.in-Err-unit_at.error c.in-Err-unit_at.ensures.fault.2 c.error_message-in-Err-unit_at.ensures
+    c.lines.invariant.called
 
 pub returns-then-next-bytes-clause-in_order : goal.returns-then-next-bytes-clause-in_order
-returns-then-next-bytes-clause-in_order g c = record { outcome = all_true; ends = tt; called = c.lines.invariant.called }
+returns-then-next-bytes-clause-in_order g c = record {
+  outcome = all_true;
+  ends = tt;
+  called =
+      c.lines.invariant.called;
+}
 
 pub returns-in_err-sink_line-clause-in_order : goal.returns-in_err-sink_line-clause-in_order
 returns-in_err-sink_line-clause-in_order g c =
@@ -200,7 +227,8 @@ returns-then-not-branch-clause-in_order g c =
     record {
       outcome = stopped c.end_across-end.result;
       ends = refl;
-      called = called-then g.C.Calls.step c.args.self.now.config c.args.sink.now c.lines.sink (stopped c.end_across-end.result)
+      called = called-then g.C.Calls.step c.args.self.now.config c.args.sink.now c.lines.sink
+          (stopped c.end_across-end.result)
           c.sink_line.new.sink c.lines.invariant.called (here c.end_across-end.result);
     }
 

@@ -25,7 +25,8 @@ facts-of g matcher =
 
 pub returns-in-Some-clause-searched : goal.returns-in-Some-clause-searched
 returns-in-Some-clause-searched g c = λ lawful.
-    searched-at g.C.Calls.step (errors-of g) (facts-of g c.args.matcher.now) c.args.self.now.config c.args.bytes.now c.args.sink.now
+    searched-at g.C.Calls.step (errors-of g) (facts-of g c.args.matcher.now) c.args.self.now.config c.args.bytes.now
+    c.args.sink.now
     c.in-Some.byte (sym c.quit_byte.ensures ∙ c.in-Some.is) c.is_across-is_across.result c.is_across-is_across.ensures
     c.search_until.result c.search_until.new.sink (c.search_until.ensures.searched (λ _. lawful))
 
@@ -34,11 +35,13 @@ returns-clause-searched g c = λ lawful.
     let finish = rw c.new.ensures at c.finish.ensures.step in
     let reported = rw c.is_across-is_across.ensures at (c.in_ok-count.ensures.reported (λ _. lawful)) in
     let quit = c.quit_byte.ensures in
-    subst (λ look. IsBytesSearched g.C.Calls.step (errors-of g) (facts-of g c.args.matcher.now) look c.args.self.now.config
+    subst (λ look. IsBytesSearched g.C.Calls.step (errors-of g) (facts-of g c.args.matcher.now) look
+    c.args.self.now.config
     c.args.bytes.now c.args.sink.now c.finish.result
     c.finish.new.sink)
     (sym (look-plain c.args.self.now.config.binary_detection (λ b is. c.in_default.not-Some b (quit ∙ is))))
-    (searched-finish g.C.Calls.step (errors-of g) (facts-of g c.args.matcher.now) c.args.self.now.config c.args.bytes.now c.args.sink.now
+    (searched-finish g.C.Calls.step (errors-of g) (facts-of g c.args.matcher.now) c.args.self.now.config
+    c.args.bytes.now c.args.sink.now
     c.in_ok-count.count reported.0 c.match_bytes.new.sink c.finish.result c.finish.new.sink reported.1 finish)
 
 pub search_until-requires-clause-detecting : goal.search_until-requires-clause-detecting
@@ -48,11 +51,14 @@ search_until-requires-clause-detecting g c =
 pub returns-in_err-count-clause-in_order : goal.returns-in_err-count-clause-in_order
 returns-in_err-count-clause-in_order g c =
     let p = err_from_is_err_and c.from_residual.result c.from_residual.ensures.1 in
-    rw (p.1, p.2) (order.order-failed g.C.Calls.step c.args.self.now.config (errors-of g) (facts-of g c.args.matcher.now) (λ _. ⊥)
+    rw (p.1, p.2) (order.order-failed g.C.Calls.step c.args.self.now.config (errors-of g)
+    (facts-of g c.args.matcher.now) (λ _. ⊥)
     c.args.sink.now _ _ c.in_err-count.ensures.in_order)
 
 pub returns-clause-in_order : goal.returns-clause-in_order
 returns-clause-in_order g c =
-    order.order-finished g.C.Calls.step c.args.self.now.config (errors-of g) (facts-of g c.args.matcher.now) (λ _. ⊥) c.args.sink.now
-    c.match_bytes.new.sink c.in_ok-count.count None c.finish.result c.finish.new.sink (λ none. refl) c.in_ok-count.ensures.in_order
+    order.order-finished g.C.Calls.step c.args.self.now.config (errors-of g) (facts-of g c.args.matcher.now) (λ _. ⊥)
+    c.args.sink.now
+    c.match_bytes.new.sink c.in_ok-count.count None c.finish.result c.finish.new.sink (λ none. refl)
+    c.in_ok-count.ensures.in_order
     (rw c.new.ensures at c.finish.ensures.step)

@@ -38,20 +38,26 @@ unread : (g : Over) (c : goal.After-error_io g) (has_buffers : Bool) (view : Lis
     (record { settings = c.args.self.now.config; has_buffers = has_buffers })
     (g.M.Matcher.meaning c.args.matcher.now) c.args.reader.now None c.io_error.result c.read_contents.new.reader
 unread g c has_buffers view =
-    whole.unread-read g.R.Source.remaining g.R.Source.step c.args.self.now.config c.args.decoder.now.capacity c.args.decoder.now
-    c.requires.started c.args.reader.now c.read_contents.new.contents.items c.read_contents.new.decoder c.read_contents.new.reader
+    whole.unread-read g.R.Source.remaining g.R.Source.step c.args.self.now.config c.args.decoder.now.capacity
+    c.args.decoder.now
+    c.requires.started c.args.reader.now c.read_contents.new.contents.items c.read_contents.new.decoder
+    c.read_contents.new.reader
     c.done_gives_nothing.ensures view has_buffers (g.M.Matcher.meaning c.args.matcher.now)
     c.in-Err.error c.io_error.result c.io_error.ensures (vec_capacity c.args.contents.now)
-    (subst (λ limit. ContentsFail limit (vec_capacity c.args.contents.now) c.read_contents.new.contents.items c.in-Err.error)
+    (subst (λ limit. ContentsFail limit (vec_capacity c.args.contents.now) c.read_contents.new.contents.items
+    c.in-Err.error)
     c.heap_limit.ensures c.in-Err.ensures.error)
     c.in-Err.ensures.reads c.in-Err.ensures.read
     c.in-Err.ensures.empty c.in-Err.ensures.waits
 
 pub returns-in-Err-clause-searched : goal.returns-in-Err-clause-searched
 returns-in-Err-clause-searched g c = λ has_buffers.
-    whole.across-unread g.R.Source.remaining g.R.Source.step g.C.Calls.step (errors-of g) (facts-of g c.args.matcher.now)
-    c.args.self.now.config.binary_detection (record { settings = c.args.self.now.config; has_buffers = has_buffers }) c.args.reader.now
-    c.args.sink.now c.io_error.result c.error_io.result c.read_contents.new.reader (unread g c has_buffers) c.error_io.ensures
+    whole.across-unread g.R.Source.remaining g.R.Source.step g.C.Calls.step (errors-of g)
+    (facts-of g c.args.matcher.now)
+    c.args.self.now.config.binary_detection (record { settings = c.args.self.now.config; has_buffers = has_buffers })
+    c.args.reader.now
+    c.args.sink.now c.io_error.result c.error_io.result c.read_contents.new.reader (unread g c has_buffers)
+    c.error_io.ensures
 
 pub returns-in-Err-clause-succeeds : goal.returns-in-Err-clause-succeeds
 returns-in-Err-clause-succeeds g c = λ never infallible has_buffers.
@@ -64,14 +70,18 @@ returns-in-Some-clause-searched g c = λ has_buffers.
     c.heap_limit.ensures c.in_default.ensures.below in
     let quit = sym c.quit_byte.ensures ∙ c.in-Some.is in
     let searched = rw c.deref.ensures.value at (c.search_until.ensures.searched (λ never. absurd (true≢false never))) in
-    subst (λ look. IsAcrossSearched g.R.Source.remaining g.R.Source.step g.C.Calls.step (errors-of g) (facts-of g c.args.matcher.now) look
-    (record { settings = c.args.self.now.config; has_buffers = has_buffers }) c.args.reader.now c.args.sink.now c.search_until.result
+    subst (λ look. IsAcrossSearched g.R.Source.remaining g.R.Source.step g.C.Calls.step (errors-of g)
+    (facts-of g c.args.matcher.now) look
+    (record { settings = c.args.self.now.config; has_buffers = has_buffers }) c.args.reader.now c.args.sink.now
+    c.search_until.result
     c.read_contents.new.reader c.search_until.new.sink)
     (sym (look-quit c.args.self.now.config.binary_detection c.in-Some.byte quit))
     (whole.contents-until-read g.R.Source.remaining g.R.Source.step c.args.self.now.config c.args.decoder.now.capacity
-    c.args.decoder.now c.requires.started c.args.reader.now c.read_contents.new.contents.items c.read_contents.new.decoder
+    c.args.decoder.now c.requires.started c.args.reader.now c.read_contents.new.contents.items
+    c.read_contents.new.decoder
     c.read_contents.new.reader reads c.done_gives_nothing.ensures c.lines_join.ensures c.in_default.ensures.done
-    below g.C.Calls.step (errors-of g) (facts-of g c.args.matcher.now) has_buffers c.args.sink.now c.in-Some.byte c.search_until.result
+    below g.C.Calls.step (errors-of g) (facts-of g c.args.matcher.now) has_buffers c.args.sink.now c.in-Some.byte
+    c.search_until.result
     c.search_until.new.sink searched)
 
 pub returns-in_err-count-clause-searched : goal.returns-in_err-count-clause-searched
@@ -82,13 +92,16 @@ returns-in_err-count-clause-searched g c = λ has_buffers.
     let error = err_from_is_err_and c.from_residual.result c.from_residual.ensures.1 in
     let fault = rw c.deref-2.ensures.value at c.in_err-count.ensures.fault in
     let quit = c.quit_byte.ensures in
-    subst (λ look. IsAcrossSearched g.R.Source.remaining g.R.Source.step g.C.Calls.step (errors-of g) (facts-of g c.args.matcher.now) look
-    (record { settings = c.args.self.now.config; has_buffers = has_buffers }) c.args.reader.now c.args.sink.now c.from_residual.result
+    subst (λ look. IsAcrossSearched g.R.Source.remaining g.R.Source.step g.C.Calls.step (errors-of g)
+    (facts-of g c.args.matcher.now) look
+    (record { settings = c.args.self.now.config; has_buffers = has_buffers }) c.args.reader.now c.args.sink.now
+    c.from_residual.result
     c.read_contents.new.reader c.match_across.new.sink)
     (sym (look-plain c.args.self.now.config.binary_detection (λ b is. c.in_default-quit_byte.not-Some b (quit ∙ is))))
     (rw error.1
     (whole.contents-fault-read g.R.Source.remaining g.R.Source.step c.args.self.now.config c.args.decoder.now.capacity
-    c.args.decoder.now c.requires.started c.args.reader.now c.read_contents.new.contents.items c.read_contents.new.decoder
+    c.args.decoder.now c.requires.started c.args.reader.now c.read_contents.new.contents.items
+    c.read_contents.new.decoder
     c.read_contents.new.reader reads c.done_gives_nothing.ensures c.lines_join.ensures c.in_default.ensures.done
     below g.C.Calls.step (errors-of g) (facts-of g c.args.matcher.now) has_buffers c.args.sink.now
     error.0 c.match_across.new.sink (subst (λ e. IsFaultIn g.C.Calls.step (errors-of g) (facts-of g c.args.matcher.now)
@@ -103,12 +116,15 @@ returns-clause-searched g c = λ has_buffers.
     let finish = rw c.new.ensures at c.finish.ensures.step in
     let reported = rw c.deref-2.ensures.value at c.in_ok-count.ensures.reported in
     let quit = c.quit_byte.ensures in
-    subst (λ look. IsAcrossSearched g.R.Source.remaining g.R.Source.step g.C.Calls.step (errors-of g) (facts-of g c.args.matcher.now) look
-    (record { settings = c.args.self.now.config; has_buffers = has_buffers }) c.args.reader.now c.args.sink.now c.finish.result
+    subst (λ look. IsAcrossSearched g.R.Source.remaining g.R.Source.step g.C.Calls.step (errors-of g)
+    (facts-of g c.args.matcher.now) look
+    (record { settings = c.args.self.now.config; has_buffers = has_buffers }) c.args.reader.now c.args.sink.now
+    c.finish.result
     c.read_contents.new.reader c.finish.new.sink)
     (sym (look-plain c.args.self.now.config.binary_detection (λ b is. c.in_default-quit_byte.not-Some b (quit ∙ is))))
     (whole.contents-searched g.R.Source.remaining g.R.Source.step c.args.self.now.config c.args.decoder.now.capacity
-    c.args.decoder.now c.requires.started c.args.reader.now c.read_contents.new.contents.items c.read_contents.new.decoder
+    c.args.decoder.now c.requires.started c.args.reader.now c.read_contents.new.contents.items
+    c.read_contents.new.decoder
     c.read_contents.new.reader reads c.done_gives_nothing.ensures c.lines_join.ensures c.in_default.ensures.done
     below g.C.Calls.step (errors-of g) (facts-of g c.args.matcher.now) has_buffers c.args.sink.now
     c.in_ok-count.count reported.0 c.match_across.new.sink c.finish.result c.finish.new.sink
@@ -121,30 +137,39 @@ search_until-requires-clause-detecting g c =
 pub returns-in-Err-clause-in_order : goal.returns-in-Err-clause-in_order
 returns-in-Err-clause-in_order g c =
     of_reading c.io_error.result
-    (reading-error g.R.Source.remaining g.R.Source.step c.args.reader.now c.read_contents.new.reader c.in-Err.error c.io_error.result
+    (reading-error g.R.Source.remaining g.R.Source.step c.args.reader.now c.read_contents.new.reader c.in-Err.error
+    c.io_error.result
     (λ e is.
-    let fails = subst (λ fault. IfRead {X = Unit {0}} (Err fault) (λ e. FailsAfter g.R.Source.remaining g.R.Source.step e
-    c.args.decoder.now c.args.reader.now c.read_contents.new.contents.items c.read_contents.new.decoder c.read_contents.new.reader))
+    let fails = subst (λ fault. IfRead {X = Unit {0}} (Err fault)
+    (λ e. FailsAfter g.R.Source.remaining g.R.Source.step e
+    c.args.decoder.now c.args.reader.now c.read_contents.new.contents.items c.read_contents.new.decoder
+    c.read_contents.new.reader))
     is c.in-Err.ensures.read in
-    failed-read g.R.Source.remaining g.R.Source.step c.args.reader.now c.args.decoder.now c.read_contents.new.decoder fails.mid
-    c.read_contents.new.reader c.read_contents.new.contents.items e (ap (λ d. d.has_ended) c.requires.started) fails.decodes
+    failed-read g.R.Source.remaining g.R.Source.step c.args.reader.now c.args.decoder.now c.read_contents.new.decoder
+    fails.mid
+    c.read_contents.new.reader c.read_contents.new.contents.items e (ap (λ d. d.has_ended) c.requires.started)
+    fails.decodes
     fails.unended fails.failed)
     c.io_error.ensures) c.error_io.ensures (inl refl)
 
 pub returns-in-Some-clause-in_order : goal.returns-in-Some-clause-in_order
 returns-in-Some-clause-in_order g c =
-    order.order-each g.C.Calls.step c.args.self.now.config (errors-of g) (facts-of g c.args.matcher.now) (λ _. ⊥) _ (λ error never. absurd never)
+    order.order-each g.C.Calls.step c.args.self.now.config (errors-of g) (facts-of g c.args.matcher.now) (λ _. ⊥) _
+    (λ error never. absurd never)
     c.args.sink.now
     c.search_until.result c.search_until.new.sink c.search_until.ensures.in_order
 
 pub returns-in_err-count-clause-in_order : goal.returns-in_err-count-clause-in_order
 returns-in_err-count-clause-in_order g c =
     let p = err_from_is_err_and c.from_residual.result c.from_residual.ensures.1 in
-    rw (p.1, p.2) (order.order-failed g.C.Calls.step c.args.self.now.config (errors-of g) (facts-of g c.args.matcher.now) _
+    rw (p.1, p.2) (order.order-failed g.C.Calls.step c.args.self.now.config (errors-of g)
+    (facts-of g c.args.matcher.now) _
     c.args.sink.now _ _ c.in_err-count.ensures.in_order)
 
 pub returns-clause-in_order : goal.returns-clause-in_order
 returns-clause-in_order g c =
-    order.order-finished g.C.Calls.step c.args.self.now.config (errors-of g) (facts-of g c.args.matcher.now) _ c.args.sink.now
-    c.match_across.new.sink c.in_ok-count.count None c.finish.result c.finish.new.sink (λ none. refl) c.in_ok-count.ensures.in_order
+    order.order-finished g.C.Calls.step c.args.self.now.config (errors-of g) (facts-of g c.args.matcher.now) _
+    c.args.sink.now
+    c.match_across.new.sink c.in_ok-count.count None c.finish.result c.finish.new.sink (λ none. refl)
+    c.in_ok-count.ensures.in_order
     (rw c.new.ensures at c.finish.ensures.step)

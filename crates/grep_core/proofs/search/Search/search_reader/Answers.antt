@@ -27,8 +27,10 @@ state-of settings has_buffers = record { settings = settings; has_buffers = has_
 pub returns-then-is_across-clause-searched : goal.returns-then-is_across-clause-searched
 returns-then-is_across-clause-searched g c = λ lawful has_buffers.
     let mode = (sym c.is_across.ensures ∙ c.if-is_across.true) in
-    source-across g.R.Source.remaining g.R.Source.step (state-of c.args.self.now.config has_buffers) g.C.Calls.step (errors-of g)
-    (facts-of g c.args.matcher.now) c.args.reader.now c.args.sink.now c.search_contents.result c.search_contents.new.reader
+    source-across g.R.Source.remaining g.R.Source.step (state-of c.args.self.now.config has_buffers) g.C.Calls.step
+    (errors-of g)
+    (facts-of g c.args.matcher.now) c.args.reader.now c.args.sink.now c.search_contents.result
+    c.search_contents.new.reader
     c.search_contents.new.sink mode (c.search_contents.ensures.searched has_buffers)
 
 pub returns-then-is_across-clause-succeeds : goal.returns-then-is_across-clause-succeeds
@@ -38,7 +40,8 @@ returns-then-is_across-clause-succeeds g c = λ never infallible lawful.
     (λ e unread has_buffers. let why = unread has_buffers in (
       why.0,
       why.1,
-      unread-in g.R.Source.remaining g.R.Source.step (state-of c.args.self.now.config has_buffers) (g.M.Matcher.meaning c.args.matcher.now) true
+      unread-in g.R.Source.remaining g.R.Source.step (state-of c.args.self.now.config has_buffers)
+          (g.M.Matcher.meaning c.args.matcher.now) true
           mode c.args.reader.now why.0 why.1 c.search_contents.new.reader why.2,
       why.3,
     ))
@@ -47,8 +50,10 @@ returns-then-is_across-clause-succeeds g c = λ never infallible lawful.
 pub returns-clause-searched : goal.returns-clause-searched
 returns-clause-searched g c = λ lawful has_buffers.
     let mode = (sym c.is_across.ensures ∙ c.if-is_across.false) in
-    source-by_line g.R.Source.remaining g.R.Source.step (state-of c.args.self.now.config has_buffers) g.C.Calls.step (errors-of g)
-    (facts-of g c.args.matcher.now) c.args.reader.now c.args.sink.now c.search_by_line.result c.search_by_line.new.reader
+    source-by_line g.R.Source.remaining g.R.Source.step (state-of c.args.self.now.config has_buffers) g.C.Calls.step
+    (errors-of g)
+    (facts-of g c.args.matcher.now) c.args.reader.now c.args.sink.now c.search_by_line.result
+    c.search_by_line.new.reader
     c.search_by_line.new.sink mode (c.search_by_line.ensures.searched lawful has_buffers)
 
 pub returns-clause-succeeds : goal.returns-clause-succeeds
@@ -58,7 +63,8 @@ returns-clause-succeeds g c = λ never infallible lawful.
     (λ e unread has_buffers. let why = unread has_buffers in (
       why.0,
       why.1,
-      unread-in g.R.Source.remaining g.R.Source.step (state-of c.args.self.now.config has_buffers) (g.M.Matcher.meaning c.args.matcher.now) false
+      unread-in g.R.Source.remaining g.R.Source.step (state-of c.args.self.now.config has_buffers)
+          (g.M.Matcher.meaning c.args.matcher.now) false
           mode c.args.reader.now why.0 why.1 c.search_by_line.new.reader why.2,
       why.3,
     ))

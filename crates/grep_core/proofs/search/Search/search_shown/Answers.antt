@@ -19,7 +19,8 @@ returns-then-start-window-clause-ends g c = λ lawful _.
 pub returns-in_err-search_window-clause-fault : goal.returns-in_err-search_window-clause-fault
 returns-in_err-search_window-clause-fault g c =
     let p = err_from_is_err_and c.from_residual.result c.from_residual.ensures.1 in
-    let fault = rw (c.buffer-window.ensures.value, c.absolute_byte_offset.ensures) at c.in_err-search_window.ensures.fault in
+    let fault = rw (c.buffer-window.ensures.value, c.absolute_byte_offset.ensures) at
+    c.in_err-search_window.ensures.fault in
     rw (p.1, p.2) (λ lawful gone first ready after closes. fault lawful gone _ first (ready after closes))
 
 pub returns-then-not-branch-clause-ends : goal.returns-then-not-branch-clause-ends
@@ -62,7 +63,14 @@ returns-clause-goes_on g c = λ lawful _.
     record {
       count = c.first_kept-count.result;
       within = omega (arith, c.first_kept-count.ensures.within, same);
-      some = omega (arith, c.if-start-window.false, same, c.requires.inside, c.requires.low, c.absolute_byte_offset.ensures);
+      some = omega (
+        arith,
+        c.if-start-window.false,
+        same,
+        c.requires.inside,
+        c.requires.low,
+        c.absolute_byte_offset.ensures,
+      );
       at = omega (arith, searched.moved goes, same, c.absolute_byte_offset.ensures, c.requires.low);
       below = omega (arith, searched.moved goes, same, shown.offset, c.absolute_byte_offset.ensures, c.requires.low);
       moved = c.consume.ensures;
@@ -74,7 +82,8 @@ returns-clause-goes_on g c = λ lawful _.
           (ap (λ o. c.args.walk.now.offset - o) c.absolute_byte_offset.ensures)
           c.search_window.new.walk c.search_window.new.sink searched.ahead
           (omega (arith, searched.within, same, c.absolute_byte_offset.ensures, c.requires.low))
-          (searched.goes_on lawful goes) c.first_kept-count.result (omega (arith, c.first_kept-count.ensures.within, same)) closed
+          (searched.goes_on lawful goes) c.first_kept-count.result
+          (omega (arith, c.first_kept-count.ensures.within, same)) closed
           (λ gone opens. first.closed gone opens closed)
           (λ gone more after opens closes. first.kept gone more after opens closed closes);
     }

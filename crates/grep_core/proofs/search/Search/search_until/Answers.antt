@@ -25,11 +25,13 @@ facts-of g matcher =
 
 pub search_quitting-requires-clause-none : goal.search_quitting-requires-clause-none
 search_quitting-requires-clause-none g c =
-    rw c.new-quitting.ensures.byte (first-found c.args.byte c.args.bytes.now c.min.result None c.min.ensures c.in-None.ensures)
+    rw c.new-quitting.ensures.byte (first-found c.args.byte c.args.bytes.now c.min.result None c.min.ensures
+    c.in-None.ensures)
 
 pub returns-in-Some-clause-searched : goal.returns-in-Some-clause-searched
 returns-in-Some-clause-searched g c = λ lawful.
-    quit-searched g.C.Calls.step (errors-of g) (facts-of g c.args.matcher.now) c.args.self.now.config c.args.byte c.args.bytes.now
+    quit-searched g.C.Calls.step (errors-of g) (facts-of g c.args.matcher.now) c.args.self.now.config c.args.byte
+    c.args.bytes.now
     c.args.is_across c.in-Some.offset
     (first-found c.args.byte c.args.bytes.now c.min.result (Some c.in-Some.offset) c.min.ensures c.in-Some.ensures)
     c.args.sink.now c.quit_first.result c.quit_first.new.sink c.quit_first.ensures.quits
@@ -37,7 +39,8 @@ returns-in-Some-clause-searched g c = λ lawful.
 pub returns-in-None-clause-searched : goal.returns-in-None-clause-searched
 returns-in-None-clause-searched g c = λ lawful.
     subst (λ s. IsSearchedUntil g.C.Calls.step (errors-of g) (facts-of g c.args.matcher.now)
-    (calls_if c.args.self.now.config (g.M.Matcher.meaning c.args.matcher.now) c.args.is_across) c.args.byte c.args.self.now.config
+    (calls_if c.args.self.now.config (g.M.Matcher.meaning c.args.matcher.now) c.args.is_across) c.args.byte
+    c.args.self.now.config
     c.args.bytes.now c.args.sink.now c.search_quitting.result s)
     (sym (c.sink-1.given.1 (sym (c.search_quitting.ensures.same_sink ∙ c.new-quitting.ensures.same_sink))))
     (rw (c.new-quitting.ensures.byte, c.new-quitting.ensures.sink) at (c.search_quitting.ensures.searched lawful))
@@ -45,7 +48,8 @@ returns-in-None-clause-searched g c = λ lawful.
 pub returns-in-Some-clause-in_order : goal.returns-in-Some-clause-in_order
 returns-in-Some-clause-in_order g c =
     quit-in-order g.C.Calls.step c.args.self.now.config g.C.Calls.may_call c.requires.detecting (errors-of g)
-    (facts-of g c.args.matcher.now) (λ _. ⊥) _ c.args.sink.now c.quit_first.result c.quit_first.new.sink c.quit_first.ensures.quits
+    (facts-of g c.args.matcher.now) (λ _. ⊥) _ c.args.sink.now c.quit_first.result c.quit_first.new.sink
+    c.quit_first.ensures.quits
 
 pub returns-in-None-clause-in_order : goal.returns-in-None-clause-in_order
 returns-in-None-clause-in_order g c =

@@ -1,4 +1,5 @@
-use Rattle.std.proofs.Common.{rules, ◌≡◌, ◌∙◌, ℕ, length, refl, ap, sym, subst, arith, true, false, length-take, length-drop, ◌-◌, drop, ◌+◌}
+use Rattle.std.proofs.Common.{rules, ◌≡◌, ◌∙◌, ℕ, length, refl, ap, sym, subst, arith, true, false, length-take}
+use Rattle.std.proofs.Common.{length-drop, ◌-◌, drop, ◌+◌}
 use Rattle.std.proofs.lemmas.Bool.{false≢true}
 use Rattle.std.proofs.lemmas.Result.{err_from_is_err_and}
 use Rattle.grep_lines.specs.Positions.{slice, IsLineStart}
@@ -42,7 +43,8 @@ lines-init g c = record {
   ahead = omega arith;
   ordered = c.requires.ordered;
   bounded = record { ordered = omega arith; within = omega arith };
-  known = λ lawful gone input first so_far. skips.known-nothing c.args.self.now.config (g.M.Matcher.meaning c.args.matcher.now)
+  known = λ lawful gone input first so_far. skips.known-nothing c.args.self.now.config
+      (g.M.Matcher.meaning c.args.matcher.now)
       c.args.window.now c.args.start;
   searched = λ lawful gone input first so_far. so_far;
   called = called-none g.C.Calls.step c.args.self.now.config c.args.sink.now;
@@ -66,13 +68,16 @@ returns-in_default-clause-goes_on g c = λ lawful goes gone input first so_far.
     let skipped = c.skip_unmatched-start.ensures.walk in
     let bare = c.requires.configured.bare in
     let now = c.lines.invariant.searched lawful gone input first so_far in
-    let known = learns lawful _ now.walked.inside.line.begins (c.lines.invariant.known lawful gone input first so_far) in
+    let known = learns lawful _ now.walked.inside.line.begins
+    (c.lines.invariant.known lawful gone input first so_far) in
     let here = uncounted.searched-on _ (errors g) (facts g c.args.matcher.now) _ _ _ _ _ bare
-    c.lines_join.ensures c.lines_append.ensures _ _ _ c.in-Ok.ahead now (omega (arith, c.in-Ok.ensures.bounded.ordered, c.in-Ok.ensures.bounded.within)) known _ _
+    c.lines_join.ensures c.lines_append.ensures _ _ _ c.in-Ok.ahead now
+    (omega (arith, c.in-Ok.ensures.bounded.ordered, c.in-Ok.ensures.bounded.within)) known _ _
     position skipped in
     let terminator = c.terminator-terminator.ensures in
     search.passed-all _ _ _ _ _ _ _ _ _ _ here c.in_default.ensures.end
-    (subst (λ b. (i : ℕ) → IsLineStart b c.args.window.now c.skip_unmatched-start.result i → i ≡ length (lines b c.args.window.now)) terminator
+    (subst (λ b. (i : ℕ) → IsLineStart b c.args.window.now c.skip_unmatched-start.result i → i
+    ≡ length (lines b c.args.window.now)) terminator
     c.in_default.ensures.last)
 
 pub returns-in-Err-judge-clause-fault : goal.returns-in-Err-judge-clause-fault
@@ -84,12 +89,15 @@ returns-in-Err-judge-clause-fault g c =
     λ lawful gone input first so_far.
     let bare = c.requires.configured.bare in
     let now = c.lines.invariant.searched lawful gone input first so_far in
-    let known = learns lawful _ now.walked.inside.line.begins (c.lines.invariant.known lawful gone input first so_far) in
+    let known = learns lawful _ now.walked.inside.line.begins
+    (c.lines.invariant.known lawful gone input first so_far) in
     let terminator = c.terminator-terminator.ensures in
     let turn = uncounted.line-reached _ (errors g) (facts g c.args.matcher.now) _ _ _ _ _ bare c.lines_join.ensures
-          c.lines_append.ensures _ _ _ _ now c.in-Ok.ensures.bounded known _ _ c.skip_unmatched-start.ensures.low position skipped _ _ terminator
+    c.lines_append.ensures _ _ _ _ now c.in-Ok.ensures.bounded known _ _ c.skip_unmatched-start.ensures.low
+    position skipped _ _ terminator
     c.in-Some.ensures.line _ c.at-known.ensures in
-    uncounted.failed-asked _ (errors g) (facts g c.args.matcher.now) _ _ _ _ _ bare _ _ _ _ turn.here c.in-Some.ensures.within.0
+    uncounted.failed-asked _ (errors g) (facts g c.args.matcher.now) _ _ _ _ _ bare _ _ _ _ turn.here
+    c.in-Some.ensures.within.0
     c.in-Some.ensures.within.1 turn.line below c.in-Err-judge.error _ c.error_message-in-Err-judge.ensures
     c.in-Err-judge.ensures.fault
 
@@ -103,14 +111,19 @@ returns-in_err-sink_line-clause-fault g c =
     rw (p.1, p.2) (λ lawful gone input first so_far.
     let bare = c.requires.configured.bare in
     let now = c.lines.invariant.searched lawful gone input first so_far in
-    let known = learns lawful _ now.walked.inside.line.begins (c.lines.invariant.known lawful gone input first so_far) in
+    let known = learns lawful _ now.walked.inside.line.begins
+    (c.lines.invariant.known lawful gone input first so_far) in
     let terminator = c.terminator-terminator.ensures in
     let turn = uncounted.line-reached _ (errors g) (facts g c.args.matcher.now) _ _ _ _ _ bare c.lines_join.ensures
-          c.lines_append.ensures _ _ _ _ now c.in-Ok.ensures.bounded known _ _ c.skip_unmatched-start.ensures.low position skipped _ _ terminator
+    c.lines_append.ensures _ _ _ _ now c.in-Ok.ensures.bounded known _ _ c.skip_unmatched-start.ensures.low
+    position skipped _ _ terminator
     c.in-Some.ensures.line _ c.at-known.ensures in
-    uncounted.failed-line _ (errors g) (facts g c.args.matcher.now) _ _ _ _ _ bare _ _ _ _ turn.here c.in-Some.ensures.within.0
-    c.in-Some.ensures.within.1 turn.line (chooses c.in-Ok-judge.verdict) (trails c.in-Ok-judge.verdict) (decided turn.agrees) _ _
-    (c.in_err-sink_line.ensures.reported gone input (uncounted.inside-counted _ (errors g) (facts g c.args.matcher.now) _ _ _ _ _ _ _ _ turn.here)))
+    uncounted.failed-line _ (errors g) (facts g c.args.matcher.now) _ _ _ _ _ bare _ _ _ _ turn.here
+    c.in-Some.ensures.within.0
+    c.in-Some.ensures.within.1 turn.line (chooses c.in-Ok-judge.verdict) (trails c.in-Ok-judge.verdict)
+    (decided turn.agrees) _ _
+    (c.in_err-sink_line.ensures.reported gone input
+    (uncounted.inside-counted _ (errors g) (facts g c.args.matcher.now) _ _ _ _ _ _ _ _ turn.here)))
 
 pub returns-then-not-branch-clause-ends : goal.returns-then-not-branch-clause-ends
 returns-then-not-branch-clause-ends g c = λ lawful ends.
@@ -120,18 +133,25 @@ returns-then-not-branch-clause-ends g c = λ lawful ends.
     let decided = c.in-Ok-judge.ensures.decided in
     let stops : c.in_ok-sink_line.field-0 ≡ false = search rules in
     let reported = rw stops at c.in_ok-sink_line.ensures.reported in (
-      stopped (line_end c.skip_unmatched-start.new.walk (slice c.args.window.now c.skip_unmatched-start.result c.in-Some.end)),
+      stopped (line_end c.skip_unmatched-start.new.walk
+          (slice c.args.window.now c.skip_unmatched-start.result c.in-Some.end)),
       λ gone input first so_far.
           let bare = c.requires.configured.bare in
           let now = c.lines.invariant.searched lawful gone input first so_far in
-          let known = learns lawful _ now.walked.inside.line.begins (c.lines.invariant.known lawful gone input first so_far) in
+          let known = learns lawful _ now.walked.inside.line.begins
+          (c.lines.invariant.known lawful gone input first so_far) in
           let terminator = c.terminator-terminator.ensures in
-          let turn = uncounted.line-reached _ (errors g) (facts g c.args.matcher.now) _ _ _ _ _ bare c.lines_join.ensures
-          c.lines_append.ensures _ _ _ _ now c.in-Ok.ensures.bounded known _ _ c.skip_unmatched-start.ensures.low position skipped
+          let turn = uncounted.line-reached _ (errors g) (facts g c.args.matcher.now) _ _ _ _ _ bare
+          c.lines_join.ensures
+          c.lines_append.ensures _ _ _ _ now c.in-Ok.ensures.bounded known _ _ c.skip_unmatched-start.ensures.low
+          position skipped
           _ _ terminator c.in-Some.ensures.line _ c.at-known.ensures in
-          uncounted.counted-stopped _ (errors g) (facts g c.args.matcher.now) _ _ _ _ _ bare _ _ _ _ turn.here c.in-Some.ensures.within.0
-          c.in-Some.ensures.within.1 turn.line (chooses c.in-Ok-judge.verdict) (trails c.in-Ok-judge.verdict) (decided turn.agrees) _
-          (reported gone input (uncounted.inside-counted _ (errors g) (facts g c.args.matcher.now) _ _ _ _ _ _ _ _ turn.here)),
+          uncounted.counted-stopped _ (errors g) (facts g c.args.matcher.now) _ _ _ _ _ bare _ _ _ _ turn.here
+          c.in-Some.ensures.within.0
+          c.in-Some.ensures.within.1 turn.line (chooses c.in-Ok-judge.verdict) (trails c.in-Ok-judge.verdict)
+          (decided turn.agrees) _
+          (reported gone input (uncounted.inside-counted _ (errors g) (facts g c.args.matcher.now) _ _ _ _ _ _ _ _
+          turn.here)),
     )
 
 pub returns-then-is_over-clause-ends : goal.returns-then-is_over-clause-ends
@@ -142,7 +162,8 @@ returns-then-is_over-clause-ends g c = λ lawful ends.
     let decided = c.in-Ok-judge.ensures.decided in
     let chosen = c.is_chosen-chosen.ensures in
     let next = c.after_line.ensures
-    ∙ ap (after_line c.args.self.now.config c.skip_unmatched-start.new.walk (slice c.args.window.now c.skip_unmatched-start.result c.in-Some.end)) chosen in
+    ∙ ap (after_line c.args.self.now.config c.skip_unmatched-start.new.walk
+    (slice c.args.window.now c.skip_unmatched-start.result c.in-Some.end)) chosen in
     let over_is = c.is_over.ensures in
     let goes : c.in_ok-sink_line.field-0 ≡ true = search rules in
     let reported = rw goes at c.in_ok-sink_line.ensures.reported in
@@ -153,14 +174,20 @@ returns-then-is_over-clause-ends g c = λ lawful ends.
       λ gone input first so_far.
           let bare = c.requires.configured.bare in
           let now = c.lines.invariant.searched lawful gone input first so_far in
-          let known = learns lawful _ now.walked.inside.line.begins (c.lines.invariant.known lawful gone input first so_far) in
+          let known = learns lawful _ now.walked.inside.line.begins
+          (c.lines.invariant.known lawful gone input first so_far) in
           let terminator = c.terminator-terminator.ensures in
-          let turn = uncounted.line-reached _ (errors g) (facts g c.args.matcher.now) _ _ _ _ _ bare c.lines_join.ensures
-          c.lines_append.ensures _ _ _ _ now c.in-Ok.ensures.bounded known _ _ c.skip_unmatched-start.ensures.low position skipped
+          let turn = uncounted.line-reached _ (errors g) (facts g c.args.matcher.now) _ _ _ _ _ bare
+          c.lines_join.ensures
+          c.lines_append.ensures _ _ _ _ now c.in-Ok.ensures.bounded known _ _ c.skip_unmatched-start.ensures.low
+          position skipped
           _ _ terminator c.in-Some.ensures.line _ c.at-known.ensures in
-          uncounted.counted-over _ (errors g) (facts g c.args.matcher.now) _ _ _ _ _ bare _ _ _ _ turn.here c.in-Some.ensures.within.0
-          c.in-Some.ensures.within.1 turn.line (chooses c.in-Ok-judge.verdict) (trails c.in-Ok-judge.verdict) (decided turn.agrees) _
-          (reported gone input (uncounted.inside-counted _ (errors g) (facts g c.args.matcher.now) _ _ _ _ _ _ _ _ turn.here)) over,
+          uncounted.counted-over _ (errors g) (facts g c.args.matcher.now) _ _ _ _ _ bare _ _ _ _ turn.here
+          c.in-Some.ensures.within.0
+          c.in-Some.ensures.within.1 turn.line (chooses c.in-Ok-judge.verdict) (trails c.in-Ok-judge.verdict)
+          (decided turn.agrees) _
+          (reported gone input (uncounted.inside-counted _ (errors g) (facts g c.args.matcher.now) _ _ _ _ _ _ _ _
+          turn.here)) over,
     )
 
 pub lines-preserved : goal.lines-preserved
@@ -171,14 +198,16 @@ lines-preserved g c =
     let decided = c.in-Ok-judge.ensures.decided in
     let chosen = c.is_chosen-chosen.ensures in
     let next = c.after_line.ensures
-    ∙ ap (after_line c.args.self.now.config c.skip_unmatched-start.new.walk (slice c.args.window.now c.skip_unmatched-start.result c.in-Some.end)) chosen in
+    ∙ ap (after_line c.args.self.now.config c.skip_unmatched-start.new.walk
+    (slice c.args.window.now c.skip_unmatched-start.result c.in-Some.end)) chosen in
     let over_is = c.is_over.ensures in
     let goes : c.in_ok-sink_line.field-0 ≡ true = search rules in
     let reported = rw goes at c.in_ok-sink_line.ensures.reported in
     let here = rw goes at c.in_ok-sink_line.ensures.called in
     let on = ap (λ p. is_over c.args.self.now.config p (chooses c.in-Ok-judge.verdict)) (sym next)
     ∙ (ap (is_over c.args.self.now.config c.after_line.result) (sym chosen) ∙ rw over_is at c.if-is_over.false) in
-    let size = length-take (c.in-Some.end - c.skip_unmatched-start.result) (drop c.skip_unmatched-start.result c.args.window.now) in
+    let size = length-take (c.in-Some.end - c.skip_unmatched-start.result)
+    (drop c.skip_unmatched-start.result c.args.window.now) in
     rw next (record {
       within = c.in-Some.ensures.within.1;
       same = omega (
@@ -191,26 +220,36 @@ lines-preserved g c =
         c.lines.invariant.same,
       );
       ahead = omega (arith, c.lines.invariant.ahead, c.skip_unmatched-start.ensures.low, c.in-Some.ensures.within.0);
-      ordered = ordered-next c.args.self.now.config c.skip_unmatched-start.new.walk c.skip_unmatched-start.result c.in-Some.end c.args.window.now
-          (chooses c.in-Ok-judge.verdict) c.in-Some.ensures.within.0 c.in-Some.ensures.within.1 c.skip_unmatched-start.ensures.ordered;
+      ordered = ordered-next c.args.self.now.config c.skip_unmatched-start.new.walk c.skip_unmatched-start.result
+          c.in-Some.end c.args.window.now
+          (chooses c.in-Ok-judge.verdict) c.in-Some.ensures.within.0 c.in-Some.ensures.within.1
+          c.skip_unmatched-start.ensures.ordered;
       bounded = c.in-Ok.ensures.bounded;
       known = λ lawful gone input first so_far.
           let now = c.lines.invariant.searched lawful gone input first so_far in
-          skips.known-later c.args.self.now.config (g.M.Matcher.meaning c.args.matcher.now) c.args.window.now c.lines.start
+          skips.known-later c.args.self.now.config (g.M.Matcher.meaning c.args.matcher.now) c.args.window.now
+          c.lines.start
           c.in-Some.end c.in-Ok.ahead (omega (arith, c.skip_unmatched-start.ensures.low, c.in-Some.ensures.within.0))
           (learns lawful _ now.walked.inside.line.begins (c.lines.invariant.known lawful gone input first so_far));
       searched = λ lawful gone input first so_far.
           let bare = c.requires.configured.bare in
           let now = c.lines.invariant.searched lawful gone input first so_far in
-          let known = learns lawful _ now.walked.inside.line.begins (c.lines.invariant.known lawful gone input first so_far) in
+          let known = learns lawful _ now.walked.inside.line.begins
+          (c.lines.invariant.known lawful gone input first so_far) in
           let terminator = c.terminator-terminator.ensures in
-          let turn = uncounted.line-reached _ (errors g) (facts g c.args.matcher.now) _ _ _ _ _ bare c.lines_join.ensures
-          c.lines_append.ensures _ _ _ _ now c.in-Ok.ensures.bounded known _ _ c.skip_unmatched-start.ensures.low position skipped
+          let turn = uncounted.line-reached _ (errors g) (facts g c.args.matcher.now) _ _ _ _ _ bare
+          c.lines_join.ensures
+          c.lines_append.ensures _ _ _ _ now c.in-Ok.ensures.bounded known _ _ c.skip_unmatched-start.ensures.low
+          position skipped
           _ _ terminator c.in-Some.ensures.line _ c.at-known.ensures in
-          uncounted.searched-next _ (errors g) (facts g c.args.matcher.now) _ _ _ _ _ bare _ _ _ _ turn.here c.in-Some.ensures.within.0
-          c.in-Some.ensures.within.1 turn.line (chooses c.in-Ok-judge.verdict) (trails c.in-Ok-judge.verdict) (decided turn.agrees) _
-          (reported gone input (uncounted.inside-counted _ (errors g) (facts g c.args.matcher.now) _ _ _ _ _ _ _ _ turn.here)) on;
-      called = called-then g.C.Calls.step c.args.self.now.config c.args.sink.now c.lines.sink all_true c.sink_line.new.sink
+          uncounted.searched-next _ (errors g) (facts g c.args.matcher.now) _ _ _ _ _ bare _ _ _ _ turn.here
+          c.in-Some.ensures.within.0
+          c.in-Some.ensures.within.1 turn.line (chooses c.in-Ok-judge.verdict) (trails c.in-Ok-judge.verdict)
+          (decided turn.agrees) _
+          (reported gone input (uncounted.inside-counted _ (errors g) (facts g c.args.matcher.now) _ _ _ _ _ _ _ _
+          turn.here)) on;
+      called = called-then g.C.Calls.step c.args.self.now.config c.args.sink.now c.lines.sink all_true
+          c.sink_line.new.sink
           c.lines.invariant.called (here 0);
       may_call = c.in_ok-sink_line.ensures.may_call;
     })
@@ -221,7 +260,8 @@ returns-in-Err-clause-in_order g c =
 
 pub returns-in-Err-judge-clause-in_order : goal.returns-in-Err-judge-clause-in_order
 returns-in-Err-judge-clause-in_order g c =
-    of_question _ c.in-Err-judge.error c.in-Err-judge.ensures.fault c.error_message-in-Err-judge.ensures c.lines.invariant.called
+    of_question _ c.in-Err-judge.error c.in-Err-judge.ensures.fault c.error_message-in-Err-judge.ensures
+    c.lines.invariant.called
 
 pub returns-in_err-sink_line-clause-in_order : goal.returns-in_err-sink_line-clause-in_order
 returns-in_err-sink_line-clause-in_order g c =
@@ -234,9 +274,11 @@ returns-then-not-branch-clause-in_order g c =
     let stops : c.in_ok-sink_line.field-0 ≡ false = search rules in
     let here = rw stops at c.in_ok-sink_line.ensures.called in
     record {
-      outcome = stopped (c.skip_unmatched-start.new.walk.offset + length (slice c.args.window.now c.skip_unmatched-start.result c.in-Some.end));
+      outcome = stopped (c.skip_unmatched-start.new.walk.offset + length
+          (slice c.args.window.now c.skip_unmatched-start.result c.in-Some.end));
       ends = refl;
-      called = called-then g.C.Calls.step c.args.self.now.config c.args.sink.now c.lines.sink (stopped _) c.sink_line.new.sink
+      called = called-then g.C.Calls.step c.args.self.now.config c.args.sink.now c.lines.sink (stopped _)
+          c.sink_line.new.sink
           c.lines.invariant.called (here _);
     }
 
@@ -247,6 +289,7 @@ returns-then-is_over-clause-in_order g c =
     record {
       outcome = all_true;
       ends = tt;
-      called = called-then g.C.Calls.step c.args.self.now.config c.args.sink.now c.lines.sink all_true c.sink_line.new.sink
+      called = called-then g.C.Calls.step c.args.self.now.config c.args.sink.now c.lines.sink all_true
+          c.sink_line.new.sink
           c.lines.invariant.called (here 0);
     }

@@ -16,12 +16,15 @@ invariant-lines g l = record {
   bounded : IsBounded l.window l.ahead;
   known : IsLawfulFor l.self.config (g.M.Matcher.meaning l.matcher) (g.M.Matcher.is_lawful l.matcher)
       → (gone input : List ℕ) (first : g.row.C-Sink.Denot)
-      → HasSearched g.C.Calls.step l.self.config (g.M.Matcher.meaning l.matcher) gone l.window input first l.fn.start l.fn.walk l.fn.sink
+      → HasSearched g.C.Calls.step l.self.config (g.M.Matcher.meaning l.matcher) gone l.window input first l.fn.start
+      l.fn.walk l.fn.sink
       → IsKnown l.self.config (g.M.Matcher.meaning l.matcher) l.window l.start l.ahead;
   searched : IsLawfulFor l.self.config (g.M.Matcher.meaning l.matcher) (g.M.Matcher.is_lawful l.matcher)
       → (gone input : List ℕ) (first : g.row.C-Sink.Denot)
-      → HasSearched g.C.Calls.step l.self.config (g.M.Matcher.meaning l.matcher) gone l.window input first l.fn.start l.fn.walk l.fn.sink
-      → HasSearched g.C.Calls.step l.self.config (g.M.Matcher.meaning l.matcher) gone l.window input first l.start l.walk l.sink;
+      → HasSearched g.C.Calls.step l.self.config (g.M.Matcher.meaning l.matcher) gone l.window input first l.fn.start
+      l.fn.walk l.fn.sink
+      → HasSearched g.C.Calls.step l.self.config (g.M.Matcher.meaning l.matcher) gone l.window input first l.start
+      l.walk l.sink;
   called : HasCalled g.C.Calls.step l.self.config l.fn.sink all_true l.sink;
   may_call : g.C.Calls.may_call l.sink;
 }

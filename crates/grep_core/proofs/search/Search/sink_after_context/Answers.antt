@@ -8,10 +8,12 @@ pub returns-in-Trailing-clause-called : goal.returns-in-Trailing-clause-called
 returns-in-Trailing-clause-called g c = λ stop.
     let w = c.args.walk.now in
     called-match g.C.Calls.step c.args.self.now.config w.next_unreported w.line w.offset stop
-    (slice c.args.window.now c.args.start c.args.end) c.args.sink.now (outcome_of stop c.sink_matched.result) c.sink_matched.new.sink
+    (slice c.args.window.now c.args.start c.args.end) c.args.sink.now (outcome_of stop c.sink_matched.result)
+    c.sink_matched.new.sink
     (c.sink_matched.ensures.reported stop)
 
 pub returns-in_default-clause-called : goal.returns-in_default-clause-called
 returns-in_default-clause-called g c = λ stop.
-    called-one g.C.Calls.step c.args.self.now.config _ stop c.args.sink.now c.sink_context.result c.sink_context.new.sink
+    called-one g.C.Calls.step c.args.self.now.config _ stop c.args.sink.now c.sink_context.result
+    c.sink_context.new.sink
     c.sink_context.ensures.step refl

@@ -10,7 +10,8 @@ use Rattle.grep_core.proofs.search.Search.sink_before_context.Goals as goal
 pub returns-then-near-eq0-clause-reported : goal.returns-then-near-eq0-clause-reported
 returns-then-near-eq0-clause-reported g c =
     let w = c.args.walk.now in
-    λ gone input inside end. before.reported-none c.args.self.now.config input w.next_unreported w.line end g.C.Calls.step c.args.sink.now
+    λ gone input inside end. before.reported-none c.args.self.now.config input w.next_unreported w.line end
+    g.C.Calls.step c.args.sink.now
     c.requires.through ((sym c.lines_before-near.ensures ∙ c.if-near-eq0.true))
 
 pub returns-clause-reported : goal.returns-clause-reported

@@ -14,7 +14,8 @@ returns-then-not-branch-clause-reported g c =
     let near = le-leb (w.line - c.args.index) c.args.self.now.config.before_context c.requires.near in
     let stops : c.in_ok-sink_break.field-0 ≡ false = search rules in
     let reported = rw (stops, gap) at c.in_ok-sink_break.ensures.reported in
-    rw near (λ end. AreReported-unbroken g.C.Calls.step c.args.self.now.config (is_gap c.args.self.now.config w.next_unreported
+    rw near (λ end. AreReported-unbroken g.C.Calls.step c.args.self.now.config
+    (is_gap c.args.self.now.config w.next_unreported
     c.args.index w.line)
     (context Before (number_of c.args.self.now.config c.args.index) c.args.offset c.args.line.now) end c.args.sink.now
     (stopped end) c.sink_break.new.sink (λ x. cc) (reported end))
@@ -26,7 +27,8 @@ returns-clause-reported g c =
     let near = le-leb (w.line - c.args.index) c.args.self.now.config.before_context c.requires.near in
     let goes : c.in_ok-sink_break.field-0 ≡ true = search rules in
     let reported = rw (goes, gap) at c.in_ok-sink_break.ensures.reported in
-    rw near (λ end. AreReported-broken g.C.Calls.step c.args.self.now.config (is_gap c.args.self.now.config w.next_unreported
+    rw near (λ end. AreReported-broken g.C.Calls.step c.args.self.now.config
+    (is_gap c.args.self.now.config w.next_unreported
     c.args.index w.line)
     (context Before (number_of c.args.self.now.config c.args.index) c.args.offset c.args.line.now) end c.args.sink.now
     c.sink_break.new.sink

@@ -40,7 +40,8 @@ returns-then-not-branch-clause-reported g c =
 pub returns-in_default-clause-reported : goal.returns-in_default-clause-reported
 returns-in_default-clause-reported g c = λ gone input inside from end.
     let last = c.in_default.ensures.last in
-    before.window-short c.args.self.now.config gone c.args.window.now input c.args.walk.now c.args.start inside g.C.Calls.step
+    before.window-short c.args.self.now.config gone c.args.window.now input c.args.walk.now c.args.start inside
+    g.C.Calls.step
     c.args.sink.now
     c.loop-at.sink _ all_true c.loop-at.at c.loop-at.position (c.loop-at.invariant.at gone from) last
     c.loop-at-test.true
@@ -76,15 +77,18 @@ loop-at-preserved g c =
       below = omega (arith, c.loop-at-test.true);
       at = λ gone from. windows.next-line k gone window window c.loop-at.at c.loop-at.position c.in-Some.next
           (c.loop-at.invariant.at gone from) line;
-      reported = λ gone input inside from end. before.window-more k gone window input w c.args.start inside end g.C.Calls.step
+      reported = λ gone input inside from end. before.window-more k gone window input w c.args.start inside end
+          g.C.Calls.step
           c.args.sink.now c.loop-at.sink c.sink_before_line.new.sink
           c.args.index c.loop-at.at c.loop-at.position c.in-Some.next c.loop-at.offset
           (c.loop-at.invariant.at gone from) line
           c.loop-at.invariant.same c.loop-at.invariant.low (c.loop-at.invariant.reported gone input inside from end)
           all_true (here end);
       called = called-then g.C.Calls.step k c.args.sink.now c.loop-at.sink all_true c.sink_before_line.new.sink
-          c.loop-at.invariant.called (called-before g.C.Calls.step k w.next_unreported c.loop-at.at w.line (number_of k c.loop-at.at)
-          c.loop-at.offset 0 (slice window c.loop-at.position c.in-Some.next) c.loop-at.sink all_true c.sink_before_line.new.sink
+          c.loop-at.invariant.called (called-before g.C.Calls.step k w.next_unreported c.loop-at.at w.line
+          (number_of k c.loop-at.at)
+          c.loop-at.offset 0 (slice window c.loop-at.position c.in-Some.next) c.loop-at.sink all_true
+          c.sink_before_line.new.sink
           (here 0));
       may_call = c.in_ok-sink_before_line.ensures.may_call;
     }
@@ -94,7 +98,8 @@ returns-in_err-sink_before_line-clause-called g c =
     let p = err_from_is_err_and c.from_residual.result c.from_residual.ensures.1 in
     rw (p.1, p.2) (λ end. called-then g.C.Calls.step c.args.self.now.config c.args.sink.now c.loop-at.sink (failed _)
     c.sink_before_line.new.sink c.loop-at.invariant.called (called-before g.C.Calls.step c.args.self.now.config
-    c.args.walk.now.next_unreported c.loop-at.at c.args.walk.now.line (number_of c.args.self.now.config c.loop-at.at) c.loop-at.offset
+    c.args.walk.now.next_unreported c.loop-at.at c.args.walk.now.line (number_of c.args.self.now.config c.loop-at.at)
+    c.loop-at.offset
     end (slice c.args.window.now c.loop-at.position c.in-Some.next) c.loop-at.sink _ c.sink_before_line.new.sink
     (c.in_err-sink_before_line.ensures.reported end)))
 
@@ -104,5 +109,7 @@ returns-then-not-branch-clause-called g c = λ end.
     let here = rw stops at c.in_ok-sink_before_line.ensures.reported in
     called-then g.C.Calls.step c.args.self.now.config c.args.sink.now c.loop-at.sink (stopped end)
     c.sink_before_line.new.sink c.loop-at.invariant.called (called-before g.C.Calls.step c.args.self.now.config
-    c.args.walk.now.next_unreported c.loop-at.at c.args.walk.now.line (number_of c.args.self.now.config c.loop-at.at) c.loop-at.offset
-    end (slice c.args.window.now c.loop-at.position c.in-Some.next) c.loop-at.sink (stopped end) c.sink_before_line.new.sink (here end))
+    c.args.walk.now.next_unreported c.loop-at.at c.args.walk.now.line (number_of c.args.self.now.config c.loop-at.at)
+    c.loop-at.offset
+    end (slice c.args.window.now c.loop-at.position c.in-Some.next) c.loop-at.sink (stopped end)
+    c.sink_before_line.new.sink (here end))

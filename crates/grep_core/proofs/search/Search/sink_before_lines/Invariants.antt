@@ -11,11 +11,13 @@ invariant-loop-at g l = record {
   same : l.offset + l.start ≡ l.walk.offset + l.position;
   low : l.index ≤ l.at;
   below : l.at ≤ l.walk.line;
-  at : (gone : List ℕ) → IsLineIn l.self.config gone l.window l.first l.index → IsLineIn l.self.config gone l.window l.position l.at;
+  at : (gone : List ℕ) → IsLineIn l.self.config gone l.window l.first l.index
+      → IsLineIn l.self.config gone l.window l.position l.at;
   reported : (gone input : List ℕ) → IsInWindow l.self.config gone l.window input l.start l.walk
       → IsLineIn l.self.config gone l.window l.first l.index
       → (end : ℕ) → AreReported g.C.Calls.step l.self.config l.fn.sink
-      (pending_turns l.self.config input l.walk.next_unreported l.walk.line end l.index (l.at - l.index)) all_true l.sink;
+      (pending_turns l.self.config input l.walk.next_unreported l.walk.line end l.index (l.at - l.index)) all_true
+      l.sink;
   called : HasCalled g.C.Calls.step l.self.config l.fn.sink all_true l.sink;
   may_call : g.C.Calls.may_call l.sink;
 }

@@ -16,7 +16,8 @@ returns-in_err-sink_before_context-clause-reported g c =
     let stop = line_end w here in
     let p = err_from_is_err_and c.from_residual.result c.from_residual.ensures.1 in
     rw (p.1, p.2, chosen) (λ gone input inside. AreReported-ended g.C.Calls.step c.args.self.now.config
-    (pending_turns c.args.self.now.config input w.next_unreported w.line stop w.next_unreported (w.line - w.next_unreported))
+    (pending_turns c.args.self.now.config input w.next_unreported w.line stop w.next_unreported
+    (w.line - w.next_unreported))
     (match_turns c.args.self.now.config w.next_unreported w.line w.offset stop here) c.args.sink.now
     (failed c.in_err-sink_before_context.field-0.0)
     c.sink_before_context.new.sink (λ e. cc) (c.in_err-sink_before_context.ensures.reported gone input inside stop))
@@ -30,7 +31,8 @@ returns-then-not-branch-clause-reported g c =
     let stops : c.in_ok-sink_before_context.field-0 ≡ false = search rules in
     let reported = rw stops at c.in_ok-sink_before_context.ensures.reported in
     rw chosen (λ gone input inside. AreReported-ended g.C.Calls.step c.args.self.now.config
-    (pending_turns c.args.self.now.config input w.next_unreported w.line stop w.next_unreported (w.line - w.next_unreported))
+    (pending_turns c.args.self.now.config input w.next_unreported w.line stop w.next_unreported
+    (w.line - w.next_unreported))
     (match_turns c.args.self.now.config w.next_unreported w.line w.offset stop here) c.args.sink.now (stopped stop)
     c.sink_before_context.new.sink (λ e. cc) (reported gone input inside stop))
 
@@ -43,9 +45,12 @@ returns-then-is_chosen-clause-reported g c =
     let goes : c.in_ok-sink_before_context.field-0 ≡ true = search rules in
     let reported = rw goes at c.in_ok-sink_before_context.ensures.reported in
     rw chosen (λ gone input inside. AreReported-append g.C.Calls.step c.args.self.now.config
-    (pending_turns c.args.self.now.config input w.next_unreported w.line stop w.next_unreported (w.line - w.next_unreported))
-    (match_turns c.args.self.now.config w.next_unreported w.line w.offset stop here) c.args.sink.now c.sink_before_context.new.sink
-    (outcome_of stop c.sink_matched.result) c.sink_matched.new.sink (reported gone input inside stop) (c.sink_matched.ensures.reported stop))
+    (pending_turns c.args.self.now.config input w.next_unreported w.line stop w.next_unreported
+    (w.line - w.next_unreported))
+    (match_turns c.args.self.now.config w.next_unreported w.line w.offset stop here) c.args.sink.now
+    c.sink_before_context.new.sink
+    (outcome_of stop c.sink_matched.result) c.sink_matched.new.sink (reported gone input inside stop)
+    (c.sink_matched.ensures.reported stop))
 
 pub returns-then-not-branch-clause-called : goal.returns-then-not-branch-clause-called
 returns-then-not-branch-clause-called g c =
@@ -57,9 +62,11 @@ returns-then-is_chosen-clause-called g c = λ stop.
     let w = c.args.walk.now in
     let goes : c.in_ok-sink_before_context.field-0 ≡ true = search rules in
     let first = rw goes at c.in_ok-sink_before_context.ensures.called in
-    called-then g.C.Calls.step c.args.self.now.config c.args.sink.now c.sink_before_context.new.sink (outcome_of stop c.sink_matched.result)
+    called-then g.C.Calls.step c.args.self.now.config c.args.sink.now c.sink_before_context.new.sink
+    (outcome_of stop c.sink_matched.result)
     c.sink_matched.new.sink (first stop) (called-match g.C.Calls.step c.args.self.now.config w.next_unreported w.line
-    w.offset stop (slice c.args.window.now c.args.start c.args.end) c.sink_before_context.new.sink (outcome_of stop c.sink_matched.result)
+    w.offset stop (slice c.args.window.now c.args.start c.args.end) c.sink_before_context.new.sink
+    (outcome_of stop c.sink_matched.result)
     c.sink_matched.new.sink (c.sink_matched.ensures.reported stop))
 
 pub returns-then-self-clause-called : goal.returns-then-self-clause-called

@@ -50,5 +50,6 @@ returns-in_default g c =
 
 pub returns-in-Passing-clause-last : goal.returns-in-Passing-clause-last
 returns-in-Passing-clause-last g c =
-    rw (← c.self.view_is) (dropped-twice c.self.inside.held.bytes c.skip.new.self.bytes c.skip-in-Passing.new.self.bytes _ _
+    rw (← c.self.view_is) (dropped-twice c.self.inside.held.bytes c.skip.new.self.bytes c.skip-in-Passing.new.self.bytes
+    _ _
     (ap (λ u. u.bytes) c.skip.ensures) (ap (λ u. u.bytes) c.skip-in-Passing.ensures))

@@ -13,7 +13,8 @@ returns-clause-end g c =
 
 pub returns-clause-fault : goal.returns-clause-fault
 returns-clause-fault g c =
-    result-fault g.R.Source.remaining g.R.Source.step _ _ _ _ c.read_some-result.result c.read_some-result.ensures.failed
+    result-fault g.R.Source.remaining g.R.Source.step _ _ _ _ c.read_some-result.result
+    c.read_some-result.ensures.failed
 
 pub returns-clause-kept : goal.returns-clause-kept
 returns-clause-kept g c =

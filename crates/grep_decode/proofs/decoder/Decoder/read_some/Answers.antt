@@ -1,7 +1,8 @@
 use Rattle.std.proofs.Common.{◌≡◌, [], ap, sym, ◌∙◌}
 use Rattle.grep_decode.specs.declared.mode.Mode.TheVariants.{Fresh, Passing}
 use Rattle.grep_decode.specs.DecoderStates.{Decodes, HasNoMark, TakesAtMost, runs_ahead}
-use Rattle.grep_decode.proofs.DecoderLemmas.{Decodes-none, first-passes, fits-fresh, looks-fresh, result-decodes, result-fails}
+use Rattle.grep_decode.proofs.DecoderLemmas.{Decodes-none, first-passes, fits-fresh, looks-fresh, result-decodes}
+use Rattle.grep_decode.proofs.DecoderLemmas.{result-fails}
 use Rattle.grep_decode.proofs.DecoderLemmas.{result-first, result-ahead, takes-none}
 use Rattle.grep_decode.proofs.decoder.Decoder.read_some.Goals as goal
 use Rattle.grep_decode.proofs.decoder.Decoder.read_some.Goals.{in-Fresh+in-Ok, in_default}
@@ -18,7 +19,8 @@ returns-clause-decodes g c =
       | in-Fresh+in-Ok w ↦ rw (w.self-is, w.reader-is) w.in-Ok.ensures.decodes
       | in_default w ↦ rw (w.self-is, w.reader-is) (Decodes-none remaining step c.args.self.now c.args.reader.now)
     ] in
-    result-decodes remaining step c.args.self.now c.match-self.self c.read_on.new.self c.args.reader.now c.match-self.reader
+    result-decodes remaining step c.args.self.now c.match-self.self c.read_on.new.self c.args.reader.now
+    c.match-self.reader
     c.read_on.new.reader c.read_on.result c.read_on.new.buffer begun c.read_on.ensures.decodes
 
 pub returns-clause-failed : goal.returns-clause-failed
@@ -30,14 +32,16 @@ returns-clause-failed g c =
       | in-Fresh+in-Ok w ↦ rw (w.self-is, w.reader-is) w.in-Ok.ensures.decodes
       | in_default w ↦ rw (w.self-is, w.reader-is) (Decodes-none remaining step c.args.self.now c.args.reader.now)
     ] in
-    result-fails remaining step c.args.self.now c.match-self.self c.read_on.new.self c.args.reader.now c.match-self.reader
+    result-fails remaining step c.args.self.now c.match-self.self c.read_on.new.self c.args.reader.now
+    c.match-self.reader
     c.read_on.new.reader c.read_on.result begun c.read_on.ensures.failed
 
 pub returns-clause-ahead : goal.returns-clause-ahead
 returns-clause-ahead g c =
     let remaining = g.R.Source.remaining in
     let most = runs_ahead c.args.self.now.mode in
-    let first : TakesAtMost (remaining c.args.reader.now) (remaining c.match-self.reader) most = elim c.match-self.branch [
+    let first : TakesAtMost (remaining c.args.reader.now) (remaining c.match-self.reader) most = elim
+    c.match-self.branch [
       | in-Fresh+in-Ok w ↦ rw w.reader-is w.in-Ok.ensures.ahead
       | in_default w ↦ rw w.reader-is (takes-none _ most)
     ] in
@@ -54,14 +58,19 @@ returns-clause-first g c = λ none unended looks.
       | in-Fresh+in-Ok w ↦
           let fresh : c.args.self.now.mode ≡ Fresh w.in-Fresh.label w.in-Fresh.sniff =
           ap (λ s. s.mode) (sym c.self.view_is) ∙ w.in-Fresh.is in
-          let fits = fits-fresh d.mode d.ready d.held.bytes w.in-Fresh.label w.in-Fresh.sniff c.self.invariant.1 w.in-Fresh.is in
+          let fits = fits-fresh d.mode d.ready d.held.bytes w.in-Fresh.label w.in-Fresh.sniff c.self.invariant.1
+          w.in-Fresh.is in
           let empty = sym (ap (λ s. s.ready) c.self.view_is) ∙ fits.0 in
           let mode : Passes → w.settle.new.self.mode ≡ Passing =
           λ passing. sym (ap (λ s. s.mode) w.self-is) ∙ (sym c.read_on.ensures.mode ∙ passing) in
-          let made = first-passes (HasNoMark c.args.self.now.mode) Passes (w.settle.new.self.mode ≡ Passing) (remaining c.args.reader.now)
-          w.settle.new.self.ready c.match-self.self.ready mode (ap (λ s. s.ready) w.self-is) (w.in-Ok.ensures.first none unended looks) in
-          result-first remaining step c.args.self.now c.read_on.new.self c.args.reader.now c.read_on.new.reader c.read_on.result
-          c.read_on.new.buffer c.match-self.self.ready (HasNoMark c.args.self.now.mode) Passes Kept empty none c.read_on.ensures.bound
+          let made = first-passes (HasNoMark c.args.self.now.mode) Passes (w.settle.new.self.mode ≡ Passing)
+          (remaining c.args.reader.now)
+          w.settle.new.self.ready c.match-self.self.ready mode (ap (λ s. s.ready) w.self-is)
+          (w.in-Ok.ensures.first none unended looks) in
+          result-first remaining step c.args.self.now c.read_on.new.self c.args.reader.now c.read_on.new.reader
+          c.read_on.result
+          c.read_on.new.buffer c.match-self.self.ready (HasNoMark c.args.self.now.mode) Passes Kept empty none
+          c.read_on.ensures.bound
           (returns-clause-decodes g c) c.read_on.ensures.ready made
       | in_default w ↦
           let fresh = looks-fresh c.args.self.now.mode looks in

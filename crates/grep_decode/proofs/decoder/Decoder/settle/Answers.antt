@@ -4,7 +4,8 @@ use Rattle.grep_decode.specs.declared.mode.Mode.TheVariants.{Fresh, Passing}
 use Rattle.grep_decode.specs.Decoded.{found_mark}
 use Rattle.grep_decode.specs.DecoderStates.{Decodes, IsSettled, LooksForMark}
 use Rattle.grep_decode.specs.UndecodedBytes.{holding}
-use Rattle.grep_decode.proofs.DecoderLemmas.{Decodes-append, Decodes-held, Decodes-none, Decodes-within, Decodes-yet, fits-fresh}
+use Rattle.grep_decode.proofs.DecoderLemmas.{Decodes-append, Decodes-held, Decodes-none, Decodes-within, Decodes-yet}
+use Rattle.grep_decode.proofs.DecoderLemmas.{fits-fresh}
 use Rattle.grep_decode.proofs.MarkLemmas.{first-by, first-ready}
 use Rattle.grep_decode.proofs.decoder.Decoder.settle.Goals as goal
 use Rattle.grep_decode.proofs.decoder.Decoder.settle.Goals.{then-sniff+in-Ok, else-sniff+else-is_some}
@@ -16,11 +17,14 @@ returns-clause-decodes g c =
     let d = c.self.inside in
     let fresh = ap (λ s. s.mode) c.self.view_is ∙ c.requires in
     let fits = fits-fresh d.mode d.ready d.held.bytes c.args.label c.args.sniff c.self.invariant.1 fresh in
-    let ahead : Decodes remaining step c.args.self.now c.args.reader.now [] c.if-sniff.self c.if-sniff.reader = elim c.if-sniff.branch [
+    let ahead : Decodes remaining step c.args.self.now c.args.reader.now [] c.if-sniff.self c.if-sniff.reader = elim
+    c.if-sniff.branch [
       | then-sniff+in-Ok w ↦ rw (w.self-is, w.reader-is, ← c.self.view_is)
-          (Decodes-held remaining step d.ready d.mode d.held w.fill.new.self c.args.reader.now w.fill.new.reader [] fits.0
+          (Decodes-held remaining step d.ready d.mode d.held w.fill.new.self c.args.reader.now w.fill.new.reader []
+          fits.0
           (w.in-Ok.ensures.decodes d.mode))
-      | else-sniff+else-is_some w ↦ rw (w.self-is, w.reader-is) (Decodes-none remaining step c.args.self.now c.args.reader.now)
+      | else-sniff+else-is_some w ↦ rw (w.self-is, w.reader-is)
+          (Decodes-none remaining step c.args.self.now c.args.reader.now)
     ] in
     let few : length c.if-sniff.self.held ≤ 3 = elim c.if-sniff.branch [
       | then-sniff+in-Ok w ↦ rw w.self-is w.in-Ok.ensures.few
@@ -30,7 +34,8 @@ returns-clause-decodes g c =
       | then-sniff+in-Ok w ↦ rw w.self-is fresh
       | else-sniff+else-is_some w ↦ rw w.self-is c.requires
     ] in
-    let enough : LooksForMark c.if-sniff.self.mode → (3 ≤ length c.if-sniff.self.held) ⊎ (c.choose.new.self.has_ended ≡ true) =
+    let enough : LooksForMark c.if-sniff.self.mode → (3 ≤ length c.if-sniff.self.held)
+    ⊎ (c.choose.new.self.has_ended ≡ true) =
     λ looks. elim c.if-sniff.branch [
       | then-sniff+in-Ok w ↦ rw (c.choose.ensures.ended, w.self-is) w.in-Ok.ensures.enough
       | else-sniff+else-is_some w ↦
@@ -41,7 +46,8 @@ returns-clause-decodes g c =
     ] in
     Decodes-append remaining step c.args.self.now c.if-sniff.self c.choose.new.self c.args.reader.now
     c.if-sniff.reader c.if-sniff.reader [] []
-    ahead (Decodes-within remaining step c.if-sniff.self c.choose.new.self c.if-sniff.reader [] c.choose.ensures.ended c.choose.ensures.same
+    ahead (Decodes-within remaining step c.if-sniff.self c.choose.new.self c.if-sniff.reader [] c.choose.ensures.ended
+    c.choose.ensures.same
     c.choose.ensures.next c.choose.ensures.settled (λ settled. absurd (subst IsSettled same_mode settled))
     (λ passing. omega (arith, few)) enough c.choose.ensures.last)
 
@@ -57,13 +63,16 @@ returns-clause-first g c = λ none unended looks.
     elim c.if-sniff.branch [
       | then-sniff+in-Ok w ↦
           let bytes : c.if-sniff.self.held ≡ w.fill.new.self.bytes = ap (λ s. s.held) w.self-is in
-          first-by c.args.self.now.mode c.args.label c.args.sniff Passes (remaining c.args.reader.now) c.choose.new.self.ready c.requires
+          first-by c.args.self.now.mode c.args.label c.args.sniff Passes (remaining c.args.reader.now)
+          c.choose.new.self.ready c.requires
           (λ passing. first-ready c.args.label c.args.sniff d.held w.fill.new.self (remaining c.args.reader.now)
           (remaining w.fill.new.reader)
           c.choose.new.self.ready
-          (Decodes-yet remaining step (holding Passing d.held) (holding Passing w.fill.new.self) c.args.reader.now w.fill.new.reader []
+          (Decodes-yet remaining step (holding Passing d.held) (holding Passing w.fill.new.self) c.args.reader.now
+          w.fill.new.reader []
           (w.in-Ok.ensures.decodes Passing)) held before w.in-Ok.ensures.few w.in-Ok.ensures.enough
-          (λ unmarked. c.choose.ensures.ready (ap (found_mark c.args.label c.args.sniff) bytes ∙ unmarked) passing ∙ bytes))
+          (λ unmarked. c.choose.ensures.ready (ap (found_mark c.args.label c.args.sniff) bytes ∙ unmarked) passing
+          ∙ bytes))
       | else-sniff+else-is_some w ↦
           let unlooked : (c.args.sniff || is_some c.args.label) ≡ is_some c.args.label =
           ap (λ b. b || is_some c.args.label) w.if-sniff.false in

@@ -11,7 +11,8 @@ invariant-loop-self g l = record {
   capacity : l.self.capacity ≡ l.fn.self.capacity;
   few : length l.self.bytes ≤ 3;
   decodes : (mode : Mode)
-      → Decodes g.R.Source.remaining g.R.Source.step (holding mode l.fn.self) l.fn.reader [] (holding mode l.self) l.reader;
+      → Decodes g.R.Source.remaining g.R.Source.step (holding mode l.fn.self) l.fn.reader [] (holding mode l.self)
+      l.reader;
   came : (came : List ℕ) × (length l.self.bytes ≡ length l.fn.self.bytes + length came)
       × Consumes (g.R.Source.remaining l.fn.reader) (g.R.Source.remaining l.reader) came;
 }

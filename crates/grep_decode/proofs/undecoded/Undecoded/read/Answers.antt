@@ -19,13 +19,16 @@ loop-label-preserved g c =
     let mid = c.decode-count.new.self in
     let same = c.decode-count.ensures.stays (omega (arith, c.if-count-gt0.false)) in
     let P : UndecodedBytes → Type 0 = λ u.
-    Decodes g.R.Source.remaining g.R.Source.step (holding mode first) c.args.reader.now [] (holding mode u) c.loop-label.reader in
+    Decodes g.R.Source.remaining g.R.Source.step (holding mode first) c.args.reader.now [] (holding mode u)
+    c.loop-label.reader in
     let grows = c.in-Ok.ensures.grows in
     record {
       capacity = grows.capacity ∙ (c.decode-count.ensures.capacity ∙ c.loop-label.invariant.capacity);
       room = omega (arith, c.decode-count.ensures.same_room, c.loop-label.invariant.room);
-      decodes = hold-more g.R.Source.remaining g.R.Source.step mode first mid c.pull.new.self c.args.reader.now c.loop-label.reader
-          c.pull.new.reader c.in-Ok.field-0 (sym c.if-has_ended.ensures) (subst P (sym same) c.loop-label.invariant.decodes) grows;
+      decodes = hold-more g.R.Source.remaining g.R.Source.step mode first mid c.pull.new.self c.args.reader.now
+          c.loop-label.reader
+          c.pull.new.reader c.in-Ok.field-0 (sym c.if-has_ended.ensures)
+          (subst P (sym same) c.loop-label.invariant.decodes) grows;
     }
 
 pub returns-then-count-gt0-clause-decodes : goal.returns-then-count-gt0-clause-decodes
@@ -34,7 +37,9 @@ returns-then-count-gt0-clause-decodes g c =
     let before = c.loop-label.self in
     let after = c.decode-count.new.self in
     let given = take c.decode-count.result c.decode-count.new.output in
-    Decodes-append g.R.Source.remaining g.R.Source.step (holding mode c.args.self.now) (holding mode before) (holding mode after)
+    Decodes-append g.R.Source.remaining g.R.Source.step (holding mode c.args.self.now) (holding mode before)
+    (holding mode after)
     c.args.reader.now c.loop-label.reader c.loop-label.reader [] given c.loop-label.invariant.decodes
-    (Decodes-text g.R.Source.remaining g.R.Source.step c.args.label before after c.loop-label.reader given c.decode-count.ensures.ended
+    (Decodes-text g.R.Source.remaining g.R.Source.step c.args.label before after c.loop-label.reader given
+    c.decode-count.ensures.ended
     c.decode-count.ensures.text c.decode-count.ensures.last)

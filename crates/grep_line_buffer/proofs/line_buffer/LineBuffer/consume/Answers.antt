@@ -10,4 +10,5 @@ returns g c =
     let P : BufferState → Type 0 = λ w. c.args.count ≤ length w.shown in
     let fits = subst P (sym c.self.view_is) c.requires in
     rw (← c.self.view_is) (window-same _ _ _ _ _ _ _ _ _ _ _ _ _ _
-    (sym (drop-slice b.bytes.items b.start b.line_end c.args.count (omega (arith, fits, length-slice b.bytes.items b.start b.line_end (omega arith))))) refl refl refl)
+    (sym (drop-slice b.bytes.items b.start b.line_end c.args.count
+    (omega (arith, fits, length-slice b.bytes.items b.start b.line_end (omega arith))))) refl refl refl)

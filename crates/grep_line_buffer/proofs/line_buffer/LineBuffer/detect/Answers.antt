@@ -9,8 +9,10 @@ use Rattle.grep_line_buffer.specs.declared.detection.Detection.TheVariants.{Conv
 use Rattle.grep_line_buffer.specs.BufferStates.{BufferState, is_cut}
 use Rattle.grep_line_buffer.specs.Detections.{detected, found_in, first_of, byte_offset, is_quit}
 use Rattle.grep_line_buffer.proofs.BufferStateLemmas.{window-same}
-use Rattle.grep_line_buffer.proofs.DetectLemmas.{Detects-made, found-at, found-first, length-cut, nothing-found, quit-at}
-use Rattle.grep_line_buffer.proofs.DetectLemmas.{is-changed, length-held, length-last, quit-none, slice-before, split-rest}
+use Rattle.grep_line_buffer.proofs.DetectLemmas.{Detects-made, found-at, found-first, length-cut, nothing-found}
+use Rattle.grep_line_buffer.proofs.DetectLemmas.{quit-at}
+use Rattle.grep_line_buffer.proofs.DetectLemmas.{is-changed, length-held, length-last, quit-none, slice-before}
+use Rattle.grep_line_buffer.proofs.DetectLemmas.{split-rest}
 use Rattle.grep_line_buffer.proofs.SliceLemmas.{length-slice}
 use Rattle.grep_line_buffer.proofs.line_buffer.LineBuffer.detect.Goals as goal
 
@@ -98,7 +100,8 @@ returns-in-Some-replace_bytes g c =
     let made : c.replace_bytes.new.bytes ≡ detected b.detection b.terminator last = rw c.in-Convert.is bytes in
     let many : length c.replace_bytes.new.bytes ≡ n =
     ap (λ l. length l) bytes ∙ length-map last (λ x. if x == c.in-Convert.byte then b.terminator else x) ∙ counted in
-    let after = is-changed b.start b.line_end b.end n bs low high within read c.replace_bytes.new.bytes many now moved in
+    let after = is-changed b.start b.line_end b.end n bs low high within read c.replace_bytes.new.bytes many now
+    moved in
     let whole : length now ≡ b.bytes.len = omega (arith, after.size) in
     let all = length-held b.start b.line_end b.end n bs low high within read in
     let shown = slice bs b.start b.line_end in
@@ -106,7 +109,8 @@ returns-in-Some-replace_bytes g c =
     let found : found_in b.detection b.terminator last ≡ Some at =
     rw c.in-Convert.is (sym (rw c.deref_mut.ensures.value at c.in-Some-replace_bytes.ensures.first)) in
     let before = option_map byte_offset b.binary in
-    let place : b.offset + ((b.end - n) - b.start + at) ≡ b.offset + (length (shown ++ slice bs b.line_end b.end) - n) + at =
+    let place : b.offset + ((b.end - n) - b.start + at)
+    ≡ b.offset + (length (shown ++ slice bs b.line_end b.end) - n) + at =
     omega (arith, all) in
     record {
       detects = rw (← c.self.view_is) (Detects-made n _ _ front last c.replace_bytes.new.bytes (length bs - b.end)
@@ -114,7 +118,8 @@ returns-in-Some-replace_bytes g c =
           (c.note.ensures ∙ (rw (with_items_is b.bytes now whole) (window-same _ _ _ _ _ _ _ _ _ _ _ _ _ _
           after.shown after.rest after.size (ap (λ k. k - b.end) after.size))))
           (ap (first_of before) (ap Some place
-          ∙ sym (ap (option_map (λ i. b.offset + (length (shown ++ slice bs b.line_end b.end) - n) + i)) found))) after.sum);
+          ∙ sym (ap (option_map (λ i. b.offset + (length (shown ++ slice bs b.line_end b.end) - n) + i)) found)))
+          after.sum);
     }
 
 pub returns-in_default-replace_bytes : goal.returns-in_default-replace_bytes
@@ -139,12 +144,14 @@ returns-in_default-replace_bytes g c =
     let made : c.replace_bytes.new.bytes ≡ detected b.detection b.terminator last = rw c.in-Convert.is bytes in
     let many : length c.replace_bytes.new.bytes ≡ n =
     ap (λ l. length l) bytes ∙ length-map last (λ x. if x == c.in-Convert.byte then b.terminator else x) ∙ counted in
-    let after = is-changed b.start b.line_end b.end n bs low high within read c.replace_bytes.new.bytes many now moved in
+    let after = is-changed b.start b.line_end b.end n bs low high within read c.replace_bytes.new.bytes many now
+    moved in
     let whole : length now ≡ b.bytes.len = omega (arith, after.size) in
     let none : found_in b.detection b.terminator last ≡ None =
     rw c.in-Convert.is (sym (rw c.deref_mut.ensures.value at c.in_default-replace_bytes.ensures.first)) in
     record {
-      detects = rw (← c.self.view_is) (rw (with_items_is b.bytes now whole) (Detects-made n _ _ front last c.replace_bytes.new.bytes
+      detects = rw (← c.self.view_is) (rw (with_items_is b.bytes now whole)
+          (Detects-made n _ _ front last c.replace_bytes.new.bytes
           (length bs - b.end) (option_map byte_offset b.binary) split counted made
           (window-same _ _ _ _ _ _ _ _ _ _ _ _ _ _ after.shown after.rest after.size (ap (λ k. k - b.end) after.size))
           (nothing-found _ _ _ none) after.sum));

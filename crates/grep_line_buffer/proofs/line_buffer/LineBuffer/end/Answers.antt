@@ -7,4 +7,5 @@ pub returns-clause-same : goal.returns-clause-same
 returns-clause-same g c =
     let b = c.self.inside in
     rw (← c.self.view_is) (window-same _ _ _ _ _ _ _ _ _ _ _ _ _ _
-    (sym (slice-join b.bytes.items b.start b.line_end b.end (omega arith) (omega arith))) (slice-none b.bytes.items b.end) refl refl)
+    (sym (slice-join b.bytes.items b.start b.line_end b.end (omega arith) (omega arith)))
+    (slice-none b.bytes.items b.end) refl refl)

@@ -90,7 +90,8 @@ returns-in-Err g c =
     let full = c.in-Err.ensures.err in
     let unended = ap ended_of full.0 ∙ before.filling.unended in
     let out = IsFilling-stopped g.R.Source.remaining g.R.Source.step _ _ _ _ _ _ _ before.filling full.0 in
-    let error = HasNone-full g.R.Source.remaining g.R.Source.step _ _ _ _ _ _ _ c.in-Err.e before full.0 full.1 full.2 in
+    let error = HasNone-full g.R.Source.remaining g.R.Source.step _ _ _ _ _ _ _ c.in-Err.e before full.0 full.1
+    full.2 in
     record {
       same = out.same;
       within = out.within;
@@ -123,9 +124,11 @@ returns-in-Err-read g c =
     let made = c.make_room.ensures in
     let room = HasNone-room _ _ _ _ _ _ _ _ _ _ _ c.reads.invariant made.same made.free made.within made.grows in
     let failed = c.in-Err-read.ensures.failed in
-    let out = HasNone-fault _ _ _ _ _ _ _ _ _ _ _ c.in-Err-read.e c.reads_continue.ensures.more room failed c.in_default.ensures.ok
+    let out = HasNone-fault _ _ _ _ _ _ _ _ _ _ _ c.in-Err-read.e c.reads_continue.ensures.more room failed
+    c.in_default.ensures.ok
     c.read.ensures.capacity c.in-Err-read.ensures.same in
-    let error : HasNoLine c.args.self.now c.read.new.self × (length (held c.read.new.self) < c.read.new.self.size) = (out.line, out.room) in
+    let error : HasNoLine c.args.self.now c.read.new.self
+    × (length (held c.read.new.self) < c.read.new.self.size) = (out.line, out.room) in
     record {
       same = out.same;
       within = out.within;
@@ -158,7 +161,8 @@ returns-then-count-eq0 g c =
     let made = c.make_room.ensures in
     let room = HasNone-room _ _ _ _ _ _ _ _ _ _ _ c.reads.invariant made.same made.free made.within made.grows in
     let came = c.in-Ok.ensures.reads in
-    let next = IsFilling-none _ _ _ _ _ _ _ _ _ _ _ _ c.reads_continue.ensures.more room came c.if-count-eq0.true c.read.ensures.capacity in
+    let next = IsFilling-none _ _ _ _ _ _ _ _ _ _ _ _ c.reads_continue.ensures.more room came c.if-count-eq0.true
+    c.read.ensures.capacity in
     let none = nil_from_length came.given (came.counted ∙ c.if-count-eq0.true) in
     let out = IsFilling-ended _ _ _ _ _ _ _ _ _ next c.end-then-count-eq0.ensures.same in
     let filled = HasNone-end _ _ _ _ _ _ _ _ _ _ _ _ _ room came c.if-count-eq0.true c.in_default.ensures.ok
@@ -196,7 +200,8 @@ returns-then-not-has_offsets-2 g c =
     let room = HasNone-room _ _ _ _ _ _ _ _ _ _ _ c.reads.invariant made.same made.free made.within made.grows in
     let came = c.in-Ok.ensures.reads in
     let comes = Comes-detected _ _ _ _ _ _ _ _ _ _ came c.detect.ensures.detects in
-    let next = IsFilling-more _ _ _ _ _ _ _ _ _ _ _ _ _ c.reads_continue.ensures.more room came comes c.read.ensures.capacity in
+    let next = IsFilling-more _ _ _ _ _ _ _ _ _ _ _ _ _ c.reads_continue.ensures.more room came comes
+    c.read.ensures.capacity in
     let out = IsFilling-stopped _ _ _ _ _ _ _ _ _ next refl in
     let error = IsFilling-past _ _ _ _ _ _ _ _ _ _ _ room next c.if-not-has_offsets-2.ensures in
     record {
@@ -232,7 +237,8 @@ returns-then-show_lines g c =
     let room = HasNone-room _ _ _ _ _ _ _ _ _ _ _ c.reads.invariant made.same made.free made.within made.grows in
     let came = c.in-Ok.ensures.reads in
     let comes = Comes-detected _ _ _ _ _ _ _ _ _ _ came c.detect.ensures.detects in
-    let next = IsFilling-more _ _ _ _ _ _ _ _ _ _ _ _ _ c.reads_continue.ensures.more room came comes c.read.ensures.capacity in
+    let next = IsFilling-more _ _ _ _ _ _ _ _ _ _ _ _ _ c.reads_continue.ensures.more room came comes
+    c.read.ensures.capacity in
     let going = sym c.is_cut-in-reads.ensures.value ∙ c.if-is_cut-2.false in
     let shows = c.if-show_lines.ensures in
     let out = IsFilling-shown _ _ _ _ _ _ _ _ _ _ next shows in
@@ -265,7 +271,8 @@ returns-then-show_lines g c =
     }
 
 pub reads-init : goal.reads-init
-reads-init g c = HasNone-first g.R.Source.remaining g.R.Source.step _ _ _ _ _ (c.reads_continue.ensures.none _ _) c.roll.ensures.same
+reads-init g c = HasNone-first g.R.Source.remaining g.R.Source.step _ _ _ _ _ (c.reads_continue.ensures.none _ _)
+    c.roll.ensures.same
     (c.roll.ensures.free ∙ ap size_of c.roll.ensures.same) (sym c.has_ended.ensures.value ∙ c.if-has_ended.false)
     c.has_ended.ensures.within c.if-not-has_offsets.ensures
     (ap is_cut (sym c.roll.ensures.same) ∙ (sym c.is_cut.ensures.value ∙ c.if-is_cut.false))
@@ -276,10 +283,12 @@ reads-preserved g c =
     let room = HasNone-room _ _ _ _ _ _ _ _ _ _ _ c.reads.invariant made.same made.free made.within made.grows in
     let came = c.in-Ok.ensures.reads in
     let comes = Comes-detected _ _ _ _ _ _ _ _ _ _ came c.detect.ensures.detects in
-    let next = IsFilling-more _ _ _ _ _ _ _ _ _ _ _ _ _ c.reads_continue.ensures.more room came comes c.read.ensures.capacity in
+    let next = IsFilling-more _ _ _ _ _ _ _ _ _ _ _ _ _ c.reads_continue.ensures.more room came comes
+    c.read.ensures.capacity in
     let going = sym c.is_cut-in-reads.ensures.value ∙ c.if-is_cut-2.false in
     let shows = c.if-show_lines.ensures in
-    HasNone-more _ _ _ _ _ _ _ _ _ _ _ _ _ _ room comes came.counted going next shows.1 c.if-not-has_offsets-2.ensures shows.0
+    HasNone-more _ _ _ _ _ _ _ _ _ _ _ _ _ _ room comes came.counted going next shows.1 c.if-not-has_offsets-2.ensures
+    shows.0
 
 pub returns-then-is_cut-2 : goal.returns-then-is_cut-2
 returns-then-is_cut-2 g c =
@@ -288,7 +297,8 @@ returns-then-is_cut-2 g c =
     let room = HasNone-room _ _ _ _ _ _ _ _ _ _ _ c.reads.invariant made.same made.free made.within made.grows in
     let came = c.in-Ok.ensures.reads in
     let comes = Comes-detected _ _ _ _ _ _ _ _ _ _ came c.detect.ensures.detects in
-    let next = IsFilling-more _ _ _ _ _ _ _ _ _ _ _ _ _ c.reads_continue.ensures.more room came comes c.read.ensures.capacity in
+    let next = IsFilling-more _ _ _ _ _ _ _ _ _ _ _ _ _ c.reads_continue.ensures.more room came comes
+    c.read.ensures.capacity in
     let cut = sym c.is_cut-in-reads.ensures.value ∙ c.if-is_cut-2.true in
     let still = ap is_cut c.end-then-is_cut-2.ensures.same ∙ cut in
     let out = IsFilling-ended _ _ _ _ _ _ _ _ _ next c.end-then-is_cut-2.ensures.same in

@@ -34,7 +34,8 @@ returns-in-Err-clause-same g c =
     let now = c.read_after.new.bytes in
     let len : length now ≡ length items = omega arith in
     let whole : length now ≡ b.bytes.len = omega arith in
-    let front : take b.end now ≡ take b.end items = c.in-Err.ensures.front ∙ ap (take b.end) c.deref_mut.ensures.value in
+    let front : take b.end now ≡ take b.end items = c.in-Err.ensures.front
+    ∙ ap (take b.end) c.deref_mut.ensures.value in
     rw (← c.self.view_is) (rw (with_items_is b.bytes now whole) (window-same _ _ _ _ _ _ _ _ _ _ _ _ _ _
     (slice-kept items now b.start b.line_end b.end front (omega arith))
     (slice-kept items now b.line_end b.end b.end front (omega arith)) len (ap (λ k. k - b.end) len)))

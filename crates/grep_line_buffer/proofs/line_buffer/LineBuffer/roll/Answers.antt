@@ -10,6 +10,8 @@ returns-clause-same g c =
     let b = c.self.inside in
     let items = b.bytes.items in
     let pasted = paste items 0 (drop b.start items) (b.end - b.start) in
-    let moved = ap (λ l. slice l 0 (b.end - b.start)) {y = pasted} c.move_to_front.ensures.items ∙ slice-moved b.bytes.items b.start b.end (omega arith) (omega arith) in
+    let moved = ap (λ l. slice l 0 (b.end - b.start)) {y = pasted} c.move_to_front.ensures.items
+    ∙ slice-moved b.bytes.items b.start b.end (omega arith) (omega arith) in
     rw (← c.self.view_is) (window-same _ _ _ _ _ _ _ _ _ _ _ _ _ _
-    (moved ∙ sym (slice-join b.bytes.items b.start b.line_end b.end (omega arith) (omega arith))) (slice-none _ (b.end - b.start)) c.move_to_front.ensures.len refl)
+    (moved ∙ sym (slice-join b.bytes.items b.start b.line_end b.end (omega arith) (omega arith)))
+    (slice-none _ (b.end - b.start)) c.move_to_front.ensures.len refl)

@@ -2,7 +2,8 @@ use Rattle.std.proofs.Common.{◌+◌, ◌-◌, ◌<◌, ◌≤◌, ℕ, length,
 use Rattle.grep_lines.specs.Positions.{slice}
 use Rattle.grep_line_buffer.specs.BufferStates.{Lacks}
 use Rattle.grep_line_buffer.proofs.SliceLemmas.{length-slice}
-use Rattle.grep_line_buffer.proofs.BufferStateLemmas.{last_read, length-last_read, drop-last_read, held-same, EndsWith-shown, Lacks-rest}
+use Rattle.grep_line_buffer.proofs.BufferStateLemmas.{last_read, length-last_read, drop-last_read, held-same}
+use Rattle.grep_line_buffer.proofs.BufferStateLemmas.{EndsWith-shown, Lacks-rest}
 use Rattle.grep_line_buffer.proofs.line_buffer.LineBuffer.show_lines.Goals as goal
 
 pub returns-then-length-eq0 : goal.returns-then-length-eq0
@@ -17,9 +18,13 @@ returns-then-length-eq0 g c =
     let low : b.start ≤ b.line_end = omega arith in
     let high : b.line_end ≤ b.end = omega arith in
     let within : b.end ≤ length bs = omega arith in
-    let Q : ℕ → Type 0 = λ k. Lacks b.terminator (drop k (last_read b.start b.line_end b.end n r b.terminator bs low high within read)) in
-    let none = subst Q c.if-length-eq0.true (rw c.deref.ensures.value at c.lines_length-length.ensures.none) in
-    (refl, rw (← c.self.view_is, rest, drop-last_read b.start b.line_end b.end n r b.terminator bs low high within read) none)
+    let Q : ℕ → Type 0 = λ k. Lacks b.terminator (drop k
+    (last_read b.start b.line_end b.end n r b.terminator bs low high within read)) in
+    let none = subst Q c.if-length-eq0.true (rw c.deref.ensures.value at c.lines_length-length.ensures.none) in (
+      refl,
+      rw (← c.self.view_is, rest, drop-last_read b.start b.line_end b.end n r b.terminator bs low high within read)
+          none,
+    )
 
 pub returns : goal.returns
 returns g c =

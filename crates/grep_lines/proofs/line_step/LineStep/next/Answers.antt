@@ -9,10 +9,12 @@ returns-then-self-clause-last c =
 
 pub returns-clause-first : goal.returns-clause-first
 returns-clause-first c =
-    rw (← c.self.view_is) (slice-first _ c.args.bytes.now c.self.inside.start c.self.inside.end c.first_line_length.result
+    rw (← c.self.view_is) (slice-first _ c.args.bytes.now c.self.inside.start c.self.inside.end
+    c.first_line_length.result
     c.first_line_length.ensures)
 
 pub returns-clause-listed : goal.returns-clause-listed
 returns-clause-listed c =
     rw (← c.self.view_is) (λ i all here.
-    IsLine-slice _ c.args.bytes.now c.self.inside.start c.self.inside.end c.first_line_length.result i all c.first_line_length.ensures here)
+    IsLine-slice _ c.args.bytes.now c.self.inside.start c.self.inside.end c.first_line_length.result i all
+    c.first_line_length.ensures here)

@@ -5,7 +5,8 @@ use Rattle.grep_matcher.proofs.literal.LiteralMatcherMatcher.find.Goals as goal
 pub returns-in-Some-clause-value : goal.returns-in-Some-clause-value
 returns-in-Some-clause-value c =
     let size : length c.needle.result.now ≡ length c.args.self.now = cc in
-    rw (c.new.ensures, size) (match-found c.args.haystack.now c.args.self.now c.in-Some.start (rw c.self.view_is at c.in-Some.ensures))
+    rw (c.new.ensures, size) (match-found c.args.haystack.now c.args.self.now c.in-Some.start
+    (rw c.self.view_is at c.in-Some.ensures))
 
 pub returns-in-Some-clause-avoids : goal.returns-in-Some-clause-avoids
 returns-in-Some-clause-avoids c =

@@ -6,4 +6,5 @@ use Rattle.grep_regex.proofs.engine.Engine.is_match.Goals as goal
 pub returns-clause-value : goal.returns-clause-value
 returns-clause-value c = c.is_match.ensures.found
     ∙ (sym (is_some-map span _)
-    ∙ ap is_some (engine-finds _ c.args.self.now.regex.now c.args.haystack.now c.args.self.now.same (λ k. (c.type_inv.haystack k).fits)))
+    ∙ ap is_some (engine-finds _ c.args.self.now.regex.now c.args.haystack.now c.args.self.now.same
+    (λ k. (c.type_inv.haystack k).fits)))

@@ -15,4 +15,5 @@ returns-in-None-clause-trusted c = trusted-none (matcher_regex c.args.self.now) 
 pub returns-in-Some-clause-trusted : goal.returns-in-Some-clause-trusted
 returns-in-Some-clause-trusted c = trusted-some (matcher_regex c.args.self.now) (λ _. Unit {0}) c.args.haystack.now
     (c.is_local.ensures.terminator c.if-not-is_local.false) (c.is_local.ensures.local c.if-not-is_local.false)
-    (λ k. (c.type_inv.haystack k).fits) c.in-Some.start c.in-Some.field-0-1 (sym c.in_ok-start.ensures.value ∙ c.in-Some.is)
+    (λ k. (c.type_inv.haystack k).fits) c.in-Some.start c.in-Some.field-0-1
+    (sym c.in_ok-start.ensures.value ∙ c.in-Some.is)

@@ -8,11 +8,15 @@ use Rattle.grep_regex.proofs.regex.Regex.new.Goals as goal
 
 pub invariant_of-result : goal.invariant_of-result
 invariant_of-result c = record {
-  finds = ∣ subst (λ texts. FindsAs c.args.options texts (meaning c.in_ok-program.program.hir)) (sym c.in_ok-patterns.ensures)
-      (subst (λ h. FindsAs c.args.options (map (λ p. p.now) c.args.patterns.now) (meaning h)) (sym c.in_ok-program.ensures.ok)
-      (finds-as c.args.options (map (λ p. p.now) c.args.patterns.now) (meaning c.in_ok-hir.field-0.hir) (meaning c.in_ok-whole.whole) (meaning c.in_ok-stripped.stripped)
+  finds = ∣ subst (λ texts. FindsAs c.args.options texts (meaning c.in_ok-program.program.hir))
+      (sym c.in_ok-patterns.ensures)
+      (subst (λ h. FindsAs c.args.options (map (λ p. p.now) c.args.patterns.now) (meaning h))
+      (sym c.in_ok-program.ensures.ok)
+      (finds-as c.args.options (map (λ p. p.now) c.args.patterns.now) (meaning c.in_ok-hir.field-0.hir)
+      (meaning c.in_ok-whole.whole) (meaning c.in_ok-stripped.stripped)
       c.in_ok-hir.ensures.ok c.in_ok-whole.ensures
-      (subst (λ bytes. IsStripped bytes (meaning c.in_ok-whole.whole) (meaning c.in_ok-stripped.stripped)) c.excluded_bytes.ensures
+      (subst (λ bytes. IsStripped bytes (meaning c.in_ok-whole.whole) (meaning c.in_ok-stripped.stripped))
+      c.excluded_bytes.ensures
       c.in_ok-stripped.ensures.ok))) ∣₁;
   by_line = ∣ (λ yes. (
     c.is_by_line-local.ensures.terminator yes,

@@ -9,7 +9,8 @@ use Rattle.grep_searcher.proofs.searcher.Searcher.search_file.Goals as goal
 pub returns-clause-in_order : goal.returns-clause-in_order
 returns-clause-in_order g c = λ allowed.
     let errors = errors_by g.S.Error.SinkError.is_message g.S.Error.SinkError.is_io g.S.Error.SinkError.is_config in
-    let facts = facts_by g.M.Matcher.meaning g.M.Matcher.fails g.M.Matcher.is_lawful g.M.Error.Display.output c.args.matcher in
+    let facts = facts_by g.M.Matcher.meaning g.M.Matcher.fails g.M.Matcher.is_lawful g.M.Error.Display.output
+    c.args.matcher in
     order-each g.S.Sink.step c.args.self.now.settings errors facts _ _
     (IsReadingError-seen (λ (reader : Opened g.row.F.Denot). reader.file.now) (λ reader. reader.file.ghost_name)
     g.F.Read.remaining _ (IsFileRead g.F.Read.remaining) (λ s result t read. read)
@@ -41,7 +42,8 @@ returns-clause-succeeds g c = λ never_fails infallible lawful allowed.
       unread.1,
       IsUnread-seen (λ (reader : Opened g.row.F.Denot). reader.file.now) (λ reader. reader.file.ghost_name)
           g.F.Read.remaining _ (IsFileRead g.F.Read.remaining) (λ s result t read. read)
-          c.args.self.now _ c.search_reader.new.reader c.file-1.given.0 c.file-1.given.1 (g.M.Matcher.meaning c.args.matcher)
+          c.args.self.now _ c.search_reader.new.reader c.file-1.given.0 c.file-1.given.1
+          (g.M.Matcher.meaning c.args.matcher)
           unread.0 unread.1 unread.2,
       unread.3,
     )) (c.search_reader.ensures.succeeds never_fails infallible lawful allowed)

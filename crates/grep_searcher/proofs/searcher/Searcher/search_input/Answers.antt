@@ -75,15 +75,18 @@ returns-then-is_searched_unchanged-clause-searched g c = λ lawful.
 pub returns-then-is_searched_unchanged-clause-in_order : goal.returns-then-is_searched_unchanged-clause-in_order
 returns-then-is_searched_unchanged-clause-in_order g c =
     let errors = errors_by g.S.Error.SinkError.is_message g.S.Error.SinkError.is_io g.S.Error.SinkError.is_config in
-    let facts = facts_by g.M.Matcher.meaning g.M.Matcher.fails g.M.Matcher.is_lawful g.M.Error.Display.output c.args.matcher.now in
+    let facts = facts_by g.M.Matcher.meaning g.M.Matcher.fails g.M.Matcher.is_lawful g.M.Error.Display.output
+    c.args.matcher.now in
     let here = rw (sym c.search.ensures.configured.same) at c.search_bytes.ensures.in_order in
-    order-each g.S.Sink.step c.args.self.now.settings errors facts (λ _. ⊥) _ (λ error never. absurd never) c.args.sink.now
+    order-each g.S.Sink.step c.args.self.now.settings errors facts (λ _. ⊥) _ (λ error never. absurd never)
+    c.args.sink.now
     c.search_bytes.result c.search_bytes.new.sink here
 
 pub returns-clause-in_order : goal.returns-clause-in_order
 returns-clause-in_order g c =
     let errors = errors_by g.S.Error.SinkError.is_message g.S.Error.SinkError.is_io g.S.Error.SinkError.is_config in
-    let facts = facts_by g.M.Matcher.meaning g.M.Matcher.fails g.M.Matcher.is_lawful g.M.Error.Display.output c.args.matcher.now in
+    let facts = facts_by g.M.Matcher.meaning g.M.Matcher.fails g.M.Matcher.is_lawful g.M.Error.Display.output
+    c.args.matcher.now in
     let changed =
     rw (settings_is c.self.view_is) at (sym c.is_searched_unchanged.ensures ∙ c.if-is_searched_unchanged.false) in
     order-each g.S.Sink.step c.args.self.now.settings errors facts _ _
@@ -93,11 +96,15 @@ returns-clause-in_order g c =
 pub returns-clause-decoded : goal.returns-clause-decoded
 returns-clause-decoded g c = λ _ allowed.
     let errors = errors_by g.S.Error.SinkError.is_message g.S.Error.SinkError.is_io g.S.Error.SinkError.is_config in
-    let facts = facts_by g.M.Matcher.meaning g.M.Matcher.fails g.M.Matcher.is_lawful g.M.Error.Display.output c.args.matcher.now in (
+    let facts = facts_by g.M.Matcher.meaning g.M.Matcher.fails g.M.Matcher.is_lawful g.M.Error.Display.output
+    c.args.matcher.now in (
       c.search_source.new.reader.now,
-      IsReaderSearched-seen (λ (slice : Bor (List ℕ)). slice.now) (λ slice. tt) (λ all. Some all) _ IsSliceRead slice-read
-          c.args.self.now _ c.search_source.new.reader c.search_source.new.reader.now (λ same. refl) g.S.Sink.step errors facts
+      IsReaderSearched-seen (λ (slice : Bor (List ℕ)). slice.now) (λ slice. tt) (λ all. Some all) _ IsSliceRead
+          slice-read
+          c.args.self.now _ c.search_source.new.reader c.search_source.new.reader.now (λ same. refl) g.S.Sink.step
+          errors facts
           c.args.sink.now c.search_source.result c.search_source.new.sink
-          (reader-searched g.S.Sink.step errors facts _ _ c.args.self.now allowed _ c.args.sink.now c.search_source.result
+          (reader-searched g.S.Sink.step errors facts _ _ c.args.self.now allowed _ c.args.sink.now
+          c.search_source.result
           c.search_source.new.reader c.search_source.new.sink c.search_source.ensures.searched),
     )

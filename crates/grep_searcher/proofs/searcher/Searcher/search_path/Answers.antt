@@ -8,7 +8,8 @@ use Rattle.grep_searcher.proofs.searcher.Searcher.search_path.Goals as goal
 pub returns-in-Ok-clause-in_order : goal.returns-in-Ok-clause-in_order
 returns-in-Ok-clause-in_order g c = λ allowed.
     let errors = errors_by g.S.Error.SinkError.is_message g.S.Error.SinkError.is_io g.S.Error.SinkError.is_config in
-    let facts = facts_by g.M.Matcher.meaning g.M.Matcher.fails g.M.Matcher.is_lawful g.M.Error.Display.output c.args.matcher in
+    let facts = facts_by g.M.Matcher.meaning g.M.Matcher.fails g.M.Matcher.is_lawful g.M.Error.Display.output
+    c.args.matcher in
     order-each g.S.Sink.step c.args.self.now.settings errors facts _ _ (λ error cause. tt)
     c.args.sink.now c.search_file.result c.search_file.new.sink (c.search_file.ensures.in_order allowed)
 

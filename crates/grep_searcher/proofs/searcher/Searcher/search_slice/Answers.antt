@@ -13,7 +13,8 @@ returns-in-Some-clause-decoded g c = λ decoded.
 pub returns-clause-searched : goal.returns-clause-searched
 returns-clause-searched g c =
     let errors = errors_by g.S.Error.SinkError.is_message g.S.Error.SinkError.is_io g.S.Error.SinkError.is_config in
-    let facts = facts_by g.M.Matcher.meaning g.M.Matcher.fails g.M.Matcher.is_lawful g.M.Error.Display.output c.args.matcher in
+    let facts = facts_by g.M.Matcher.meaning g.M.Matcher.fails g.M.Matcher.is_lawful g.M.Error.Display.output
+    c.args.matcher in
     input-allowed g.S.Sink.step errors facts c.args.self.now c.args.bytes.now
     (rw (settings_is c.self.view_is) at (sym c.refusal.ensures ∙ c.in-None.is)) c.args.sink.now c.search_input.result
     c.search_input.new.sink c.search_input.ensures.searched
@@ -21,7 +22,9 @@ returns-clause-searched g c =
 pub returns-clause-planned : goal.returns-clause-planned
 returns-clause-planned g c = λ unchanged.
     let errors = errors_by g.S.Error.SinkError.is_message g.S.Error.SinkError.is_io g.S.Error.SinkError.is_config in
-    let facts = facts_by g.M.Matcher.meaning g.M.Matcher.fails g.M.Matcher.is_lawful g.M.Error.Display.output c.args.matcher in
+    let facts = facts_by g.M.Matcher.meaning g.M.Matcher.fails g.M.Matcher.is_lawful g.M.Error.Display.output
+    c.args.matcher in
     slice-allowed g.S.Sink.step errors facts c.unchanged_is_searched.ensures.input c.args.self.now c.args.bytes.now
-    (rw (settings_is c.self.view_is) at (sym c.refusal.ensures ∙ c.in-None.is)) unchanged c.args.sink.now c.search_input.result
+    (rw (settings_is c.self.view_is) at (sym c.refusal.ensures ∙ c.in-None.is)) unchanged c.args.sink.now
+    c.search_input.result
     c.search_input.new.sink c.search_input.ensures.searched

@@ -22,7 +22,8 @@ returns-in-Err-clause-searched g c = λ lawful.
       text_of = g.M.Error.Display.output;
     }
     in
-    fault-buffers g.S.Sink.step errors facts g.R.Source.remaining g.R.Source.step c.args.self.now c.args.reader.now c.args.sink.now
+    fault-buffers g.S.Sink.step errors facts g.R.Source.remaining g.R.Source.step c.args.self.now c.args.reader.now
+    c.args.sink.now
     c.in-Err.error c.error_io.result c.in-Err.ensures.none c.in-Err.ensures.memory c.error_io.ensures
 
 pub returns-in-Err-clause-succeeds : goal.returns-in-Err-clause-succeeds
@@ -44,10 +45,13 @@ returns-clause-searched g c = λ lawful.
     }
     in
     let same = sym c.search-search.ensures.configured.same ∙ c.in-Ok.ensures.settings in
-    searched-same g.S.Sink.step errors facts g.R.Source.remaining g.R.Source.step c.search-search.result.config c.args.self.now
-    c.args.reader.now c.args.sink.now c.search_reader-result.result c.search_reader-result.new.reader c.search_reader-result.new.sink
+    searched-same g.S.Sink.step errors facts g.R.Source.remaining g.R.Source.step c.search-search.result.config
+    c.args.self.now
+    c.args.reader.now c.args.sink.now c.search_reader-result.result c.search_reader-result.new.reader
+    c.search_reader-result.new.sink
     same
-    (c.search_reader-result.ensures.searched (subst (λ k. IsLawfulFor k facts.meaning facts.is_lawful) (sym same) lawful))
+    (c.search_reader-result.ensures.searched (subst (λ k. IsLawfulFor k facts.meaning facts.is_lawful) (sym same)
+    lawful))
 
 pub returns-clause-succeeds : goal.returns-clause-succeeds
 returns-clause-succeeds g c = λ never infallible lawful.
@@ -64,7 +68,8 @@ returns-clause-succeeds g c = λ never infallible lawful.
     }
     in
     let same = sym c.search-search.ensures.configured.same ∙ c.in-Ok.ensures.settings in
-    unread-same g.S.Sink.step errors facts g.R.Source.remaining g.R.Source.step c.search-search.result.config c.args.self.now
+    unread-same g.S.Sink.step errors facts g.R.Source.remaining g.R.Source.step c.search-search.result.config
+    c.args.self.now
     c.args.reader.now c.search_reader-result.result c.search_reader-result.new.reader same
     (c.search_reader-result.ensures.succeeds never infallible
     (subst (λ k. IsLawfulFor k facts.meaning facts.is_lawful) (sym same) lawful))
@@ -76,8 +81,10 @@ returns-in-Err-clause-in_order g c =
 pub returns-clause-in_order : goal.returns-clause-in_order
 returns-clause-in_order g c =
     let errors = errors_by g.S.Error.SinkError.is_message g.S.Error.SinkError.is_io g.S.Error.SinkError.is_config in
-    let facts = facts_by g.M.Matcher.meaning g.M.Matcher.fails g.M.Matcher.is_lawful g.M.Error.Display.output c.args.matcher.now in
+    let facts = facts_by g.M.Matcher.meaning g.M.Matcher.fails g.M.Matcher.is_lawful g.M.Error.Display.output
+    c.args.matcher.now in
     let same = sym c.search-search.ensures.configured.same ∙ c.in-Ok.ensures.settings in
     subst (λ k. RunsInOrder g.S.Sink.step k errors facts
     (IsReadingError g.R.Source.remaining g.R.Source.step c.args.reader.now c.search_reader-result.new.reader)
-    c.args.sink.now c.search_reader-result.result c.search_reader-result.new.sink) same c.search_reader-result.ensures.in_order
+    c.args.sink.now c.search_reader-result.result c.search_reader-result.new.sink) same
+    c.search_reader-result.ensures.in_order

@@ -15,12 +15,15 @@ pub returns-then-is_confirmed-clause-known : goal.returns-then-is_confirmed-clau
 returns-then-is_confirmed-clause-known c = λ meaning i here lawful.
     let settings = c.args.self.now in
     let rest = drop c.args.start c.args.window.now in
-    let located : IsLocated (byte_of settings.line_terminator) rest (position_of c.in-Some.found) c.line_of-line.result =
+    let located : IsLocated (byte_of settings.line_terminator) rest (position_of c.in-Some.found) c.line_of-line.result
+    =
     IsLocated-empty (byte_of settings.line_terminator) c.as_byte-terminator.result (position_of c.in-Some.found) rest _
     (position_of c.in-Some.found, position_of c.in-Some.found) c.line_of-line.result
     (c.as_byte-terminator.ensures ∙ ap (λ (s : Settings). byte_of s.line_terminator) c.self.view_is)
-    (take_all (length c.args.window.now - c.args.start) rest (omega (arith, length-drop c.args.start c.args.window.now)))
-    refl (rw c.position.ensures at c.line_of-line.ensures.value) (rw c.position.ensures at c.line_of-line.ensures.starts)
+    (take_all (length c.args.window.now - c.args.start) rest
+    (omega (arith, length-drop c.args.start c.args.window.now)))
+    refl (rw c.position.ensures at c.line_of-line.ensures.value)
+    (rw c.position.ensures at c.line_of-line.ensures.starts)
     (rw c.position.ensures at c.line_of-line.ensures.ends) in
     known-confirmed settings meaning c.args.window.now c.args.start i here c.in-Some.found
     (subst (IsLawfulResult settings.line_terminator meaning rest) c.in-Some.is lawful) c.line_of-line.result located
@@ -32,12 +35,15 @@ pub returns-else-is_confirmed-clause-known : goal.returns-else-is_confirmed-clau
 returns-else-is_confirmed-clause-known c = λ meaning i here lawful.
     let settings = c.args.self.now in
     let rest = drop c.args.start c.args.window.now in
-    let located : IsLocated (byte_of settings.line_terminator) rest (position_of c.in-Some.found) c.line_of-line.result =
+    let located : IsLocated (byte_of settings.line_terminator) rest (position_of c.in-Some.found) c.line_of-line.result
+    =
     IsLocated-empty (byte_of settings.line_terminator) c.as_byte-terminator.result (position_of c.in-Some.found) rest _
     (position_of c.in-Some.found, position_of c.in-Some.found) c.line_of-line.result
     (c.as_byte-terminator.ensures ∙ ap (λ (s : Settings). byte_of s.line_terminator) c.self.view_is)
-    (take_all (length c.args.window.now - c.args.start) rest (omega (arith, length-drop c.args.start c.args.window.now)))
-    refl (rw c.position.ensures at c.line_of-line.ensures.value) (rw c.position.ensures at c.line_of-line.ensures.starts)
+    (take_all (length c.args.window.now - c.args.start) rest
+    (omega (arith, length-drop c.args.start c.args.window.now)))
+    refl (rw c.position.ensures at c.line_of-line.ensures.value)
+    (rw c.position.ensures at c.line_of-line.ensures.starts)
     (rw c.position.ensures at c.line_of-line.ensures.ends) in
     known-candidate settings meaning c.args.window.now c.args.start i here c.in-Some.found
     (subst (IsLawfulResult settings.line_terminator meaning rest) c.in-Some.is lawful) c.line_of-line.result located

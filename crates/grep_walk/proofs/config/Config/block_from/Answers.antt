@@ -14,9 +14,11 @@ returns c =
     let part = c.new-part.result in
     let size = length-drop low c.args.bytes.now in
     let whole : shown ≡ rest = take_all (length c.args.bytes.now - low) rest (omega (arith, size)) in
-    let terminator : c.as_byte.result ≡ t = c.as_byte.ensures ∙ ap (λ (s : Settings). byte_of s.line_terminator) c.self.view_is in
+    let terminator : c.as_byte.result ≡ t = c.as_byte.ensures
+    ∙ ap (λ (s : Settings). byte_of s.line_terminator) c.self.view_is in
     let part_is : part ≡ (found.0 - low, found.1 - low) = c.new-part.ensures
-    ∙ ap₂ (λ x y. (x, y)) (c.saturating_sub.ensures ∙ ap (λ x. x - low) c.start.ensures.value) (ap (λ x. x - low) c.end.ensures.value) in
+    ∙ ap₂ (λ x y. (x, y)) (c.saturating_sub.ensures ∙ ap (λ x. x - low) c.start.ensures.value)
+    (ap (λ x. x - low) c.end.ensures.value) in
     let from_start : part.0 ≡ found.0 - low = ap (λ x. x.0) part_is in
     let from_end : part.1 ≡ found.1 - low = ap (λ x. x.1) part_is in
     let start : block_start c.as_byte.result shown part ≡ block_start t rest (found.0 - low, found.1 - low) =

@@ -12,7 +12,8 @@ returns-in_err-found-clause-fault g c =
     let settings = c.args.self.now in
     let meaning = g.M.Matcher.meaning c.args.matcher.now in
     let bytes = c.args.bytes.now in
-    let fault = c.in_err-found.ensures.fault [] (none_found settings meaning bytes c.match_limit.result c.match_limit.ensures) in
+    let fault = c.in_err-found.ensures.fault [] (none_found settings meaning bytes c.match_limit.result
+    c.match_limit.ensures) in
     rw (p.1, p.2) (fault.0, asked-first settings meaning bytes fault.0 fault.1, fault.2)
 
 pub returns-in_default-clause-left : goal.returns-in_default-clause-left

@@ -1,4 +1,5 @@
-use Rattle.std.proofs.Common.{◌≡◌, ◌∙◌, ◌-◌, ℕ, List, Some, None, length, drop, sym, subst, arith, take, take_all, length-drop}
+use Rattle.std.proofs.Common.{◌≡◌, ◌∙◌, ◌-◌, ℕ, List, Some, None, length, drop, sym, subst, arith, take, take_all}
+use Rattle.std.proofs.Common.{length-drop}
 use Rattle.grep_matcher.specs.Matching.{IsWithin}
 use Rattle.grep_definitions.proofs.SuccessiveMatchLemmas.{matches_left-end, matches_left-full}
 use Rattle.grep_walk.proofs.FoundMatchLemmas.{no-more, no-more-missed, found-next, asked-next}
@@ -39,7 +40,8 @@ returns-clause-some g c =
     let whole = rest-is bytes b.position in
     let some : meaning.first (take (length bytes - b.position) (drop b.position bytes)) ≡ Some c.in-Some.found =
     sym c.in-Ok.ensures.value ∙ c.in-Some.is in
-    let inside = subst (IsWithin (take (length bytes - b.position) (drop b.position bytes))) c.in-Some.is c.in-Ok.ensures.within in
+    let inside = subst (IsWithin (take (length bytes - b.position) (drop b.position bytes))) c.in-Some.is
+    c.in-Ok.ensures.within in
     found-next c.args.self.now meaning bytes b c.in-Some.found
     c.offset-found.result c.position_after-blocks.result c.one_less-blocks.result
     (omega (arith, c.if-blocks-bytes.false)) (sym c.has_room.ensures ∙ c.if-not-has_room.false)
@@ -55,5 +57,6 @@ returns-in-Err-clause-fault g c = λ asked so_far.
       drop b.position bytes,
       asked-next c.args.self.now meaning bytes b.position b.left asked so_far
           (omega (arith, c.if-blocks-bytes.false)) (sym c.has_room.ensures ∙ c.if-not-has_room.false),
-      subst (λ rest. g.M.Matcher.fails c.args.matcher.now rest c.in-Err.error) (rest-is bytes b.position) c.in-Err.ensures.error,
+      subst (λ rest. g.M.Matcher.fails c.args.matcher.now rest c.in-Err.error) (rest-is bytes b.position)
+          c.in-Err.ensures.error,
     )

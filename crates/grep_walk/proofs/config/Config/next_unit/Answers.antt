@@ -6,7 +6,8 @@ use Rattle.grep_walk.proofs.UnitStepLemmas.{reached-inside, reached-joined}
 use Rattle.grep_walk.proofs.config.Config.next_unit.Goals as goal
 
 pub returns-in_default-clause-unit : goal.returns-in_default-clause-unit
-returns-in_default-clause-unit g c = rw c.zero.ensures (unit-last _ _ _ _ c.requires (sym c.take.ensures.value ∙ c.in_default.is))
+returns-in_default-clause-unit g c = rw c.zero.ensures
+    (unit-last _ _ _ _ c.requires (sym c.take.ensures.value ∙ c.in_default.is))
 
 pub returns-in_default-clause-left : goal.returns-in_default-clause-left
 returns-in_default-clause-left g c =
@@ -20,7 +21,8 @@ returns-in_err-found-clause-fault g c =
     rw (p.1, p.2) (λ i at. (
       fault.0,
       asked-unit c.args.self.now (g.M.Matcher.meaning c.args.matcher.now) c.args.bytes.now c.args.blocks.now.end
-          c.matches.blocks.position reached.asked c.matches.unit reached.touched c.in_err-found.ensures.inside i at fault.0 fault.1,
+          c.matches.blocks.position reached.asked c.matches.unit reached.touched c.in_err-found.ensures.inside i at
+          fault.0 fault.1,
       fault.2,
     ))
 
@@ -29,7 +31,8 @@ matches-preserved-then-is_passed g c =
     let found = rw c.in-Some-2.is at c.in_ok-found.ensures.some in
     let inside = rw c.end.ensures.value at (c.is_passed.ensures.yes c.if-is_passed.true) in
     record {
-      reached = reached-inside _ _ _ _ _ c.next_match.new.blocks _ c.matches.invariant.reached c.next_match.ensures.next _ found
+      reached = reached-inside _ _ _ _ _ c.next_match.new.blocks _ c.matches.invariant.reached c.next_match.ensures.next
+          _ found
           inside.0 inside.1;
     }
 
@@ -38,7 +41,8 @@ returns-then-end-start-clause-unit g c =
     let found = rw c.in-Some-2.is at c.in_ok-found.ensures.some in
     let over = rw c.end.ensures.value at (c.is_passed.ensures.not_yet c.if-is_passed.false) in
     let part = rw c.end-in-Some-2.ensures.value at c.block_from-block.ensures in
-    unit-apart _ _ _ _ _ c.next_match.new.blocks _ c.matches.invariant.reached c.next_match.ensures.next _ found _ over part
+    unit-apart _ _ _ _ _ c.next_match.new.blocks _ c.matches.invariant.reached c.next_match.ensures.next _ found _ over
+    part
     (omega (arith, c.if-end-start.true, c.end-in-Some-2-2.ensures.value, c.start.ensures.value))
 
 pub returns-then-end-start-clause-left : goal.returns-then-end-start-clause-left
@@ -46,7 +50,8 @@ returns-then-end-start-clause-left g c =
     let found = rw c.in-Some-2.is at c.in_ok-found.ensures.some in
     let over = rw c.end.ensures.value at (c.is_passed.ensures.not_yet c.if-is_passed.false) in
     let part = rw c.end-in-Some-2.ensures.value at c.block_from-block.ensures in
-    rw c.end-blocks.ensures.value (left-apart _ _ _ _ _ c.next_match.new.blocks _ c.matches.invariant.reached c.next_match.ensures.next
+    rw c.end-blocks.ensures.value (left-apart _ _ _ _ _ c.next_match.new.blocks _ c.matches.invariant.reached
+    c.next_match.ensures.next
     _ found _ over part (omega (arith, c.if-end-start.true, c.end-in-Some-2-2.ensures.value, c.start.ensures.value)))
 
 pub matches-preserved : goal.matches-preserved
@@ -54,7 +59,8 @@ matches-preserved g c =
     let found = rw c.in-Some-2.is at c.in_ok-found.ensures.some in
     let over = rw c.end.ensures.value at (c.is_passed.ensures.not_yet c.if-is_passed.false) in
     let part = rw c.end-in-Some-2.ensures.value at c.block_from-block.ensures in
-    let joined = reached-joined _ _ _ _ _ c.next_match.new.blocks _ c.matches.invariant.reached c.next_match.ensures.next _ found _
+    let joined = reached-joined _ _ _ _ _ c.next_match.new.blocks _ c.matches.invariant.reached
+    c.next_match.ensures.next _ found _
     over part (omega (arith, c.if-end-start.false, c.end-in-Some-2-2.ensures.value, c.start.ensures.value)) in
     record { reached = rw (c.with_end-unit.ensures, c.end-in-Some-2-3.ensures.value) joined }
 

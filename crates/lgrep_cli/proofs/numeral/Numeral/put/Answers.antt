@@ -21,6 +21,7 @@ returns-clause-text c =
     ap (take c.self.inside.len) c.copy_from_slice.ensures.after ∙ (c.self.invariant.1 ∙ ap decimal same) in
     c.put_pair.ensures
     ∙ (ap (λ zs. zs ++ (pair (c.args.number % 100) ++ c.args.mark ∷ []))
-    (take-copied c.args.at c.self.inside.len (c.args.at + 18 - c.args.at) c.args.text.now c.copy_from_slice.new.self (omega arith) within
+    (take-copied c.args.at c.self.inside.len (c.args.at + 18 - c.args.at) c.args.text.now c.copy_from_slice.new.self
+    (omega arith) within
     ∙ ap (λ zs. take c.args.at c.args.text.now ++ zs) digits)
     ∙ marked (take c.args.at c.args.text.now) c.args.number c.args.mark (omega arith) c.ranges.number.fits)

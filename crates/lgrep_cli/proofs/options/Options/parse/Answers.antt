@@ -12,23 +12,31 @@ loop-argument-init c = rw c.iter-later.ensures.rest
 
 pub loop-argument-preserved-then-str_eq : goal.loop-argument-preserved-then-str_eq
 loop-argument-preserved-then-str_eq c =
-    command.invert-read c.args.arguments.now c.loop-argument.later.rest.now c.next.new.self.rest.now c.in-Some.argument.now
-    c.loop-argument.options c.in-Some.ensures.steps (sym c.as_str.ensures.value ∙ c.in-text.is) c.loop-argument.invariant
+    command.invert-read c.args.arguments.now c.loop-argument.later.rest.now c.next.new.self.rest.now
+    c.in-Some.argument.now
+    c.loop-argument.options c.in-Some.ensures.steps (sym c.as_str.ensures.value ∙ c.in-text.is)
+    c.loop-argument.invariant
 
 pub loop-argument-preserved-then-str_eq-2 : goal.loop-argument-preserved-then-str_eq-2
 loop-argument-preserved-then-str_eq-2 c =
-    command.multi_line-read c.args.arguments.now c.loop-argument.later.rest.now c.next.new.self.rest.now c.in-Some.argument.now
-    c.loop-argument.options c.in-Some.ensures.steps (sym c.as_str.ensures.value ∙ c.in-text-2.is) c.loop-argument.invariant
+    command.multi_line-read c.args.arguments.now c.loop-argument.later.rest.now c.next.new.self.rest.now
+    c.in-Some.argument.now
+    c.loop-argument.options c.in-Some.ensures.steps (sym c.as_str.ensures.value ∙ c.in-text-2.is)
+    c.loop-argument.invariant
 
 pub loop-argument-preserved-then-str_eq-3 : goal.loop-argument-preserved-then-str_eq-3
 loop-argument-preserved-then-str_eq-3 c =
-    command.passthru-read c.args.arguments.now c.loop-argument.later.rest.now c.next.new.self.rest.now c.in-Some.argument.now
-    c.loop-argument.options c.in-Some.ensures.steps (sym c.as_str.ensures.value ∙ c.in-text-3.is) c.loop-argument.invariant
+    command.passthru-read c.args.arguments.now c.loop-argument.later.rest.now c.next.new.self.rest.now
+    c.in-Some.argument.now
+    c.loop-argument.options c.in-Some.ensures.steps (sym c.as_str.ensures.value ∙ c.in-text-3.is)
+    c.loop-argument.invariant
 
 pub loop-argument-preserved-then-str_eq-4 : goal.loop-argument-preserved-then-str_eq-4
 loop-argument-preserved-then-str_eq-4 c =
-    command.count-read c.args.arguments.now c.loop-argument.later.rest.now c.next.new.self.rest.now c.in-Some.argument.now
-    c.loop-argument.options c.in-Some.ensures.steps (sym c.as_str.ensures.value ∙ c.in-text-4.is) c.loop-argument.invariant
+    command.count-read c.args.arguments.now c.loop-argument.later.rest.now c.next.new.self.rest.now
+    c.in-Some.argument.now
+    c.loop-argument.options c.in-Some.ensures.steps (sym c.as_str.ensures.value ∙ c.in-text-4.is)
+    c.loop-argument.invariant
 
 pub loop-argument-preserved-then-str_eq-5 : goal.loop-argument-preserved-then-str_eq-5
 loop-argument-preserved-then-str_eq-5 c =
@@ -42,14 +50,16 @@ loop-argument-preserved-then-str_eq-6 c =
     command.before-read c.args.arguments.now c.loop-argument.later.rest.now c.in-Some.argument.now c.next.new.self
     c.next-in-text-6.new.self c.next-in-text-6.result c.loop-argument.options c.in_ok-options-in-text-6.field-0
     c.in-Some.ensures.steps (sym c.as_str.ensures.value ∙ c.in-text-6.is)
-    c.next-in-text-6.ensures.steps (sym c.number_in-in-text-6.ensures ∙ c.in_ok-options-in-text-6.was) c.loop-argument.invariant
+    c.next-in-text-6.ensures.steps (sym c.number_in-in-text-6.ensures ∙ c.in_ok-options-in-text-6.was)
+    c.loop-argument.invariant
 
 pub loop-argument-preserved : goal.loop-argument-preserved
 loop-argument-preserved c =
     command.max-read c.args.arguments.now c.loop-argument.later.rest.now c.in-Some.argument.now c.next.new.self
     c.next-in-text-7.new.self c.next-in-text-7.result c.loop-argument.options c.from.result c.in-Some.ensures.steps
     (sym c.as_str.ensures.value ∙ c.in-text-7.is)
-    c.next-in-text-7.ensures.steps (sym c.number_in-in-text-7.ensures ∙ (c.in_ok-number_in-in-text-7.was ∙ ap Ok (sym c.from.ensures)))
+    c.next-in-text-7.ensures.steps (sym c.number_in-in-text-7.ensures
+    ∙ (c.in_ok-number_in-in-text-7.was ∙ ap Ok (sym c.from.ensures)))
     c.loop-argument.invariant
 
 pub returns-in_err-options-in-text-5-clause-usage : goal.returns-in_err-options-in-text-5-clause-usage
@@ -58,17 +68,20 @@ returns-in_err-options-in-text-5-clause-usage c =
     command.number-usage c.args.arguments.now c.loop-argument.later.rest.now c.in-Some.argument.now c.next.new.self
     c.next-in-text-5.new.self c.next-in-text-5.result c.loop-argument.options
     (codes "-A") with_after error.0 c.from_residual.result after-needs
-    c.in-Some.ensures.steps (sym c.as_str.ensures.value ∙ c.in-text-5.is) c.next-in-text-5.ensures.steps (sym c.number_in.ensures
+    c.in-Some.ensures.steps (sym c.as_str.ensures.value ∙ c.in-text-5.is) c.next-in-text-5.ensures.steps
+    (sym c.number_in.ensures
     ∙ (c.in_err-options-in-text-5.was ∙ ap Err (sym error.2))) error.1 c.loop-argument.invariant
 
 pub returns-in_err-options-in-text-6-clause-usage : goal.returns-in_err-options-in-text-6-clause-usage
 returns-in_err-options-in-text-6-clause-usage c =
-    let error = err_from_is_err_and c.from_residual-in_err-options-in-text-6.result c.from_residual-in_err-options-in-text-6.ensures.1 in
+    let error = err_from_is_err_and c.from_residual-in_err-options-in-text-6.result
+    c.from_residual-in_err-options-in-text-6.ensures.1 in
     command.number-usage c.args.arguments.now c.loop-argument.later.rest.now c.in-Some.argument.now c.next.new.self
     c.next-in-text-6.new.self c.next-in-text-6.result c.loop-argument.options (codes "-B") with_before error.0
     c.from_residual-in_err-options-in-text-6.result before-needs
     c.in-Some.ensures.steps (sym c.as_str.ensures.value ∙ c.in-text-6.is) c.next-in-text-6.ensures.steps
-    (sym c.number_in-in-text-6.ensures ∙ (c.in_err-options-in-text-6.was ∙ ap Err (sym error.2))) error.1 c.loop-argument.invariant
+    (sym c.number_in-in-text-6.ensures ∙ (c.in_err-options-in-text-6.was ∙ ap Err (sym error.2))) error.1
+    c.loop-argument.invariant
 
 pub returns-in_err-number_in-in-text-7-clause-usage : goal.returns-in_err-number_in-in-text-7-clause-usage
 returns-in_err-number_in-in-text-7-clause-usage c =
@@ -78,14 +91,18 @@ returns-in_err-number_in-in-text-7-clause-usage c =
     c.next-in-text-7.new.self c.next-in-text-7.result c.loop-argument.options
     (codes "-m") with_max error.0 c.from_residual-in_err-number_in-in-text-7.result max-needs
     c.in-Some.ensures.steps (sym c.as_str.ensures.value ∙ c.in-text-7.is) c.next-in-text-7.ensures.steps
-    (sym c.number_in-in-text-7.ensures ∙ (c.in_err-number_in-in-text-7.was ∙ ap Err (sym error.2))) error.1 c.loop-argument.invariant
+    (sym c.number_in-in-text-7.ensures ∙ (c.in_err-number_in-in-text-7.was ∙ ap Err (sym error.2))) error.1
+    c.loop-argument.invariant
 
 marked : (c : After-with_operands) → IsEnd c.args.arguments.now c.with_operands.result
 marked c =
     let call = c.with_operands.ensures in
-    command.marked-end c.args.arguments.now c.loop-argument.later.rest.now c.next-in-text-8.new.self.rest.now c.as_slice.result.now
-    c.in-Some.argument.now c.next.new.self.rest.now c.in-Some-next.literal c.loop-argument.options c.with_operands.result
-    c.in-Some.ensures.steps (sym c.as_str.ensures.value ∙ c.in-text-8.is) c.loop-argument.invariant c.in-Some-next.ensures.steps
+    command.marked-end c.args.arguments.now c.loop-argument.later.rest.now c.next-in-text-8.new.self.rest.now
+    c.as_slice.result.now
+    c.in-Some.argument.now c.next.new.self.rest.now c.in-Some-next.literal c.loop-argument.options
+    c.with_operands.result
+    c.in-Some.ensures.steps (sym c.as_str.ensures.value ∙ c.in-text-8.is) c.loop-argument.invariant
+    c.in-Some-next.ensures.steps
     c.as_slice.ensures.value (record { same = call.options; are = call.operands; usage = call.usage })
 
 pub returns-in-text-8-clause-options : goal.returns-in-text-8-clause-options
@@ -93,7 +110,8 @@ returns-in-text-8-clause-options c = (marked c).options
 
 pub returns-in-text-8-clause-operands : goal.returns-in-text-8-clause-operands
 returns-in-text-8-clause-operands c =
-    IfOk-weaker c.with_operands.result (AskFor c.args.arguments.now) _ (command.asked-last c.args.arguments.now) (marked c).options
+    IfOk-weaker c.with_operands.result (AskFor c.args.arguments.now) _ (command.asked-last c.args.arguments.now)
+    (marked c).options
 
 pub returns-in-text-8-clause-usage : goal.returns-in-text-8-clause-usage
 returns-in-text-8-clause-usage c = (marked c).usage
@@ -111,7 +129,8 @@ returns-in_default-as_str-clause-usage c =
       max = λ h. is.not-text-7 (c.as_str.ensures.value ∙ h);
       end = λ h. is.not-text-8 (c.as_str.ensures.value ∙ h);
     } in
-    command.dashed-usage c.args.arguments.now c.loop-argument.later.rest.now c.next.new.self.rest.now c.in-Some.argument.now
+    command.dashed-usage c.args.arguments.now c.loop-argument.later.rest.now c.next.new.self.rest.now
+    c.in-Some.argument.now
     c.loop-argument.options c.in-Some.ensures.steps
     (rw c.as_str.ensures.value at (sym c.is_dashed.ensures ∙ c.if-is_dashed.true)) otherwise c.loop-argument.invariant
 
@@ -141,12 +160,14 @@ returns-in_default-2-clause-options c = (undashed c).options
 
 pub returns-in_default-2-clause-operands : goal.returns-in_default-2-clause-operands
 returns-in_default-2-clause-operands c =
-    IfOk-weaker c.with_operands-in_default-2.result (AskFor c.args.arguments.now) _ (command.asked-last c.args.arguments.now)
+    IfOk-weaker c.with_operands-in_default-2.result (AskFor c.args.arguments.now) _
+    (command.asked-last c.args.arguments.now)
     (undashed c).options
 
 pub returns-in_default-2-clause-usage : goal.returns-in_default-2-clause-usage
 returns-in_default-2-clause-usage c = (undashed c).usage
 
 pub returns-clause-usage : goal.returns-clause-usage
-returns-clause-usage c = command.ended-usage c.args.arguments.now c.loop-argument.later c.next.new.self c.loop-argument.options
+returns-clause-usage c = command.ended-usage c.args.arguments.now c.loop-argument.later c.next.new.self
+    c.loop-argument.options
     c.loop-argument.invariant (rw c.in_default.is at c.next.ensures.steps)

@@ -16,7 +16,8 @@ returns-in_err-write_to g c =
 pub returns : goal.returns
 returns g c =
     let emptied : c.takes_line-2.new.self ≡ [] = c.if-takes_line-2.ensures ∙ c.in_ok-write_to.ensures.emptied in
-    subst (λ later. Puts g.W.Output.step c.args.writer.now c.args.self.now (numbered c.args.number c.args.mark c.args.line.now)
+    subst (λ later. Puts g.W.Output.step c.args.writer.now c.args.self.now
+    (numbered c.args.number c.args.mark c.args.line.now)
     c.write_line.result c.write_line.new.writer later) (sym emptied)
     (Puts-through g.W.Output.step c.args.writer.now c.write_to.new.writer c.write_line.new.writer c.args.self.now
     (numbered c.args.number c.args.mark c.args.line.now) c.write_line.result
