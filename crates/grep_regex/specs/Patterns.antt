@@ -15,6 +15,7 @@ use Rattle.regex_syntax.specs.Grammar.{Names, read}
 use Rattle.regex_syntax.specs.Verdict.{default_config, default_flags, escaped_text}
 use Rattle.regex_syntax.specs.declared.Config.{Config}
 use Rattle.regex_vm.specs.Found.{span}
+use Rattle.grep_matcher.specs.Matching.{Meaning}
 use Rattle.grep_matcher.specs.Terminators.{bytes_of}
 use Rattle.grep_matcher.specs.declared.line_terminator.LineTerminator.{LineTerminator}
 use Rattle.grep_matcher.specs.declared.line_terminator.LineTerminator.TheVariants.{Byte, Crlf}
@@ -95,6 +96,14 @@ excluded_bytes (Some terminator) = bytes_of terminator
 abbrev pub first_match : Options → List (List ℕ) → List ℕ → Option (ℕ × ℕ)
 first_match o patterns haystack =
     option_map span (find_clear (excluded_bytes o.line_terminator) (written_re o patterns) haystack)
+
+-- what a matcher of the patterns means
+abbrev pub meaning_of : Options → List (List ℕ) → Meaning
+meaning_of o patterns = record {
+  first = first_match o patterns;
+  terminator = o.line_terminator;
+  absent = λ byte. false;
+}
 
 -- the leftmost match of a pattern with no regard to bytes
 abbrev pub leftmost_match : Re → List ℕ → Option (ℕ × ℕ)

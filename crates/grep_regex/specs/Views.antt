@@ -1,11 +1,11 @@
 -- What contracts see of a compiled expression.
-use Rattle.std.specs.Prelude.{ℕ, false, List, Option, map, string_bytes}
+use Rattle.std.specs.Prelude.{ℕ, List, Option, map, string_bytes}
 use Rattle.regex_hir.specs.Meaning.{meaning}
 use Rattle.regex_hir.specs.Re.{Re}
 use Rattle.regex_meta.specs.declared.program.Program.{Program}
 use Rattle.regex_meta.specs.declared.searcher.Searcher.{Searcher}
 use Rattle.grep_matcher.specs.Matching.{Meaning}
-use Rattle.grep_regex.specs.Patterns.{first_match}
+use Rattle.grep_regex.specs.Patterns.{first_match, meaning_of}
 use Rattle.grep_regex.specs.declared.engine.Engine.{Engine}
 use Rattle.grep_regex.specs.declared.matcher.RegexMatcher.{RegexMatcher}
 use Rattle.grep_regex.specs.declared.options.Options.{Options}
@@ -39,11 +39,7 @@ engine_regex engine = engine.regex.now
 
 -- what the matchers of an expression mean
 abbrev pub regex_meaning : Regex → Meaning
-regex_meaning r = record {
-  first = regex_first r;
-  terminator = r.options.line_terminator;
-  absent = λ byte. false;
-}
+regex_meaning r = meaning_of r.options (map string_bytes r.patterns.items)
 
 -- the expression of a matcher
 abbrev pub matcher_regex : RegexMatcher → Regex
