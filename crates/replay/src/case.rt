@@ -1,5 +1,6 @@
 //! A case: what is searched for, in what, and how.
 use grep_matcher::LineTerminator;
+use grep_regex::RegexMatcherBuilder;
 use grep_searcher::{BinaryDetection, ConfigError, Encoding, Searcher, SearcherBuilder};
 use hex::{FromHex, FromHexError};
 use std::alloc::{AllocError, Global};
@@ -50,6 +51,8 @@ pub(crate) enum Pattern {
     AtEnd,
     /// One that fails at a haystack with `!`, and that any other matches.
     Failing,
+    /// The regular expression whose text is the literal.
+    Regex,
 }
 
 impl FromStr for Pattern {
@@ -64,6 +67,7 @@ impl FromStr for Pattern {
             "empty" => Ok(Pattern::Empty),
             "at_end" => Ok(Pattern::AtEnd),
             "fail" => Ok(Pattern::Failing),
+            "regex" => Ok(Pattern::Regex),
             _ => Err(CaseError::Malformed),
         }
     }
@@ -146,6 +150,10 @@ pub(crate) struct Options {
     pub(crate) fail_at: Option<u64>,
     /// The settings of the search.
     pub(crate) settings: SearcherBuilder,
+    /// The options of the regular expression.
+    pub(crate) expression: RegexMatcherBuilder,
+    // Whether it declares a line terminator.
+    ends_lines: bool,
 }
 
 /// A search that is to be made.
@@ -217,6 +225,7 @@ impl Case {
                     self.options.way.plain || self.literal.contains(&terminator)
                 }
                 Pattern::Candidates | Pattern::End => false,
+                Pattern::Regex => self.options.way.plain || !self.options.ends_lines,
                 Pattern::Either | Pattern::Empty | Pattern::AtEnd | Pattern::Failing => true,
             }
     }
@@ -296,6 +305,8 @@ impl Options {
             false_at: None,
             fail_at: None,
             settings: SearcherBuilder::new(),
+            expression: RegexMatcherBuilder::new(),
+            ends_lines: false,
         }
     }
 
@@ -315,6 +326,7 @@ impl Options {
     fn set_search(&mut self, key: &str, value: &str) -> Result<(), CaseError> {
         match key {
             "matcher" => self.choose(value)?,
+            "re" => self.express(value)?,
             "names" => self.names = Some(terminator(value)?),
             "mode" => self.way.place.mode = value.parse()?,
             "debug" => self.debug = flag(value)?,
@@ -332,9 +344,35 @@ impl Options {
         Ok(())
     }
 
+    // Sets the options of the regular expression, a letter each.
+    fn express(&mut self, letters: &str) -> Result<(), CaseError> {
+        for letter in letters.chars() {
+            express(&mut self.expression, letter)?;
+        }
+        self.ends_lines = letters.contains('n') || letters.contains('r');
+        Ok(())
+    }
+
     fn encode(&mut self, encoding: Option<Encoding>) {
         self.settings.encoding(encoding);
     }
+}
+
+// Sets the option of a letter.
+fn express(expression: &mut RegexMatcherBuilder, letter: char) -> Result<(), CaseError> {
+    match letter {
+        'i' => expression.case_insensitive(true),
+        'F' => expression.fixed_strings(true),
+        'w' => expression.word(true),
+        'x' => expression.whole_line(true),
+        'm' => expression.multi_line(true),
+        's' => expression.dot_matches_new_line(true),
+        'a' => expression.unicode(false),
+        'n' => expression.line_terminator(Some(b'\n')),
+        'r' => expression.crlf(true),
+        _ => return Err(CaseError::Malformed),
+    };
+    Ok(())
 }
 
 // Sets the searcher's setting of a field.

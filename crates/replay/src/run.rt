@@ -1,13 +1,14 @@
 //! The search of a case, and how its outcome is written.
 use crate::case::{Case, CaseError, Mode, Pattern, Place, Way};
 use grep_matcher::{LiteralMatcher, Matcher, Plain};
-use grep_searcher::{ConfigError, SearchError, Searcher};
+use grep_regex::Regex;
+use grep_searcher::{ConfigError, SearchError, Searcher, SinkError};
 use grep_testing::{
     AtEnd, CandidatesOnly, ConfirmsEnd, Either, Empty, Failing, Naming, Pieces, RECORDER_MESSAGE,
     Recorder,
 };
 use std::alloc::{AllocError, Global};
-use std::io;
+use std::{io, str};
 
 /// Runs the case of a line, and writes its calls and how it ended. A line that is no case that can
 /// be run, and a search that fails, are reported in what is written. An error is that of the write
@@ -165,6 +166,31 @@ fn search(
         Pattern::Empty => search_by(Empty, searcher, case, way, recorder),
         Pattern::AtEnd => search_by(AtEnd, searcher, case, way, recorder),
         Pattern::Failing => search_by(Failing, searcher, case, way, recorder),
+        Pattern::Regex => search_regex(alloc, searcher, case, way, recorder),
+    }
+}
+
+// Searches with the matcher of the case's regular expression.
+fn search_regex(
+    alloc: Global,
+    searcher: &mut Searcher,
+    case: &Case,
+    way: Way,
+    recorder: &mut Recorder,
+) -> Result<(), SearchError> {
+    let regex = expression(alloc, case)?;
+    let matcher = regex.matcher(alloc).map_err(no_memory)?;
+    search_by(matcher, searcher, case, way, recorder)
+}
+
+// The regular expression of a case. An error is a message.
+fn expression(alloc: Global, case: &Case) -> Result<Regex, SearchError> {
+    let Ok(text) = str::from_utf8(&case.literal) else {
+        return Err(SearchError::error_message(alloc, "the pattern isn't UTF-8"));
+    };
+    match case.options.expression.build(alloc, text) {
+        Ok(regex) => Ok(regex),
+        Err(error) => Err(SearchError::error_message(alloc, error)),
     }
 }
 
