@@ -5,7 +5,8 @@ use std::fs;
 use std::path::Path;
 use std::test::Fail;
 use uses::{
-    count_in_path, count_matching_lines, first_match, in_context, matching_lines, numbered_lines,
+    count_in_path, count_matching_lines, count_pattern_lines, first_match, in_context,
+    matching_lines, numbered_lines,
 };
 
 // Line 2 and line 4 have an `a`.
@@ -16,6 +17,14 @@ fn counted(rt: HostRuntime) -> Result<(), Fail> {
     let mut searcher = Searcher::new(rt.alloc())?;
     let matcher = LiteralMatcher::new(rt.alloc(), b"a")?;
     let count = count_matching_lines(&mut searcher, matcher, INPUT)?;
+    assert!(rt; count == 2);
+    Ok(())
+}
+
+#[test]
+fn counted_by_a_pattern(rt: HostRuntime) -> Result<(), Fail> {
+    let mut searcher = Searcher::new(rt.alloc())?;
+    let count = count_pattern_lines(rt.alloc(), &mut searcher, "^a|a$", INPUT)?;
     assert!(rt; count == 2);
     Ok(())
 }

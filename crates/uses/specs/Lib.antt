@@ -1,4 +1,5 @@
 pub mod MatchedLines
 pub mod DecodingErrors
+pub mod Expressions
 pub mod MatchSinks
 pub mod NumberedTexts

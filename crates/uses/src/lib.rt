@@ -4,11 +4,13 @@
 //! `count_matching_lines` counts, `first_match` stops at the first match of a reader, and
 //! `matching_lines` keeps the lines of all matches. `in_context` builds its searcher, and writes a
 //! report with a sink of its own. `numbered_lines` collects by a closure, and `count_in_path`
-//! searches a path. `CALLING.md` says which laws they use.
+//! searches a path. `count_pattern_lines` compiles a regular expression. `CALLING.md` says which
+//! laws they use.
 #![tactic(auto)]
 
 mod collect;
 mod count;
+mod expression;
 mod first;
 mod numbered;
 mod path;
@@ -16,6 +18,7 @@ mod report;
 
 pub use collect::matching_lines;
 pub use count::count_matching_lines;
+pub use expression::count_pattern_lines;
 pub use first::first_match;
 pub use numbered::numbered_lines;
 pub use path::count_in_path;

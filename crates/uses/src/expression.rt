@@ -1,0 +1,45 @@
+//! How many lines match a regular expression.
+ghost use Rattle.std.specs.Prelude.{◌≡◌, false, true, IfOk};
+ghost use Rattle.grep_searcher.specs.DecodedInputs.{is_searched_unchanged};
+ghost use Rattle.grep_searcher.specs.Modes.{is_across};
+ghost use Rattle.uses.specs.Expressions.{line_meaning};
+ghost use Rattle.uses.specs.MatchedLines.{matched_count};
+
+use crate::count::count_matching_lines;
+use grep_regex::RegexMatcherBuilder;
+use grep_searcher::{BinaryDetection, SearchError, Searcher, SinkError};
+use std::alloc::Global;
+use std::io;
+
+/// Returns how many lines of `bytes` a pattern matches, as `count_matching_lines` counts them. `^`
+/// and `$` match at the ends of a line, and the matcher declares a line feed as its terminator.
+///
+/// An error is that of a pattern that can't be compiled, as a message, or of being out of memory,
+/// or one of `count_matching_lines`: that of a searcher with another terminator, for one.
+///
+/// The count is promised of a search by line without binary detection. Nothing is asked of the
+/// matcher: what it finds among many lines can always be trusted.
+pub fn count_pattern_lines(
+    alloc: Global,
+    searcher: &mut Searcher,
+    pattern: &str,
+    bytes: &[u8],
+) -> Result<u64, SearchError>
+    ensures count { is_across searcher.old.settings (line_meaning pattern.now) ≡ false
+        → searcher.old.settings.binary_detection ≡ BinaryDetection.None
+        → is_searched_unchanged searcher.old.settings bytes.now ≡ true → IfOk result (λ count.
+        count ≡ matched_count searcher.old.settings (line_meaning pattern.now) bytes.now) }
+    ensures settings { searcher.new.settings ≡ searcher.old.settings }
+{
+    let mut builder = RegexMatcherBuilder::new();
+    builder.multi_line(true).line_terminator(Some(b'\n'));
+    let regex = match builder.build(alloc, pattern) {
+        Ok(regex) => regex,
+        Err(error) => return Err(SearchError::error_message(alloc, error)),
+    };
+    let matcher = match regex.matcher(alloc) {
+        Ok(matcher) => matcher,
+        Err(error) => return Err(SearchError::Io(io::Error::from(error))),
+    };
+    count_matching_lines(searcher, matcher, bytes)
+}
