@@ -480,6 +480,22 @@ fn writes_the_lines_before_a_read_that_fails(rt: HostRuntime) {
 }
 
 #[test]
+fn a_write_that_fails_hides_a_read_that_failed(rt: HostRuntime) {
+    // A flush that fails hides none.
+    for (left, kind) in [
+        (0, io::ErrorKind::BrokenPipe),
+        (1, io::ErrorKind::ConnectionReset),
+    ] {
+        let mut writer = Writing::new(Broken { left });
+        let ended = search(rt.alloc(), "a", &mut Cut { is_read: false }, &mut writer);
+        assert!(rt;
+            is_fault(ended, kind) && writer.into_inner().left == 0,
+            "at {left}"
+        );
+    }
+}
+
+#[test]
 fn writes_no_count_if_a_read_fails(rt: HostRuntime) {
     let mut writer = Writing::new(Vec::new(rt.alloc()));
     let ended = search(rt.alloc(), "-c a", &mut Cut { is_read: false }, &mut writer);
