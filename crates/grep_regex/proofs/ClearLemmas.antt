@@ -9,10 +9,6 @@ use Rattle.std.proofs.lemmas.List.{get_or-take, get_or_default}
 use Rattle.std.proofs.lemmas.List.Folds.{list_any_at, list_any_none}
 use Rattle.grep_regex.specs.Clear.{is_among, is_clear}
 
-not-true : (b : Bool) → not b ≡ true → b ≡ false
-not-true true e = sym e
-not-true false e = refl
-
 module _ (bytes hay : List ℕ) (start end : ℕ) where
   range-length : (k : ℕ) → start ≤ k → k < end → k < length hay → k - start < length (slice_range hay start end)
   range-length k low high inside = omega (arith, length-take (end - start) (drop start hay), length-drop start hay)

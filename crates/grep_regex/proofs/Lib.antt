@@ -10,3 +10,4 @@ pub mod FindLemmas
 pub mod EdgeLemmas
 pub mod LineLemmas
 pub mod TrustLemmas
+pub mod TextsLemmas

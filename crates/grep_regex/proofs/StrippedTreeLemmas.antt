@@ -105,10 +105,6 @@ trees-more bytes subs all after i d g inside p q is =
     (sym (ap (map meaning) is ∙ map-append meaning all (g ∷ [])))
     (stripped-more bytes (map meaning (take i subs)) (map meaning all) (meaning (get_or subs i d)) (meaning g) p q))
 
-or-false : (b : Bool) → (b || false) ≡ b
-or-false true = refl
-or-false false = refl
-
 -- a class that has the first bytes gets one more
 pub class-more : (bytes : List ℕ) (ranges after : List (ℕ × ℕ)) (i : ℕ) → i < length bytes →
     ((x : ℕ) → in_ranges ranges x ≡ is_among (take i bytes) x) → after ≡ ranges ++ (get_or bytes i 0, get_or bytes i 0)
@@ -125,13 +121,3 @@ pub class-full : (bytes : List ℕ) (ranges after : List (ℕ × ℕ)) (i : ℕ)
     → IsClassOf bytes after
 class-full bytes ranges after i whole p same x small =
     same x small ∙ (p x ∙ ap (λ l. is_among l x) (ap (λ n. take n bytes) whole ∙ take-length bytes))
-
--- the first texts of two lists are equal, and so are the next
-pub texts-more : {A B : Type 0} (f : A → List ℕ) (g : B → List ℕ) (xs : List A) (ys : List B) (i : ℕ) (d : A) (e : B)
-    → i < length xs → i < length ys →
-    map f (take i xs) ≡ map g (take i ys) → f (get_or xs i d) ≡ g (get_or ys i e) → map f (take (i + 1) xs)
-    ≡ map g (take (i + 1) ys)
-texts-more f g xs ys i d e low high p q =
-    ap (map f) (take_more xs i d low) ∙ (map-append f (take i xs) (get_or xs i d ∷ [])
-    ∙ (ap₂ (λ l t. l ++ t ∷ []) p q
-    ∙ sym (ap (map g) (take_more ys i e high) ∙ map-append g (take i ys) (get_or ys i e ∷ []))))

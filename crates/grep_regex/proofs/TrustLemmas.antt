@@ -2,7 +2,7 @@
 use Rattle.std.proofs.Common.{◌≡◌, ◌≢◌, ℕ, ◌<◌, ◌≤◌, true, List, length, slice_index}
 use Rattle.std.proofs.Common.{Some, None, is_some, option_map, sym, ap, ap₂, ◌∙◌, subst, inl, inr}
 use Rattle.std.proofs.Common.{⊎_elim}
-use Rattle.std.proofs.Common.{arith, get_or, true≢false, map, string_bytes}
+use Rattle.std.proofs.Common.{arith, get_or, true≢false}
 use Rattle.std.proofs.lemmas.Option.{none-some, same_Some}
 use Rattle.regex_hir.specs.Find.{Match, find}
 use Rattle.regex_hir.specs.Re.{Re}
@@ -39,7 +39,7 @@ pub first-within : (r : Regex) (hay : List ℕ) → ((k : ℕ) → get_or hay k 
 first-within r hay bytes = subst (IsWithin hay) (finds-of r hay bytes) (match-within (program_re r) hay)
 
 -- only the declared terminator is excluded
-only-declared : (r : Regex) → r.options.line_terminator ≡ Some (Byte 10) → (terminator : LineTerminator) →
+only-declared : (r : Regex) → (regex_options r).line_terminator ≡ Some (Byte 10) → (terminator : LineTerminator) →
     ExcludesTerminator terminator (regex_meaning r) → terminator ≡ Byte 10
 only-declared r is terminator (inl declared) = same_Some _ _ (sym declared ∙ is)
 only-declared r is terminator (inr absent) = absurd (true≢false (sym absent))
@@ -59,7 +59,7 @@ some-of re bytes a b e = ⊎_elim
     (option_cases (find re bytes 0))
 
 module _ (r : Regex) (is_lawful : LineTerminator → Type 0) (bytes : List ℕ) where
-  module _ (is : r.options.line_terminator ≡ Some (Byte 10)) (local : is_local (program_re r) ≡ true)
+  module _ (is : (regex_options r).line_terminator ≡ Some (Byte 10)) (local : is_local (program_re r) ≡ true)
       (small : (k : ℕ) → get_or bytes k 0 < 256) where
     -- a line alone, by what was compiled
     alone : (i : ℕ) → IsListed bytes i → is_some (regex_first r (kept bytes i))
@@ -74,9 +74,9 @@ module _ (r : Regex) (is_lawful : LineTerminator → Type 0) (bytes : List ℕ) 
           high,
           (subst (IsWithin bytes) found (first-within r bytes small)).1,
         ) in
-        let clear = clear-match (excluded_bytes r.options.line_terminator)
-        (written_re r.options (map string_bytes r.patterns.items)) bytes a b found in
-        let none = clear-at (excluded_bytes r.options.line_terminator) bytes a b clear k low high inside in
+        let clear = clear-match (excluded_bytes (regex_options r).line_terminator)
+        (written_re (regex_options r) (regex_patterns r)) bytes a b found in
+        let none = clear-at (excluded_bytes (regex_options r).line_terminator) bytes a b clear k low high inside in
         true≢false (ap₂ is_among (sym (ap excluded_bytes is)) (sym feed) ∙ none)
 
     pub trusted-none : regex_first r bytes ≡ None → IsTrusted (regex_meaning r) is_lawful bytes None

@@ -24,7 +24,7 @@ use Rattle.regex_syntax.specs.declared.Config.{Config}
 use Rattle.regex_syntax.proofs.CapturesLemmas.{alike_refl, alike_of_eq, alike_cat, alike_alt}
 use Rattle.regex_syntax.proofs.CapturesLemmas.{◌also◌}
 use Rattle.grep_regex.specs.Alike.{AreAlike}
-use Rattle.grep_regex.specs.Patterns.{config_of, text_of, is_crlf, framed, between, re_of, read_re}
+use Rattle.grep_regex.specs.Patterns.{config_of, text_of, framed, between, re_of, read_re}
 use Rattle.grep_regex.specs.Patterns.{written_re, excluded_bytes, FindsAs}
 use Rattle.grep_regex.specs.Stripped.{IsStripped}
 use Rattle.grep_regex.specs.declared.options.Options.{Options}
@@ -48,7 +48,7 @@ between-alike : (before after : Look) {a b : Re} → SameCaptures a b
 between-alike before after p = alike_cat (alike_refl _) (alike_cat p (alike_refl _))
 
 framed-alike : (o : Options) {a b : Re} → SameCaptures a b → SameCaptures (framed o a) (framed o b)
-framed-alike o {a} {b} p = by-cases o.whole_line (is_crlf o.line_terminator) o.word o.unicode
+framed-alike o {a} {b} p = by-cases o.whole_line o.crlf o.word o.unicode
   where
     by-cases : (w r x u : Bool) → SameCaptures
         (cond w (cond r (between StartCrlf EndCrlf a) (between StartLf EndLf a))

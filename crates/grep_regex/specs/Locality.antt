@@ -42,7 +42,3 @@ is_local (cat a b) = is_local a && is_local b
 is_local (alt a b) = is_local a && is_local b
 is_local (group n a) = is_local a
 is_local (plus greedy a) = is_local a
-
--- the bytes have no line feed from a up to b
-abbrev pub IsClear : List ℕ → ℕ → ℕ → Type 0
-IsClear bytes a b = (k : ℕ) → a ≤ k → k < b → slice_index bytes k ≢ 10

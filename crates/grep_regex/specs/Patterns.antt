@@ -18,7 +18,6 @@ use Rattle.regex_vm.specs.Found.{span}
 use Rattle.grep_matcher.specs.Matching.{Meaning}
 use Rattle.grep_matcher.specs.Terminators.{bytes_of}
 use Rattle.grep_matcher.specs.declared.line_terminator.LineTerminator.{LineTerminator}
-use Rattle.grep_matcher.specs.declared.line_terminator.LineTerminator.TheVariants.{Byte, Crlf}
 use Rattle.grep_regex.specs.Clear.{find_clear}
 use Rattle.grep_regex.specs.declared.options.Options.{Options}
 
@@ -32,27 +31,30 @@ default_options = record {
   multi_line = false;
   dot_matches_new_line = false;
   unicode = true;
+  crlf = false;
+  swap_greed = false;
+  ignore_whitespace = false;
+  octal = false;
+  nest_limit = 250;
   line_terminator = None;
   size_limit = 10485760;
 }
 
--- whether lines end in a carriage return and a line feed
-abbrev pub is_crlf : Option LineTerminator → Bool
-is_crlf None = false
-is_crlf (Some (Byte b)) = false
-is_crlf (Some Crlf) = true
-
--- the flags with which a text is read
+-- how a text is read; of a literal no white space is ignored
 abbrev pub config_of : Options → Config
 config_of o = record default_config {
   flags = record default_flags {
     case_insensitive = o.case_insensitive;
     multi_line = o.multi_line;
     dot_matches_new_line = o.dot_matches_new_line;
+    swap_greed = o.swap_greed;
     unicode = o.unicode;
-    crlf = is_crlf o.line_terminator;
+    crlf = o.crlf;
+    ignore_whitespace = if o.fixed_strings then false else o.ignore_whitespace;
   };
+  octal = o.octal;
   utf8 = false;
+  nest_limit = o.nest_limit;
 }
 
 -- the text that is read: of a literal, its escape
@@ -76,7 +78,7 @@ between before after re = cat (look before) (cat re (cat (look after) empty))
 abbrev pub framed : Options → Re → Re
 framed o re =
     if o.whole_line then
-    (if is_crlf o.line_terminator then between StartCrlf EndCrlf re else between StartLf EndLf re)
+    (if o.crlf then between StartCrlf EndCrlf re else between StartLf EndLf re)
     else if o.word then
     (if o.unicode then between WordStartHalfUnicode WordEndHalfUnicode re
     else between WordStartHalfAscii WordEndHalfAscii re)

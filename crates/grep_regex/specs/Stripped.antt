@@ -10,7 +10,7 @@ pub record IsStripped (bytes : List ℕ) (before after : Re) : Type 0 where
       start ≤ i → i ≤ length hay → is_clear bytes hay start i ≡ true →
       attempt hay after rest i ≡ attempt hay before (if_clear bytes hay start rest) i
 
--- the same of patterns one by one
+-- patterns, one by one
 abbrev pub AreStripped : List ℕ → List Re → List Re → Type 0
 AreStripped bytes [] [] = Unit {0}
 AreStripped bytes [] (b ∷ bs) = ⊥

@@ -1,5 +1,6 @@
 -- What contracts see of a compiled expression.
-use Rattle.std.specs.Prelude.{ℕ, List, Option, map, string_bytes}
+use Rattle.std.specs.Prelude.{ℕ, List, Option}
+use Rattle.std.specs.Arc.{arc_value}
 use Rattle.regex_hir.specs.Meaning.{meaning}
 use Rattle.regex_hir.specs.Re.{Re}
 use Rattle.regex_meta.specs.declared.program.Program.{Program}
@@ -13,25 +14,25 @@ use Rattle.grep_regex.specs.declared.regex.Regex.{Regex}
 
 -- its options, and the texts of its patterns
 abbrev pub regex_options : Regex → Options
-regex_options r = r.options
+regex_options r = (arc_value r.shared).options
 
 abbrev pub regex_patterns : Regex → List (List ℕ)
-regex_patterns r = map string_bytes r.patterns.items
+regex_patterns r = (arc_value r.shared).patterns
 
 -- what was compiled, and what a searcher searches for
 abbrev pub regex_program : Regex → Program
-regex_program r = r.program
+regex_program r = (arc_value r.shared).program
 
 abbrev pub searcher_program : Searcher → Program
 searcher_program s = s.program.now
 
 -- the pattern that was compiled
 abbrev pub program_re : Regex → Re
-program_re r = meaning r.program.hir
+program_re r = meaning (arc_value r.shared).program.hir
 
 -- the first match of a haystack
 abbrev pub regex_first : Regex → List ℕ → Option (ℕ × ℕ)
-regex_first r = first_match r.options (map string_bytes r.patterns.items)
+regex_first r = first_match (regex_options r) (regex_patterns r)
 
 -- the expression for which an engine was made
 abbrev pub engine_regex : Engine → Regex
@@ -39,7 +40,7 @@ engine_regex engine = engine.regex.now
 
 -- what the matchers of an expression mean
 abbrev pub regex_meaning : Regex → Meaning
-regex_meaning r = meaning_of r.options (map string_bytes r.patterns.items)
+regex_meaning r = meaning_of (regex_options r) (regex_patterns r)
 
 -- the expression of a matcher
 abbrev pub matcher_regex : RegexMatcher → Regex

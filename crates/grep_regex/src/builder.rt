@@ -67,6 +67,11 @@ impl RegexMatcherBuilder {
                 multi_line: false,
                 dot_matches_new_line: false,
                 unicode: true,
+                crlf: false,
+                swap_greed: false,
+                ignore_whitespace: false,
+                octal: false,
+                nest_limit: 250,
                 line_terminator: None,
                 size_limit: 10 << 20,
             },
@@ -157,7 +162,7 @@ impl RegexMatcherBuilder {
         self
     }
 
-    /// Whether `.` matches a line feed too; not by default.
+    /// Whether `.` matches a line feed too, and under `crlf` a carriage return; not by default.
     pub fn dot_matches_new_line(&mut self, yes: bool) -> &mut RegexMatcherBuilder
         ensures reference { result.ghost_name ≡ self.entry.ghost_name }
         ensures set { result.now ≡ record self.old { dot_matches_new_line = yes } }
@@ -175,9 +180,50 @@ impl RegexMatcherBuilder {
         self
     }
 
+    /// Whether a repetition prefers fewer and one with `?` more; not by default.
+    pub fn swap_greed(&mut self, yes: bool) -> &mut RegexMatcherBuilder
+        ensures reference { result.ghost_name ≡ self.entry.ghost_name }
+        ensures set { result.now ≡ record self.old { swap_greed = yes } }
+    {
+        self.options.swap_greed = yes;
+        self
+    }
+
+    /// Whether white space in patterns is ignored, and what follows a `#` up to the end of its
+    /// line; not by default. It has no effect on literals.
+    pub fn ignore_whitespace(&mut self, yes: bool) -> &mut RegexMatcherBuilder
+        ensures reference { result.ghost_name ≡ self.entry.ghost_name }
+        ensures set { result.now ≡ record self.old { ignore_whitespace = yes } }
+    {
+        self.options.ignore_whitespace = yes;
+        self
+    }
+
+    /// Whether `\141` is the character with this octal number, of one to three digits; not by
+    /// default, when a backslash before a digit is a syntax error.
+    pub fn octal(&mut self, yes: bool) -> &mut RegexMatcherBuilder
+        ensures reference { result.ghost_name ≡ self.entry.ghost_name }
+        ensures set { result.now ≡ record self.old { octal = yes } }
+    {
+        self.options.octal = yes;
+        self
+    }
+
+    /// How deep groups, repetitions, classes and sequences of patterns may nest, in levels; 250 by
+    /// default. A pattern that nests deeper is a syntax error. The calls that compile a pattern
+    /// nest as deep as it does, so that a higher limit needs a stack to match.
+    pub fn nest_limit(&mut self, levels: u32) -> &mut RegexMatcherBuilder
+        ensures reference { result.ghost_name ≡ self.entry.ghost_name }
+        ensures set { result.now ≡ record self.old { nest_limit = levels } }
+    {
+        self.options.nest_limit = levels;
+        self
+    }
+
     /// What matchers declare as their line terminator, none by default. Its byte is taken out of
     /// the classes of patterns and refused in literals, so that no match holds it, and a search
-    /// runs line by line and may ask about many lines at once.
+    /// runs line by line and may ask about many lines at once. What `crlf` says of `^`, `$` and `.`
+    /// stays.
     pub fn line_terminator(&mut self, terminator: Option<u8>) -> &mut RegexMatcherBuilder
         ensures reference { result.ghost_name ≡ self.entry.ghost_name }
         ensures set { result.now
@@ -191,14 +237,17 @@ impl RegexMatcherBuilder {
     }
 
     /// Whether lines end in a carriage return and a line feed, which is then the line terminator,
-    /// and otherwise none is; not by default. Neither byte is in a match, and under `multi_line`
-    /// `^` and `$` match around both.
+    /// and otherwise none is; not by default. `^` and `$` match around both under `multi_line`, and
+    /// `.` matches neither. While the terminator is declared, neither byte is in a match; a call of
+    /// `line_terminator` after this one declares another, or none.
     pub fn crlf(&mut self, yes: bool) -> &mut RegexMatcherBuilder
         ensures reference { result.ghost_name ≡ self.entry.ghost_name }
         ensures set { result.now ≡ record self.old {
+          crlf = yes;
           line_terminator = if yes then Some LineTerminator.Crlf else None;
         } }
     {
+        self.options.crlf = yes;
         self.options.line_terminator = if yes {
             Some(LineTerminator::Crlf)
         } else {

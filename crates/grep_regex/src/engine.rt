@@ -1,5 +1,6 @@
 //! What searches for a regular expression.
 ghost use Rattle.std.specs.Prelude.{◌≡◌, is_some, IfOk};
+ghost use Rattle.std.specs.Arc.{arc_value};
 
 use crate::regex::Regex;
 use regex_meta::Searcher;
@@ -9,7 +10,7 @@ use std::alloc::{AllocError, Global};
 pub(crate) struct Engine<'r> {
     pub(crate) regex: &'r Regex,
     searcher: Searcher<'r>,
-    ghost same: { ∥ searcher.program.now ≡ regex.now.program ∥₁ },
+    ghost same: { ∥ searcher.program.now ≡ (arc_value regex.now.shared).program ∥₁ },
 }
 
 // Written out, so that a caller's proof sees one call.

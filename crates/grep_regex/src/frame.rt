@@ -3,7 +3,7 @@ ghost use Rattle.std.specs.Prelude.{◌≡◌, IfOk};
 ghost use Rattle.regex_hir.specs.Meaning.{meaning};
 ghost use Rattle.grep_regex.specs.Patterns.{between, framed};
 
-use crate::options::{Options, is_crlf};
+use crate::options::Options;
 use regex_hir::{Hir, Look};
 use std::alloc::{AllocError, Global};
 
@@ -12,7 +12,7 @@ pub(crate) fn framed(alloc: Global, options: &Options, hir: Hir) -> Result<Hir, 
     ensures { IfOk result (λ whole. meaning whole ≡ framed options.now (meaning hir)) }
 {
     if options.whole_line {
-        if is_crlf(options.line_terminator) {
+        if options.crlf {
             return between(alloc, Look::StartCrlf, hir, Look::EndCrlf);
         }
         return between(alloc, Look::StartLf, hir, Look::EndLf);

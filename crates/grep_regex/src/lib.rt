@@ -12,6 +12,7 @@ mod options;
 mod parse;
 mod regex;
 mod strip;
+mod texts;
 
 pub use builder::RegexMatcherBuilder;
 pub use error::Error;

@@ -1,6 +1,5 @@
 //! How patterns are read, and what their matchers declare.
 ghost use Rattle.std.specs.Prelude.{◌≡◌, IsTrue};
-ghost use Rattle.grep_regex.specs.Patterns.{is_crlf};
 
 use grep_matcher::LineTerminator;
 
@@ -21,17 +20,20 @@ pub struct Options {
     pub dot_matches_new_line: bool,
     /// Classes, case folding and words are Unicode's.
     pub unicode: bool,
+    /// `^` and `$` match around a carriage return and a line feed, and `.` matches neither.
+    pub crlf: bool,
+    /// `a*` prefers fewer and `a*?` more.
+    pub swap_greed: bool,
+    /// White space and comments in patterns are ignored.
+    pub ignore_whitespace: bool,
+    /// `\141` is a character by its octal number.
+    pub octal: bool,
+    /// How deep patterns may nest, in levels.
+    pub nest_limit: u32,
     /// What matchers declare as their line terminator, of which no match holds a byte.
     pub line_terminator: Option<LineTerminator>,
     /// About how large the compiled patterns may be, in bytes.
     pub size_limit: usize,
-}
-
-// Whether lines end in a carriage return and a line feed.
-pub(crate) fn is_crlf(terminator: Option<LineTerminator>) -> bool
-    ensures { result ≡ is_crlf terminator }
-{
-    matches!(terminator, Some(LineTerminator::Crlf))
 }
 
 // Whether both are the same line terminator, or none.
@@ -51,6 +53,9 @@ impl Options {
     pub(crate) fn is_equal(&self, other: &Options) -> bool
         ensures { IsTrue result → self.now ≡ other.now }
     {
+        if !self.is_same_syntax(other) {
+            return false;
+        }
         if self.case_insensitive != other.case_insensitive {
             return false;
         }
@@ -69,12 +74,41 @@ impl Options {
         if self.dot_matches_new_line != other.dot_matches_new_line {
             return false;
         }
-        if self.unicode != other.unicode {
-            return false;
-        }
         if self.size_limit != other.size_limit {
             return false;
         }
         are_same(self.line_terminator, other.line_terminator)
+    }
+
+    // Whether those options are equal that are about the syntax of patterns.
+    fn is_same_syntax(&self, other: &Options) -> bool
+        ensures { IsTrue result → self.now ≡ record self.now {
+          unicode = other.now.unicode;
+          crlf = other.now.crlf;
+          swap_greed = other.now.swap_greed;
+          ignore_whitespace = other.now.ignore_whitespace;
+          octal = other.now.octal;
+          nest_limit = other.now.nest_limit;
+        } }
+    {
+        if self.unicode != other.unicode {
+            return false;
+        }
+        if self.crlf != other.crlf {
+            return false;
+        }
+        if self.swap_greed != other.swap_greed {
+            return false;
+        }
+        if self.ignore_whitespace != other.ignore_whitespace {
+            return false;
+        }
+        if self.octal != other.octal {
+            return false;
+        }
+        if self.nest_limit != other.nest_limit {
+            return false;
+        }
+        true
     }
 }

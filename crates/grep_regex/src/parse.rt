@@ -8,13 +8,10 @@ ghost use Rattle.grep_regex.specs.Alike.{AreAlike};
 ghost use Rattle.grep_regex.specs.Refusals.{IsTextError, IsTextsError};
 
 use crate::error::Error;
-use crate::options::{Options, is_crlf};
+use crate::options::Options;
 use regex_hir::Hir;
 use regex_syntax::{Config, Flags, Parsed};
 use std::alloc::Global;
-
-// How deep a pattern may nest.
-const NEST_LIMIT: u32 = 250;
 
 // The first of some patterns that works.
 #[derive(Drop)]
@@ -117,13 +114,13 @@ fn config_of(options: &Options) -> Config
             case_insensitive: options.case_insensitive,
             multi_line: options.multi_line,
             dot_matches_new_line: options.dot_matches_new_line,
-            swap_greed: false,
+            swap_greed: options.swap_greed,
             unicode: options.unicode,
-            crlf: is_crlf(options.line_terminator),
-            ignore_whitespace: false,
+            crlf: options.crlf,
+            ignore_whitespace: options.ignore_whitespace && !options.fixed_strings,
         },
-        octal: false,
+        octal: options.octal,
         utf8: false,
-        nest_limit: NEST_LIMIT,
+        nest_limit: options.nest_limit,
     }
 }

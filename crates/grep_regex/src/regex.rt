@@ -1,5 +1,5 @@
 //! A compiled regular expression.
-ghost use Rattle.std.specs.Prelude.{◌≡◌, IfOk, IfErr, OnOk, IsTrue, true, None, Some, string_bytes};
+ghost use Rattle.std.specs.Prelude.{◌≡◌, IfOk, IfErr, OnOk, IsTrue, true, None, Some};
 ghost use Rattle.std.specs.Prelude.{map};
 ghost use Rattle.regex_hir.specs.Meaning.{meaning};
 ghost use Rattle.grep_matcher.specs.declared.line_terminator.LineTerminator.TheVariants.{Byte};
@@ -15,19 +15,27 @@ use crate::matcher::RegexMatcher;
 use crate::options::Options;
 use crate::parse::{Choice, read_choice};
 use crate::strip::without_bytes;
+use crate::texts::Texts;
 use grep_matcher::LineTerminator;
 use regex_hir::Hir;
 use regex_meta::{Program, Searcher};
 use std::alloc::{AllocError, Global};
+use std::fmt;
+use std::sync::Arc;
 
 /// A compiled regular expression, with its options and the texts of its patterns. It doesn't
-/// search: `matcher` gives what does.
+/// search: `matcher` gives what does. Its clones share what was compiled.
 pub struct Regex {
+    shared: Arc<Shared>,
+}
+
+// What the clones of an expression share.
+pub(crate) struct Shared {
     options: Options,
-    patterns: Vec<String>,
+    patterns: Texts,
     program: Program,
     local: bool,
-    ghost finds: { ∥ FindsAs options (map string_bytes patterns.items) (meaning program.hir) ∥₁ },
+    ghost finds: { ∥ FindsAs options patterns (meaning program.hir) ∥₁ },
     ghost by_line: { ∥ (local ≡ true → (options.line_terminator ≡ Some (Byte 10))
         × (is_local (meaning program.hir) ≡ true)) ∥₁ },
 }
@@ -35,12 +43,54 @@ pub struct Regex {
 // Written out, so that a caller's proof sees one call.
 impl Drop for Regex {
     fn drop(self) {
-        let Regex {
+        let Regex { shared: _shared } = self;
+    }
+}
+
+// Written out, so that a caller's proof sees one call.
+impl Drop for Shared {
+    fn drop(self) {
+        let Shared {
             options: _options,
             patterns: _patterns,
             program: _program,
             local: _local,
         } = self;
+    }
+}
+
+impl Shared {
+    fn is_local(&self) -> bool
+        ensures terminator { IsTrue result → self.now.options.line_terminator ≡ Some (Byte 10) }
+        ensures local { IsTrue result → IsTrue (is_local (meaning self.now.program.hir)) }
+    {
+        self.local
+    }
+}
+
+/// The same expression. Nothing is compiled again and no memory is taken; an error says that there
+/// are as many clones as can be counted.
+impl Clone for Regex {
+    ghost use Rattle.std.specs.Prelude.{◌≡◌};
+    ghost use Rattle.grep_regex.specs.Views.{regex_options, regex_patterns};
+
+    ghost is_clone = { λ regex copy. (regex_options copy ≡ regex_options regex)
+        × (regex_patterns copy ≡ regex_patterns regex) };
+
+    fn clone(&self) -> Result<Regex, AllocError> {
+        Ok(Regex {
+            shared: self.shared.clone()?,
+        })
+    }
+}
+
+/// The options and the texts of the patterns.
+impl fmt::Debug for Regex {
+    fn fmt<W: fmt::Write>(&self, f: &mut fmt::Formatter<W>) -> fmt::Result {
+        f.debug_struct("Regex")
+            .field("options", &self.shared.options)
+            .field("patterns", &self.shared.patterns)
+            .finish()
     }
 }
 
@@ -61,12 +111,15 @@ impl Regex {
         let stripped = without_bytes(alloc, &whole, excluded_bytes(&options.line_terminator))?;
         let local = is_by_line(options.line_terminator, &stripped);
         let program = compiled(alloc, stripped, groups, options.size_limit)?;
-        let patterns = copies(alloc, patterns)?;
-        Ok(Regex {
+        let patterns = Texts::new(alloc, patterns)?;
+        let shared = Shared {
             options,
             patterns,
             program,
             local,
+        };
+        Ok(Regex {
+            shared: Arc::new(alloc, shared)?,
         })
     }
 
@@ -82,7 +135,7 @@ impl Regex {
     pub fn options(&self) -> Options
         ensures { result ≡ regex_options self.now }
     {
-        self.options
+        self.shared.options
     }
 
     // Whether its matches end at line feeds, and each assertion holds beside a line feed where it
@@ -92,14 +145,14 @@ impl Regex {
             (regex_options self.now).line_terminator ≡ Some (Byte 10) }
         ensures local { IsTrue result → IsTrue (is_local (program_re self.now)) }
     {
-        self.local
+        self.shared.is_local()
     }
 
     // What searches for the expression.
     pub(crate) fn searcher(&self, alloc: Global) -> Result<Searcher<'_>, AllocError>
         ensures { IfOk result (λ s. searcher_program s ≡ regex_program self.now) }
     {
-        Searcher::new(alloc, &self.program)
+        Searcher::new(alloc, &self.shared.program)
     }
 
     // Whether the options and the texts are equal.
@@ -107,43 +160,9 @@ impl Regex {
         ensures options { IsTrue result → regex_options self.now ≡ regex_options other.now }
         ensures patterns { IsTrue result → regex_patterns self.now ≡ regex_patterns other.now }
     {
-        self.options.is_equal(&other.options)
-            && are_equal(self.patterns.as_slice(), other.patterns.as_slice())
+        self.shared.options.is_equal(&other.shared.options)
+            && self.shared.patterns.is_equal(&other.shared.patterns)
     }
-}
-
-// Whether the texts are equal.
-fn are_equal(ours: &[String], others: &[String]) -> bool
-    ensures { IsTrue result → map string_bytes ours.now ≡ map string_bytes others.now }
-{
-    if ours.len() != others.len() {
-        return false;
-    }
-    for i in 0..ours.len() {
-        if !is_equal_text(ours[i].as_str(), others[i].as_str()) {
-            return false;
-        }
-    }
-    true
-}
-
-// Whether two texts are equal.
-fn is_equal_text(ours: &str, other: &str) -> bool
-    ensures { IsTrue result → ours.now ≡ other.now }
-{
-    ours == other
-}
-
-// Copies of the texts.
-fn copies(alloc: Global, patterns: &[&str]) -> Result<Vec<String>, AllocError>
-    ensures { IfOk result (λ copies.
-        map string_bytes copies.items ≡ map (λ p. p.now) patterns.now) }
-{
-    let mut copies = Vec::new(alloc);
-    for i in 0..patterns.len() {
-        copies.push(String::from_str(alloc, patterns[i])?)?;
-    }
-    Ok(copies)
 }
 
 // That the terminator is ASCII.

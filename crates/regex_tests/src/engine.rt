@@ -18,6 +18,7 @@ pub struct Answer {
 // The builder with the options that the letters name: case-insensitive, fixed strings, word, whole
 // lines (`x`), multi-line, `.` for line feeds (`s`), ASCII (`a`), a line feed as the terminator
 // (`n`) or CRLF (`r`), the byte 200 as the terminator (`T`), and a limit of 1,000 bytes (`L`).
+// Then those of `set_syntax`.
 fn builder_of(letters: &str) -> RegexMatcherBuilder {
     let mut builder = RegexMatcherBuilder::default();
     builder.case_insensitive(letters.contains('i'));
@@ -37,7 +38,22 @@ fn builder_of(letters: &str) -> RegexMatcherBuilder {
     if letters.contains('L') {
         builder.size_limit(1000);
     }
+    set_syntax(&mut builder, letters);
     builder
+}
+
+// Sets what the letters name: CRLF with no terminator (`k`), swapped greed (`U`), white space that
+// is ignored (`v`), octal numbers (`o`), and two levels of nesting (`d`).
+fn set_syntax(builder: &mut RegexMatcherBuilder, letters: &str) {
+    if letters.contains('k') {
+        builder.crlf(true).line_terminator(None);
+    }
+    builder.swap_greed(letters.contains('U'));
+    builder.ignore_whitespace(letters.contains('v'));
+    builder.octal(letters.contains('o'));
+    if letters.contains('d') {
+        builder.nest_limit(2);
+    }
 }
 
 // The expression of one pattern, of several, or under `l` of literals.
@@ -83,6 +99,17 @@ pub fn answer_of(
         Ok(answer) => Some(answer),
         Err(_) => None,
     }
+}
+
+// The debug form of a clone of the expression of patterns, or `None` if there is none.
+pub fn debug_of(alloc: Global, letters: &str, patterns: &[&str]) -> Option<String> {
+    let Ok(regex) = build(alloc, letters, patterns) else {
+        return None;
+    };
+    let Ok(copy) = regex.clone() else {
+        return None;
+    };
+    format!(in alloc; "{copy:?}").ok()
 }
 
 // Why patterns can't be compiled, or `None` if they can.

@@ -101,6 +101,12 @@ const TEXT_ROWS: &[(&str, &str, &str)] = &[
         "a pattern matches the byte 13 of the line terminator",
     ),
     ("T", r"a", "the line terminator 200 isn't ASCII"),
+    (
+        "d",
+        r"(((a)))",
+        "pattern 0: regex parse error at 2..3: groups, classes or repetitions nest deeper than the \
+         nesting limit allows",
+    ),
 ];
 
 // The text of an error.

@@ -7,6 +7,8 @@
 #[cfg(test)]
 mod candidates;
 #[cfg(test)]
+mod debug;
+#[cfg(test)]
 mod engine;
 #[cfg(test)]
 mod errors;

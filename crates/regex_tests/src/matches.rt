@@ -80,6 +80,14 @@ const ROWS: &[Row] = &[
     ("rm", r"a$", b"a\r\na\n", Some((0, 1))),
     ("rm", r"a[^b]*", b"a\r\na\n", Some((0, 1))),
     ("rx", r"a+", b"b\r\naa\r\n", Some((3, 5))),
+    ("km", r"a$", b"a\r\n", Some((0, 1))),
+    ("km", r"a\r\nb", b"a\r\nb", Some((0, 4))),
+    ("U", r"a+", b"xaa", Some((1, 2))),
+    ("U", r"a+?", b"xaa", Some((1, 3))),
+    ("v", r"a b # c", b"a bab", Some((3, 5))),
+    ("vF", r"a b", b"aba b", Some((2, 5))),
+    ("o", r"\141", b"xa", Some((1, 2))),
+    ("d", r"((a))", b"xa", Some((1, 2))),
 ];
 
 // Whether a matcher finds this range, or nothing.

@@ -6,8 +6,8 @@ use Rattle.grep_regex.specs.Stripped.{IsStripped}
 use Rattle.grep_regex.proofs.WrittenLemmas.{finds-as}
 use Rattle.grep_regex.proofs.regex.Regex.new.Goals as goal
 
-pub invariant_of-result : goal.invariant_of-result
-invariant_of-result c = record {
+pub invariant_of-shared : goal.invariant_of-shared
+invariant_of-shared c = record {
   finds = ∣ subst (λ texts. FindsAs c.args.options texts (meaning c.in_ok-program.program.hir))
       (sym c.in_ok-patterns.ensures)
       (subst (λ h. FindsAs c.args.options (map (λ p. p.now) c.args.patterns.now) (meaning h))
