@@ -1,5 +1,7 @@
 -- A search of a reader across lines, for which all of it was read first.
-use Rattle.std.proofs.Common.{◌≡◌, ◌⊎◌, ℕ, ◌<◌, Bool, true, false, List, [], ◌∷◌, ◌++◌, length, Option, None, Result}
+use Rattle.grep_definitions.specs.Plans.{planned, Planned, begins, finishes, Steps, Outcome, AreMade, IsFinished, IsRun}
+use Rattle.grep_definitions.specs.Plans.{finish_result, counted}
+use Rattle.std.proofs.Common.{◌≡◌, ℕ, ◌<◌, Bool, true, false, List, [], ◌∷◌, ◌++◌, length, Option, None, Result}
 use Rattle.std.proofs.Common.{Ok, Err}
 use Rattle.std.proofs.Common.{refl, sym, ◌∙◌, ap, subst, arith, ⊎_elim, inl, inr, append-nil, length-append, ◌≤◌}
 use Rattle.std.proofs.lemmas.Bool.{false≢true}
@@ -26,14 +28,12 @@ use Rattle.grep_definitions.specs.ReadingFaults.{CutsContents, IsBelowLimit, of_
 use Rattle.grep_definitions.specs.SearchTurns.{SearchCalls, calls_across}
 use Rattle.grep_definitions.specs.Searches.{ErrorMakers, MatcherFacts, IsFaultIn, IsQuitFault, IsRunUntil, of_sink}
 use Rattle.grep_definitions.specs.Settings.{Settings, SearcherState}
-use Rattle.grep_definitions.specs.SinkCalls.{Turn, begins, finishes}
-use Rattle.grep_definitions.specs.SinkRuns.{Steps, Outcome, AreReported, IsFinished, IsRun}
-use Rattle.grep_definitions.specs.SinkRuns.{finish_result}
 use Rattle.grep_definitions.proofs.LineLengthLemmas.{lines-within}
 use Rattle.grep_core.specs.InputSearches.{IsAcrossSearched, IsSearchedUntil, IsSourceSearchedIn}
 use Rattle.grep_core.specs.SearchBuffers.{IsMadeOf}
 use Rattle.grep_walk.specs.Walks.{Counted}
 use Rattle.grep_walk.proofs.FinishLemmas.{finish-counted, run-finish}
+use Rattle.grep_definitions.specs.SinkRuns.{plan_of}
 use Rattle.grep_core.proofs.ReadingLemmas as reading
 
 -- bytes below the heap limit are a front of themselves: no line of theirs is too long
@@ -55,15 +55,15 @@ front-whole join k bytes below = record {
     t = byte_of k.line_terminator
 
 -- a run that ended in `Ok` has begun
-has-begun : {S E : Type 0} (step : Steps S E) (k : Settings) (old : S) (end : ℕ) (later : List Turn) (count : ℕ)
+has-begun : {S E : Type 0} (step : Steps S E) (k : Settings) (old : S) (end : ℕ) (later : List Planned) (count : ℕ)
     (outcome : Outcome E) (mid new : S)
-    → AreReported step k old (record { call = begins; end = end } ∷ later) outcome mid
-    → IsFinished step k outcome mid count None (Ok tt) new
+    → AreMade step k old (planned begins end ∷ later) outcome mid
+    → IsFinished step k outcome mid (counted count) (Ok tt) new
     → (begun : Bool) × (first : S) × step old k begins (Ok begun) first
 has-begun step k old end later count outcome mid new (inl (first, made, rest)) finished = (true, first, made)
 has-begun step k old end later count outcome mid new (inr (inl (is, made))) finished = (false, mid, made)
 has-begun step k old end later count outcome mid new (inr (inr (e, is, made))) finished =
-    absurd (let never = (subst (λ o. IsFinished step k o mid count None (Ok tt) new) is finished).0 in cc)
+    absurd (let never = (subst (λ o. IsFinished step k o mid (counted count) (Ok tt) new) is finished).0 in cc)
 
 module _ {R : Type 0} (remaining : R → Option (List ℕ)) (read_step : R → ReadResult → R → Type 0) (k : Settings)
     (capacity : ℕ) (reader : R) (given : List ℕ) (d : DecoderState) (reader' : R)
@@ -138,7 +138,8 @@ module _ {R : Type 0} (remaining : R → Option (List ℕ)) (read_step : R → R
           finished = finished;
           front = front-is;
           run = λ bytes input. subst
-              (λ xs. IsRun step k old (calls.turns xs) (calls.byte_count xs) None (Ok u) new) (given-is bytes input)
+              (λ xs. IsRun step k old (plan_of (calls.turns xs) (calls.byte_count xs)) (Ok u) new) (given-is bytes
+              input)
               run;
           all = λ bytes input all. subst
               (λ xs. calls.turn_count xs ≤ length (lines (byte_of k.line_terminator) given)) (given-is bytes input)

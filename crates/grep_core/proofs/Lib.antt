@@ -6,14 +6,16 @@ pub mod LookLemmas
 pub mod ModeLemmas
 pub mod NotedLemmas
 pub mod OrderLemmas
+pub mod QuitPlanLemmas
 pub mod QuittingLemmas
 pub mod ReadingLemmas
 pub mod ResultLemmas
 pub mod RollLemmas
 pub mod RollingLemmas
 pub mod StreamBeginLemmas
-pub mod StreamEndLemmas
 pub mod StreamFinishLemmas
 pub mod StreamViewLemmas
+pub mod ToldLemmas
+pub mod UndetectedLemmas
 pub mod UnreadLemmas
 pub mod UntilLemmas

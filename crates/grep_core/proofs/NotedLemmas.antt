@@ -1,63 +1,71 @@
--- A sink to which the first binary byte of a stream is noted, and the calls of the sink that it passes them on to.
-use Rattle.std.proofs.Common.{◌≡◌, ℕ, Bool, true, false, Option, Some, None, Result, Ok}
-use Rattle.std.proofs.Common.{refl, sym, ◌∙◌, ap, subst}
-use Rattle.std.specs.Prelude.{is_some, if◌then◌else◌}
-use Rattle.grep_definitions.specs.NotedSinks.{noted}
+-- A binary byte that a buffer found, and what is noted of it.
+use Rattle.std.proofs.Common.{◌≡◌, ℕ, Bool, true, false, inl, inr, Option, Some, None, refl, sym, ◌∙◌, ap}
+use Rattle.std.proofs.lemmas.Bool.{false≢true}
+use Rattle.std.specs.Prelude.{is_none, is_some, ◌&&◌}
+use Rattle.grep_line_buffer.specs.BufferStates.{BufferState, is_cut}
+use Rattle.grep_line_buffer.specs.Detections.{first_of, is_quit}
+use Rattle.grep_report.specs.BinaryDetections.{quit_byte_of}
+use Rattle.grep_report.specs.declared.binary_detection.BinaryDetection.{BinaryDetection}
+use Rattle.grep_report.specs.declared.binary_detection.BinaryDetection.TheVariants.{None as no_detection, Quit, Convert}
+use Rattle.grep_definitions.specs.BinaryPlans.{quits}
 use Rattle.grep_definitions.specs.Settings.{Settings}
-use Rattle.grep_definitions.specs.SinkCalls.{Call, binary_data, is_finish, finishes}
-use Rattle.grep_definitions.specs.SinkCalls.{begins, matches, context, breaks}
-use Rattle.grep_definitions.specs.SinkRuns.{Steps}
-use Rattle.grep_core.specs.declared.noted.Noted.{Noted}
-use Rattle.grep_core.specs.NotedCalls.{HasNoted, Notes, called_with, noted_of}
+use Rattle.grep_definitions.specs.Plans.{Steps}
+use Rattle.grep_core.specs.BinaryCalls.{Noted, PassesBinary}
+use Rattle.grep_core.specs.SearchBuffers.{detection_of}
+use Rattle.grep_core.proofs.StreamViewLemmas.{first-none}
 
--- the offset with which `binary_data` was called is the one that is known, once it was
-pub called-known : {S : Type 0} (n : Noted S) → HasNoted n → called_with n ≡ n.binary
-called-known n same = go n.has_called n.binary same
-  where
-    go : (has_called : Bool) (binary : Option ℕ) → has_called ≡ is_some binary → (if has_called then binary else None)
-        ≡ binary
-    go false None same = refl
-    go false (Some offset) same = absurd (cc)
-    go true None same = refl
-    go true (Some offset) same = refl
+-- what returned true and goes on doesn't end the search
+pub goes-true : (d : BinaryDetection) (returned : Bool) → true ≡ (returned && is_none (quit_byte_of d))
+    → (returned ≡ true) × (quits d ≡ false)
+goes-true no_detection true goes = (refl, refl)
+goes-true no_detection false goes = absurd (cc)
+goes-true (Quit b) true goes = absurd (cc)
+goes-true (Quit b) false goes = absurd (cc)
+goes-true (Convert b) true goes = (refl, refl)
+goes-true (Convert b) false goes = absurd (cc)
 
--- it is none if none is known
-pub called-none : {S : Type 0} (n : Noted S) → n.binary ≡ None → called_with n ≡ None
-called-none n none = go n.has_called
-  where
-    go : (has_called : Bool) → (if has_called then n.binary else None) ≡ None
-    go false = refl
-    go true = none
+-- what returned true and doesn't go on ends it
+pub goes-false : (d : BinaryDetection) → false ≡ (true && is_none (quit_byte_of d)) → quits d ≡ true
+goes-false no_detection ends = absurd (cc)
+goes-false (Quit b) ends = refl
+goes-false (Convert b) ends = absurd (cc)
 
 module _ {S E : Type 0} (step : Steps S E) (k : Settings) where
-  -- a call but `finish` is one of the sink, with no call in between
-  pub noted-passed : (old new : S) (found : Option ℕ) (call : Call) (result : Result Bool E) → is_finish call ≡ false
-      → step old k call result new → noted step (old, found) k call result (new, found)
-  noted-passed old new None call result ends passes = passes
-  noted-passed old new (Some offset) begins result ends passes = (refl, passes)
-  noted-passed old new (Some offset) (matches number from bytes) result ends passes = (refl, passes)
-  noted-passed old new (Some offset) (context kind number from bytes) result ends passes = (refl, passes)
-  noted-passed old new (Some offset) breaks result ends passes = (refl, passes)
-  noted-passed old new (Some offset) (binary_data from) result ends passes = (refl, passes)
-  noted-passed old new (Some offset) (finishes count binary) result ends passes = absurd (cc)
+  -- a search that goes on has a buffer that isn't cut
+  pub uncut-passed : (old new : BufferState) (sink sink' : Noted S) → is_cut old ≡ false → new.detection ≡ old.detection
+      → old.detection ≡ detection_of k.binary_detection → sink.binary ≡ old.binary
+      → PassesBinary step k new.binary sink true sink' → is_cut new ≡ false
+  uncut-passed old new sink sink' uncut same detects noted_there
+      (inl (o, is, none, known, (returned, called, goes))) =
+      ap (λ b. b && is_some new.binary) (ap is_quit (same ∙ detects) ∙ go k.binary_detection returned goes)
+    where
+      go : (d : BinaryDetection) (returned : Bool) → true ≡ (returned && is_none (quit_byte_of d))
+          → is_quit (detection_of d) ≡ false
+      go no_detection returned goes = refl
+      go (Quit b) true goes = absurd (cc)
+      go (Quit b) false goes = absurd (cc)
+      go (Convert b) returned goes = refl
+  uncut-passed old new sink sink' uncut same detects noted_there (inr (inl none, goes, kept)) =
+      ap (λ b. is_quit new.detection && is_some b) none ∙ go (is_quit new.detection)
+    where
+      go : (quits : Bool) → (quits && false) ≡ false
+      go true = refl
+      go false = refl
+  uncut-passed old new sink sink' uncut same detects noted_there (inr (inr some, goes, kept)) =
+      ap (λ b. b && is_some new.binary) (ap is_quit same ∙ go (is_quit old.detection)
+      (ap (λ b. is_quit old.detection && b) (sym some ∙ ap is_some noted_there) ∙ uncut))
+    where
+      go : (quits : Bool) → (quits && true) ≡ false → quits ≡ false
+      go true never = absurd (cc)
+      go false never = refl
 
-  pub notes-passed : (old new : Noted S) (call : Call) (result : Result Bool E) → is_finish call ≡ false
-      → new.sink.ghost_name ≡ old.sink.ghost_name → new.binary ≡ old.binary → new.has_called ≡ old.has_called
-      → step old.sink.now k call result new.sink.now → Notes step old k call result new
-  notes-passed old new call result ends name binary called passes = (
-    name,
-    binary,
-    subst (λ found. noted step (noted_of old) k call result (new.sink.now, found))
-        (sym (ap (λ c. if c then new.binary else None) called ∙ ap (λ b. if old.has_called then b else None) binary))
-        (noted-passed old.sink.now new.sink.now (called_with old) call result ends passes),
-  )
-
-  -- `begin` returned true, and no binary byte is known
-  pub notes-begun : (first : S) (now : Noted S) → now.binary ≡ None → now.has_called ≡ false
-      → step first k begins (Ok true) now.sink.now
-      → Notes step (record { sink = record now.sink { now = first }; binary = now.binary; has_called = false }) k begins
-      (Ok true) now
-  notes-begun first now none uncalled begun =
-      notes-passed (record { sink = record now.sink { now = first }; binary = now.binary; has_called = false }) now
-      begins (Ok true)
-      refl refl refl uncalled begun
+  -- what is noted is what the buffer found
+  pub noted-passed : (old new other : Option ℕ) (sink sink' : Noted S) → new ≡ first_of old other → sink.binary ≡ old
+      → PassesBinary step k new sink true sink' → sink'.binary ≡ new
+  noted-passed old new other sink sink' found there (inl (o, is, none, known, called)) = known ∙ sym is
+  noted-passed old new other sink sink' found there (inr (inl none, goes, kept)) =
+      ap (λ (n : Noted S). n.binary) kept ∙ (there ∙ (first-none old other (sym found ∙ none) ∙ sym none))
+  noted-passed None new other sink sink' found there (inr (inr some, goes, kept)) =
+      absurd (false≢true (sym (ap is_some there) ∙ some))
+  noted-passed (Some o) new other sink sink' found there (inr (inr some, goes, kept)) =
+      ap (λ (n : Noted S). n.binary) kept ∙ (there ∙ sym found)

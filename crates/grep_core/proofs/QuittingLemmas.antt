@@ -1,29 +1,31 @@
 -- A search by a sink that looks for a byte in each report: the calls that it makes of the sink that it has.
-use Rattle.std.proofs.Common.{◌≡◌, ◌⊎◌, ℕ, zero, suc, ◌+◌, ◌-◌, ◌<◌, Bool, true, false, List, [], ◌∷◌, take}
+use Rattle.std.proofs.Common.{◌≡◌, ◌⊎◌, ℕ, zero, suc, ◌+◌, ◌-◌, ◌<◌, Bool, true, false, List, [], ◌∷◌, ◌++◌, take}
 use Rattle.std.proofs.Common.{if◌then◌else◌, ◌==◌, Result, Ok, Err}
 use Rattle.std.proofs.Common.{Option, None, Some, refl, sym, ap, ◌∙◌, arith, inl, inr, subst}
 use Rattle.std.specs.Prelude.{is_some}
 use Rattle.std.specs.List.{position}
 use Rattle.std.proofs.lemmas.Bool.{true≢false, false≢true}
 use Rattle.grep_definitions.specs.BinaryBytes.{position_of}
-use Rattle.grep_definitions.specs.LineTurns.{one_turn}
-use Rattle.grep_definitions.specs.QuitPoints.{holds_byte, call_at, calls_before, offset_at, quit_in_reports, IsEndedAt}
-use Rattle.grep_definitions.specs.QuitPoints.{IsRunTo}
+use Rattle.grep_report.specs.declared.binary_detection.BinaryDetection.TheVariants.{Quit}
+use Rattle.grep_definitions.specs.BinaryPlans.{call_at, holds_byte, offset_at, plan_with, point_at, point_unless, told}
+use Rattle.grep_definitions.specs.BinaryPlans.{with_offset}
 use Rattle.grep_definitions.specs.Settings.{Settings}
-use Rattle.grep_definitions.specs.SinkCalls.{Call, Turn, begins, matches, context, breaks, binary_data, finishes}
-use Rattle.grep_definitions.specs.SinkCalls.{is_break, is_report, reported_bytes, reported_from}
-use Rattle.grep_definitions.specs.SinkRuns.{Steps, Outcome, all_true, stopped, failed, AreReported, IsFinished, IsRun}
-use Rattle.grep_definitions.specs.SinkRuns.{finish_result}
+use Rattle.grep_definitions.specs.Plans.{Call, Planned, begins, matches, context, breaks, binary_data, finishes}
+use Rattle.grep_definitions.specs.Plans.{is_break, reported_bytes, reported_from, Steps, Outcome, all_true, stopped}
+use Rattle.grep_definitions.specs.Plans.{failed, AreMade, IsFinished, IsRun, finish_result, Finish, counted, planned}
+use Rattle.grep_definitions.specs.SearchLaws.{is_report}
 use Rattle.grep_core.specs.QuittingSinks.{Watch, quitting, ended, IsLookedAt, IsMadeAfter, count_to}
+use Rattle.grep_definitions.specs.SinkRuns.{plan_of}
+use Rattle.grep_definitions.proofs.SinkRunLemmas.{AreMade-append, AreMade-ended}
 use Rattle.grep_core.proofs.FirstPositionLemmas as first
 
 -- each break is followed by a report with the same end
-pub data AreJoined : List Turn → Type 0 where
+pub data AreJoined : List Planned → Type 0 where
   no_turns : AreJoined []
-  joined_report : {turn : Turn} {later : List Turn} → is_report turn.call ≡ true → AreJoined later
+  joined_report : {turn : Planned} {later : List Planned} → is_report turn.call ≡ true → AreJoined later
       → AreJoined (turn ∷ later)
-  joined_break : {gap turn : Turn} {later : List Turn} → gap.call ≡ breaks → is_report turn.call ≡ true → gap.end
-      ≡ turn.end
+  joined_break : {gap turn : Planned} {later : List Planned} → gap.call ≡ breaks → is_report turn.call ≡ true
+      → gap.if_false ≡ turn.if_false
       → AreJoined later → AreJoined (gap ∷ turn ∷ later)
 
 -- a report is no break
@@ -35,12 +37,12 @@ report-no-break breaks is = absurd (false≢true is)
 report-no-break (binary_data offset) is = refl
 report-no-break (finishes count binary) is = refl
 
-not-stopped : {E : Type 0} (end : ℕ) → ◌≡◌ {A = Outcome E} all_true (stopped end) → ⊥
-not-stopped {E} end eq = true≢false (ap goes eq)
+not-stopped : {E : Type 0} (finish : Finish) → ◌≡◌ {A = Outcome E} all_true (stopped finish) → ⊥
+not-stopped {E} finish eq = true≢false (ap goes eq)
   where
     goes : Outcome E → Bool
     goes all_true = true
-    goes (stopped end) = false
+    goes (stopped finish) = false
     goes (failed e) = false
 
 not-failed : {E : Type 0} (e : E) → ◌≡◌ {A = Outcome E} all_true (failed e) → ⊥
@@ -48,16 +50,26 @@ not-failed {E} e eq = true≢false (ap goes eq)
   where
     goes : Outcome E → Bool
     goes all_true = true
-    goes (stopped end) = false
+    goes (stopped finish) = false
     goes (failed e) = false
+
+-- the calls before call n, without a break just before it
+abbrev calls_before : ℕ → List Planned → ℕ → List Planned
+calls_before b calls n = take (point_at b calls n).position calls
+
+-- after which `finish` has no offset, if one of some calls returned false
+abbrev pub IsPlain : {E : Type 0} → Outcome E → Type 0
+IsPlain all_true = Unit {0}
+IsPlain (stopped finish) = finish.binary ≡ None
+IsPlain (failed e) = Unit {0}
 
 module _ (b : ℕ) where
   -- no break of a report that holds the byte
-  abbrev IsApart : Turn → List Turn → Type 0
+  abbrev IsApart : Planned → List Planned → Type 0
   IsApart turn later = (is_break turn.call ≡ false) ⊎ ((n : ℕ) → position (holds_byte b) later ≡ Some n → 0 < n)
 
   -- the calls before a later report that holds the byte, with one more call before them
-  before-more : (turn : Turn) (later : List Turn) (n : ℕ) → (is_break turn.call ≡ false) ⊎ (0 < n)
+  before-more : (turn : Planned) (later : List Planned) (n : ℕ) → (is_break turn.call ≡ false) ⊎ (0 < n)
       → calls_before b (turn ∷ later) (suc n) ≡ turn ∷ calls_before b later n
   before-more turn later zero (inl plain) = rw plain (ap (λ l. turn ∷ l) (go (is_break (call_at b later 0).call)))
     where
@@ -75,7 +87,8 @@ module _ (b : ℕ) where
       go true = refl
       go false = refl
 
-  apart-at : (turn : Turn) (later : List Turn) (n : ℕ) → IsApart turn later → position (holds_byte b) later ≡ Some n
+  apart-at : (turn : Planned) (later : List Planned) (n : ℕ) → IsApart turn later → position (holds_byte b) later ≡ Some
+      n
       → (is_break turn.call ≡ false) ⊎ (0 < n)
   apart-at turn later n (inl plain) is = inl plain
   apart-at turn later n (inr far) is = inr (far n is)
@@ -83,49 +96,49 @@ module _ (b : ℕ) where
 module _ {S E : Type 0} (step : Steps S E) (may_call : S → Type 0) (k : Settings) (b : ℕ) where
   -- what came of a call that ended the search, or of `binary_data`
   abbrev IsEnd : Outcome E → Result Bool E → Type 0
-  IsEnd outcome (Ok goes_on) = (end : ℕ) × (outcome ≡ stopped end)
+  IsEnd outcome (Ok goes_on) = (finish : Finish) × (outcome ≡ stopped finish)
   IsEnd outcome (Err e) = outcome ≡ failed e
 
   -- what the sink had of some turns: no report holds the byte; or the search ended before the first one that does, or
   -- at it
-  pub data HasQuit (turns : List Turn) (old : S) (outcome : Outcome E) (new : Watch S) : Type 0 where
-    unheld : position (holds_byte b) turns ≡ None → new.found ≡ None → AreReported step k old turns outcome new.sink
+  pub data HasQuit (turns : List Planned) (old : S) (outcome : Outcome E) (new : Watch S) : Type 0 where
+    unheld : position (holds_byte b) turns ≡ None → new.found ≡ None → AreMade step k old turns outcome new.sink
         → HasQuit turns old outcome new
     ended_before : (n : ℕ) → position (holds_byte b) turns ≡ Some n → new.found ≡ None → (outcome ≡ all_true → ⊥)
-        → AreReported step k old (calls_before b turns n) outcome new.sink → HasQuit turns old outcome new
+        → AreMade step k old (calls_before b turns n) outcome new.sink → HasQuit turns old outcome new
     ended_at : (n : ℕ) → position (holds_byte b) turns ≡ Some n → new.found ≡ Some (offset_at b turns n) → (mid : S)
-        → AreReported step k old (calls_before b turns n) all_true mid → (returned : Result Bool E)
+        → AreMade step k old (calls_before b turns n) all_true mid → (returned : Result Bool E)
         → step mid k (binary_data (offset_at b turns n)) returned new.sink → IsEnd outcome returned
         → HasQuit turns old outcome new
 
   -- one more call before them, that doesn't hold the byte
-  quits-more : (turn : Turn) (later : List Turn) (old mid : S) (outcome : Outcome E) (new : Watch S)
+  quits-more : (turn : Planned) (later : List Planned) (old mid : S) (outcome : Outcome E) (new : Watch S)
       → holds_byte b turn ≡ false → IsApart b turn later → step old k turn.call (Ok true) mid
       → HasQuit later mid outcome new → HasQuit (turn ∷ later) old outcome new
   quits-more turn later old mid outcome new free apart made (unheld none clear reported) =
       unheld (first.position-never (holds_byte b) turn later free none) clear (inl (mid, made, reported))
   quits-more turn later old mid outcome new free apart made (ended_before n is clear some reported) =
       ended_before (suc n) (first.position-later (holds_byte b) turn later n free is) clear some
-      (subst (λ l. AreReported step k old l outcome new.sink)
+      (subst (λ l. AreMade step k old l outcome new.sink)
       (sym (before-more b turn later n (apart-at b turn later n apart is)))
       (inl (mid, made, reported)))
   quits-more turn later old mid outcome new free apart made (ended_at n is found last reported returned called end) =
       ended_at (suc n) (first.position-later (holds_byte b) turn later n free is) found last
-      (subst (λ l. AreReported step k old l all_true last)
+      (subst (λ l. AreMade step k old l all_true last)
       (sym (before-more b turn later n (apart-at b turn later n apart is)))
       (inl (mid, made, reported))) returned called end
 
   -- or it ended at that call
-  quits-none : (turn : Turn) (later : List Turn) (old : S) (outcome : Outcome E) (new : Watch S)
+  quits-none : (turn : Planned) (later : List Planned) (old : S) (outcome : Outcome E) (new : Watch S)
       → holds_byte b turn ≡ false → IsApart b turn later → new.found ≡ None → (outcome ≡ all_true → ⊥)
-      → ((rest : List Turn) → AreReported step k old (turn ∷ rest) outcome new.sink)
+      → ((rest : List Planned) → AreMade step k old (turn ∷ rest) outcome new.sink)
       → HasQuit (turn ∷ later) old outcome new
   quits-none turn later old outcome new free apart clear some reported = go (position (holds_byte b) later) refl
     where
       go : (found : Option ℕ) → position (holds_byte b) later ≡ found → HasQuit (turn ∷ later) old outcome new
       go None is = unheld (first.position-never (holds_byte b) turn later free is) clear (reported later)
       go (Some n) is = ended_before (suc n) (first.position-later (holds_byte b) turn later n free is) clear some
-          (subst (λ l. AreReported step k old l outcome new.sink)
+          (subst (λ l. AreMade step k old l outcome new.sink)
           (sym (before-more b turn later n (apart-at b turn later n apart is)))
           (reported (calls_before b later n)))
 
@@ -133,13 +146,13 @@ module _ {S E : Type 0} (step : Steps S E) (may_call : S → Type 0) (k : Settin
   Q = quitting step may_call b
 
   -- what followed a call
-  abbrev Went : Turn → Result Bool E → Watch S → List Turn → Outcome E → Watch S → Type 0
-  Went turn (Ok true) mid later outcome new = AreReported Q k mid later outcome new
-  Went turn (Ok false) mid later outcome new = (outcome ≡ stopped turn.end) × (new ≡ mid)
+  abbrev Went : Planned → Result Bool E → Watch S → List Planned → Outcome E → Watch S → Type 0
+  Went turn (Ok true) mid later outcome new = AreMade Q k mid later outcome new
+  Went turn (Ok false) mid later outcome new = (outcome ≡ stopped turn.if_false) × (new ≡ mid)
   Went turn (Err e) mid later outcome new = (outcome ≡ failed e) × (new ≡ mid)
 
-  first-call : (turn : Turn) (later : List Turn) (old : Watch S) (outcome : Outcome E) (new : Watch S)
-      → AreReported Q k old (turn ∷ later) outcome new
+  first-call : (turn : Planned) (later : List Planned) (old : Watch S) (outcome : Outcome E) (new : Watch S)
+      → AreMade Q k old (turn ∷ later) outcome new
       → (result : Result Bool E) × (mid : Watch S) × Q old k turn.call result mid
       × Went turn result mid later outcome new
   first-call turn later old outcome new (inl (mid, made, rest)) = (Ok true, mid, made, rest)
@@ -147,16 +160,16 @@ module _ {S E : Type 0} (step : Steps S E) (may_call : S → Type 0) (k : Settin
   first-call turn later old outcome new (inr (inr (e, is, made))) = (Err e, new, made, (is, refl))
 
   -- a report that is made
-  quits-report : (turn : Turn) (later : List Turn) (old : S) (mid : Watch S) (outcome : Outcome E) (new : Watch S)
+  quits-report : (turn : Planned) (later : List Planned) (old : S) (mid : Watch S) (outcome : Outcome E) (new : Watch S)
       → (result : Result Bool E) → is_break turn.call ≡ false → holds_byte b turn ≡ false
       → step old k turn.call result mid.sink → mid.found ≡ None → Went turn result mid later outcome new
-      → (AreReported Q k mid later outcome new → HasQuit later mid.sink outcome new)
+      → (AreMade Q k mid later outcome new → HasQuit later mid.sink outcome new)
       → HasQuit (turn ∷ later) old outcome new
   quits-report turn later old mid outcome new (Ok true) is free made clear went rest =
       quits-more turn later old mid.sink outcome new free (inl is) made (rest went)
   quits-report turn later old mid outcome new (Ok false) is free made clear (stops, same) rest =
       quits-none turn later old outcome new free (inl is) (ap (λ (w : Watch S). w.found) same ∙ clear)
-      (λ all. not-stopped turn.end (sym all ∙ stops))
+      (λ all. not-stopped turn.if_false (sym all ∙ stops))
       (λ rest. inr (inl (stops, subst (λ (w : Watch S). step old k turn.call (Ok false) w.sink) (sym same) made)))
   quits-report turn later old mid outcome new (Err e) is free made clear (fails, same) rest =
       quits-none turn later old outcome new free (inl is) (ap (λ (w : Watch S). w.found) same ∙ clear)
@@ -164,7 +177,7 @@ module _ {S E : Type 0} (step : Steps S E) (may_call : S → Type 0) (k : Settin
       (λ rest. inr (inr (e, fails, subst (λ (w : Watch S). step old k turn.call (Err e) w.sink) (sym same) made)))
 
   -- the calls before a first report that holds the byte
-  none-before : (turn : Turn) (later : List Turn) → calls_before b (turn ∷ later) 0 ≡ []
+  none-before : (turn : Planned) (later : List Planned) → calls_before b (turn ∷ later) 0 ≡ []
   none-before turn later = go (is_break turn.call)
     where
       go : (c : Bool) → take (if c then 0 else 0) (turn ∷ later) ≡ []
@@ -172,10 +185,10 @@ module _ {S E : Type 0} (step : Steps S E) (may_call : S → Type 0) (k : Settin
       go false = refl
 
   -- the search ended at a report
-  end-of : (turn : Turn) (later : List Turn) (mid : Watch S) (outcome : Outcome E) (new : Watch S)
+  end-of : (turn : Planned) (later : List Planned) (mid : Watch S) (outcome : Outcome E) (new : Watch S)
       (returned : Result Bool E)
       → Went turn (ended returned) mid later outcome new → (new ≡ mid) × IsEnd outcome returned
-  end-of turn later mid outcome new (Ok goes_on) (stops, same) = (same, (turn.end, stops))
+  end-of turn later mid outcome new (Ok goes_on) (stops, same) = (same, (turn.if_false, stops))
   end-of turn later mid outcome new (Err e) (fails, same) = (same, fails)
 
   looked : (call : Call) (old : Watch S) (result : Result Bool E) (mid : Watch S) → is_report call ≡ true
@@ -189,13 +202,13 @@ module _ {S E : Type 0} (step : Steps S E) (may_call : S → Type 0) (k : Settin
   looked (finishes count binary) old result mid is made = absurd (false≢true is)
 
   -- such turns, from any state between two reports
-  abbrev QuitsFrom : List Turn → Outcome E → Watch S → Type 0
+  abbrev QuitsFrom : List Planned → Outcome E → Watch S → Type 0
   QuitsFrom turns outcome new =
-      (mid : Watch S) → mid.has_break ≡ false → mid.found ≡ None → AreReported Q k mid turns outcome new
+      (mid : Watch S) → mid.has_break ≡ false → mid.found ≡ None → AreMade Q k mid turns outcome new
       → HasQuit turns mid.sink outcome new
 
-  pub quits : (turns : List Turn) → AreJoined turns → (old : Watch S) (outcome : Outcome E) (new : Watch S)
-      → old.has_break ≡ false → old.found ≡ None → AreReported Q k old turns outcome new
+  pub quits : (turns : List Planned) → AreJoined turns → (old : Watch S) (outcome : Outcome E) (new : Watch S)
+      → old.has_break ≡ false → old.found ≡ None → AreMade Q k old turns outcome new
       → HasQuit turns old.sink outcome new
   quits [] no_turns old outcome new whole clear (all, same) =
       unheld refl (ap (λ (w : Watch S). w.found) same ∙ clear) (all, ap (λ (w : Watch S). w.sink) same)
@@ -223,7 +236,7 @@ module _ {S E : Type 0} (step : Steps S E) (may_call : S → Type 0) (k : Settin
           holds) in
           ended_at 0 (first.position-first (holds_byte b) turn later (ap is_some holds))
           (ap (λ (w : Watch S). w.found) end.0 ∙ found ∙ ap (λ n. Some n) (sym offset)) old.sink
-          (subst (λ l. AreReported step k old.sink l all_true old.sink) (sym (none-before turn later)) (refl, refl))
+          (subst (λ l. AreMade step k old.sink l all_true old.sink) (sym (none-before turn later)) (refl, refl))
           returned
           (subst (λ n. step old.sink k (binary_data n) returned new.sink) (sym offset)
           (subst (λ (w : Watch S). step old.sink k (binary_data (reported_from turn.call + index)) returned w.sink)
@@ -233,8 +246,8 @@ module _ {S E : Type 0} (step : Steps S E) (may_call : S → Type 0) (k : Settin
       let made = first-call gap (turn ∷ later) old outcome new reported in
       let held : (made.1 ≡ record old { has_break = true }) × (made.0 ≡ Ok true) =
       subst (λ call. Q old k call made.0 made.1) off made.2 in
-      let rest : AreReported Q k (record old { has_break = true }) (turn ∷ later) outcome new =
-      subst (λ w. AreReported Q k w (turn ∷ later) outcome new) held.0
+      let rest : AreMade Q k (record old { has_break = true }) (turn ∷ later) outcome new =
+      subst (λ w. AreMade Q k w (turn ∷ later) outcome new) held.0
       (subst (λ r. Went gap r made.1 (turn ∷ later) outcome new) held.1 made.3) in
       let next = first-call turn later (record old { has_break = true }) outcome new rest in
       go (λ mid none empty. quits later joined mid outcome new none empty)
@@ -265,9 +278,9 @@ module _ {S E : Type 0} (step : Steps S E) (may_call : S → Type 0) (k : Settin
       after quits_later (Ok false) mid free none whole (inr (never, broken)) (stops, same) =
           quits-none gap (turn ∷ later) old.sink outcome new gap-free (apart free)
           (ap (λ (w : Watch S). w.found) same ∙ none)
-          (λ all. not-stopped turn.end (sym all ∙ stops))
+          (λ all. not-stopped turn.if_false (sym all ∙ stops))
           (λ rest. inr (inl (
-            stops ∙ ap (λ n. stopped n) (sym same_end),
+            stops ∙ ap (λ f. stopped f) (sym same_end),
             subst (λ call. step old.sink k call (Ok false) new.sink) (sym off)
                 (subst (λ (w : Watch S). step old.sink k breaks (Ok false) w.sink) (sym same) broken),
           )))
@@ -298,123 +311,105 @@ module _ {S E : Type 0} (step : Steps S E) (may_call : S → Type 0) (k : Settin
           ended_at 1 (first.position-later (holds_byte b) gap (turn ∷ later) 0 gap-free
           (first.position-first (holds_byte b) turn later (ap is_some holds)))
           (ap (λ (w : Watch S). w.found) end.0 ∙ found ∙ ap (λ n. Some n) (sym offset)) old.sink
-          (subst (λ l. AreReported step k old.sink l all_true old.sink) (sym nothing) (refl, refl)) returned
+          (subst (λ l. AreMade step k old.sink l all_true old.sink) (sym nothing) (refl, refl)) returned
           (subst (λ n. step old.sink k (binary_data n) returned new.sink) (sym offset)
           (subst (λ (w : Watch S). step old.sink k (binary_data (reported_from turn.call + index)) returned w.sink)
           (sym end.0) called))
           end.1
 
   -- and of `begin` and some turns
-  pub quits-begun : (end : ℕ) (turns : List Turn) → AreJoined turns
+  pub quits-begun : (end : ℕ) (turns : List Planned) → AreJoined turns
       → (old : Watch S) (outcome : Outcome E) (new : Watch S)
       → old.has_break ≡ false → old.found ≡ None
-      → AreReported Q k old (record { call = begins; end = end } ∷ turns) outcome new
-      → HasQuit (record { call = begins; end = end } ∷ turns) old.sink outcome new
+      → AreMade Q k old (planned begins end ∷ turns) outcome new
+      → HasQuit (planned begins end ∷ turns) old.sink outcome new
   quits-begun end turns joined old outcome new whole clear reported =
-      let begin : Turn = record { call = begins; end = end } in
+      let begin : Planned = (planned begins end) in
       let made = first-call begin turns old outcome new reported in
       quits-report begin turns old.sink made.1 outcome new made.0 refl refl made.2.2 (made.2.0 ∙ clear) made.3
       (quits turns joined made.1 outcome new (made.2.1 ∙ whole) (made.2.0 ∙ clear))
 
   -- `finish` after them
-  pub quits-run : (turns : List Turn) (old : S) (count : ℕ) (outcome : Outcome E) (mid : Watch S)
-      (result : Result (Unit {0}) E)
-      (new : Watch S) → HasQuit turns old outcome mid → IsFinished Q k outcome mid count None result new
-      → IsRunTo step k (quit_in_reports b turns) old turns count result new.sink
-  quits-run turns old count outcome mid result new (unheld none clear reported) finished =
+  finish-passed : (outcome : Outcome E) (mid : Watch S) (count : ℕ) (finish : Finish) (result : Result (Unit {0}) E)
+      (new : Watch S) → IsPlain outcome → mid.found ≡ None → (outcome ≡ all_true → finish ≡ counted count)
+      → IsFinished Q k outcome mid (counted count) result new
+      → IsFinished step k outcome mid.sink finish result new.sink
+  finish-passed all_true mid count finish result new plain clear is (same, broken, made) =
+      rw (is refl) (subst (λ f. step mid.sink k (finishes (count_to f count) f) (finish_result result) new.sink) clear
+      made)
+  finish-passed (stopped if_false) mid count finish result new plain clear is (same, broken, made) =
+      subst (λ f. step mid.sink k (finishes if_false.count f) (finish_result result) new.sink) (sym plain)
+      (subst (λ f. step mid.sink k (finishes (count_to f if_false.count) f) (finish_result result) new.sink) clear
+      made)
+  finish-passed (failed e) mid count finish result new plain clear is (fails, same) =
+      (fails, ap (λ (w : Watch S). w.sink) same)
+
+  pub quits-run : (turns : List Planned) (old : S) (count : ℕ) (outcome : Outcome E) (mid : Watch S)
+      (result : Result (Unit {0}) E) (new : Watch S) → IsPlain outcome → HasQuit turns old outcome mid
+      → IsFinished Q k outcome mid (counted count) result new
+      → IsRun step k old (plan_with (Quit b) (point_unless b turns None) (plan_of turns count)) result new.sink
+  quits-run turns old count outcome mid result new plain (unheld none clear reported) finished =
       rw none (record {
         outcome = outcome;
         mid = mid.sink;
-        reported = reported;
-        finished = plainly outcome clear finished;
+        made = reported;
+        finished = finish-passed outcome mid count (counted count) result new plain clear (λ is. refl) finished;
       })
-    where
-      plainly : (outcome : Outcome E) → mid.found ≡ None → IsFinished Q k outcome mid count None result new
-          → IsFinished step k outcome mid.sink count None result new.sink
-      plainly all_true clear (same, broken, made) =
-          subst (λ f. step mid.sink k (finishes (count_to f count) f) (finish_result result) new.sink) clear made
-      plainly (stopped end) clear (same, broken, made) =
-          subst (λ f. step mid.sink k (finishes (count_to f end) f) (finish_result result) new.sink) clear made
-      plainly (failed e) clear (is, same) = (is, ap (λ (w : Watch S). w.sink) same)
-  quits-run turns old count outcome mid result new (ended_before n is clear some reported) finished =
+  quits-run turns old count outcome mid result new plain (ended_before n is clear some reported) finished =
       rw is (record {
         outcome = outcome;
         mid = mid.sink;
-        reported = reported;
-        ended = early outcome some clear finished;
+        made = AreMade-ended step k (calls_before b turns n) (told (point_at b turns n) ∷ []) old outcome mid.sink some
+            reported;
+        finished = finish-passed outcome mid count _ result new plain clear (λ is. absurd (some is)) finished;
       })
-    where
-      early : (outcome : Outcome E) → (outcome ≡ all_true → ⊥) → mid.found ≡ None
-          → IsFinished Q k outcome mid count None result new
-          → IsEndedAt step k (offset_at b turns n) (offset_at b turns n) outcome mid.sink result new.sink
-      early all_true some clear finished = absurd (some refl)
-      early (stopped end) some clear (same, broken, made) =
-          subst (λ f. step mid.sink k (finishes (count_to f end) f) (finish_result result) new.sink) clear made
-      early (failed e) some clear (is, same) = (is, ap (λ (w : Watch S). w.sink) same)
-  quits-run turns old count outcome mid result new (ended_at n is found last reported returned called end) finished =
-      rw is (record {
-        outcome = all_true;
-        mid = last;
-        reported = reported;
-        ended = at returned called end finished;
-      })
+  quits-run turns old count outcome mid result new plain
+      (ended_at n is found last reported returned called end) finished =
+      rw is (at returned called end finished)
     where
       offset : ℕ
       offset = offset_at b turns n
 
-      closed : (end : ℕ) → outcome ≡ stopped end → IsFinished Q k outcome mid count None result new
+      closed : (end : Finish) → outcome ≡ stopped end → IsFinished Q k outcome mid (counted count) result new
           → step mid.sink k (finishes offset (Some offset)) (finish_result result) new.sink
       closed end stops finished =
-          let made = subst (λ o. IsFinished Q k o mid count None result new) stops finished in
-          subst (λ f. step mid.sink k (finishes (count_to f end) f) (finish_result result) new.sink) found made.2
+          let made = subst (λ o. IsFinished Q k o mid (counted count) result new) stops finished in
+          subst (λ f. step mid.sink k (finishes (count_to f end.count) f) (finish_result result) new.sink) found made.2
+
+      with-told : (o : Outcome E) → AreMade step k last (told (point_at b turns n) ∷ []) o mid.sink
+          → AreMade step k old (calls_before b turns n ++ told (point_at b turns n) ∷ []) o mid.sink
+      with-told o made =
+          AreMade-append step k (calls_before b turns n) (told (point_at b turns n) ∷ []) old last o mid.sink reported
+          made
 
       at : (returned : Result Bool E) → step last k (binary_data offset) returned mid.sink → IsEnd outcome returned
-          → IsFinished Q k outcome mid count None result new
-          → IsRun step k last (one_turn (binary_data offset) offset) offset (Some offset) result new.sink
+          → IsFinished Q k outcome mid (counted count) result new
+          → IsRun step k old (plan_with (Quit b) (Some (point_at b turns n)) (plan_of turns count)) result new.sink
       at (Ok true) called (end, stops) finished = record {
         outcome = all_true;
         mid = mid.sink;
-        reported = inl (mid.sink, called, (refl, refl));
+        made = with-told all_true (inl (mid.sink, called, (refl, refl)));
         finished = closed end stops finished;
       }
       at (Ok false) called (end, stops) finished = record {
-        outcome = stopped offset;
+        outcome = stopped (with_offset offset (counted offset));
         mid = mid.sink;
-        reported = inr (inl (refl, called));
+        made = with-told _ (inr (inl (refl, called)));
         finished = closed end stops finished;
       }
       at (Err e) called fails finished =
-          let made = subst (λ o. IsFinished Q k o mid count None result new) fails finished in record {
+          let made = subst (λ o. IsFinished Q k o mid (counted count) result new) fails finished in record {
             outcome = failed e;
             mid = mid.sink;
-            reported = inr (inr (e, refl, called));
+            made = with-told (failed e) (inr (inr (e, refl, called)));
             finished = (made.0, ap (λ (w : Watch S). w.sink) made.1);
           }
 
   -- all of them were made: no report holds the byte
-  pub quits-all : (turns : List Turn) (old : S) (new : Watch S) → HasQuit turns old all_true new
-      → (position (holds_byte b) turns ≡ None) × AreReported step k old turns all_true new.sink
+  pub quits-all : (turns : List Planned) (old : S) (new : Watch S) → HasQuit turns old all_true new
+      → (position (holds_byte b) turns ≡ None) × AreMade step k old turns all_true new.sink
   quits-all turns old new (unheld none clear reported) = (none, reported)
   quits-all turns old new (ended_before n is clear some reported) = absurd (some refl)
   quits-all turns old new (ended_at n is found last reported (Ok goes_on) called (end, stops)) =
       absurd (not-stopped end stops)
   quits-all turns old new (ended_at n is found last reported (Err e) called fails) = absurd (not-failed e fails)
-
--- `binary_data` and `finish`, whatever the first returned
-pub run-called : {S E : Type 0} (step : Steps S E) (k : Settings) (offset count : ℕ) (first mid new : S)
-    (goes_on : Bool)
-    (result : Result (Unit {0}) E) → step first k (binary_data offset) (Ok goes_on) mid
-    → step mid k (finishes count (Some offset)) (finish_result result) new
-    → IsRun step k first (one_turn (binary_data offset) count) count (Some offset) result new
-run-called step k offset count first mid new true result called finish = record {
-  outcome = all_true;
-  mid = mid;
-  reported = inl (mid, called, (refl, refl));
-  finished = finish;
-}
-run-called step k offset count first mid new false result called finish = record {
-  outcome = stopped count;
-  mid = mid;
-  reported = inr (inl (refl, called));
-  finished = finish;
-}

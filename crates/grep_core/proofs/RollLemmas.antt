@@ -20,7 +20,7 @@ use Rattle.grep_definitions.specs.LineSearch
 use Rattle.grep_definitions.specs.LineWalks.{IsOpen}
 use Rattle.grep_definitions.specs.ReaderSearches.{reports_nothing}
 use Rattle.grep_definitions.specs.Settings.{Settings}
-use Rattle.grep_definitions.specs.SinkRuns.{Steps, Outcome, all_true}
+use Rattle.grep_definitions.specs.Plans.{Steps, Outcome, all_true}
 use Rattle.grep_definitions.proofs.BoolLemmas.{clash}
 use Rattle.grep_definitions.proofs.LimitLemmas.{turn_above}
 use Rattle.grep_walk.specs.declared.walk.Walk.{Walk}
@@ -31,6 +31,7 @@ use Rattle.grep_walk.proofs.FrontLemmas.{count-after, lines-fit, longer-front, s
 use Rattle.grep_walk.proofs.WalkLemmas as walks
 use Rattle.grep_walk.proofs.WindowLemmas.{closed-append, closed-drop, roll-input, start-all, start-same}
 use Rattle.grep_walk.proofs.WindowSearchLemmas.{passed-all, searched-rolled}
+use Rattle.grep_walk.specs.Origins.{Origin}
 
 -- no bytes are more than none
 pub nothing : {X : Type 0} → 0 < length {A = ℕ} [] → X
@@ -106,7 +107,7 @@ module _ (join : LinesJoin) (append : LinesAppend) {S E : Type 0} (step : Steps 
     t = byte_of k.line_terminator
 
     -- at the end of what is shown, if nothing follows it
-    pub passed-end : (gone shown : List ℕ) (start : ℕ) (first : S) (w : Walk) (now : S)
+    pub passed-end : (gone shown : List ℕ) (start : ℕ) (first : Origin S) (w : Walk) (now : S)
         → IsReady step k meaning gone shown start first w now → start ≡ length shown
         → HasPassed step k meaning gone shown (gone ++ (shown ++ [])) first w now
     passed-end gone shown start first w now ready end =
@@ -114,7 +115,7 @@ module _ (join : LinesJoin) (append : LinesAppend) {S E : Type 0} (step : Steps 
         (λ i here. start-same join append t shown (length shown) i (length (lines t shown))
         (subst (λ p. IsLineStart t shown p i) end here) (start-all join append t shown))
 
-    pub counted-end : (gone shown : List ℕ) (first : S) (w : Walk) (now : S) → IsClosed t gone
+    pub counted-end : (gone shown : List ℕ) (first : Origin S) (w : Walk) (now : S) → IsClosed t gone
         → HasPassed step k meaning gone shown (gone ++ (shown ++ [])) first w now
         → IsCountedFor step k meaning first (gone ++ (shown ++ [])) w.offset all_true now
     counted-end gone shown first w now opens passed =
@@ -142,7 +143,7 @@ module _ (join : LinesJoin) (append : LinesAppend) {S E : Type 0} (step : Steps 
       module _ (window : List ℕ) (start : ℕ) (shown : window ≡ old.shown) (at : start ≡ start_in old w) (w' : Walk)
           (now' : S)
           (low : w.offset ≤ w'.offset) (high : w'.offset ≤ old.offset + length old.shown) where
-        searched-there : (gone after : List ℕ) (first : S)
+        searched-there : (gone after : List ℕ) (first : Origin S)
             → HasSearched step k meaning gone old.shown (gone ++ (old.shown ++ after)) first (start_in old w) w now
             → HasSearched step k meaning gone window (gone ++ (old.shown ++ after)) first start w now
         searched-there gone after first searched =
@@ -154,7 +155,7 @@ module _ (join : LinesJoin) (append : LinesAppend) {S E : Type 0} (step : Steps 
 
         -- the search ended within it
         pub ended-within : (outcome : Outcome E)
-            → ((gone input : List ℕ) (first : S) → HasSearched step k meaning gone window input first start w now
+            → ((gone input : List ℕ) (first : Origin S) → HasSearched step k meaning gone window input first start w now
             → IsCountedFor step k meaning first input w'.offset outcome now')
             → HasEnded step k meaning old w now w' now'
         ended-within outcome counted = record {
@@ -165,10 +166,10 @@ module _ (join : LinesJoin) (append : LinesAppend) {S E : Type 0} (step : Steps 
               counted gone (gone ++ (old.shown ++ after)) first (searched-there gone after first (ready after closes));
         }
 
-        module _ (passes : (gone input : List ℕ) (first : S)
+        module _ (passes : (gone input : List ℕ) (first : Origin S)
             → HasSearched step k meaning gone window input first start w now
             → HasPassed step k meaning gone window input first w' now') where
-          passed-there : (gone after : List ℕ) (first : S)
+          passed-there : (gone after : List ℕ) (first : Origin S)
               → HasSearched step k meaning gone old.shown (gone ++ (old.shown ++ after)) first (start_in old w) w now
               → HasPassed step k meaning gone old.shown (gone ++ (old.shown ++ after)) first w' now'
           passed-there gone after first searched =
@@ -198,7 +199,7 @@ module _ (join : LinesJoin) (append : LinesAppend) {S E : Type 0} (step : Steps 
               → IsInWindow k (gone ++ take r old.shown) (drop r old.shown ++ more)
               (gone ++ (old.shown ++ (more ++ after)))
               (length old.shown - r) (recounted w' line through))
-              → (gone : List ℕ) (first : S) → IsClosed t gone
+              → (gone : List ℕ) (first : Origin S) → IsClosed t gone
               → IsReady step k meaning gone old.shown (start_in old w) first w now
               → IsClosed t (gone ++ take r old.shown)
               × IsNext step k meaning (gone ++ take r old.shown) (drop r old.shown) first w' now'
@@ -220,7 +221,7 @@ module _ (join : LinesJoin) (append : LinesAppend) {S E : Type 0} (step : Steps 
                 passed.searched.walked.inside))),
           )
 
-    module _ (gone : List ℕ) (old : BufferState) (first : S) (w : Walk) (now : S)
+    module _ (gone : List ℕ) (old : BufferState) (first : Origin S) (w : Walk) (now : S)
         (between : IsBetween step k meaning gone old first w now) where
       abbrev seen : List ℕ
       seen = gone ++ old.shown

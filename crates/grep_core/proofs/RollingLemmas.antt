@@ -1,6 +1,6 @@
 -- A search of a reader, fill by fill, against what the reader gives.
 use Rattle.std.proofs.Common.{◌≡◌, ℕ, ◌<◌, ◌≤◌, Bool, true, false, List, [], ◌++◌, length, take, drop}
-use Rattle.std.proofs.Common.{Option, Some, None, Ok, inl, refl, sym, ◌∙◌, ap, subst, arith}
+use Rattle.std.proofs.Common.{Option, Some, None, Ok, refl, sym, ◌∙◌, ap, subst, arith}
 use Rattle.std.proofs.Common.{append-nil, append_assoc, length-append}
 use Rattle.std.proofs.lemmas.Bool.{false≢true}
 use Rattle.std.specs.List.{position}
@@ -23,16 +23,14 @@ use Rattle.grep_definitions.specs.BinaryBytes.{binary_of, is_detecting, view_of}
 use Rattle.grep_definitions.specs.DecodedInputs.{IsInput}
 use Rattle.grep_definitions.specs.InputFronts.{IsClosed, IsFront}
 use Rattle.grep_definitions.specs.LineSearch
-use Rattle.grep_definitions.specs.ReaderSearches.{IsReaderFaultIn, Taken, reports_nothing, reads_lines, of_search}
-use Rattle.grep_definitions.specs.Searches.{ErrorMakers, MatcherFacts, IsClearFault, IsFaultIn, IsLineFault, of_matcher}
-use Rattle.grep_definitions.specs.Searches.{of_sink}
-use Rattle.grep_definitions.specs.StreamSearches.{stream_calls}
+use Rattle.grep_definitions.specs.ReaderSearches.{Taken, reports_nothing, reads_lines}
+use Rattle.grep_definitions.specs.Searches.{ErrorMakers, MatcherFacts}
 use Rattle.grep_definitions.specs.Settings.{Settings}
-use Rattle.grep_definitions.specs.SinkCalls.{begins}
-use Rattle.grep_definitions.specs.SinkRuns.{Steps}
+use Rattle.grep_definitions.specs.Plans.{begins, Steps}
 use Rattle.grep_walk.specs.declared.walk.Walk.{Walk}
-use Rattle.grep_core.specs.Rolls.{HasCounted, HasEnded, HasMovedOn, IsBetween, IsCountedFor, IsLast, IsReady, IsRolling}
-use Rattle.grep_core.specs.Rolls.{start_in}
+use Rattle.grep_core.specs.Rolls.{HasCounted, HasEnded, HasFailed, HasMovedOn, HasSeen, IsBetween, IsCountedFor, IsLast}
+use Rattle.grep_core.specs.Rolls.{IsReady, IsRolling, start_in}
+use Rattle.grep_walk.specs.WalkFaults.{IsWalkFault}
 use Rattle.grep_walk.specs.Walks.{IsCount}
 use Rattle.grep_walk.specs.Windows.{HasSearched}
 use Rattle.grep_core.specs.SearchBuffers.{IsFitting, detection_of, least_size}
@@ -42,19 +40,11 @@ use Rattle.grep_core.proofs.ReadingLemmas as reading
 use Rattle.grep_core.proofs.RollLemmas as rolls
 use Rattle.grep_core.proofs.StreamViewLemmas as views
 use Rattle.grep_core.proofs.UnreadLemmas.{grown}
-use Rattle.grep_walk.proofs.WalkLemmas.{start_walk}
+use Rattle.grep_walk.proofs.WalkLemmas.{start_walk, reported-begin}
 use Rattle.grep_walk.proofs.WindowLemmas as windows
 use Rattle.grep_walk.proofs.WindowLemmas.{closed-append}
 use Rattle.grep_walk.proofs.WindowSearchLemmas.{searched-start}
-
--- a fault of a search by line is one of a search of a view
-stream-fault : {S E F : Type 0} (step : Steps S E) (errors : ErrorMakers E) (matcher : MatcherFacts F) (k : Settings)
-    (bytes : List ℕ)
-    (first : S) (e : E) (now : S) → IsLineFault step errors matcher k bytes first e now
-    → IsFaultIn step errors matcher (stream_calls k matcher.meaning) k bytes first e now
-stream-fault step errors matcher k bytes first e now (of_sink run) = of_sink run
-stream-fault step errors matcher k bytes first e now (of_matcher haystack error made asked fails message reported) =
-    of_matcher haystack error made asked fails message reported
+use Rattle.grep_walk.specs.Origins.{Origin, fresh}
 
 -- a search that reads though no line may have a turn looks for a binary byte
 idle-detects : (idle detecting : Bool) → idle ≡ true → (not idle || detecting) ≡ true → detecting ≡ true
@@ -73,7 +63,7 @@ module _ {R : Type 0} (remaining : R → Option (List ℕ)) (read_step : R → R
       → buffer.detection ≡ detection_of k.binary_detection → buffer.terminator ≡ t
       → Decodes remaining read_step decoder reader [] decoder reader → reads_lines k ≡ true
       → step first k begins (Ok true) now
-      → IsRolling step k meaning remaining read_step decoder reader first buffer decoder reader
+      → IsRolling step k meaning remaining read_step decoder reader (fresh first) buffer decoder reader
       (start_walk k meaning []) now
   rolling-start numbered few decoder reader first now buffer shown rest offset unended binary detects ends_at reads busy
       begun = record {
@@ -95,7 +85,7 @@ module _ {R : Type 0} (remaining : R → Option (List ℕ)) (read_step : R → R
             none = shown;
             detecting = idle-detects (reports_nothing k)
                 (is_detecting k.binary_detection) idle busy;
-            begun = begun;
+            begun = reported-begin k meaning [] step first now begun;
           };
         };
         given = [];
@@ -129,10 +119,12 @@ module _ {R : Type 0} (remaining : R → Option (List ℕ)) (read_step : R → R
 
       HasSearched-at : List ℕ → List ℕ → ℕ → List ℕ → Type 0
       HasSearched-at window shown start after =
-          HasSearched step k meaning [] window ([] ++ (shown ++ after)) first start (start_walk k meaning []) now
+          HasSearched step k meaning [] window ([] ++ (shown ++ after)) (fresh first) start (start_walk k meaning [])
+          now
 
   -- a fill of a search that reads on
-  module _ (capacity : ℕ) (reader reader' : R) (d d' : DecoderState) (gone : List ℕ) (old new : BufferState) (first : S)
+  module _ (capacity : ℕ) (reader reader' : R) (d d' : DecoderState) (gone : List ℕ) (old new : BufferState) (first :
+      Origin S)
       (w : Walk) (now : S) (between : IsBetween step k meaning gone old first w now)
       (fitting : IsFitting k.heap_limit t old)
       (same : IsSameBuffer old new) where
@@ -147,7 +139,6 @@ module _ {R : Type 0} (remaining : R → Option (List ℕ)) (read_step : R → R
         (shows : (later : List ℕ) → view_of k (raw ++ later) ≡ (gone ++ held new) ++ view_of k later)
         (reads : Decodes remaining read_step (started capacity k.encoding k.bom_sniffing) reader raw d' reader')
         (is_found : new.binary ≡ found_in (detection_of k.binary_detection) t raw)
-        (unquit : is_quit (detection_of k.binary_detection) ≡ true → new.binary ≡ None)
         (none : (d : DecoderState) (more : List ℕ) → IsDone d → still_to_give d more ≡ [])
         (done : new.has_ended ≡ true → IsDone d') where
       abbrev shown : List ℕ
@@ -240,38 +231,43 @@ module _ {R : Type 0} (remaining : R → Option (List ℕ)) (read_step : R → R
             length-append new.shown new.rest,
           )) (sym is_found ∙ unfound)
 
-      -- a fault within what is shown
-      pub cleared : {F : Type 0} (errors : ErrorMakers E) (matcher : MatcherFacts F) (e : E) (now' : S)
-          → ((gone : List ℕ) (first : S) → IsReady step k meaning gone new.shown (start_in new w) first w now
-          → (after : List ℕ) → (0 < length after → IsClosed t new.shown)
-          → IsLineFault step errors matcher k (gone ++ (new.shown ++ after)) first e now')
-          → new.binary ≡ None → IsClearFault step errors matcher Input k first e now'
-      cleared errors matcher e now' fault unfound = record {
+      long : w.offset ≤ length shown
+      long = omega (
+        arith,
+        rolls.walk-at join append step k meaning gone old first w now between,
+        rolls.long-shown old new given whole filled,
+        length-append gone new.shown,
+      )
+
+      -- what is shown was seen
+      abbrev seen-to : (low : ℕ) → low ≤ length shown
+          → HasSeen step k meaning remaining read_step reader raw new.binary low reader'
+      seen-to low within_shown = record {
+        taken = taken;
         seen = shown;
+        within = within_shown;
+        begins = λ bytes input.
+            let text = reading.input-is remaining read_step k capacity reader raw d' reader' reads none bytes input in
+            (text.0, text.1);
         front = front;
-        clear = clear-shown (length shown) (omega arith) unfound;
-        made = inl (subst (λ xs. IsLineFault step errors matcher k (gone ++ xs) first e now') (append-nil new.shown)
-            (fault gone first ready [] rolls.nothing));
+        clear = λ unfound bytes input. clear-shown (length shown) (omega arith) unfound bytes input;
       }
 
-      pub faulted : {F : Type 0} (errors : ErrorMakers E) (matcher : MatcherFacts F) (has_buffers : Bool) (e : E)
-          (now' : S)
-          → ((gone : List ℕ) (first : S) → IsReady step k meaning gone new.shown (start_in new w) first w now
+      -- a fault within what is shown
+      pub faulted : {F : Type 0} (errors : ErrorMakers E) (matcher : MatcherFacts F) (e : E) (now' : S)
+          → ((gone : List ℕ) (first : Origin S) → IsReady step k meaning gone new.shown (start_in new w) first w now
           → (after : List ℕ) → (0 < length after → IsClosed t new.shown)
-          → IsLineFault step errors matcher k (gone ++ (new.shown ++ after)) first e now')
-          → IsReaderFaultIn remaining read_step step errors matcher (stream_calls k matcher.meaning)
-          (record { settings = k; has_buffers = has_buffers }) reader first e reader' now'
-      faulted errors matcher has_buffers e now' fault = of_search taken shown (λ across. absurd (false≢true across))
-          (stream-fault step errors matcher k shown first e now'
-          (subst (λ xs. IsLineFault step errors matcher k (gone ++ xs) first e now') (append-nil new.shown)
-          (fault gone first ready [] rolls.nothing)))
-          (λ bytes input. (
-            front bytes input,
-            stream-fault step errors matcher k (view_of k bytes) first e now'
-                (subst (λ xs. IsLineFault step errors matcher k xs first e now') (after-is bytes input)
-                (fault gone first ready (after bytes input) (closes bytes input))),
-            (λ across. absurd (false≢true across)),
-          ))
+          → IsWalkFault step errors matcher k (gone ++ (new.shown ++ after)) first e now')
+          → HasFailed step k meaning remaining read_step errors matcher reader first raw new.binary w.offset e reader'
+          now'
+      faulted errors matcher e now' fault = record {
+        input = seen-to w.offset long;
+        over_seen = subst (λ xs. IsWalkFault step errors matcher k (gone ++ xs) first e now') (append-nil new.shown)
+            (fault gone first ready [] rolls.nothing);
+        over_all = λ bytes input. subst (λ xs. IsWalkFault step errors matcher k xs first e now')
+            (after-is bytes input)
+            (fault gone first ready (after bytes input) (closes bytes input));
+      }
 
       -- the search ended within what is shown, or with it
       module _ (w' : Walk) (now' : S) (ended : HasEnded step k meaning new w now w' now') where
@@ -289,15 +285,13 @@ module _ {R : Type 0} (remaining : R → Option (List ℕ)) (read_step : R → R
         high = omega (arith, ended.high, same.offset, between.offset, length-append gone new.shown)
 
         pub has-counted : IsSettled d'.mode → (d'.mode ≡ Passing → (length d'.ready ≤ 3) × (d'.held ≡ []))
-            → HasCounted step k meaning remaining read_step reader first w'.offset new.binary reader' now'
+            → HasCounted step k meaning remaining read_step reader first raw new.binary w'.offset reader' now'
         has-counted settled passing = record {
-          taken = taken;
-          seen = shown;
+          input = seen-to w'.offset high;
           outcome = ended.outcome;
           over_seen = subst (λ xs. IsCountedFor step k meaning first (gone ++ xs) w'.offset ended.outcome now')
               (append-nil new.shown)
               (ended.counted gone first between.opens ready [] rolls.nothing (λ _. refl));
-          front = front;
           over_all = over;
           all = λ bytes input all.
               let count = subst (λ o. IsCount o (LineSearch.byte_count k meaning (view_of k bytes)) w'.offset) all
@@ -319,20 +313,11 @@ module _ {R : Type 0} (remaining : R → Option (List ℕ)) (read_step : R → R
                 length-append gone (held new),
                 rolls.walk-at join append step k meaning gone old first w now between,
               );
-          noted_for = λ bytes input.
-              let text = reading.input-is remaining read_step k capacity reader raw d' reader' reads none bytes input in
-              record {
-                first = λ offset is. ap (binary_of k) text.1
-                    ∙ views.first-kept k.binary_detection t raw text.0 offset (sym is_found ∙ is);
-                goes_on = λ b quits. unquit (ap (λ d. is_quit (detection_of d)) quits);
-              };
-          clear = λ bytes input is. clear-shown w'.offset high is bytes input;
-          clear_seen = λ bytes input is. clear-shown (length shown) (omega arith) is bytes input;
         }
 
   -- what comes after a fill that succeeded
   module _ (busy : reports_nothing k ≡ false) (capacity : ℕ) (reader : R) (decoder : DecoderState)
-      (begun : decoder ≡ started capacity k.encoding k.bom_sniffing) (first : S) (old new : BufferState)
+      (begun : decoder ≡ started capacity k.encoding k.bom_sniffing) (first : Origin S) (old new : BufferState)
       (d d' : DecoderState)
       (r r' : R) (w : Walk) (now : S)
       (so_far : IsRolling step k meaning remaining read_step decoder reader first old d r w now)
@@ -358,11 +343,6 @@ module _ {R : Type 0} (remaining : R → Option (List ℕ)) (read_step : R → R
         so_far.detects
         fitting.terminator same
 
-    abbrev unquit : is_quit (detection_of k.binary_detection) ≡ true → new.binary ≡ None
-    unquit = holding.unquit-there remaining read_step k so_far.gone raw old new decoder d' reader r' held_now.1
-        so_far.detects
-        fitting.terminator same uncut
-
     abbrev appended : List ℕ
     appended = detected old.detection old.terminator fills.given
 
@@ -372,38 +352,26 @@ module _ {R : Type 0} (remaining : R → Option (List ℕ)) (read_step : R → R
     module _ (none : (d : DecoderState) (more : List ℕ) → IsDone d → still_to_give d more ≡ [])
         (done : (old.has_ended ≡ true → is_cut old ≡ false → IsDone d) → new.has_ended ≡ true → is_cut new ≡ false
         → IsDone d') where
-      done_then : new.has_ended ≡ true → IsDone d'
+      abbrev done_then : new.has_ended ≡ true → IsDone d'
       done_then ended = done (λ was whole. absurd (false≢true (sym so_far.between.unended ∙ was))) ended uncut
 
-      pub faulted-filled : {F : Type 0} (errors : ErrorMakers E) (matcher : MatcherFacts F) (has_buffers : Bool) (e : E)
-          (now' : S)
-          → ((gone : List ℕ) (first : S) → IsReady step k meaning gone new.shown (start_in new w) first w now
+      pub faulted-filled : {F : Type 0} (errors : ErrorMakers E) (matcher : MatcherFacts F) (e : E) (now' : S)
+          → ((gone : List ℕ) (first : Origin S) → IsReady step k meaning gone new.shown (start_in new w) first w now
           → (after : List ℕ) → (0 < length after → IsClosed t new.shown)
-          → IsLineFault step errors matcher k (gone ++ (new.shown ++ after)) first e now')
-          → IsReaderFaultIn remaining read_step step errors matcher (stream_calls k matcher.meaning)
-          (record { settings = k; has_buffers = has_buffers }) reader first e r' now'
+          → IsWalkFault step errors matcher k (gone ++ (new.shown ++ after)) first e now')
+          → HasFailed step k meaning remaining read_step errors matcher reader first raw new.binary w.offset e r' now'
       faulted-filled = faulted capacity reader r' d d' so_far.gone old new first w now so_far.between fitting same busy
           appended
-          fills.appended shows_whole room within raw shows from_start is_found unquit none done_then
-
-      pub cleared-filled : {F : Type 0} (errors : ErrorMakers E) (matcher : MatcherFacts F) (e : E) (now' : S)
-          → ((gone : List ℕ) (first : S) → IsReady step k meaning gone new.shown (start_in new w) first w now
-          → (after : List ℕ) → (0 < length after → IsClosed t new.shown)
-          → IsLineFault step errors matcher k (gone ++ (new.shown ++ after)) first e now')
-          → new.binary ≡ None
-          → IsClearFault step errors matcher (IsInput k d'.has_ended from_start.pieces) k first e now'
-      cleared-filled = cleared capacity reader r' d d' so_far.gone old new first w now so_far.between fitting same busy
-          appended
-          fills.appended shows_whole room within raw shows from_start is_found unquit none done_then
+          fills.appended shows_whole room within raw shows from_start is_found none done_then
 
       pub counted-filled : (w' : Walk) (now' : S) → HasEnded step k meaning new w now w' now' → IsSettled d'.mode
           → (d'.mode ≡ Passing → (length d'.ready ≤ 3) × (d'.held ≡ []))
-          → HasCounted step k meaning remaining read_step reader first w'.offset new.binary r' now'
+          → HasCounted step k meaning remaining read_step reader first raw new.binary w'.offset r' now'
       counted-filled = has-counted capacity reader r' d d' so_far.gone old new first w now so_far.between fitting same
           busy appended
-          fills.appended shows_whole room within raw shows from_start is_found unquit none done_then
+          fills.appended shows_whole room within raw shows from_start is_found none done_then
 
-      pub rolling-next : (w' : Walk) (moved : BufferState) (now' : S)
+      abbrev pub rolling-next : (w' : Walk) (moved : BufferState) (now' : S)
           → HasMovedOn step k meaning new w now moved w' now'
           → ((count : ℕ) → so_far.gone ++ held new ≡ (so_far.gone ++ take count new.shown)
           ++ (drop count new.shown ++ new.rest))
@@ -415,7 +383,7 @@ module _ {R : Type 0} (remaining : R → Option (List ℕ)) (read_step : R → R
             fitting.terminator busy shows_whole same.offset (omega (arith, room, length-append new.shown new.rest))
             (limit-within capacity reader r' d d' so_far.gone old new first w now so_far.between fitting same busy
             appended
-            fills.appended shows_whole room within raw shows from_start is_found unquit none done_then)
+            fills.appended shows_whole room within raw shows from_start is_found none done_then)
             moved w' now' on;
         given = raw;
         holds = subst (λ b. HoldsGiven remaining read_step (so_far.gone ++ take on.count new.shown) b.detection

@@ -1,5 +1,5 @@
 -- Why a reader's input wasn't searched to its end: a fill of the line buffer failed.
-use Rattle.std.proofs.Common.{◌≡◌, ◌≢◌, ◌⊎◌, ℕ, ◌+◌, ◌<◌, ◌≤◌, Bool, false, List, [], ◌++◌, length}
+use Rattle.std.proofs.Common.{◌≡◌, ◌≢◌, ℕ, ◌+◌, ◌<◌, ◌≤◌, Bool, false, true, List, [], ◌++◌, length}
 use Rattle.std.proofs.Common.{Option, Some, None, Err, inl, inr, refl, sym, ◌∙◌, ap, subst, arith, ⊎_elim}
 use Rattle.std.proofs.Common.{append_assoc, length-append}
 use Rattle.std.proofs.lemmas.Bool.{cases_lt, false≢true}
@@ -21,15 +21,19 @@ use Rattle.grep_matcher.specs.Terminators.{byte_of}
 use Rattle.grep_definitions.specs.Below.{is_at}
 use Rattle.grep_definitions.specs.BinaryBytes.{before_quit, view_of}
 use Rattle.grep_definitions.specs.InputFronts.{GoesOnAfter, IsCrowded}
-use Rattle.grep_definitions.specs.ReaderSearches.{IsLineUnread, of_cut, of_reader}
+use Rattle.grep_definitions.specs.DecodedInputs.{IsInput}
+use Rattle.grep_definitions.specs.Modes.{is_across}
+use Rattle.grep_definitions.specs.Readings
+use Rattle.grep_definitions.specs.Readings.{IsCut, Taken}
 use Rattle.grep_definitions.specs.ReadingFaults.{CutsShort, of_limit, of_memory, of_offset}
 use Rattle.grep_definitions.specs.Settings.{Settings}
-use Rattle.grep_definitions.specs.SinkRuns.{Steps}
+use Rattle.grep_definitions.specs.Plans.{Steps}
 use Rattle.grep_walk.specs.declared.walk.Walk.{Walk}
 use Rattle.grep_core.specs.HeldViews.{HoldsGiven}
 use Rattle.grep_core.specs.Rolls.{IsBetween, IsRolling}
 use Rattle.grep_core.specs.SearchBuffers.{IsFitting, IsMadeOf, least_size}
 use Rattle.grep_walk.proofs.FrontLemmas.{crowded}
+use Rattle.grep_walk.specs.Origins.{Origin}
 use Rattle.grep_core.proofs.HeldLemmas as holding
 use Rattle.grep_core.proofs.ReadingLemmas as reading
 use Rattle.grep_core.proofs.RollLemmas as rolls
@@ -56,26 +60,14 @@ pub grown : (least : ℕ) (old new : BufferState) → GrowsIfFull old new → le
 grown least old new (inl same) low = omega (arith, same, low)
 grown least old new (inr (more, full, few)) low = omega (arith, more, low)
 
--- what a fill that failed read, and the call that failed after it if the error is the reader's
-pub filled-to : {R : Type 0} (remaining : R → Option (List ℕ)) (read_step : R → ReadResult → R → Type 0)
-    (old new : BufferState) (d d' : DecoderState) (r r' : R) (error : FillError)
-    → UnlessRead {X = Bool} (Err error) (Fills remaining read_step old d r new d' r')
-    → IfRead {X = Bool} (Err error) (λ e. FailsToFill remaining read_step e old d r new d' r')
-    → (mid : R) × Fills remaining read_step old d r new d' mid
-    × ((mid ≡ r') ⊎ ((e : Error) × (d'.has_ended ≡ false) × read_step mid (Err e) r'))
-filled-to remaining read_step old new d d' r r' (Read e) cut read =
-    (read.mid, read.fills, inr (e, read.unended, read.failed))
-filled-to remaining read_step old new d d' r r' HeapLimit cut read = (r', cut, inl refl)
-filled-to remaining read_step old new d d' r r' Offset cut read = (r', cut, inl refl)
-filled-to remaining read_step old new d d' r r' Memory cut read = (r', cut, inl refl)
-
 module _ {R : Type 0} (remaining : R → Option (List ℕ)) (read_step : R → ReadResult → R → Type 0)
     (join : LinesJoin) (append : LinesAppend) {S E : Type 0} (step : Steps S E) (k : Settings) (meaning : Meaning) where
   abbrev t : ℕ
   t = byte_of k.line_terminator
 
   -- a fill that failed, after these bytes were given since the one before
-  module _ (capacity : ℕ) (reader reader' : R) (d' : DecoderState) (gone : List ℕ) (old new : BufferState) (first : S)
+  module _ (capacity : ℕ) (reader reader' : R) (d' : DecoderState) (gone : List ℕ) (old new : BufferState) (first :
+      Origin S)
       (w : Walk) (now : S)
       (between : IsBetween step k meaning gone old first w now) (fitting : IsFitting k.heap_limit t old)
       (same : IsSameBuffer old new)
@@ -85,11 +77,6 @@ module _ {R : Type 0} (remaining : R → Option (List ℕ)) (read_step : R → R
       (given : List ℕ) (whole : held new ≡ held old ++ given) where
     abbrev seen : List ℕ
     seen = gone ++ old.shown
-
-    abbrev IsUnreadBy : Error → Type 0
-    IsUnreadBy error =
-        IsLineUnread remaining read_step (record { settings = k; has_buffers = has_buffers }) meaning reader (Some seen)
-        error reader'
 
     -- what is gone and held is what was seen, and the bytes after it
     seen-is : gone ++ held new ≡ seen ++ (old.rest ++ given)
@@ -169,48 +156,59 @@ module _ {R : Type 0} (remaining : R → Option (List ℕ)) (read_step : R → R
       goes-on bytes later is = rolls.goes-on join append step k meaning gone old first w now between (view_of k bytes)
           ((old.rest ++ given) ++ later) (text-is later (view_of k bytes) is)
 
-      -- the buffer's own error
-      pub unread-cut : (error : FillError) (io : Error) → IsMadeOf error io → FillFails old new error
-          → ((e : Error) → error ≡ Read e → ⊥)
-          → Decodes remaining read_step (started capacity k.encoding k.bom_sniffing) reader raw d' reader'
-          → IsUnreadBy io
-      unread-cut error io made fails other reads =
-          of_cut refl unquit-seen (reading.taken remaining read_step k capacity reader raw d' reader' reads)
-          (λ bytes input.
-          let text = reading.front-is remaining read_step k capacity reader raw d' reader' reads none (view_of k)
-          (gone ++ held new)
-          fronts bytes input in
-          let before = reading.front-is remaining read_step k capacity reader raw d' reader' reads none
-          (λ xs. before_quit k.binary_detection (view_of k xs)) (gone ++ held new) befores bytes input in (
-            goes-on bytes text.0 text.1,
-            cuts-short error io made fails other before.0 (before_quit k.binary_detection (view_of k bytes)) before.1,
-          ))
+      -- why no more of it is read, by line
+      module _ (by_line : is_across k meaning ≡ false) where
+        abbrev IsShortBy : (mid : R) → Taken remaining read_step reader mid → Error → Type 0
+        IsShortBy mid taken error = IsCut remaining read_step (record { settings = k; has_buffers = has_buffers })
+            meaning reader mid reader' taken seen true error
 
-      -- the reader's own error
-      pub unread-read : (error : Error) (mid : R) → view_of k raw ≡ gone ++ held new
-          → (reads : Decodes remaining read_step (started capacity k.encoding k.bom_sniffing) reader raw d' mid)
-          → HasNoLine old new → length (held new) < new.size → d'.has_ended ≡ false
-          → read_step mid (Err error) reader' → d'.ready ≡ [] → IsWaiting d'.mode d'.held → IsUnreadBy error
-      unread-read error mid shows reads no_line room unended failed ready waits = of_reader refl unquit-seen mid
-          (reading.taken remaining read_step k capacity reader raw d' mid reads) unended failed
-          (λ bytes input.
-          let text = reading.front-is remaining read_step k capacity reader raw d' mid reads none (view_of k)
-          (gone ++ held new)
-          fronts bytes input in
-          goes-on bytes text.0 text.1)
-          raw
-          (reading.decoded-so_far remaining read_step k capacity reader raw d' mid reads none unended ready waits)
-          (record {
-            rest = old.rest ++ given;
-            whole = shows ∙ seen-is;
-            unended = unended-is no_line;
-            room = λ limit is. omega (arith, subst (λ m. IsWithin m new.size) (limit-is ∙ is) within, room, room-is);
-            unquit = ap (before_quit k.binary_detection) shows ∙ (unquit ∙ sym shows);
-          })
+        goes-on-there : (mid : R)
+            (reads : Decodes remaining read_step (started capacity k.encoding k.bom_sniffing) reader raw d' mid)
+            (bytes : List ℕ) → IsInput k d'.has_ended reads.pieces bytes → GoesOnAfter k meaning (view_of k bytes) seen
+        goes-on-there mid reads bytes input =
+            let text = reading.front-is remaining read_step k capacity reader raw d' mid reads none (view_of k)
+            (gone ++ held new) fronts bytes input in
+            goes-on bytes text.0 text.1
+
+        -- the buffer's own error
+        pub short-cut : (error : FillError) (io : Error) → IsMadeOf error io → FillFails old new error
+            → ((e : Error) → error ≡ Read e → ⊥)
+            → (reads : Decodes remaining read_step (started capacity k.encoding k.bom_sniffing) reader raw d' reader')
+            → IsShortBy reader' (reading.taken remaining read_step k capacity reader raw d' reader' reads) io
+        short-cut error io made fails other reads =
+            Readings.of_lines (by_line, unquit-seen, goes-on-there reader' reads) refl
+            (λ bytes input.
+            let before = reading.front-is remaining read_step k capacity reader raw d' reader' reads none
+            (λ xs. before_quit k.binary_detection (view_of k xs)) (gone ++ held new) befores bytes input in
+            cuts-short error io made fails other before.0 (before_quit k.binary_detection (view_of k bytes)) before.1)
+
+        -- the reader's own error
+        pub short-read : (error : Error) (mid : R) → view_of k raw ≡ gone ++ held new
+            → (reads : Decodes remaining read_step (started capacity k.encoding k.bom_sniffing) reader raw d' mid)
+            → HasNoLine old new → length (held new) < new.size → d'.has_ended ≡ false
+            → read_step mid (Err error) reader' → d'.ready ≡ [] → IsWaiting d'.mode d'.held
+            → IsShortBy mid (reading.taken remaining read_step k capacity reader raw d' mid reads) error
+        short-read error mid shows reads no_line room unended failed ready waits =
+            let decoded = reading.decoded-so_far remaining read_step k capacity reader raw d' mid reads none unended
+            ready waits in
+            Readings.of_reader (by_line, unquit-seen, goes-on-there mid reads) (unended, failed) raw
+            (record { none = decoded.none; all = decoded.all })
+            (record {
+              rest = old.rest ++ given;
+              whole = shows ∙ seen-is;
+              unended = unended-is no_line;
+              room = λ limit is. omega (
+                arith,
+                subst (λ m. IsWithin m new.size) (limit-is ∙ is) within,
+                room,
+                room-is,
+              );
+              unquit = ap (before_quit k.binary_detection) shows ∙ (unquit ∙ sym shows);
+            })
 
   -- a fill that failed of a search that reads on
   module _ (capacity : ℕ) (reader : R) (decoder : DecoderState)
-      (begun : decoder ≡ started capacity k.encoding k.bom_sniffing) (first : S)
+      (begun : decoder ≡ started capacity k.encoding k.bom_sniffing) (first : Origin S)
       (old new : BufferState) (d d' : DecoderState) (r r' : R) (w : Walk) (now : S)
       (so_far : IsRolling step k meaning remaining read_step decoder reader first old d r w now)
       (fitting : IsFitting k.heap_limit t old) (same : IsSameBuffer old new)
@@ -220,11 +218,6 @@ module _ {R : Type 0} (remaining : R → Option (List ℕ)) (read_step : R → R
       (has_buffers : Bool) (grows : GrowsIfFull old new) (within : IsWithin new.limit new.size)
       (allowed : is_at 0 k.heap_limit ≡ false)
       (none : (d : DecoderState) (more : List ℕ) → IsDone d → still_to_give d more ≡ []) where
-    abbrev IsUnreadAt : Error → Type 0
-    IsUnreadAt error = IsLineUnread remaining read_step (record { settings = k; has_buffers = has_buffers }) meaning
-        reader
-        (Some (so_far.gone ++ old.shown)) error r'
-
     -- what was given so far
     module _ (r2 : R) (fills : Fills remaining read_step old d r new d' r2) where
       abbrev raw : List ℕ
@@ -253,30 +246,55 @@ module _ {R : Type 0} (remaining : R → Option (List ℕ)) (read_step : R → R
       view-is = holding.view-there remaining read_step k so_far.gone raw old new decoder d' reader r2 (reads r2 fills).1
           so_far.detects fitting.terminator same
 
-    cut-by : (error : FillError) (io : Error) → IsMadeOf error io → FillFails old new error
-        → ((e : Error) → error ≡ Read e → ⊥)
-        → Fills remaining read_step old d r new d' r' → IsUnreadAt io
-    cut-by error io made fails other fills =
-        unread-cut capacity reader r' d' so_far.gone old new first w now so_far.between fitting same has_buffers grows
-        within allowed
-        none (detected old.detection old.terminator fills.given) fills.appended (raw r' fills) (fronts r' fills)
-        (befores r' fills) (unquit r' fills) error io made fails other (from_start r' fills)
+    -- why the input wasn't searched to its end, and what was taken then
+    module _ (by_line : is_across k meaning ≡ false) where
+      pub record IsShort (io : Error) : Type 0 where
+        pub mid : R
+        pub taken : Taken remaining read_step reader mid
+        pub begins : (bytes : List ℕ) → IsInput k taken.ended taken.pieces bytes
+            → (later : List ℕ) × (bytes ≡ so_far.given ++ later)
+        pub cause : IsCut remaining read_step (record { settings = k; has_buffers = has_buffers }) meaning reader mid r'
+            taken (so_far.gone ++ old.shown) true io
 
-    -- why the input wasn't searched to its end
-    pub unread-filled : (error : FillError) (io : Error) → IsMadeOf error io → FillFails old new error
-        → UnlessRead {X = Bool} (Err error) (Fills remaining read_step old d r new d' r')
-        → IfRead {X = Bool} (Err error) (λ e. FailsToFill remaining read_step e old d r new d' r')
-        → IfRead {X = Bool} (Err error) (λ _. is_cut new ≡ false)
-        → IfRead {X = Bool} (Err error) (λ _. d'.ready ≡ [])
-        → IfRead {X = Bool} (Err error) (λ _. IsWaiting d'.mode d'.held) → IsUnreadAt io
-    unread-filled (Read e) io made fails cut read uncut empty waits =
-        subst IsUnreadAt (sym made)
-        (unread-read capacity reader r' d' so_far.gone old new first w now so_far.between fitting same has_buffers grows
-        within allowed
-        none (detected old.detection old.terminator read.fills.given) read.fills.appended (raw read.mid read.fills)
-        (fronts read.mid read.fills) (befores read.mid read.fills) (unquit read.mid read.fills) e read.mid
-        (view-is read.mid read.fills uncut) (from_start read.mid read.fills) fails.0 fails.1 read.unended read.failed
-        empty waits)
-    unread-filled HeapLimit io made fails cut read uncut empty waits = cut-by HeapLimit io made fails (λ e is. cc) cut
-    unread-filled Offset io made fails cut read uncut empty waits = cut-by Offset io made fails (λ e is. cc) cut
-    unread-filled Memory io made fails cut read uncut empty waits = cut-by Memory io made fails (λ e is. cc) cut
+      begins-to : (r2 : R) (fills : Fills remaining read_step old d r new d' r2) (bytes : List ℕ)
+          → IsInput k d'.has_ended (from_start r2 fills).pieces bytes
+          → (later : List ℕ) × (bytes ≡ so_far.given ++ later)
+      begins-to r2 fills bytes input =
+          let text = reading.input-is remaining read_step k capacity reader (raw r2 fills) d' r2 (from_start r2 fills)
+          none bytes input in
+          ((reads r2 fills).0 ++ text.0, text.1 ∙ append_assoc so_far.given (reads r2 fills).0 text.0)
+
+      short-by : (error : FillError) (io : Error) → IsMadeOf error io → FillFails old new error
+          → ((e : Error) → error ≡ Read e → ⊥)
+          → Fills remaining read_step old d r new d' r' → IsShort io
+      short-by error io made fails other fills = record {
+        mid = r';
+        taken = reading.taken remaining read_step k capacity reader (raw r' fills) d' r' (from_start r' fills);
+        begins = begins-to r' fills;
+        cause = short-cut capacity reader r' d' so_far.gone old new first w now so_far.between fitting same has_buffers
+            grows within allowed none (detected old.detection old.terminator fills.given) fills.appended (raw r' fills)
+            (fronts r' fills) (befores r' fills) (unquit r' fills) by_line error io made fails other
+            (from_start r' fills);
+      }
+
+      pub short-filled : (error : FillError) (io : Error) → IsMadeOf error io → FillFails old new error
+          → UnlessRead {X = Bool} (Err error) (Fills remaining read_step old d r new d' r')
+          → IfRead {X = Bool} (Err error) (λ e. FailsToFill remaining read_step e old d r new d' r')
+          → IfRead {X = Bool} (Err error) (λ _. is_cut new ≡ false)
+          → IfRead {X = Bool} (Err error) (λ _. d'.ready ≡ [])
+          → IfRead {X = Bool} (Err error) (λ _. IsWaiting d'.mode d'.held) → IsShort io
+      short-filled (Read e) io made fails cut read uncut empty waits = subst IsShort (sym made) (record {
+        mid = read.mid;
+        taken = reading.taken remaining read_step k capacity reader (raw read.mid read.fills) d' read.mid
+            (from_start read.mid read.fills);
+        begins = begins-to read.mid read.fills;
+        cause = short-read capacity reader r' d' so_far.gone old new first w now so_far.between fitting same has_buffers
+            grows within allowed none (detected old.detection old.terminator read.fills.given) read.fills.appended
+            (raw read.mid read.fills) (fronts read.mid read.fills) (befores read.mid read.fills)
+            (unquit read.mid read.fills) by_line e read.mid (view-is read.mid read.fills uncut)
+            (from_start read.mid read.fills) fails.0 fails.1 read.unended read.failed empty waits;
+      })
+      short-filled HeapLimit io made fails cut read uncut empty waits = short-by HeapLimit io made fails
+          (λ e is. cc) cut
+      short-filled Offset io made fails cut read uncut empty waits = short-by Offset io made fails (λ e is. cc) cut
+      short-filled Memory io made fails cut read uncut empty waits = short-by Memory io made fails (λ e is. cc) cut

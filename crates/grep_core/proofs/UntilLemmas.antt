@@ -12,34 +12,36 @@ use Rattle.grep_definitions.specs.BinaryBytes.{position_of}
 use Rattle.grep_definitions.specs.LineSearch
 use Rattle.grep_definitions.specs.LineSearch.{Kind, matched, in_context}
 use Rattle.grep_definitions.specs.Below.{joined_from}
-use Rattle.grep_definitions.specs.LineTurns.{one_turn}
-use Rattle.grep_definitions.specs.QuitPoints.{first_look, quit_in_reports, IsQuitRun, IsRunTo}
+use Rattle.grep_report.specs.declared.binary_detection.BinaryDetection.TheVariants.{Quit}
+use Rattle.grep_definitions.specs.BinaryPlans.{first_look, plan_with, point_unless, with_offset}
 use Rattle.grep_definitions.specs.Searches.{ErrorMakers, MatcherFacts, IsFaultIn, IsQuitFault, IsRunUntil}
 use Rattle.grep_definitions.specs.Searches.{of_sink, of_matcher, of_quit_sink, of_quit_matcher}
 use Rattle.grep_definitions.specs.SearchTurns.{calls_if}
 use Rattle.grep_definitions.specs.Settings.{Settings}
-use Rattle.grep_definitions.specs.SinkCalls.{Call, Turn, begins, matches, context, breaks, binary_data, finishes}
-use Rattle.grep_definitions.specs.SinkCalls.{is_break, is_report}
-use Rattle.grep_definitions.specs.SinkRuns.{Steps, Outcome, all_true, stopped, failed}
-use Rattle.grep_definitions.specs.SinkRuns.{AreReported, IsFinished, IsRun, NeverFails, finish_result}
+use Rattle.grep_definitions.specs.Plans.{Call, Planned, begins, matches, context, breaks, binary_data, finishes}
+use Rattle.grep_definitions.specs.Plans.{is_break, Steps, Outcome, all_true, stopped, failed, AreMade, IsFinished}
+use Rattle.grep_definitions.specs.Plans.{IsRun, finish_result, Finish, counted, planned}
+use Rattle.grep_definitions.specs.SearchLaws.{is_report}
 use Rattle.grep_definitions.proofs.BreakLemmas as pairs
 use Rattle.grep_definitions.proofs.BreakLemmas.{AreBreaksPaired}
 use Rattle.grep_core.specs.declared.quitting.Quitting.{Quitting}
 use Rattle.grep_lines.proofs.ReplaceLemmas.{position-found}
 use Rattle.grep_core.specs.InputSearches.{IsSearchedUntil}
-use Rattle.grep_core.specs.QuittingSinks.{Watch, Quits, quitting, watch_of, IsMadeAfter, IsLookedAt}
+use Rattle.grep_core.specs.QuittingSinks.{Quits, quitting, watch_of, first_quit}
 use Rattle.grep_walk.specs.Walks.{Counted}
 use Rattle.grep_walk.proofs.FinishLemmas.{run-finish}
 use Rattle.grep_core.proofs.QuittingLemmas as quitting_calls
-use Rattle.grep_core.proofs.QuittingLemmas.{AreJoined, no_turns, joined_report, joined_break}
+use Rattle.grep_core.proofs.QuittingLemmas.{AreJoined, no_turns, joined_report, joined_break, IsPlain}
+use Rattle.grep_definitions.specs.SinkRuns.{plan_of}
 
 -- a break or a report
 abbrev pub is_of_line : Call → Bool
 is_of_line call = is_break call || is_report call
 
-abbrev pub AreOfLines : List Turn → Type 0
+-- some of them, after which `finish` has no offset
+abbrev pub AreOfLines : List Planned → Type 0
 AreOfLines [] = Unit {0}
-AreOfLines (turn ∷ later) = (is_of_line turn.call ≡ true) × AreOfLines later
+AreOfLines (turn ∷ later) = (is_of_line turn.call ≡ true) × (turn.if_false.binary ≡ None) × AreOfLines later
 
 is-breaks : (call : Call) → is_break call ≡ true → call ≡ breaks
 is-breaks begins is = absurd (false≢true is)
@@ -52,50 +54,68 @@ is-breaks (finishes count binary) is = absurd (false≢true is)
 report-of : (call : Call) → is_break call ≡ false → is_of_line call ≡ true → is_report call ≡ true
 report-of call other line = rw other at line
 
+same-finish : (f g : Finish) → f.count ≡ g.count → f.binary ≡ None → g.binary ≡ None → f ≡ g
+same-finish f g counts none none' =
+    ap (λ n. record { count = n; binary = f.binary }) counts
+    ∙ ap (λ b. record { count = g.count; binary = b }) (none ∙ sym none')
+
 -- such calls, if each break is directly followed by a report
-pub joined-of : (turns : List Turn) → AreBreaksPaired turns → AreOfLines turns → AreJoined turns
+pub joined-of : (turns : List Planned) → AreBreaksPaired turns → AreOfLines turns → AreJoined turns
 joined-of [] paired lines = no_turns
-joined-of (turn ∷ []) (here, paired) (line, lines) = go (is_break turn.call) refl
+joined-of (turn ∷ []) (here, paired) (line, plain, lines) = go (is_break turn.call) refl
   where
     go : (c : Bool) → is_break turn.call ≡ c → AreJoined (turn ∷ [])
     go true is = absurd (here is)
     go false is = joined_report (report-of turn.call is line) no_turns
-joined-of (turn ∷ next ∷ later) (here, (there, paired)) (line, (line', lines)) =
+joined-of (turn ∷ next ∷ later) (here, (there, paired)) (line, plain, (line', plain', lines)) =
     go (is_break turn.call) refl (joined-of later paired lines)
-    (joined-of (next ∷ later) (there, paired) (line', lines))
+    (joined-of (next ∷ later) (there, paired) (line', plain', lines))
   where
     go : (c : Bool) → is_break turn.call ≡ c → AreJoined later → AreJoined (next ∷ later)
         → AreJoined (turn ∷ next ∷ later)
     go true is two one =
         let report = here is in
-        joined_break (is-breaks turn.call is) (report-of next.call report.0 line') (sym report.1) two
+        joined_break (is-breaks turn.call is) (report-of next.call report.0 line')
+        (same-finish turn.if_false next.if_false (sym report.1) plain plain') two
     go false is two one = joined_report (report-of turn.call is line) one
 
-lines-append : (front back : List Turn) → AreOfLines front → AreOfLines back → AreOfLines (front ++ back)
+lines-append : (front back : List Planned) → AreOfLines front → AreOfLines back → AreOfLines (front ++ back)
 lines-append [] back none lines = lines
-lines-append (turn ∷ front) back (is, rest) lines = (is, lines-append front back rest lines)
+lines-append (turn ∷ front) back (is, plain, rest) lines = (is, plain, lines-append front back rest lines)
 
-lines-joined : (f : ℕ → List Turn) (i n : ℕ) → ((j : ℕ) → AreOfLines (f j)) → AreOfLines (joined_from f i n)
+lines-joined : (f : ℕ → List Planned) (i n : ℕ) → ((j : ℕ) → AreOfLines (f j)) → AreOfLines (joined_from f i n)
 lines-joined f i zero each = tt
 lines-joined f i (suc n) each = lines-append (f i) (joined_from f (i + 1) n) (each i) (lines-joined f (i + 1) n each)
 
-lines-through : (offset : ℕ) (turns : List Turn) → AreOfLines turns
-    → AreOfLines (filter (λ turn. nat_le turn.end offset) turns)
+lines-through : (offset : ℕ) (turns : List Planned) → AreOfLines turns
+    → AreOfLines (filter (λ turn. nat_le turn.if_false.count offset) turns)
 lines-through offset [] lines = tt
-lines-through offset (turn ∷ later) (line, lines) = go (nat_le turn.end offset) (lines-through offset later lines)
+lines-through offset (turn ∷ later) (line, plain, lines) = go (nat_le turn.if_false.count offset) (lines-through offset
+    later lines)
   where
-    rest : List Turn
-    rest = filter (λ turn. nat_le turn.end offset) later
+    rest : List Planned
+    rest = filter (λ turn. nat_le turn.if_false.count offset) later
 
     go : (c : Bool) → AreOfLines rest → AreOfLines (if c then turn ∷ rest else rest)
-    go true all = (line, all)
+    go true all = (line, plain, all)
     go false all = all
+
+-- so a call that returned false leaves it without
+made-plain : {S E : Type 0} (step : Steps S E) (k : Settings) (turns : List Planned) → AreOfLines turns → (old : S)
+    (outcome : Outcome E) (new : S) → AreMade step k old turns outcome new → IsPlain outcome
+made-plain step k [] lines old outcome new (is, same) = subst IsPlain (sym is) tt
+made-plain step k (turn ∷ later) (line, plain, lines) old outcome new (inl (mid, made, rest)) =
+    made-plain step k later lines mid outcome new rest
+made-plain step k (turn ∷ later) (line, plain, lines) old outcome new (inr (inl (is, made))) =
+    subst IsPlain (sym is) plain
+made-plain step k (turn ∷ later) (line, plain, lines) old outcome new (inr (inr (e, is, made))) =
+    subst IsPlain (sym is) tt
 
 module _ {S E : Type 0} (step : Steps S E) (may_call : S → Type 0) (k : Settings) (b : ℕ) where
   -- the same calls, without the reference
-  watched : (turns : List Turn) (old : Quitting S) (outcome : Outcome E) (new : Quitting S) → old.byte ≡ b
-      → AreReported (Quits step may_call) k old turns outcome new
-      → (new.byte ≡ b) × AreReported (quitting step may_call b) k (watch_of old) turns outcome (watch_of new)
+  watched : (turns : List Planned) (old : Quitting S) (outcome : Outcome E) (new : Quitting S) → old.byte ≡ b
+      → AreMade (Quits step may_call) k old turns outcome new
+      → (new.byte ≡ b) × AreMade (quitting step may_call b) k (watch_of old) turns outcome (watch_of new)
   watched [] old outcome new is (all, same) = (ap (λ (q : Quitting S). q.byte) same ∙ is, (all, ap watch_of same))
   watched (turn ∷ later) old outcome new is (inl (mid, made, rest)) =
       let next = watched later mid outcome new (made.1 ∙ is) rest in (
@@ -125,109 +145,67 @@ module _ {S E : Type 0} (step : Steps S E) (may_call : S → Type 0) (k : Settin
   )
 
   -- a search by a sink that has made no call yet ended in `finish`
-  pub until-run : (turns : List Turn) → AreJoined turns → (count : ℕ) (old : Quitting S) → old.byte ≡ b → old.has_break
-      ≡ false
+  pub until-run : (turns : List Planned) → AreJoined turns → AreOfLines turns → (count : ℕ) (old : Quitting S)
+      → old.byte ≡ b → old.has_break ≡ false
       → old.found ≡ None → (result : Result (Unit {0}) E) (new : Quitting S)
-      → IsRun (Quits step may_call) k old (record { call = begins; end = 0 } ∷ turns) count None result new
-      → IsRunTo step k (quit_in_reports b (record { call = begins; end = 0 } ∷ turns)) old.sink.now
-      (record { call = begins; end = 0 } ∷ turns) count result new.sink.now
-  until-run turns joined count old is whole clear result new run =
-      let all : List Turn = record { call = begins; end = 0 } ∷ turns in
-      let made = watched all old run.outcome run.mid is run.reported in
+      → IsRun (Quits step may_call) k old (plan_of (planned begins 0 ∷ turns) count) result new
+      → IsRun step k old.sink.now (plan_with (Quit b) (point_unless b (planned begins 0 ∷ turns) None)
+      (plan_of (planned begins 0 ∷ turns) count)) result new.sink.now
+  until-run turns joined lines count old is whole clear result new run =
+      let all : List Planned = planned begins 0 ∷ turns in
+      let made = watched all old run.outcome run.mid is run.made in
       quitting_calls.quits-run step may_call k b all old.sink.now count run.outcome (watch_of run.mid) result
-      (watch_of new)
+      (watch_of new) (plain run.made)
       (quitting_calls.quits-begun step may_call k b 0 turns joined (watch_of old) run.outcome (watch_of run.mid) whole
       clear made.1)
       (closed run.outcome made.0 run.finished)
     where
+      plain : AreMade (Quits step may_call) k old (planned begins 0 ∷ turns) run.outcome run.mid → IsPlain run.outcome
+      plain (inl (mid, made, rest)) = made-plain (Quits step may_call) k turns lines mid run.outcome run.mid rest
+      plain (inr (inl (is, made))) = subst IsPlain (sym is) refl
+      plain (inr (inr (e, is, made))) = subst IsPlain (sym is) tt
+
       closed : (outcome : Outcome E) → run.mid.byte ≡ b
-          → IsFinished (Quits step may_call) k outcome run.mid count None result new
-          → IsFinished (quitting step may_call b) k outcome (watch_of run.mid) count None result (watch_of new)
+          → IsFinished (Quits step may_call) k outcome run.mid (counted count) result new
+          → IsFinished (quitting step may_call b) k outcome (watch_of run.mid) (counted count) result (watch_of new)
       closed all_true same finished =
           subst (λ n. quitting step may_call n (watch_of run.mid) k (finishes count None) (finish_result result)
           (watch_of new)) same
           finished.2
-      closed (stopped end) same finished =
-          subst (λ n. quitting step may_call n (watch_of run.mid) k (finishes end None) (finish_result result)
+      closed (stopped finish) same finished =
+          subst (λ n. quitting step may_call n (watch_of run.mid) k (finishes finish.count finish.binary)
+          (finish_result result)
           (watch_of new)) same
           finished.2
       closed (failed e) same (fails, stays) = (fails, ap watch_of stays)
 
-module _ {S E : Type 0} (step : Steps S E) (may_call : S → Type 0) (never : NeverFails step may_call) where
-  made-fails : (c : Bool) (old : S) (k : Settings) (call : Call) (e : E) (new : S) → may_call old
-      → IsMadeAfter step may_call c old k call (Err e) new → ⊥
-  made-fails false old k call e new may made = never old k call e new may made
-  made-fails true old k call e new may (inl (mid, still, broken, made)) = never mid k call e new still made
-  made-fails true old k call e new may (inr (no_true, made)) = never old k breaks e new may made
-
-  looked-fails : (at : Option ℕ) (from : ℕ) (old : Watch S) (k : Settings) (call : Call) (e : E) (new : Watch S)
-      → may_call old.sink
-      → IsLookedAt step may_call at from old k call (Err e) new → ⊥
-  looked-fails None from old k call e new may (same, whole, made) = made-fails old.has_break old.sink k call e new.sink
-      may made
-  looked-fails (Some index) from old k call e new may (found, whole, (Ok goes_on, ends, called)) = is-ok ends
-    where
-      is-ok : ◌≡◌ {A = Result Bool E} (Err e) (Ok false) → ⊥
-      is-ok eq = false≢true (ap goes eq)
-        where
-          goes : Result Bool E → Bool
-          goes (Ok c) = true
-          goes (Err e) = false
-  looked-fails (Some index) from old k call e new may (found, whole, (Err other, ends, called)) =
-      never old.sink k (binary_data (from + index)) other new.sink may called
-
-  -- such a sink never fails, if the sink that it has doesn't
-  pub never-fails : NeverFails (Quits step may_call) (λ q. may_call q.sink.now)
-  never-fails old k begins e new may (name, byte, (found, whole, made)) = never old.sink.now k begins e new.sink.now may
-      made
-  never-fails old k (matches number from bytes) e new may (name, byte, made) =
-      looked-fails (position_of old.byte bytes) from (watch_of old) k (matches number from bytes) e (watch_of new) may
-      made
-  never-fails old k (context kind number from bytes) e new may (name, byte, made) =
-      looked-fails (position_of old.byte bytes) from (watch_of old) k (context kind number from bytes) e (watch_of new)
-      may made
-  never-fails old k breaks e new may (name, byte, (same, goes_on)) = is-true goes_on
-    where
-      is-true : ◌≡◌ {A = Result Bool E} (Err e) (Ok true) → ⊥
-      is-true eq = false≢true (ap goes eq)
-        where
-          goes : Result Bool E → Bool
-          goes (Ok c) = true
-          goes (Err e) = false
-  never-fails old k (binary_data offset) e new may (name, byte, (found, whole, made)) =
-      never old.sink.now k (binary_data offset) e new.sink.now may made
-  never-fails old k (finishes count binary) e new may (name, byte, (found, whole, made)) = never old.sink.now k _ e
-      new.sink.now may made
-
 module _ (k : Settings) (meaning : Meaning) (bytes : List ℕ) where
   line-report : (i : ℕ) (o : Option Kind) → AreOfLines (LineSearch.report k meaning bytes i o)
   line-report i None = tt
-  line-report i (Some matched) = (refl, tt)
-  line-report i (Some (in_context c)) = (refl, tt)
+  line-report i (Some matched) = (refl, refl, tt)
+  line-report i (Some (in_context c)) = (refl, refl, tt)
 
   unit-report : (i : ℕ) (o : Option Kind) → AreOfLines (AcrossLines.report k meaning bytes i o)
   unit-report i None = tt
   unit-report i (Some matched) = go (AcrossLines.continues_unit k meaning bytes i)
     where
-      go : (c : Bool) → AreOfLines (if c then [] else record {
-        call = matches (LineSearch.number k meaning bytes i) (LineSearch.start k meaning bytes i)
-            (AcrossLines.unit k meaning bytes i);
-        end = AcrossLines.turn_end k meaning bytes i (Some matched);
-      } ∷ [])
+      go : (c : Bool) → AreOfLines (if c then [] else planned (matches (LineSearch.number k meaning bytes i)
+          (LineSearch.start k meaning bytes i) (AcrossLines.unit k meaning bytes i)) (AcrossLines.turn_end k meaning
+          bytes i (Some matched)) ∷ [])
       go true = tt
-      go false = (refl, tt)
-  unit-report i (Some (in_context c)) = (refl, tt)
+      go false = (refl, refl, tt)
+  unit-report i (Some (in_context c)) = (refl, refl, tt)
 
-  broken-lines : (c : Bool) (end : ℕ) (report : List Turn) → AreOfLines report
-      → AreOfLines (if c then record { call = breaks; end = end } ∷ report else report)
-  broken-lines true end report lines = (refl, lines)
+  broken-lines : (c : Bool) (end : ℕ) (report : List Planned) → AreOfLines report
+      → AreOfLines (if c then planned breaks end ∷ report else report)
+  broken-lines true end report lines = (refl, refl, lines)
   broken-lines false end report lines = lines
 
   -- the calls after `begin`
-  abbrev line_turns : List Turn
+  abbrev line_turns : List Planned
   line_turns = joined_from (LineSearch.turns_at k meaning bytes) 0 (LineSearch.turn_count k meaning bytes)
 
-  abbrev unit_turns : List Turn
+  abbrev unit_turns : List Planned
   unit_turns = joined_from (AcrossLines.turns_at k meaning bytes) 0 (AcrossLines.turn_count k meaning bytes)
 
   lines-by_line : AreOfLines line_turns
@@ -254,12 +232,31 @@ first-found b bytes n found is first =
     ∙ take_min first_look bytes))
     ∙ position-found b (take n bytes) found first
 
+-- `begin`, `binary_data` and `finish`, whatever the second returned
+pub first-quit : {S E : Type 0} (step : Steps S E) (k : Settings) (offset : ℕ) (old first mid new : S) (goes_on : Bool)
+    (result : Result (Unit {0}) E) → step old k begins (Ok true) first
+    → step first k (binary_data offset) (Ok goes_on) mid
+    → step mid k (finishes 0 (Some offset)) (finish_result result) new
+    → IsRun step k old (first_quit offset) result new
+first-quit step k offset old first mid new true result begun called finish = record {
+  outcome = all_true;
+  mid = mid;
+  made = inl (first, begun, inl (mid, called, (refl, refl)));
+  finished = finish;
+}
+first-quit step k offset old first mid new false result begun called finish = record {
+  outcome = stopped (with_offset offset (counted 0));
+  mid = mid;
+  made = inl (first, begun, inr (inl (refl, called)));
+  finished = finish;
+}
+
 -- a search that ended before its first line
 pub quit-searched : {S E F : Type 0} (step : Steps S E) (errors : ErrorMakers E) (matcher : MatcherFacts F)
     (k : Settings) (b : ℕ)
     (bytes : List ℕ) (across : Bool) (offset : ℕ) → position_of b (take first_look bytes) ≡ Some offset → (old : S)
     (result : Result (Unit {0}) E) (new : S)
-    → IsQuitRun step k old (record { before = one_turn begins 0; offset = offset; count = 0 }) result new
+    → IsRun step k old (first_quit offset) result new
     → IsSearchedUntil step errors matcher (calls_if k matcher.meaning across) b k bytes old result new
 quit-searched step errors matcher k b bytes across offset is old result new run = go across result
     (run-until across)
@@ -282,42 +279,44 @@ module _ {S E F : Type 0} (step : Steps S E) (may_call : S → Type 0) (errors :
     (whole : old.has_break ≡ false) (clear : old.found ≡ None) where
   -- a search that ended in `finish`
   pub searched-until : (across : Bool) (result : Result (Unit {0}) E) (new : Quitting S)
-      → IsRun (Quits step may_call) k old ((calls_if k matcher.meaning across).turns bytes)
-      ((calls_if k matcher.meaning across).byte_count bytes) None result new
+      → IsRun (Quits step may_call) k old (plan_of ((calls_if k matcher.meaning across).turns bytes)
+      ((calls_if k matcher.meaning across).byte_count bytes)) result new
       → IsRunUntil step errors matcher (calls_if k matcher.meaning across) b k bytes old.sink.now result new.sink.now
   searched-until true result new run =
       rw none (until-run step may_call k b (unit_turns k matcher.meaning bytes) (joined-across k matcher.meaning bytes)
+      (lines-across k matcher.meaning bytes)
       ((calls_if k matcher.meaning true).byte_count bytes) old is whole clear result new run)
   searched-until false result new run =
       rw none (until-run step may_call k b (line_turns k matcher.meaning bytes) (joined-by_line k matcher.meaning bytes)
+      (lines-by_line k matcher.meaning bytes)
       ((calls_if k matcher.meaning false).byte_count bytes) old is whole clear result new run)
 
   -- the matcher's error came after calls that were all made
-  fault-made : (across : Bool) (haystack : List ℕ) (error : F) (made later : List Turn) (e : E) (new : Quitting S)
-      → made ≡ record { call = begins; end = 0 } ∷ later → AreJoined later
+  fault-made : (across : Bool) (haystack : List ℕ) (error : F) (made later : List Planned) (e : E) (new : Quitting S)
+      → made ≡ planned begins 0 ∷ later → AreJoined later
       → (calls_if k matcher.meaning across).IsAsked bytes haystack made → matcher.fails haystack error
-      → errors.is_message (matcher.text_of error) e → AreReported (Quits step may_call) k old made all_true new
+      → errors.is_message (matcher.text_of error) e → AreMade (Quits step may_call) k old made all_true new
       → IsQuitFault step errors matcher (calls_if k matcher.meaning across) b k bytes old.sink.now e new.sink.now
   fault-made across haystack error made later e new begun joined asked fails message reported =
       let seen = watched step may_call k b made old all_true new is reported in
-      let all = quitting_calls.quits-all step may_call k b (record { call = begins; end = 0 } ∷ later) old.sink.now
+      let all = quitting_calls.quits-all step may_call k b (planned begins 0 ∷ later) old.sink.now
       (watch_of new)
       (quitting_calls.quits-begun step may_call k b 0 later joined (watch_of old) all_true (watch_of new) whole clear
-      (subst (λ l. AreReported (quitting step may_call b) k (watch_of old) l all_true (watch_of new)) begun seen.1)) in
+      (subst (λ l. AreMade (quitting step may_call b) k (watch_of old) l all_true (watch_of new)) begun seen.1)) in
       of_quit_matcher haystack error made asked fails message
-      (rw none (subst (λ l. quit_in_reports b l ≡ None) (sym begun) (rw all.0 refl)))
-      (subst (λ l. AreReported step k old.sink.now l all_true new.sink.now) (sym begun) all.1)
+      (rw none (subst (λ l. point_unless b l None ≡ None) (sym begun) (rw all.0 refl)))
+      (subst (λ l. AreMade step k old.sink.now l all_true new.sink.now) (sym begun) all.1)
 
   -- those whose turn ends at or before some offset
-  through : (across : Bool) (turns : List Turn) → AreBreaksPaired turns → AreOfLines turns → (offset : ℕ)
-      → (haystack : List ℕ) (error : F) (made : List Turn) (e : E) (new : Quitting S)
-      → made ≡ filter (λ turn. nat_le turn.end offset) (record { call = begins; end = 0 } ∷ turns)
+  through : (across : Bool) (turns : List Planned) → AreBreaksPaired turns → AreOfLines turns → (offset : ℕ)
+      → (haystack : List ℕ) (error : F) (made : List Planned) (e : E) (new : Quitting S)
+      → made ≡ filter (λ turn. nat_le turn.if_false.count offset) (planned begins 0 ∷ turns)
       → (calls_if k matcher.meaning across).IsAsked bytes haystack made → matcher.fails haystack error
-      → errors.is_message (matcher.text_of error) e → AreReported (Quits step may_call) k old made all_true new
+      → errors.is_message (matcher.text_of error) e → AreMade (Quits step may_call) k old made all_true new
       → IsQuitFault step errors matcher (calls_if k matcher.meaning across) b k bytes old.sink.now e new.sink.now
   through across turns paired lines offset haystack error made e new before asked fails message reported =
-      let later : List Turn = filter (λ turn. nat_le turn.end offset) turns in
-      let begun : made ≡ record { call = begins; end = 0 } ∷ later = before
+      let later : List Planned = filter (λ turn. nat_le turn.if_false.count offset) turns in
+      let begun : made ≡ planned begins 0 ∷ later = before
       ∙ (rw (le-leb 0 offset (omega arith)) refl) in
       fault-made across haystack error made later e new begun
       (joined-of later (pairs.paired-through offset turns paired) (lines-through offset turns lines))

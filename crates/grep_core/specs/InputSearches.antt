@@ -9,7 +9,7 @@ use Rattle.grep_definitions.specs.SearchTurns.{SearchCalls, calls_across, search
 use Rattle.grep_definitions.specs.Settings.{Settings, SearcherState}
 use Rattle.grep_definitions.specs.Searches.{ErrorMakers, MatcherFacts, IsQuitFault, IsRunUntil}
 use Rattle.grep_definitions.specs.Searches.{IsSearchedAlong}
-use Rattle.grep_definitions.specs.SinkRuns.{Steps}
+use Rattle.grep_definitions.specs.Plans.{Steps}
 
 module _ {S E F : Type 0} (step : Steps S E) (errors : ErrorMakers E)
     (matcher : MatcherFacts F) where

@@ -2,13 +2,13 @@
 -- holds the byte. The contracts of private functions cite these definitions; no public contract
 -- does.
 use Rattle.std.specs.Prelude.{◌≡◌, ◌⊎◌, ℕ, ◌+◌, Bool, true, false, Option, None, Some, Result, Ok}
-use Rattle.std.specs.Prelude.{Err}
+use Rattle.std.specs.Prelude.{Err, [], ◌∷◌}
 use Rattle.grep_definitions.specs.BinaryBytes.{position_of}
 use Rattle.grep_definitions.specs.Settings.{Settings}
-use Rattle.grep_definitions.specs.SinkCalls.{Call, begins, matches, context, breaks, binary_data}
-use Rattle.grep_definitions.specs.SinkCalls.{finishes}
-use Rattle.grep_definitions.specs.SinkRuns.{Steps}
+use Rattle.grep_definitions.specs.Plans.{Call, begins, matches, context, breaks, binary_data}
+use Rattle.grep_definitions.specs.Plans.{finishes, Steps, Plan, counted, planned}
 use Rattle.grep_core.specs.declared.quitting.Quitting.{Quitting}
+use Rattle.grep_definitions.specs.BinaryPlans.{told, with_offset}
 
 -- the sink, whether a break is held back until the report after it is looked at, and the offset of
 -- the byte if a report held it
@@ -16,6 +16,13 @@ pub record Watch (S : Type 0) : Type 0 where
   pub sink : S
   pub has_break : Bool
   pub found : Option ℕ
+
+-- the plan of a search that ends at a byte before its first line
+abbrev pub first_quit : ℕ → Plan
+first_quit offset = record {
+  calls = planned begins 0 ∷ told (record { position = 1; offset = offset; count = 0 }) ∷ [];
+  finish = with_offset offset (counted 0);
+}
 
 -- the search ends, whatever `binary_data` returned
 abbrev pub ended : {E : Type 0} → Result Bool E → Result Bool E

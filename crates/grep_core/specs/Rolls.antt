@@ -1,8 +1,7 @@
 -- A search of a reader, fill by fill of a line buffer: `gone` are the bytes that were moved past.
 -- The contracts of private functions cite these definitions; no public contract does.
 use Rattle.std.specs.Prelude.{◌≡◌, ◌⊎◌, ℕ, ◌+◌, ◌-◌, ◌<◌, ◌≤◌, ◌^◌, ◌&&◌, Bool, true, false, Ok}
-use Rattle.std.specs.Prelude.{List, [], ◌++◌}
-use Rattle.std.specs.Prelude.{length, take, drop, All, Option, Some, None}
+use Rattle.std.specs.Prelude.{List, [], ◌++◌, length, take, drop, All, Option, Some, None, ◌∷◌}
 use Rattle.std.specs.List.{concat}
 use Rattle.grep_decode.specs.DecoderStates.{DecoderState}
 use Rattle.grep_decode.specs.Source.{ReadResult}
@@ -11,22 +10,24 @@ use Rattle.grep_core.specs.HeldViews.{HoldsGiven}
 use Rattle.grep_matcher.specs.Terminators.{byte_of}
 use Rattle.grep_matcher.specs.Lines.{lines}
 use Rattle.grep_matcher.specs.Matching.{Meaning}
-use Rattle.grep_report.specs.declared.binary_detection.BinaryDetection.TheVariants.{Quit}
-use Rattle.grep_definitions.specs.BinaryBytes.{is_detecting, view_of}
+use Rattle.grep_definitions.specs.Asking.{search_plan}
+use Rattle.grep_definitions.specs.BinaryBytes.{binary_of, is_detecting, on_stream, view_of}
+use Rattle.grep_definitions.specs.BinaryPlans.{BinaryPoint, IsCutAt, IsPoint, plan_with, quits}
 use Rattle.grep_definitions.specs.DecodedInputs.{IsInput, passes_unchanged}
 use Rattle.grep_definitions.specs.InputFronts.{IsClosed, IsFront, IsTooLong}
 use Rattle.grep_definitions.specs.LineSearch.{turns, turn_count, byte_count}
-use Rattle.grep_definitions.specs.LineTurns.{one_turn}
-use Rattle.grep_definitions.specs.NotedSinks.{noted}
+use Rattle.grep_definitions.specs.Plans.{AreMade, Finish, Plan, begins, binary_data, Steps, Outcome}
+use Rattle.grep_definitions.specs.Plans.{all_true, stopped, failed, planned}
 use Rattle.grep_definitions.specs.ReaderSearches.{Taken, reports_nothing, reads_lines}
+use Rattle.grep_definitions.specs.Searches.{ErrorMakers, MatcherFacts}
 use Rattle.grep_definitions.specs.Settings.{Settings}
-use Rattle.grep_definitions.specs.SinkCalls.{begins, binary_data}
-use Rattle.grep_definitions.specs.SinkRuns.{Steps, Outcome, all_true, AreReported}
-use Rattle.grep_definitions.specs.StreamSearches.{IsClear, IsCutAt, IsNotedFor}
+use Rattle.grep_core.specs.BinaryCalls.{Noted}
 use Rattle.grep_walk.specs.declared.walk.Walk.{Walk}
+use Rattle.grep_walk.specs.WalkFaults.{IsWalkFault}
 use Rattle.grep_core.specs.SearchBuffers.{detection_of}
-use Rattle.grep_walk.specs.Walks.{Counted, IsCount}
 use Rattle.grep_walk.specs.Windows.{HasSearched}
+use Rattle.grep_walk.specs.Walks.{CountedFrom}
+use Rattle.grep_walk.specs.Origins.{Origin, fresh, AreMadeFrom}
 
 -- how far a walk is into the bytes that a buffer shows
 abbrev pub start_in : BufferState → Walk → ℕ
@@ -38,30 +39,31 @@ IsLast t shown start = (start ≡ length shown) ⊎ (IsClosed t shown → ⊥)
 
 module _ {S E : Type 0} (step : Steps S E) (settings : Settings) (meaning : Meaning) where
   -- a walk is at `start` of the bytes that are shown, whatever comes after them
-  abbrev pub IsReady : List ℕ → List ℕ → ℕ → S → Walk → S → Type 0
+  abbrev pub IsReady : List ℕ → List ℕ → ℕ → Origin S → Walk → S → Type 0
   IsReady gone shown start first w now =
       (after : List ℕ) → (0 < length after → IsClosed (byte_of settings.line_terminator) shown)
       → HasSearched step settings meaning gone shown (gone ++ (shown ++ after)) first start w now
 
   -- a walk has passed the bytes that are shown, whatever is shown with them next
-  abbrev pub IsNext : List ℕ → List ℕ → S → Walk → S → Type 0
+  abbrev pub IsNext : List ℕ → List ℕ → Origin S → Walk → S → Type 0
   IsNext gone shown first w now =
       (more : List ℕ) → IsReady gone (shown ++ more) (length shown) first w now
 
   -- the calls were counted for an input
-  abbrev pub IsCountedFor : S → List ℕ → ℕ → Outcome E → S → Type 0
+  abbrev pub IsCountedFor : Origin S → List ℕ → ℕ → Outcome E → S → Type 0
   IsCountedFor first input count outcome new =
-      Counted step settings first (turns settings meaning input)
+      CountedFrom step settings first (turns settings meaning input)
       (byte_count settings meaning input) count outcome new
 
   -- a search in which no line may have a turn has read nothing yet, and looks for a binary byte
-  pub record IsIdle (gone : List ℕ) (buffer : BufferState) (first : S) (now : S) : Type 0 where
-    pub none : gone ++ buffer.shown ≡ []
-    pub detecting : is_detecting settings.binary_detection ≡ true
-    pub begun : step first settings begins (Ok true) now
+  pub record IsIdle (gone : List ℕ) (buffer : BufferState) (first : Origin S) (now : S) : Type 0
+    where
+      pub none : gone ++ buffer.shown ≡ []
+      pub detecting : is_detecting settings.binary_detection ≡ true
+      pub begun : AreMadeFrom step settings first (planned begins 0 ∷ []) all_true now
 
   -- between two fills
-  pub record IsBetween (gone : List ℕ) (buffer : BufferState) (first : S) (w : Walk)
+  pub record IsBetween (gone : List ℕ) (buffer : BufferState) (first : Origin S) (w : Walk)
       (now : S) : Type 0 where
     pub opens : IsClosed (byte_of settings.line_terminator) gone
     pub shut : IsClosed (byte_of settings.line_terminator) buffer.shown
@@ -90,7 +92,7 @@ module _ {S E : Type 0} (step : Steps S E) (settings : Settings) (meaning : Mean
     pub closed : IsClosed (byte_of settings.line_terminator) old.shown
     pub few : length (lines (byte_of settings.line_terminator) (drop count old.shown))
         ≤ settings.before_context
-    pub next : (gone : List ℕ) (first : S) → IsClosed (byte_of settings.line_terminator) gone
+    pub next : (gone : List ℕ) (first : Origin S) → IsClosed (byte_of settings.line_terminator) gone
         → IsReady gone old.shown (start_in old w) first w now
         → IsClosed (byte_of settings.line_terminator) (gone ++ take count old.shown)
         × IsNext (gone ++ take count old.shown) (drop count old.shown) first w' now'
@@ -100,7 +102,8 @@ module _ {S E : Type 0} (step : Steps S E) (settings : Settings) (meaning : Mean
     pub outcome : Outcome E
     pub low : w.offset ≤ w'.offset
     pub high : w'.offset ≤ old.offset + length old.shown
-    pub counted : (gone : List ℕ) (first : S) → IsClosed (byte_of settings.line_terminator) gone
+    pub counted : (gone : List ℕ) (first : Origin S) → IsClosed (byte_of settings.line_terminator)
+        gone
         → IsReady gone old.shown (start_in old w) first w now
         → (after : List ℕ) → (0 < length after
         → IsClosed (byte_of settings.line_terminator) old.shown)
@@ -111,7 +114,8 @@ module _ {S E : Type 0} (step : Steps S E) (settings : Settings) (meaning : Mean
       (read_step : R → ReadResult → R → Type 0) where
     -- a search that reads on: what is gone and what is held is what detection makes of the bytes
     -- that were given since its start, and they hold no byte that ends it
-    pub record IsRolling (decoder : DecoderState) (reader : R) (first : S) (buffer : BufferState)
+    pub record IsRolling (decoder : DecoderState) (reader : R) (first : Origin S) (buffer :
+        BufferState)
         (decoder' : DecoderState)
         (reader' : R) (w : Walk) (now : S) : Type 0 where
       pub gone : List ℕ
@@ -123,51 +127,49 @@ module _ {S E : Type 0} (step : Steps S E) (settings : Settings) (meaning : Mean
       pub detects : buffer.detection ≡ detection_of settings.binary_detection
       pub uncut : is_cut buffer ≡ false
 
-    -- a search of a reader came to its end with this count, and with the offset of the first binary
-    -- byte if `binary_data` was called: that of the lines that were seen, and of the view of every
-    -- input that begins with what was taken
-    pub record HasCounted (reader : R) (first : S) (count : ℕ) (found : Option ℕ) (reader' : R)
-        (new : S)
-        : Type 0 where
+    -- A reader's input of which so much was taken, and these lines were seen, at least so many
+    -- bytes. Each input begins with what was given; if no binary byte was found, the lines that
+    -- were
+    -- seen hold none.
+    pub record HasSeen (reader : R) (given : List ℕ) (found : Option ℕ) (low : ℕ)
+        (reader' : R) : Type 0 where
       pub taken : Taken remaining read_step reader reader'
       pub seen : List ℕ
-      pub outcome : Outcome E
-      pub over_seen : IsCountedFor first seen count outcome new
+      pub within : low ≤ length seen
+      pub begins : (bytes : List ℕ) → IsInput settings taken.ended taken.pieces bytes
+          → (later : List ℕ) × (bytes ≡ given ++ later)
       pub front : (bytes : List ℕ) → IsInput settings taken.ended taken.pieces bytes
           → IsFront settings (view_of settings bytes) seen
-      pub over_all : (bytes : List ℕ) → IsInput settings taken.ended taken.pieces bytes
+      pub clear : found ≡ None → (bytes : List ℕ)
+          → IsInput settings taken.ended taken.pieces bytes
+          → binary_of settings (take (length seen) bytes) ≡ None
+
+    -- a walk over such an input came to its end with this count: over the lines that were seen, and
+    -- over the view of every input that begins with what was taken
+    pub record HasCounted (reader : R) (first : Origin S) (given : List ℕ) (found : Option ℕ) (count
+        : ℕ)
+        (reader' : R) (new : S) : Type 0 where
+      pub input : HasSeen reader given found count reader'
+      pub outcome : Outcome E
+      pub over_seen : IsCountedFor first input.seen count outcome new
+      pub over_all : (bytes : List ℕ) → IsInput settings input.taken.ended input.taken.pieces bytes
           → IsCountedFor first (view_of settings bytes) count outcome new
-      pub all : (bytes : List ℕ) → IsInput settings taken.ended taken.pieces bytes
+      pub all : (bytes : List ℕ) → IsInput settings input.taken.ended input.taken.pieces bytes
           → outcome ≡ all_true
           → turn_count settings meaning (view_of settings bytes)
-          ≤ length (lines (byte_of settings.line_terminator) seen)
+          ≤ length (lines (byte_of settings.line_terminator) input.seen)
       pub ahead : (limit : ℕ) → settings.heap_limit ≡ Some limit
-          → passes_unchanged settings (concat taken.pieces) ≡ true
-          → length (concat taken.pieces) ≤ count + limit + 3
-      pub noted_for : (bytes : List ℕ) → IsInput settings taken.ended taken.pieces bytes
-          → IsNotedFor settings bytes found
-      pub clear : (bytes : List ℕ) → IsInput settings taken.ended taken.pieces bytes
-          → IsClear settings bytes found count
-      pub clear_seen : (bytes : List ℕ) → IsInput settings taken.ended taken.pieces bytes
-          → IsClear settings bytes found (length seen)
+          → passes_unchanged settings (concat input.taken.pieces) ≡ true
+          → length (concat input.taken.pieces) ≤ count + limit + 3
 
-    -- a search of a reader ended at the first binary byte of every input that begins with what was
-    -- taken: after the calls for the lines that were seen came `binary_data`, with this outcome
-    pub record HasCut (reader : R) (first : S) (count offset : ℕ) (outcome : Outcome E)
-        (reader' : R) (last : S)
-        : Type 0 where
-      pub taken : Taken remaining read_step reader reader'
-      pub seen : List ℕ
-      pub mid : S
-      pub cut : (bytes : List ℕ) → IsInput settings taken.ended taken.pieces bytes
-          → IsCutAt settings meaning bytes seen offset
-      pub counted : count ≡ length seen
-      pub ahead : (limit : ℕ) → settings.heap_limit ≡ Some limit
-          → passes_unchanged settings (concat taken.pieces) ≡ true
-          → length (concat taken.pieces) ≤ length seen + limit + 3
-      pub reported : AreReported step settings first (turns settings meaning seen) all_true mid
-      pub called : AreReported step settings mid (one_turn (binary_data offset) count) outcome last
-      pub quits : outcome ≡ all_true → (b : ℕ) × (settings.binary_detection ≡ Quit b)
+    -- or it ended in the sink's error or in the matcher's
+    pub record HasFailed {F : Type 0} (errors : ErrorMakers E) (matcher : MatcherFacts F)
+        (reader : R) (first : Origin S) (given : List ℕ) (found : Option ℕ) (low : ℕ) (e : E)
+        (reader' : R) (new : S) : Type 0 where
+      pub input : HasSeen reader given found low reader'
+      pub over_seen : IsWalkFault step errors matcher settings input.seen first e new
+      pub over_all : (bytes : List ℕ) → IsInput settings input.taken.ended input.taken.pieces bytes
+          → IsWalkFault step errors matcher settings (view_of settings bytes) first e new
 
     -- a search of a reader begins, and reads nothing unless `begin` returned true and it reads
     -- lines
@@ -177,15 +179,78 @@ module _ {S E : Type 0} (step : Steps S E) (settings : Settings) (meaning : Mean
       pub begin : step old settings begins (Ok begun) first
       pub unread : (begun && reads_lines settings) ≡ false → reader' ≡ reader
 
--- a search of a reader came to its end, and `finish` is still to be called, with this count and
--- this offset
-abbrev pub IsStreamCounted : {S E : Type 0} → Steps S E → Settings → Meaning → {R : Type 0}
-    → (R → Option (List ℕ))
-    → (R → ReadResult → R → Type 0) → R → S → ℕ → Option ℕ → R → S → Type 0
-IsStreamCounted {S} {E} step settings meaning remaining read_step reader first count found
-    reader' last =
-    HasCounted (noted step) settings meaning remaining read_step reader (first, None) count found
-    reader' (last, found)
-    ⊎ ((offset : ℕ) × (outcome : Outcome E) × (found ≡ Some offset) × IsCount outcome count count
-    × HasCut step settings meaning remaining read_step reader first count offset outcome
-    reader' last)
+-- `binary_data` was called in the midst of a search, which went on from the state after it
+module _ {S E : Type 0} (step : Steps S E) (settings : Settings) (meaning : Meaning) where
+  -- Of each input that begins with what was given, these lines were seen when the byte was found,
+  -- at most so many bytes. Their calls had been made, and all returned true, as `binary_data` did:
+  -- so the walk goes on from the state after it, before which those calls were made.
+  pub record HasTold (given : List ℕ) (at : ℕ) (old : S) (offset : ℕ) (next : Origin S)
+      : Type 0 where
+    pub seen : List ℕ
+    pub mid : S
+    pub before : AreMade step settings old (turns settings meaning seen) all_true mid
+    pub call : step mid settings (binary_data offset) (Ok true) next.state
+    pub goes_on : quits settings.binary_detection ≡ false
+    pub made : next.before ≡ turns settings meaning seen
+    pub passed : length seen ≤ at
+    pub cut : (later : List ℕ) → IsCutAt settings meaning (given ++ later) seen offset
+
+  -- or it wasn't
+  abbrev pub IsTold : List ℕ → ℕ → S → Option ℕ → Origin S → Type 0
+  IsTold given at old None next = next ≡ fresh old
+  IsTold given at old (Some offset) next = HasTold given at old offset next
+
+  -- a search that reads on, and what was told to its sink
+  pub record IsReadingOn {R : Type 0} (remaining : R → Option (List ℕ))
+      (read_step : R → ReadResult → R → Type 0) (decoder : DecoderState) (reader : R) (old : S)
+      (buffer : BufferState) (decoder' : DecoderState) (reader' : R) (w : Walk)
+      (now : Noted S) : Type 0 where
+    pub start : Origin S
+    pub rolling : IsRolling step settings meaning remaining read_step decoder reader start buffer
+        decoder' reader' w now.sink
+    pub told : IsTold rolling.given w.offset old now.binary start
+
+-- what `finish` has after calls that didn't fail
+abbrev pub IsEnding : {E : Type 0} → Outcome E → Finish → Finish → Type 0
+IsEnding all_true whole finish = finish ≡ whole
+IsEnding (stopped if_false) whole finish = finish ≡ if_false
+IsEnding (failed e) whole finish = ⊥
+
+-- the calls along a plan were made, and `finish` is still to be called
+pub record IsMadeTo {S E : Type 0} (step : Steps S E) (settings : Settings) (old : S) (plan : Plan)
+    (outcome : Outcome E) (finish : Finish) (last : S) : Type 0 where
+  pub made : AreMade step settings old plan.calls outcome last
+  pub ending : IsEnding outcome plan.finish finish
+
+-- a search of a reader came to its end, and `finish` is still to be called
+pub record IsStreamCounted {S E : Type 0} (step : Steps S E) (settings : Settings)
+    (meaning : Meaning) {R : Type 0} (remaining : R → Option (List ℕ))
+    (read_step : R → ReadResult → R → Type 0) (reader : R) (old : S) (finish : Finish) (reader' : R)
+    (last : S) : Type 0 where
+  pub taken : Taken remaining read_step reader reader'
+  pub seen : List ℕ
+  pub point : Option BinaryPoint
+  pub outcome : Outcome E
+  pub front : (bytes : List ℕ) → IsInput settings taken.ended taken.pieces bytes
+      → IsFront settings (view_of settings bytes) seen
+  pub at_seen : (bytes : List ℕ) → IsInput settings taken.ended taken.pieces bytes
+      → IsPoint settings meaning bytes on_stream (length seen)
+      (search_plan settings meaning seen).calls point
+  pub over_seen : IsMadeTo step settings old
+      (plan_with settings.binary_detection point (search_plan settings meaning seen)) outcome finish
+      last
+  pub at_each : (bytes : List ℕ) → IsInput settings taken.ended taken.pieces bytes
+      → IsPoint settings meaning bytes on_stream (length seen)
+      (search_plan settings meaning (view_of settings bytes)).calls point
+  pub over_each : (bytes : List ℕ) → IsInput settings taken.ended taken.pieces bytes
+      → IsMadeTo step settings old (plan_with settings.binary_detection point
+      (search_plan settings meaning (view_of settings bytes))) outcome finish last
+  -- unless a call returned false, or a byte ended the search, each line with a turn was seen
+  pub all : outcome ≡ all_true
+      → (quits settings.binary_detection ≡ true → finish.binary ≡ None)
+      → (bytes : List ℕ) → IsInput settings taken.ended taken.pieces bytes
+      → turn_count settings meaning (view_of settings bytes)
+      ≤ length (lines (byte_of settings.line_terminator) seen)
+  pub ahead : (limit : ℕ) → settings.heap_limit ≡ Some limit
+      → passes_unchanged settings (concat taken.pieces) ≡ true
+      → length (concat taken.pieces) ≤ finish.count + limit + 3

@@ -7,10 +7,12 @@ ghost use Rattle.grep_definitions.specs.CallOrder.{BeginsInOrder, GoesOnInOrder}
 ghost use Rattle.grep_definitions.specs.LineSearch.{turns, byte_count};
 ghost use Rattle.grep_definitions.specs.Questions.{IsLawfulFor};
 ghost use Rattle.grep_definitions.specs.Searches.{IsLineFault, errors_by, facts_by};
-ghost use Rattle.grep_definitions.specs.SinkRuns.{Outcome, NeverFails};
-ghost use Rattle.grep_walk.specs.Walks.{Counted, IsOrdered};
+ghost use Rattle.grep_definitions.specs.Plans.{Outcome, NeverFails};
+ghost use Rattle.grep_walk.specs.WalkFaults.{IsWalkFault};
+ghost use Rattle.grep_walk.specs.Walks.{Counted, IsOrdered, CountedFrom};
 ghost use Rattle.grep_walk.specs.Windows.{HasSearched, HasPassed};
 ghost use Rattle.grep_core.specs.Configured.{IsConfigured};
+ghost use Rattle.grep_walk.specs.Origins.{Origin};
 
 use crate::calls::Calls;
 use crate::search::Search;
@@ -92,26 +94,27 @@ impl<'c, A: Allocator + Copy, T> Search<'c, A, T> {
         ensures ahead { IfOk result (λ goes_on. walk.old.offset ≤ walk.new.offset) }
         ensures goes_on { IfOk result (λ goes_on.
             IsLawfulFor self.now.config (M.meaning matcher.now) (M.is_lawful matcher.now)
-            → goes_on ≡ true → (gone input : List ℕ) (first : C.Sink)
+            → goes_on ≡ true → (gone input : List ℕ) (first : Origin C.Sink)
             → HasSearched C.step self.now.config (M.meaning matcher.now) gone window.now input
             first start walk.old sink.old
             → HasPassed C.step self.now.config (M.meaning matcher.now) gone window.now input
             first walk.new sink.new) }
         ensures ends { IfOk result (λ goes_on.
             IsLawfulFor self.now.config (M.meaning matcher.now) (M.is_lawful matcher.now)
-            → goes_on ≡ false → (outcome : Outcome C.Error) × ((gone input : List ℕ) (first : C.Sink)
+            → goes_on ≡ false → (outcome : Outcome C.Error)
+            × ((gone input : List ℕ) (first : Origin C.Sink)
             → HasSearched C.step self.now.config (M.meaning matcher.now) gone window.now input
             first start walk.old sink.old
-            → Counted C.step self.now.config first
+            → CountedFrom C.step self.now.config first
             (turns self.now.config (M.meaning matcher.now) input)
             (byte_count self.now.config (M.meaning matcher.now) input)
             walk.new.offset outcome sink.new)) }
         ensures fault { IfErr result (λ e.
             IsLawfulFor self.now.config (M.meaning matcher.now) (M.is_lawful matcher.now)
-            → (gone input : List ℕ) (first : C.Sink)
+            → (gone input : List ℕ) (first : Origin C.Sink)
             → HasSearched C.step self.now.config (M.meaning matcher.now) gone window.now input
             first start walk.old sink.old
-            → IsLineFault C.step
+            → IsWalkFault C.step
             (errors_by C.Error.is_message C.Error.is_io C.Error.is_config)
             (facts_by M.meaning M.fails M.is_lawful M.Error.output matcher.now)
             self.now.config input first e sink.new) }

@@ -4,9 +4,8 @@ ghost use Rattle.grep_matcher.specs.Terminators.{byte_of};
 ghost use Rattle.grep_core.specs.Configured.{IsConfigured};
 ghost use Rattle.grep_definitions.specs.Settings.{Settings};
 ghost use Rattle.grep_report.specs.SinkReports.{match_bytes};
-ghost use Rattle.grep_definitions.specs.SinkCalls.{Call, begins, breaks, binary_data};
-ghost use Rattle.grep_definitions.specs.SinkCalls.{match_call, context_call, finish_call};
-ghost use Rattle.grep_definitions.specs.SinkRuns.{finish_result};
+ghost use Rattle.grep_definitions.specs.Plans.{Call, begins, breaks, binary_data, finish_result};
+ghost use Rattle.grep_definitions.specs.SinkArguments.{match_call, context_call, finish_call};
 
 use crate::search::Search;
 use grep_report::{SinkContext, SinkFinish, SinkMatch};
@@ -39,8 +38,9 @@ pub trait Calls<T> {
         ensures step { step sink.old search.now.config begins result sink.new }
         ensures may_call { may_call sink.new };
 
-    /// Selected lines, split as the searcher splits lines, with a line number exactly if it numbers
-    /// lines.
+    /// A match: selected lines, split as the searcher splits lines, or a line that hits past the
+    /// limit, in the context after the last selected line. It has a line number exactly if the
+    /// searcher numbers lines.
     fn matched<A>(
         search: &Search<'_, A, T>,
         sink: &mut Self::Sink,
@@ -54,7 +54,7 @@ pub trait Calls<T> {
         ensures step { step sink.old search.now.config (match_call found.now) result sink.new }
         ensures may_call { may_call sink.new };
 
-    /// A line that isn't selected and is reported, with a number exactly if the searcher numbers
+    /// A line that is reported, and not as a match, with a number exactly if the searcher numbers
     /// lines.
     fn context<A>(
         search: &Search<'_, A, T>,

@@ -4,12 +4,13 @@ ghost use Rattle.std.specs.declared.io.Error.{Error};
 ghost use Rattle.grep_matcher.specs.Matching.{IsInfallible};
 ghost use Rattle.grep_decode.specs.DecoderStates.{started};
 ghost use Rattle.grep_definitions.specs.BinaryBytes.{look_at, view_of};
-ghost use Rattle.grep_definitions.specs.CallOrder.{IsReadingError, RunsInOrder};
+ghost use Rattle.grep_definitions.specs.CallOrder.{IsReadingError};
 ghost use Rattle.grep_definitions.specs.ReaderSearches.{IsUnreadIn};
 ghost use Rattle.grep_definitions.specs.Searches.{errors_by, facts_by};
-ghost use Rattle.grep_definitions.specs.SinkRuns.{NeverFails};
+ghost use Rattle.grep_definitions.specs.Plans.{NeverFails};
 ghost use Rattle.grep_core.specs.InputSearches.{IsAcrossSearched};
 ghost use Rattle.grep_core.specs.Configured.{IsConfigured};
+ghost use Rattle.grep_definitions.specs.PlannedSearches.{IsInOrder};
 
 use crate::calls::Calls;
 use crate::read_by_line::io_error;
@@ -45,9 +46,9 @@ impl<'c, A: Allocator + Copy, T> Search<'c, A, T> {
             (look_at self.now.config.binary_detection false)
             (record { settings = self.now.config; has_buffers = has_buffers })
             reader.old sink.old result reader.new sink.new }
-        ensures in_order { RunsInOrder C.step self.now.config
+        ensures in_order { IsInOrder C.step
             (errors_by C.Error.is_message C.Error.is_io C.Error.is_config)
-            (facts_by M.meaning M.fails M.is_lawful M.Error.output matcher.now)
+            (facts_by M.meaning M.fails M.is_lawful M.Error.output matcher.now) self.now.config
             (IsReadingError R.remaining R.step reader.old reader.new) sink.old result sink.new }
         ensures succeeds { NeverFails C.step C.may_call → IsInfallible (M.fails matcher.now)
             → IfErr result (λ e. (has_buffers : Bool) → (seen : Option (List ℕ)) × (error : Error)

@@ -7,7 +7,6 @@ mod by_line;
 mod calls;
 mod contents;
 mod multi_line;
-mod noted;
 mod quitting;
 mod read_by_line;
 mod search;

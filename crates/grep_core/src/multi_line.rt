@@ -5,8 +5,7 @@ ghost use Rattle.grep_matcher.specs.Matching.{IsInfallible};
 ghost use Rattle.grep_definitions.specs.CallOrder.{BeginsInOrder, EndsInOrder};
 ghost use Rattle.grep_definitions.specs.Searches.{IsFaultIn, errors_by, facts_by};
 ghost use Rattle.grep_definitions.specs.SearchTurns.{calls_across};
-ghost use Rattle.grep_definitions.specs.SinkCalls.{begins};
-ghost use Rattle.grep_definitions.specs.SinkRuns.{Outcome, NeverFails};
+ghost use Rattle.grep_definitions.specs.Plans.{begins, Outcome, NeverFails};
 ghost use Rattle.grep_walk.specs.Walks.{Counted};
 ghost use Rattle.grep_core.specs.Configured.{IsConfigured};
 

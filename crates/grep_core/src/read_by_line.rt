@@ -9,26 +9,27 @@ ghost use Rattle.grep_matcher.specs.Matching.{IsInfallible};
 ghost use Rattle.grep_decode.specs.DecoderStates.{started};
 ghost use Rattle.grep_line_buffer.specs.BufferStates.{empty_buffer, held};
 ghost use Rattle.grep_definitions.specs.Below.{is_at};
-ghost use Rattle.grep_definitions.specs.BinaryBytes.{is_detecting};
-ghost use Rattle.grep_definitions.specs.CallOrder.{GoesOnInOrder, HasBegunTo, IsOrderedFault};
-ghost use Rattle.grep_definitions.specs.CallOrder.{IsReadingError, ReadsInOrder, RunsInOrder};
+ghost use Rattle.grep_definitions.specs.BinaryBytes.{is_detecting, look_of, on_stream};
+ghost use Rattle.grep_definitions.specs.CallOrder.{GoesOnInOrder, HasBegunTo, IsReadingError};
+ghost use Rattle.grep_definitions.specs.CallOrder.{ReadsInOrder};
 ghost use Rattle.grep_definitions.specs.InputFronts.{IsClosed};
-ghost use Rattle.grep_definitions.specs.ReaderSearches.{IsLineUnread, IsSourceSearched};
-ghost use Rattle.grep_definitions.specs.ReaderSearches.{IsStreamSearched, IsUnread, reads_lines};
+ghost use Rattle.grep_definitions.specs.Modes.{is_across};
+ghost use Rattle.grep_definitions.specs.PlannedSearches.{IsInOrder, IsRead};
+ghost use Rattle.grep_definitions.specs.Readings.{IsUnread, reads_lines};
 ghost use Rattle.grep_definitions.specs.Questions.{IsLawfulFor};
-ghost use Rattle.grep_definitions.specs.Searches.{IsLineFault, errors_by, facts_by};
-ghost use Rattle.grep_definitions.specs.SinkCalls.{begins};
-ghost use Rattle.grep_definitions.specs.SinkRuns.{NeverFails};
-ghost use Rattle.grep_core.specs.NotedCalls.{FailsAtBinary, HasNoted, PassesBinary};
+ghost use Rattle.grep_definitions.specs.Searches.{errors_by, facts_by};
+ghost use Rattle.grep_definitions.specs.Plans.{begins, NeverFails};
+ghost use Rattle.grep_core.specs.BinaryCalls.{FailsAtBinary, PassesBinary};
 ghost use Rattle.grep_core.specs.Rolls.{IsReady, HasBegun, HasMovedOn, HasEnded, IsStreamCounted};
 ghost use Rattle.grep_core.specs.Rolls.{start_in};
 ghost use Rattle.grep_core.specs.SearchBuffers.{AreFitting, IsFitting, IsMadeOf, detection_of};
+ghost use Rattle.grep_walk.specs.WalkFaults.{IsWalkFault};
 ghost use Rattle.grep_walk.specs.Walks.{IsOrdered};
 ghost use Rattle.grep_core.specs.Configured.{IsConfigured};
+ghost use Rattle.grep_walk.specs.Origins.{Origin};
 
 use crate::buffers::Buffers;
 use crate::calls::Calls;
-use crate::noted::{Noted, NotedCalls};
 use crate::search::Search;
 use grep_decode::laws::{done_gives_nothing, reads_continue};
 use grep_decode::{Decoder, Source};
@@ -64,21 +65,23 @@ impl<'c, A: Allocator + Copy, T> Search<'c, A, T> {
         ensures fitting { AreFitting self.now.config buffers.new }
         ensures searched { IsLawfulFor self.now.config (M.meaning matcher.now)
             (M.is_lawful matcher.now)
-            → (has_buffers : Bool) → IsSourceSearched R.remaining R.step C.step
+            → (has_buffers : Bool) → IsRead R.remaining R.step C.step
             (errors_by C.Error.is_message C.Error.is_io C.Error.is_config)
             (facts_by M.meaning M.fails M.is_lawful M.Error.output matcher.now)
             (record { settings = self.now.config; has_buffers = has_buffers })
+            (look_of self.now.config (M.meaning matcher.now) false)
             reader.old sink.old result reader.new sink.new }
-        ensures in_order { RunsInOrder C.step self.now.config
+        ensures in_order { IsInOrder C.step
             (errors_by C.Error.is_message C.Error.is_io C.Error.is_config)
-            (facts_by M.meaning M.fails M.is_lawful M.Error.output matcher.now)
+            (facts_by M.meaning M.fails M.is_lawful M.Error.output matcher.now) self.now.config
             (IsReadingError R.remaining R.step reader.old reader.new) sink.old result sink.new }
         ensures succeeds { NeverFails C.step C.may_call → IsInfallible (M.fails matcher.now)
             → IsLawfulFor self.now.config (M.meaning matcher.now) (M.is_lawful matcher.now)
-            → IfErr result (λ e. (has_buffers : Bool) → (seen : Option (List ℕ)) × (error : Error)
-            × IsUnread R.remaining R.step
+            → IfErr result (λ e. (has_buffers : Bool) → (begun : Bool) × (seen : List ℕ)
+            × (error : Error) × IsUnread R.remaining R.step
             (record { settings = self.now.config; has_buffers = has_buffers })
-            (M.meaning matcher.now) reader.old seen error reader.new × C.Error.is_io error e) }
+            (M.meaning matcher.now) reader.old begun seen error reader.new
+            × C.Error.is_io error e) }
         ensures may_call { C.may_call sink.new }
     {
         if self.config.is_across(matcher) {
@@ -93,7 +96,7 @@ impl<'c, A: Allocator + Copy, T> Search<'c, A, T> {
         self.search_by_line::<M, R, C>(matcher, buffers, reader, sink)
     }
 
-    // The same of a search by line.
+    // Searches by line, as `search_reader` says.
     fn search_by_line<M: Matcher, R: Source, C: Calls<T>>(
         &self,
         matcher: &M,
@@ -106,25 +109,27 @@ impl<'c, A: Allocator + Copy, T> Search<'c, A, T> {
         requires allowed { is_at 0 self.now.config.heap_limit ≡ false }
         requires fitting { AreFitting self.now.config buffers.old }
         requires configured { IsConfigured (C.settings self.now.searcher.now) self.now.config }
+        requires by_line { is_across self.now.config (M.meaning matcher.now) ≡ false }
         requires may_call { C.may_call sink.old }
         ensures fitting { AreFitting self.now.config buffers.new }
         ensures searched { IsLawfulFor self.now.config (M.meaning matcher.now)
             (M.is_lawful matcher.now)
-            → (has_buffers : Bool) → IsStreamSearched R.remaining R.step C.step
+            → (has_buffers : Bool) → IsRead R.remaining R.step C.step
             (errors_by C.Error.is_message C.Error.is_io C.Error.is_config)
             (facts_by M.meaning M.fails M.is_lawful M.Error.output matcher.now)
             (record { settings = self.now.config; has_buffers = has_buffers })
-            reader.old sink.old result reader.new sink.new }
-        ensures in_order { RunsInOrder C.step self.now.config
+            on_stream reader.old sink.old result reader.new sink.new }
+        ensures in_order { IsInOrder C.step
             (errors_by C.Error.is_message C.Error.is_io C.Error.is_config)
-            (facts_by M.meaning M.fails M.is_lawful M.Error.output matcher.now)
+            (facts_by M.meaning M.fails M.is_lawful M.Error.output matcher.now) self.now.config
             (IsReadingError R.remaining R.step reader.old reader.new) sink.old result sink.new }
         ensures succeeds { NeverFails C.step C.may_call → IsInfallible (M.fails matcher.now)
             → IsLawfulFor self.now.config (M.meaning matcher.now) (M.is_lawful matcher.now)
-            → IfErr result (λ e. (has_buffers : Bool) → (seen : Option (List ℕ)) × (error : Error)
-            × IsLineUnread R.remaining R.step
+            → IfErr result (λ e. (has_buffers : Bool) → (begun : Bool) × (seen : List ℕ)
+            × (error : Error) × IsUnread R.remaining R.step
             (record { settings = self.now.config; has_buffers = has_buffers })
-            (M.meaning matcher.now) reader.old seen error reader.new × C.Error.is_io error e) }
+            (M.meaning matcher.now) reader.old begun seen error reader.new
+            × C.Error.is_io error e) }
         ensures may_call { C.may_call sink.new }
     {
         let finish = self.match_source::<M, R, C>(matcher, buffers, reader, sink)?;
@@ -144,6 +149,7 @@ impl<'c, A: Allocator + Copy, T> Search<'c, A, T> {
         requires allowed { is_at 0 self.now.config.heap_limit ≡ false }
         requires fitting { AreFitting self.now.config buffers.old }
         requires configured { IsConfigured (C.settings self.now.searcher.now) self.now.config }
+        requires by_line { is_across self.now.config (M.meaning matcher.now) ≡ false }
         requires may_call { C.may_call sink.old }
         ensures fitting { AreFitting self.now.config buffers.new }
         ensures begun { IfOk result
@@ -152,30 +158,32 @@ impl<'c, A: Allocator + Copy, T> Search<'c, A, T> {
         ensures counted { IfOk result (λ finish.
             IsLawfulFor self.now.config (M.meaning matcher.now) (M.is_lawful matcher.now)
             → IsStreamCounted C.step self.now.config (M.meaning matcher.now)
-            R.remaining R.step reader.old sink.old finish.byte_count finish.binary_byte_offset
+            R.remaining R.step reader.old sink.old
+            (record { count = finish.byte_count; binary = finish.binary_byte_offset })
             reader.new sink.new) }
         ensures fault { IfErr result (λ e.
             IsLawfulFor self.now.config (M.meaning matcher.now) (M.is_lawful matcher.now)
-            → (has_buffers : Bool) → IsStreamSearched R.remaining R.step C.step
+            → (has_buffers : Bool) → IsRead R.remaining R.step C.step
             (errors_by C.Error.is_message C.Error.is_io C.Error.is_config)
             (facts_by M.meaning M.fails M.is_lawful M.Error.output matcher.now)
             (record { settings = self.now.config; has_buffers = has_buffers })
-            reader.old sink.old (Err e) reader.new sink.new) }
+            on_stream reader.old sink.old (Err e) reader.new sink.new) }
         ensures in_order { IfOk result (λ finish.
-            HasBegunTo C.step self.now.config sink.old finish.byte_count sink.new) }
+            HasBegunTo C.step self.now.config 1 sink.old finish.byte_count sink.new) }
         ensures noted { IfOk result (λ finish.
             is_detecting self.now.config.binary_detection ≡ false
             → finish.binary_byte_offset ≡ None) }
-        ensures broken { IfErr result (λ e. IsOrderedFault C.step self.now.config
+        ensures broken { IfErr result (λ e. IsInOrder C.step
             (errors_by C.Error.is_message C.Error.is_io C.Error.is_config)
-            (facts_by M.meaning M.fails M.is_lawful M.Error.output matcher.now)
-            (IsReadingError R.remaining R.step reader.old reader.new) sink.old e sink.new) }
+            (facts_by M.meaning M.fails M.is_lawful M.Error.output matcher.now) self.now.config
+            (IsReadingError R.remaining R.step reader.old reader.new) sink.old (Err e) sink.new) }
         ensures succeeds { NeverFails C.step C.may_call → IsInfallible (M.fails matcher.now)
             → IsLawfulFor self.now.config (M.meaning matcher.now) (M.is_lawful matcher.now)
-            → IfErr result (λ e. (has_buffers : Bool) → (seen : Option (List ℕ)) × (error : Error)
-            × IsLineUnread R.remaining R.step
+            → IfErr result (λ e. (has_buffers : Bool) → (begun : Bool) × (seen : List ℕ)
+            × (error : Error) × IsUnread R.remaining R.step
             (record { settings = self.now.config; has_buffers = has_buffers })
-            (M.meaning matcher.now) reader.old seen error reader.new × C.Error.is_io error e) }
+            (M.meaning matcher.now) reader.old begun seen error reader.new
+            × C.Error.is_io error e) }
         ensures may_call { C.may_call sink.new }
     {
         lines_join();
@@ -190,25 +198,26 @@ impl<'c, A: Allocator + Copy, T> Search<'c, A, T> {
         lines.clear();
         lines.set_binary_detection(detection(self.config.binary_detection));
         decoder.start(self.config.label(), self.config.bom_sniffing);
-        let mut noted = Noted::new(sink);
-        match self.read_by_line::<M, R, C>(matcher, lines, decoder, reader, &mut noted) {
-            Ok(count) => Ok(SinkFinish::new(count, noted.binary)),
+        let mut binary = None;
+        match self.read_by_line::<M, R, C>(matcher, lines, decoder, reader, &mut binary, sink) {
+            Ok(count) => Ok(SinkFinish::new(count, binary)),
             Err(error) => Err(error),
         }
     }
 
     // Searches the decoded bytes of a reader as a buffer shows them. Makes each call but `begin`
-    // and `finish`, and returns the byte count. The caller ensures that the buffer is empty and
-    // detects what is set, that the decoder was started with the searcher's label, that no binary
-    // byte is noted, and that `begin` returned true and some line may have a turn or a binary byte
-    // is looked for.
+    // and `finish`, and returns the byte count; `binary` is the offset of the first binary byte once
+    // the sink was told of it. The caller ensures that the buffer is empty and detects what is set,
+    // that the decoder was started with the searcher's label, that `begin` returned true and nothing
+    // else was called, and that some line may be reported or a binary byte is looked for.
     fn read_by_line<M: Matcher, R: Source, C: Calls<T>>(
         &self,
         matcher: &M,
         lines: &mut LineBuffer<A>,
         decoder: &mut Decoder<A>,
         reader: &mut R,
-        sink: &mut Noted<'_, C::Sink>,
+        binary: &mut Option<u64>,
+        sink: &mut C::Sink,
     ) -> Result<u64, C::Error>
     where
         C::Error: SinkError<A>,
@@ -222,42 +231,42 @@ impl<'c, A: Allocator + Copy, T> Search<'c, A, T> {
         requires started { decoder.old ≡ started decoder.old.capacity self.now.config.encoding
             self.now.config.bom_sniffing }
         requires configured { IsConfigured (C.settings self.now.searcher.now) self.now.config }
-        requires may_call { C.may_call sink.old.sink.now }
-        requires binary { sink.old.binary ≡ None }
-        requires has_called { sink.old.has_called ≡ false }
+        requires may_call { C.may_call sink.old }
+        requires binary { binary.old ≡ None }
+        requires by_line { is_across self.now.config (M.meaning matcher.now) ≡ false }
         ensures fitting { IsFitting self.now.config.heap_limit
             (byte_of self.now.config.line_terminator) lines.new }
         ensures counted { IfOk result (λ count.
             IsLawfulFor self.now.config (M.meaning matcher.now) (M.is_lawful matcher.now)
             → (first : C.Sink)
-            → C.step first self.now.config begins (Ok true) sink.old.sink.now
+            → C.step first self.now.config begins (Ok true) sink.old
             → IsStreamCounted C.step self.now.config (M.meaning matcher.now) R.remaining R.step
-            reader.old first count sink.new.binary reader.new sink.new.sink.now) }
+            reader.old first (record { count = count; binary = binary.new }) reader.new sink.new) }
         ensures fault { IfErr result (λ e.
             IsLawfulFor self.now.config (M.meaning matcher.now) (M.is_lawful matcher.now)
             → (first : C.Sink)
-            → C.step first self.now.config begins (Ok true) sink.old.sink.now
-            → (has_buffers : Bool) → IsStreamSearched R.remaining R.step C.step
+            → C.step first self.now.config begins (Ok true) sink.old
+            → (has_buffers : Bool) → IsRead R.remaining R.step C.step
             (errors_by C.Error.is_message C.Error.is_io C.Error.is_config)
             (facts_by M.meaning M.fails M.is_lawful M.Error.output matcher.now)
             (record { settings = self.now.config; has_buffers = has_buffers })
-            reader.old first (Err e) reader.new sink.new.sink.now) }
+            on_stream reader.old first (Err e) reader.new sink.new) }
         ensures in_order { ReadsInOrder C.step self.now.config
             (errors_by C.Error.is_message C.Error.is_io C.Error.is_config)
             (facts_by M.meaning M.fails M.is_lawful M.Error.output matcher.now)
-            (IsReadingError R.remaining R.step reader.old reader.new) sink.old.sink.now result sink.new.sink.now }
+            (IsReadingError R.remaining R.step reader.old reader.new) sink.old result sink.new }
         ensures noted { OnOk result (is_detecting self.now.config.binary_detection ≡ false
-            → sink.new.binary ≡ None) }
+            → binary.new ≡ None) }
         ensures succeeds { NeverFails C.step C.may_call → IsInfallible (M.fails matcher.now)
             → IsLawfulFor self.now.config (M.meaning matcher.now) (M.is_lawful matcher.now)
             → IfErr result (λ e. (first : C.Sink)
-            → C.step first self.now.config begins (Ok true) sink.old.sink.now
-            → (has_buffers : Bool) → (seen : Option (List ℕ)) × (error : Error)
-            × IsLineUnread R.remaining R.step
+            → C.step first self.now.config begins (Ok true) sink.old
+            → (has_buffers : Bool) → (begun : Bool) × (seen : List ℕ)
+            × (error : Error) × IsUnread R.remaining R.step
             (record { settings = self.now.config; has_buffers = has_buffers })
-            (M.meaning matcher.now) reader.old seen error reader.new × C.Error.is_io error e) }
-        ensures may_call { C.may_call sink.new.sink.now }
-        ensures same_sink { sink.new.sink.ghost_name ≡ sink.old.sink.ghost_name }
+            (M.meaning matcher.now) reader.old begun seen error reader.new
+            × C.Error.is_io error e) }
+        ensures may_call { C.may_call sink.new }
     {
         reads_continue::<R>();
         fills_continue::<R>();
@@ -271,38 +280,42 @@ impl<'c, A: Allocator + Copy, T> Search<'c, A, T> {
             if let Err(error) = lines.fill(decoder, reader) {
                 return Err(C::Error::error_io(self.alloc, io_error(error)));
             }
-            if !self.passes_binary::<C>(lines.binary_byte_offset(), sink)? {
+            if !self.passes_binary::<C>(lines.binary_byte_offset(), binary, sink)? {
                 return Ok(walk.offset);
             }
             if self.config.reports_nothing() {
                 return Ok(walk.offset);
             }
-            if !self.search_shown::<M, NotedCalls<'_, C>>(matcher, lines, &mut walk, sink)? {
+            if !self.search_shown::<M, C>(matcher, lines, &mut walk, sink)? {
                 return Ok(walk.offset);
             }
         }
     }
 
-    // Calls `binary_data` if a binary byte was found that isn't noted. Returns whether the search
-    // goes on.
+    // Calls `binary_data` if a binary byte was found of which the sink wasn't told, and notes its
+    // offset. Returns whether the search goes on.
     fn passes_binary<C: Calls<T>>(
         &self,
-        binary: Option<u64>,
-        sink: &mut Noted<'_, C::Sink>,
+        found: Option<u64>,
+        binary: &mut Option<u64>,
+        sink: &mut C::Sink,
     ) -> Result<bool, C::Error>
         requires configured { IsConfigured (C.settings self.now.searcher.now) self.now.config }
-        requires may_call { C.may_call sink.old.sink.now }
-        requires noted { HasNoted sink.old }
+        requires may_call { C.may_call sink.old }
         ensures passes { IfOk result (λ goes_on.
-            PassesBinary C.step self.now.config binary sink.old goes_on sink.new) }
-        ensures fails { IfErr result
-            (λ e. FailsAtBinary C.step self.now.config binary sink.old e sink.new) }
-        ensures same_sink { sink.new.sink.ghost_name ≡ sink.old.sink.ghost_name }
-        ensures may_call { C.may_call sink.new.sink.now }
+            PassesBinary C.step self.now.config found
+            (record { sink = sink.old; binary = binary.old }) goes_on
+            (record { sink = sink.new; binary = binary.new })) }
+        ensures fails { IfErr result (λ e.
+            FailsAtBinary C.step self.now.config found
+            (record { sink = sink.old; binary = binary.old }) e
+            (record { sink = sink.new; binary = binary.new })) }
+        ensures may_call { C.may_call sink.new }
     {
-        match (binary, sink.binary) {
+        match (found, *binary) {
             (Some(offset), None) => {
-                let goes_on = self.note::<C>(sink, offset)?;
+                *binary = Some(offset);
+                let goes_on = C::binary_data(self, sink, offset)?;
                 Ok(goes_on && self.quit_byte().is_none())
             }
             _ => Ok(true),
@@ -344,13 +357,13 @@ impl<'c, A: Allocator + Copy, T> Search<'c, A, T> {
             lines.old walk.old sink.old walk.new sink.new) }
         ensures fault { IfErr result (λ e.
             IsLawfulFor self.now.config (M.meaning matcher.now) (M.is_lawful matcher.now)
-            → (gone : List ℕ) (first : C.Sink)
+            → (gone : List ℕ) (first : Origin C.Sink)
             → IsReady C.step self.now.config (M.meaning matcher.now) gone lines.old.shown
             (start_in lines.old walk.old) first walk.old sink.old
             → (after : List ℕ)
             → (0 < length after → IsClosed
             (byte_of self.now.config.line_terminator) lines.old.shown)
-            → IsLineFault C.step
+            → IsWalkFault C.step
             (errors_by C.Error.is_message C.Error.is_io C.Error.is_config)
             (facts_by M.meaning M.fails M.is_lawful M.Error.output matcher.now)
             self.now.config (gone ++ (lines.old.shown ++ after)) first e sink.new) }

@@ -1,16 +1,15 @@
 //! What a search runs with, and the search of bytes as they are.
 ghost use Rattle.std.specs.Prelude.{◌≡◌, false, IfOk, IfErr, IsOk};
 ghost use Rattle.grep_core.specs.Configured.{IsConfigured};
-ghost use Rattle.grep_core.specs.InputSearches.{IsBytesSearched};
 ghost use Rattle.grep_matcher.specs.Matching.{IsInfallible};
 ghost use Rattle.grep_matcher.specs.Terminators.{byte_of};
 ghost use Rattle.grep_report.specs.BinaryDetections.{quit_byte_of};
-ghost use Rattle.grep_definitions.specs.BinaryBytes.{look_at};
-ghost use Rattle.grep_definitions.specs.CallOrder.{BeginsInOrder, RunsInOrder};
+ghost use Rattle.grep_definitions.specs.CallOrder.{BeginsInOrder};
+ghost use Rattle.grep_definitions.specs.PlannedSearches.{IsInOrder, IsSliceSearch};
 ghost use Rattle.grep_definitions.specs.Questions.{IsLawfulFor};
 ghost use Rattle.grep_definitions.specs.SearchTurns.{calls_if};
 ghost use Rattle.grep_definitions.specs.Searches.{IsFaultIn, errors_by, facts_by};
-ghost use Rattle.grep_definitions.specs.SinkRuns.{NeverFails, Outcome};
+ghost use Rattle.grep_definitions.specs.Plans.{NeverFails, Outcome};
 ghost use Rattle.grep_walk.specs.Walks.{Counted};
 
 use crate::calls::Calls;
@@ -49,15 +48,14 @@ impl<'c, A: Allocator + Copy, T> Search<'c, A, T> {
         requires may_call { C.may_call sink.old }
         ensures searched { IsLawfulFor self.now.config (M.meaning matcher.now)
             (M.is_lawful matcher.now)
-            → IsBytesSearched C.step
+            → IsSliceSearch C.step
             (errors_by C.Error.is_message C.Error.is_io C.Error.is_config)
             (facts_by M.meaning M.fails M.is_lawful M.Error.output matcher.now)
-            (look_at self.now.config.binary_detection false) self.now.config bytes.now sink.old
-            result sink.new }
-        ensures in_order { RunsInOrder C.step self.now.config
+            self.now.config bytes.now sink.old result sink.new }
+        ensures in_order { IsInOrder C.step
             (errors_by C.Error.is_message C.Error.is_io C.Error.is_config)
             (facts_by M.meaning M.fails M.is_lawful M.Error.output matcher.now)
-            (λ _. ⊥) sink.old result sink.new }
+            self.now.config (λ _. ⊥) sink.old result sink.new }
         ensures succeeds { NeverFails C.step C.may_call → IsInfallible (M.fails matcher.now)
             → IsOk result }
         ensures may_call { C.may_call sink.new }

@@ -4,11 +4,11 @@ ghost use Rattle.std.specs.Prelude.{◌≡◌, ◌≤◌, ◌<◌, ◌+◌, ◌-
 ghost use Rattle.std.specs.Prelude.{IsOk};
 ghost use Rattle.grep_lines.specs.Positions.{slice};
 ghost use Rattle.grep_definitions.specs.CallOrder.{HasCalled};
-ghost use Rattle.grep_definitions.specs.SinkCalls.{context};
+ghost use Rattle.grep_definitions.specs.Plans.{context, AreMade, NeverFails};
 ghost use Rattle.grep_definitions.specs.LineTurns.{number_of, is_gap, break_turns};
 ghost use Rattle.grep_definitions.specs.LineTurns.{after_turns, before_turns, pending_turns};
 ghost use Rattle.grep_definitions.specs.LineTurns.{match_turns};
-ghost use Rattle.grep_definitions.specs.SinkRuns.{AreReported, outcome_of, NeverFails};
+ghost use Rattle.grep_definitions.specs.SinkRuns.{outcome_of};
 ghost use Rattle.grep_walk.specs.Walks.{chooses, counts_lines, trails, line_turns, line_end};
 ghost use Rattle.grep_walk.specs.Windows.{IsInWindow, IsLineIn};
 ghost use Rattle.grep_core.specs.Configured.{IsConfigured};
@@ -19,10 +19,13 @@ use grep_report::{SinkContext, SinkContextKind, SinkMatch};
 use grep_walk::{Verdict, Walk};
 use std::alloc::Allocator;
 
+// What each line goes through is inlined into the loops: called, it made a search that reports
+// every second line 6 to 9 percent slower.
 impl<'c, A: Allocator + Copy, T> Search<'c, A, T> {
     // Reports the line that a walk is at, from `start` up to `end` of the window, and if it is
     // chosen the lines before it that are near. In the context after a match a trailing line is a
     // match too. Returns whether the search goes on.
+    #[inline(always)]
     pub(crate) fn sink_line<C: Calls<T>>(
         &self,
         window: &[u8],
@@ -43,12 +46,12 @@ impl<'c, A: Allocator + Copy, T> Search<'c, A, T> {
         ensures reported { (gone input : List ℕ)
             → (counts_lines self.now.config ≡ true
             → IsInWindow self.now.config gone window.now input start walk.now)
-            → AreReported C.step self.now.config sink.old
+            → AreMade C.step self.now.config sink.old
             (line_turns self.now.config input walk.now (slice window.now start end)
             (chooses verdict) (trails verdict))
             (outcome_of (line_end walk.now (slice window.now start end)) result) sink.new }
         ensures succeeds { NeverFails C.step C.may_call → IsOk result }
-        ensures called { (stop : ℕ) → HasCalled C.step self.now.config sink.old
+        ensures called { (stop : ℕ) → HasCalled C.step self.now.config 0 sink.old
             (outcome_of stop result) sink.new }
         ensures may_call { C.may_call sink.new }
     {
@@ -85,12 +88,12 @@ impl<'c, A: Allocator + Copy, T> Search<'c, A, T> {
         requires number { walk.now.line + 1 < 2 ^ 64 }
         requires configured { IsConfigured (C.settings self.now.searcher.now) self.now.config }
         requires may_call { C.may_call sink.old }
-        ensures reported { (stop : ℕ) → AreReported C.step self.now.config sink.old
+        ensures reported { (stop : ℕ) → AreMade C.step self.now.config sink.old
             (after_turns self.now.config (trails verdict) walk.now.next_unreported walk.now.line
             walk.now.offset stop (slice window.now start end))
             (outcome_of stop result) sink.new }
         ensures succeeds { NeverFails C.step C.may_call → IsOk result }
-        ensures called { (stop : ℕ) → HasCalled C.step self.now.config sink.old
+        ensures called { (stop : ℕ) → HasCalled C.step self.now.config 0 sink.old
             (outcome_of stop result) sink.new }
         ensures may_call { C.may_call sink.new }
     {
@@ -107,6 +110,7 @@ impl<'c, A: Allocator + Copy, T> Search<'c, A, T> {
     // Reports the lines before the chosen one that a walk is at, which begins at `start` of the
     // window: of those after the last reported one as many as the context has. They are found again
     // by stepping back.
+    #[inline(always)]
     fn sink_before_context<C: Calls<T>>(
         &self,
         window: &[u8],
@@ -124,12 +128,12 @@ impl<'c, A: Allocator + Copy, T> Search<'c, A, T> {
         ensures reported { (gone input : List ℕ)
             → (counts_lines self.now.config ≡ true
             → IsInWindow self.now.config gone window.now input start walk.now)
-            → (end : ℕ) → AreReported C.step self.now.config sink.old
+            → (end : ℕ) → AreMade C.step self.now.config sink.old
             (pending_turns self.now.config input walk.now.next_unreported walk.now.line end
             walk.now.next_unreported (walk.now.line - walk.now.next_unreported))
             (outcome_of end result) sink.new }
         ensures succeeds { NeverFails C.step C.may_call → IsOk result }
-        ensures called { (end : ℕ) → HasCalled C.step self.now.config sink.old
+        ensures called { (end : ℕ) → HasCalled C.step self.now.config 0 sink.old
             (outcome_of end result) sink.new }
         ensures may_call { C.may_call sink.new }
     {
@@ -164,12 +168,12 @@ impl<'c, A: Allocator + Copy, T> Search<'c, A, T> {
         ensures reported { (gone input : List ℕ)
             → IsInWindow self.now.config gone window.now input start walk.now
             → IsLineIn self.now.config gone window.now first index
-            → (end : ℕ) → AreReported C.step self.now.config sink.old
+            → (end : ℕ) → AreMade C.step self.now.config sink.old
             (pending_turns self.now.config input walk.now.next_unreported walk.now.line end
             index (walk.now.line - index))
             (outcome_of end result) sink.new }
         ensures succeeds { NeverFails C.step C.may_call → IsOk result }
-        ensures called { (end : ℕ) → HasCalled C.step self.now.config sink.old
+        ensures called { (end : ℕ) → HasCalled C.step self.now.config 0 sink.old
             (outcome_of end result) sink.new }
         ensures may_call { C.may_call sink.new }
     {
@@ -207,7 +211,7 @@ impl<'c, A: Allocator + Copy, T> Search<'c, A, T> {
         requires near { walk.now.line - index ≤ self.now.config.before_context }
         requires configured { IsConfigured (C.settings self.now.searcher.now) self.now.config }
         requires may_call { C.may_call sink.old }
-        ensures reported { (end : ℕ) → AreReported C.step self.now.config sink.old
+        ensures reported { (end : ℕ) → AreMade C.step self.now.config sink.old
             (before_turns self.now.config walk.now.next_unreported index walk.now.line
             (number_of self.now.config index) offset end line.now)
             (outcome_of end result) sink.new }
@@ -223,6 +227,7 @@ impl<'c, A: Allocator + Copy, T> Search<'c, A, T> {
 
     // Reports the line that a walk is at, from `start` up to `end` of the window, as a match, and
     // the break before it, if there is one.
+    #[inline(always)]
     fn sink_matched<C: Calls<T>>(
         &self,
         window: &[u8],
@@ -237,7 +242,7 @@ impl<'c, A: Allocator + Copy, T> Search<'c, A, T> {
         requires number { walk.now.line + 1 < 2 ^ 64 }
         requires configured { IsConfigured (C.settings self.now.searcher.now) self.now.config }
         requires may_call { C.may_call sink.old }
-        ensures reported { (stop : ℕ) → AreReported C.step self.now.config sink.old
+        ensures reported { (stop : ℕ) → AreMade C.step self.now.config sink.old
             (match_turns self.now.config walk.now.next_unreported walk.now.line walk.now.offset
             stop
             (slice window.now start end))
@@ -260,7 +265,7 @@ impl<'c, A: Allocator + Copy, T> Search<'c, A, T> {
         requires configured { IsConfigured (C.settings self.now.searcher.now) self.now.config }
         requires may_call { C.may_call sink.old }
         ensures reported { (end : ℕ)
-            → AreReported C.step self.now.config sink.old (break_turns is_gap end)
+            → AreMade C.step self.now.config sink.old (break_turns is_gap end)
             (outcome_of end result) sink.new }
         ensures succeeds { NeverFails C.step C.may_call → IsOk result }
         ensures may_call { C.may_call sink.new }

@@ -2,16 +2,15 @@
 ghost use Rattle.std.specs.Prelude.{◌≡◌, true, false, None, IsOk, take};
 ghost use Rattle.grep_matcher.specs.Matching.{IsInfallible};
 ghost use Rattle.grep_definitions.specs.BinaryBytes.{is_detecting, position_of};
-ghost use Rattle.grep_definitions.specs.CallOrder.{RunsInOrder};
-ghost use Rattle.grep_definitions.specs.LineTurns.{one_turn};
 ghost use Rattle.grep_definitions.specs.Questions.{IsLawfulFor};
-ghost use Rattle.grep_definitions.specs.QuitPoints.{IsQuitRun, first_look};
+ghost use Rattle.grep_definitions.specs.BinaryPlans.{first_look};
 ghost use Rattle.grep_definitions.specs.SearchTurns.{calls_if};
 ghost use Rattle.grep_definitions.specs.Searches.{errors_by, facts_by};
-ghost use Rattle.grep_definitions.specs.SinkCalls.{begins};
-ghost use Rattle.grep_definitions.specs.SinkRuns.{NeverFails};
+ghost use Rattle.grep_definitions.specs.Plans.{NeverFails, IsRun};
 ghost use Rattle.grep_core.specs.InputSearches.{IsSearchedUntil};
 ghost use Rattle.grep_core.specs.Configured.{IsConfigured};
+ghost use Rattle.grep_definitions.specs.PlannedSearches.{IsInOrder};
+ghost use Rattle.grep_core.specs.QuittingSinks.{first_quit};
 
 use crate::calls::Calls;
 use crate::quitting::{Quitting, QuittingCalls};
@@ -47,9 +46,9 @@ impl<'c, A: Allocator + Copy, T> Search<'c, A, T> {
             (facts_by M.meaning M.fails M.is_lawful M.Error.output matcher.now)
             (calls_if self.now.config (M.meaning matcher.now) is_across)
             byte self.now.config bytes.now sink.old result sink.new }
-        ensures in_order { RunsInOrder C.step self.now.config
+        ensures in_order { IsInOrder C.step
             (errors_by C.Error.is_message C.Error.is_io C.Error.is_config)
-            (facts_by M.meaning M.fails M.is_lawful M.Error.output matcher.now)
+            (facts_by M.meaning M.fails M.is_lawful M.Error.output matcher.now) self.now.config
             (λ _. ⊥) sink.old result sink.new }
         ensures succeeds { NeverFails C.step C.may_call → IsInfallible (M.fails matcher.now)
             → IsOk result }
@@ -69,8 +68,7 @@ impl<'c, A: Allocator + Copy, T> Search<'c, A, T> {
     fn quit_first<C: Calls<T>>(&self, offset: u64, sink: &mut C::Sink) -> Result<(), C::Error>
         requires configured { IsConfigured (C.settings self.now.searcher.now) self.now.config }
         requires may_call { C.may_call sink.old }
-        ensures quits { IsQuitRun C.step self.now.config sink.old
-            (record { before = one_turn begins 0; offset = offset; count = 0 }) result sink.new }
+        ensures quits { IsRun C.step self.now.config sink.old (first_quit offset) result sink.new }
         ensures succeeds { NeverFails C.step C.may_call → IsOk result }
         ensures may_call { C.may_call sink.new }
     {
@@ -105,9 +103,9 @@ impl<'c, A: Allocator + Copy, T> Search<'c, A, T> {
             (facts_by M.meaning M.fails M.is_lawful M.Error.output matcher.now)
             (calls_if self.now.config (M.meaning matcher.now) is_across)
             sink.old.byte self.now.config bytes.now sink.old.sink.now result sink.new.sink.now }
-        ensures in_order { RunsInOrder C.step self.now.config
+        ensures in_order { IsInOrder C.step
             (errors_by C.Error.is_message C.Error.is_io C.Error.is_config)
-            (facts_by M.meaning M.fails M.is_lawful M.Error.output matcher.now)
+            (facts_by M.meaning M.fails M.is_lawful M.Error.output matcher.now) self.now.config
             (λ _. ⊥) sink.old.sink.now result sink.new.sink.now }
         ensures succeeds { NeverFails C.step C.may_call → IsInfallible (M.fails matcher.now)
             → IsOk result }

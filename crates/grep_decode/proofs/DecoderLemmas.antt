@@ -455,11 +455,6 @@ module _ {R : Type 0} (remaining : R → Option (List ℕ)) (step : R → ReadRe
       refl
       run.takes run.gives
 
-  Keeps-from : (a b : Option (List ℕ)) → Consumes a b [] → Keeps a b
-  Keeps-from None b takes = tt
-  Keeps-from (Some xs) None takes = absurd takes
-  Keeps-from (Some xs) (Some ys) takes = sym takes
-
   yet-kept : (d : DecoderState) (a b : Option (List ℕ)) → Keeps a b → Keeps (yet d a) (yet d b)
   yet-kept d None b keeps = tt
   yet-kept d (Some xs) None keeps = absurd keeps
@@ -514,11 +509,6 @@ module _ {R : Type 0} (remaining : R → Option (List ℕ)) (step : R → ReadRe
   reads-give-all capacity label sniff d r r1 given run done =
       all-given label sniff capacity d d.has_ended r r1 given run.pieces done.ended run.calls run.takes
       (run.gives [] (λ ended. refl)) done
-
--- what is held if the bytes pass unchanged
-pub fits-passing : (mode : Mode) (ready held : List ℕ) → FitsMode mode ready held → mode ≡ Passing → (length ready ≤ 3)
-    × (held ≡ [])
-fits-passing mode ready held fits passing = subst (λ m. FitsMode m ready held) passing fits
 
 -- what is held while a mark is looked for
 pub fits-fresh : (mode : Mode) (ready held : List ℕ) (label : Option Label) (sniff : Bool) → FitsMode mode ready held

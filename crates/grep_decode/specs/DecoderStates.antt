@@ -48,7 +48,7 @@ unread has_ended rest = if has_ended then [] else rest
 abbrev pub still_to_give : DecoderState → List ℕ → List ℕ
 still_to_give d rest = d.ready ++ decode_by d.mode (d.held ++ unread d.has_ended rest)
 
--- the same if the reader may not say which bytes remain
+-- and what it has, if the reader may not say which bytes remain
 abbrev pub yet : DecoderState → Option (List ℕ) → Option (List ℕ)
 yet d remaining = option_map (still_to_give d) remaining
 

@@ -18,11 +18,7 @@ module _ {S : Type 0} (step : S → ReadResult → S → Type 0) where
   Pulls old (piece ∷ pieces) new = (0 < length piece)
       × ((mid : S) × step old (Ok piece) mid × Pulls mid pieces new)
 
-  -- the same by calls that returned bytes, and then one that returned this error
+  -- by calls that returned bytes, and then one that returned this error
   abbrev pub FailsWith : S → Error → S → Type 0
   FailsWith old e new = (pieces : List (List ℕ)) × (mid : S) × Pulls old pieces mid
       × step mid (Err e) new
-
-  -- the same by calls that returned bytes, however many
-  abbrev pub PullsSome : S → S → Type 0
-  PullsSome old new = (pieces : List (List ℕ)) × Pulls old pieces new

@@ -1,4 +1,4 @@
--- The defined calls across lines at some inputs, as the checker computes them.
+-- The plans of searches across lines at some inputs, as the checker computes them.
 use Rattle.std.proofs.Common.{◌≡◌, ℕ, ◌+◌, ◌<◌, ◌≤◌, ◌&&◌, true, false, List, [], ◌∷◌, length, Option, Some, None}
 use Rattle.std.proofs.Common.{codes}
 use Rattle.std.proofs.Common.{refl, sym, ap, subst, ◌∙◌, arith, ⊎_elim, if◌then◌else◌}
@@ -8,16 +8,14 @@ use Rattle.std.specs.Prelude.{nat_eq, nat_le, nat_lt, ◌==◌}
 use Rattle.std.specs.List.{list_any, starts_with}
 use Rattle.grep_matcher.specs.declared.line_terminator.LineTerminator.TheVariants.{Byte, Crlf}
 use Rattle.grep_matcher.specs.Literals.{literal_meaning}
-use Rattle.grep_matcher.specs.Matching.{Meaning, plain}
+use Rattle.grep_matcher.specs.Matching.{plain}
+use Rattle.grep_matcher.specs.Meanings.{Meaning}
 use Rattle.grep_report.specs.declared.sink_context.SinkContextKind.TheVariants.{Before, After, Other}
-use Rattle.grep_definitions.specs.AcrossLines.{is_touched, touches}
-use Rattle.grep_definitions.specs.AcrossQuestions.{IsAskedAcross}
-use Rattle.grep_definitions.specs.Settings.{Settings}
+use Rattle.grep_definitions.specs.Asking.{is_across, search_plan, IsAskedWith}
 use Rattle.grep_definitions.specs.BuiltSettings.{default_settings}
-use Rattle.grep_definitions.specs.SuccessiveMatches.{all_matches}
-use Rattle.grep_definitions.specs.Modes.{is_across}
-use Rattle.grep_definitions.specs.SearchTurns.{search_turns, search_byte_count}
-use Rattle.grep_definitions.proofs.WorkedExamples.{has_a, begun, match_turn, context_turn, break_turn}
+use Rattle.grep_definitions.specs.SelectedLines.{all_matches, is_touched, touches}
+use Rattle.grep_definitions.specs.Settings.{Settings}
+use Rattle.grep_definitions.proofs.WorkedExamples.{has_a, begun, match_call, context_call, break_call, plan_of}
 
 -- the settings that let a search run across lines
 abbrev wide : Settings
@@ -46,137 +44,105 @@ at_end = plain (λ hay. Some (length hay, length hay))
 abbrev input : List ℕ
 input = codes "xxx\nabc\ndefxxxabc\ndefxxx\nxxx"
 
--- the lines that the two matches touch are one report
-one_report : search_turns wide two_lines input ≡ begun ∷ match_turn 2 4 (codes "abc\ndefxxxabc\ndefxxx\n") 25 ∷ []
+-- the lines that the two matches touch are one report, and each byte counts
+one_report : search_plan wide two_lines input
+    ≡ plan_of (begun ∷ match_call 2 4 (codes "abc\ndefxxxabc\ndefxxx\n") 25 ∷ []) 28
 one_report = refl
 
--- each byte counts
-one_report_count : search_byte_count wide two_lines input ≡ 28
-one_report_count = refl
-
 -- under inversion the lines that no match touches are reported, each alone
-inverted_input : search_turns (record wide { invert_match = true }) two_lines input
-    ≡ begun ∷ match_turn 1 0 (codes "xxx\n") 4 ∷ match_turn 5 25 (codes "xxx") 28 ∷ []
+inverted_input : search_plan (record wide { invert_match = true }) two_lines input
+    ≡ plan_of (begun ∷ match_call 1 0 (codes "xxx\n") 4 ∷ match_call 5 25 (codes "xxx") 28 ∷ []) 28
 inverted_input = refl
 
-inverted_input_count : search_byte_count (record wide { invert_match = true }) two_lines input ≡ 28
-inverted_input_count = refl
-
--- there the limit is one of lines
-inverted_to_limit : search_turns (record wide { invert_match = true; max_matches = Some 1 }) two_lines input
-    ≡ begun ∷ match_turn 1 0 (codes "xxx\n") 4 ∷ []
+-- there the limit is one of lines, and each byte counts also past it
+inverted_to_limit : search_plan (record wide { invert_match = true; max_matches = Some 1 }) two_lines input
+    ≡ plan_of (begun ∷ match_call 1 0 (codes "xxx\n") 4 ∷ []) 28
 inverted_to_limit = refl
 
--- and each byte counts also past it
-inverted_to_limit_count : search_byte_count (record wide { invert_match = true; max_matches = Some 1 }) two_lines input
-    ≡ 28
-inverted_to_limit_count = refl
-
--- the turn of a line before a report of many lines ends with the report
-around_report : search_turns (record wide { before_context = 1; after_context = 1 }) two_lines input
-    ≡ begun ∷ context_turn Before 1 0 (codes "xxx\n") 25 ∷ match_turn 2 4 (codes "abc\ndefxxxabc\ndefxxx\n") 25
-    ∷ context_turn After 5 25 (codes "xxx") 28 ∷ []
+-- a line before a report of many lines has the report's count
+around_report : search_plan (record wide { before_context = 1; after_context = 1 }) two_lines input
+    ≡ plan_of
+    (begun ∷ context_call Before 1 0 (codes "xxx\n") 25 ∷ match_call 2 4 (codes "abc\ndefxxxabc\ndefxxx\n") 25
+    ∷ context_call After 5 25 (codes "xxx") 28 ∷ []) 28
 around_report = refl
 
-around_report_count : search_byte_count (record wide { before_context = 1; after_context = 1 }) two_lines input ≡ 28
-around_report_count = refl
-
--- the limit is one of matches: the second touches a line that the first touches too, and its own line is a line after
-limit_of_matches : search_turns (record wide { max_matches = Some 1; after_context = 1; stop_on_nonmatch = true })
+-- the limit is one of matches: the second touches a line that the first touches too, and its own line is a line after;
+-- neither it nor a line that doesn't match ends the search
+limit_of_matches : search_plan (record wide { max_matches = Some 1; after_context = 1; stop_on_nonmatch = true })
     two_lines input
-    ≡ begun ∷ match_turn 2 4 (codes "abc\ndefxxxabc\n") 18 ∷ context_turn After 4 18 (codes "defxxx\n") 25 ∷ []
+    ≡ plan_of
+    (begun ∷ match_call 2 4 (codes "abc\ndefxxxabc\n") 18 ∷ context_call After 4 18 (codes "defxxx\n") 25 ∷ []) 28
 limit_of_matches = refl
 
--- neither it nor a line that doesn't match ends the search
-limit_of_matches_count : search_byte_count (record wide
-    { max_matches = Some 1; after_context = 1; stop_on_nonmatch = true }) two_lines
-    input ≡ 28
-limit_of_matches_count = refl
-
 -- the empty literal matches before each byte, in each line
-empty_literal : search_turns wide (literal []) (codes "a\nb\n") ≡ begun ∷ match_turn 1 0 (codes "a\nb\n") 4 ∷ []
+empty_literal : search_plan wide (literal []) (codes "a\nb\n")
+    ≡ plan_of (begun ∷ match_call 1 0 (codes "a\nb\n") 4 ∷ []) 4
 empty_literal = refl
 
 -- a match before each byte, and none at the end
 empty_literal_matches : all_matches (literal []) (codes "a\nb\n") ≡ (0, 0) ∷ (1, 1) ∷ (2, 2) ∷ (3, 3) ∷ []
 empty_literal_matches = refl
 
-empty_literal_count : search_byte_count wide (literal []) (codes "a\nb\n") ≡ 4
-empty_literal_count = refl
-
 -- so under inversion no line is left
-empty_literal_inverted : search_turns (record wide { invert_match = true }) (literal []) (codes "a\nb\n") ≡ begun ∷ []
+empty_literal_inverted : search_plan (record wide { invert_match = true }) (literal []) (codes "a\nb\n")
+    ≡ plan_of (begun ∷ []) 4
 empty_literal_inverted = refl
 
-empty_literal_inverted_count : search_byte_count (record wide { invert_match = true }) (literal []) (codes "a\nb\n") ≡ 4
-empty_literal_inverted_count = refl
-
 -- the first two of them are in the first line
-empty_literal_to_limit : search_turns (record wide { max_matches = Some 2 }) (literal []) (codes "a\nb\n")
-    ≡ begun ∷ match_turn 1 0 (codes "a\n") 2 ∷ []
+empty_literal_to_limit : search_plan (record wide { max_matches = Some 2 }) (literal []) (codes "a\nb\n")
+    ≡ plan_of (begun ∷ match_call 1 0 (codes "a\n") 2 ∷ []) 4
 empty_literal_to_limit = refl
 
-empty_literal_to_limit_count : search_byte_count (record wide { max_matches = Some 2 }) (literal []) (codes "a\nb\n")
-    ≡ 4
-empty_literal_to_limit_count = refl
-
 -- an empty match after the last terminator touches no line
-after_last_line : search_turns (record wide { before_context = 1 }) at_end (codes "a\nb\n") ≡ begun ∷ []
+after_last_line : search_plan (record wide { before_context = 1 }) at_end (codes "a\nb\n") ≡ plan_of (begun ∷ []) 4
 after_last_line = refl
 
-after_last_line_count : search_byte_count (record wide { before_context = 1 }) at_end (codes "a\nb\n") ≡ 4
-after_last_line_count = refl
-
 -- one at the end of a line without terminator touches that line
-at_end_of_open_line : search_turns (record wide { before_context = 1 }) at_end (codes "a\nb")
-    ≡ begun ∷ context_turn Before 1 0 (codes "a\n") 3 ∷ match_turn 2 2 (codes "b") 3 ∷ []
+at_end_of_open_line : search_plan (record wide { before_context = 1 }) at_end (codes "a\nb")
+    ≡ plan_of (begun ∷ context_call Before 1 0 (codes "a\n") 3 ∷ match_call 2 2 (codes "b") 3 ∷ []) 3
 at_end_of_open_line = refl
 
-at_end_of_open_line_count : search_byte_count (record wide { before_context = 1 }) at_end (codes "a\nb") ≡ 3
-at_end_of_open_line_count = refl
-
 -- the second match begins where the first ends, in the same line
-overlapping_lines : search_turns wide two_lines (codes "xxx\nabc\ndefabc\ndefxxx\nxxx")
-    ≡ begun ∷ match_turn 2 4 (codes "abc\ndefabc\ndefxxx\n") 22 ∷ []
+overlapping_lines : search_plan wide two_lines (codes "xxx\nabc\ndefabc\ndefxxx\nxxx")
+    ≡ plan_of (begun ∷ match_call 2 4 (codes "abc\ndefabc\ndefxxx\n") 22 ∷ []) 25
 overlapping_lines = refl
 
-overlapping_lines_count : search_byte_count wide two_lines (codes "xxx\nabc\ndefabc\ndefxxx\nxxx") ≡ 25
-overlapping_lines_count = refl
-
 -- a match that ends with a terminator doesn't touch the next line, and lines that touch are one report
-matched_terminators : search_turns wide (literal (codes "a\n")) (codes "a\na\nb\n")
-    ≡ begun ∷ match_turn 1 0 (codes "a\na\n") 4 ∷ []
+matched_terminators : search_plan wide (literal (codes "a\n")) (codes "a\na\nb\n")
+    ≡ plan_of (begun ∷ match_call 1 0 (codes "a\na\n") 4 ∷ []) 6
 matched_terminators = refl
 
 -- a line between two reports is reported once, as the line after the first, and makes no break
-apart_by_a_line : search_turns (record wide { before_context = 1; after_context = 1 }) (literal (codes "a\na"))
+apart_by_a_line : search_plan (record wide { before_context = 1; after_context = 1 }) (literal (codes "a\na"))
     (codes "a\na\nx\na\na\n")
-    ≡ begun ∷ match_turn 1 0 (codes "a\na\n") 4 ∷ context_turn After 3 4 (codes "x\n") 6
-    ∷ match_turn 4 6 (codes "a\na\n") 10 ∷ []
+    ≡ plan_of
+    (begun ∷ match_call 1 0 (codes "a\na\n") 4 ∷ context_call After 3 4 (codes "x\n") 6
+    ∷ match_call 4 6 (codes "a\na\n") 10 ∷ []) 10
 apart_by_a_line = refl
 
--- lines left out before a line before a report make a break, and its turn ends with the report
-break_before_report : search_turns (record wide { before_context = 1 }) (literal (codes "a\na"))
+-- lines left out before a line before a report make a break, with the report's count
+break_before_report : search_plan (record wide { before_context = 1 }) (literal (codes "a\na"))
     (codes "a\na\nx\nx\na\na\n")
-    ≡ begun ∷ match_turn 1 0 (codes "a\na\n") 4 ∷ break_turn 12 ∷ context_turn Before 4 6 (codes "x\n") 12
-    ∷ match_turn 5 8 (codes "a\na\n") 12 ∷ []
+    ≡ plan_of
+    (begun ∷ match_call 1 0 (codes "a\na\n") 4 ∷ break_call 12 ∷ context_call Before 4 6 (codes "x\n") 12
+    ∷ match_call 5 8 (codes "a\na\n") 12 ∷ []) 12
 break_before_report = refl
 
 -- under passthru the other lines are reported, and at limit 0 all are such lines
-passthru_at_limit_zero : search_turns (record wide { passthru = true; max_matches = Some 0 }) (literal (codes "a\nb"))
+passthru_at_limit_zero : search_plan (record wide { passthru = true; max_matches = Some 0 }) (literal (codes "a\nb"))
     (codes "a\nb\n")
-    ≡ begun ∷ context_turn Other 1 0 (codes "a\n") 2 ∷ context_turn Other 2 2 (codes "b\n") 4 ∷ []
+    ≡ plan_of (begun ∷ context_call Other 1 0 (codes "a\n") 2 ∷ context_call Other 2 2 (codes "b\n") 4 ∷ []) 4
 passthru_at_limit_zero = refl
 
 -- at limit 0 each byte counts
-limit_zero_count : search_byte_count (record wide { max_matches = Some 0 }) (literal (codes "a\nb")) (codes "a\nb\n")
-    ≡ 4
-limit_zero_count = refl
+limit_zero : search_plan (record wide { max_matches = Some 0 }) (literal (codes "a\nb")) (codes "a\nb\n")
+    ≡ plan_of (begun ∷ []) 4
+limit_zero = refl
 
 -- under CRLF a match may end between the carriage return and the line feed, or with both
-crlf_terminator : search_turns (record wide { line_terminator = Crlf }) (literal (codes "a\r\nb\r"))
+crlf_terminator : search_plan (record wide { line_terminator = Crlf }) (literal (codes "a\r\nb\r"))
     (codes "a\r\nb\r\nc\r\n")
-    ≡ begun ∷ match_turn 1 0 (codes "a\r\nb\r\n") 6 ∷ []
+    ≡ plan_of (begun ∷ match_call 1 0 (codes "a\r\nb\r\n") 6 ∷ []) 9
 crlf_terminator = refl
 
 -- a matcher that knows that no match contains the terminator is searched with by line
@@ -192,12 +158,13 @@ known_present : is_across wide (literal_meaning (codes "a\nb")) ≡ true
 known_present = refl
 
 -- a stop ends a search by line, and none across lines
-stop_by_line : search_byte_count (record wide { stop_on_nonmatch = true })
-    (record has_a { terminator = Some (Byte 10) })
-    (codes "a\nb\nc\n") ≡ 4
+stop_by_line : search_plan (record wide { stop_on_nonmatch = true }) (record has_a { terminator = Some (Byte 10) })
+    (codes "a\nb\nc\n")
+    ≡ plan_of (begun ∷ match_call 1 0 (codes "a\n") 2 ∷ []) 4
 stop_by_line = refl
 
-stop_across_lines : search_byte_count (record wide { stop_on_nonmatch = true }) has_a (codes "a\nb\nc\n") ≡ 6
+stop_across_lines : search_plan (record wide { stop_on_nonmatch = true }) has_a (codes "a\nb\nc\n")
+    ≡ plan_of (begun ∷ match_call 1 0 (codes "a\n") 2 ∷ []) 6
 stop_across_lines = refl
 
 -- two matches with a line between them
@@ -223,21 +190,23 @@ touched_later j low = ⊎_elim
         is_touched wide one_letter (codes "a\nx\na\n") ((0, 1) ∷ (4, 5) ∷ []) j ≡ (nat_le 2 j && nat_lt j 3)
 
 -- the matcher is asked at the line between for what comes after the second, once the first was reported
-asked_between : IsAskedAcross wide one_letter (codes "a\nx\na\n") (codes "\n")
-    (begun ∷ match_turn 1 0 (codes "a\n") 2 ∷ [])
+asked_between : IsAskedWith wide one_letter (codes "a\nx\na\n") (codes "\n")
+    (begun ∷ match_call 1 0 (codes "a\n") 2 ∷ [])
 asked_between = record {
   index = 1;
   question = record {
-    found = (0, 1) ∷ (4, 5) ∷ [];
-    question = record { later = []; all = refl; room = refl; inside = omega arith; rest = refl };
-    after = λ above. refl;
-    apart = λ above. refl;
-    first = 2;
-    last = 3;
-    low = omega arith;
-    some = λ any. omega arith;
-    run = touched_later;
+    question = record {
+      found = (0, 1) ∷ (4, 5) ∷ [];
+      question = record { later = []; all = refl; room = refl; inside = omega arith; rest = refl };
+      after = λ above. refl;
+      apart = λ above. refl;
+      first = 2;
+      last = 3;
+      low = omega arith;
+      some = λ any. omega arith;
+      run = touched_later;
+    };
+    room = λ inverted. refl;
   };
-  room = λ inverted. refl;
   before = refl;
 }

@@ -1,4 +1,5 @@
 -- What the calls across lines report.
+use Rattle.grep_definitions.specs.Plans.{planned}
 use Rattle.std.proofs.Common.{◌≡◌, ℕ, ◌+◌, ◌-◌, ◌<◌, ◌≤◌, Bool, true, false, not, ◌&&◌, List, [], ◌∷◌, length}
 use Rattle.std.proofs.Common.{refl, sym, ap, ◌∙◌, arith, ◌⊎◌, ⊎_elim, inl, inr, Option, Some, None, if◌then◌else◌}
 use Rattle.std.proofs.Math.Bool.{and-false}
@@ -12,7 +13,7 @@ use Rattle.grep_lines.specs.Blocks.{block_start, block_end}
 use Rattle.grep_lines.proofs.LawLemmas.{AreLines-lines}
 use Rattle.grep_report.specs.declared.sink_context.SinkContextKind.TheVariants.{After}
 use Rattle.grep_definitions.specs.Settings.{Settings}
-use Rattle.grep_definitions.specs.SinkCalls.{Turn, matches, context, breaks}
+use Rattle.grep_definitions.specs.Plans.{Planned, matches, context, breaks}
 use Rattle.grep_definitions.specs.Below.{count_below, is_below}
 use Rattle.grep_definitions.specs.LineSearch.{Kind, matched, in_context, line_count, line, number, start}
 use Rattle.grep_definitions.specs.SuccessiveMatches.{all_matches, matches_up_to}
@@ -37,7 +38,7 @@ module _ (k : Settings) (meaning : Meaning) (bytes : List ℕ) where
   abbrev at : ℕ → ℕ
   at = start k meaning bytes
 
-  abbrev T : ℕ → List Turn
+  abbrev T : ℕ → List Planned
   T = turns_at k meaning bytes
 
   abbrev selected : ℕ → Bool
@@ -133,10 +134,10 @@ module _ (k : Settings) (meaning : Meaning) (bytes : List ℕ) where
           omega (arith, together)
 
   -- the calls of a line, with its break or without
-  abbrev broken : ℕ → Bool → List Turn
+  abbrev broken : ℕ → Bool → List Planned
   broken i b =
       if b
-      then record { call = breaks; end = AcrossLines.turn_end k meaning bytes i (AcrossLines.kind k meaning bytes i) }
+      then (planned breaks (AcrossLines.turn_end k meaning bytes i (AcrossLines.kind k meaning bytes i)))
       ∷ AcrossLines.report k meaning bytes i (AcrossLines.kind k meaning bytes i)
       else AcrossLines.report k meaning bytes i (AcrossLines.kind k meaning bytes i)
 
@@ -201,11 +202,7 @@ module _ (k : Settings) (meaning : Meaning) (bytes : List ℕ) where
 
   -- a line after a selected one that isn't selected itself is reported as the line after it
   pub turns_at-follows : (i j : ℕ) → selected i ≡ false → selected j ≡ true → j < i → i - j ≤ k.after_context
-      → T i ≡ record {
-        call = context After (number k meaning bytes i) (at i) (line k meaning bytes i);
-        end = at
-            (i + 1);
-      } ∷ []
+      → T i ≡ planned (context After (number k meaning bytes i) (at i) (line k meaning bytes i)) (at (i + 1)) ∷ []
   turns_at-follows i j misses hit less close =
       let near = le-leb (i - j) k.after_context close in
       let follows : AcrossLines.follows_selected k meaning bytes i

@@ -1,4 +1,5 @@
 -- Where the turns of the calls across lines end, against where lines start.
+use Rattle.grep_definitions.specs.Plans.{planned}
 use Rattle.std.proofs.Common.{◌≡◌, ◌⊎◌, ℕ, ◌+◌, ◌-◌, ◌<◌, ◌≤◌, Bool, true, false, ◌&&◌, List, [], ◌∷◌, ◌++◌, Option}
 use Rattle.std.proofs.Common.{Some, None}
 use Rattle.std.proofs.Common.{refl, sym, ◌∙◌, ap, subst, arith, ⊎_elim, inl, inr, append-nil, if◌then◌else◌}
@@ -16,7 +17,7 @@ use Rattle.grep_definitions.specs.AcrossLines.{turn_end, turns_at, turns_through
 use Rattle.grep_definitions.specs.Below.{first_below, joined_from}
 use Rattle.grep_definitions.specs.LineSearch.{Kind, matched, in_context}
 use Rattle.grep_definitions.specs.Settings.{Settings}
-use Rattle.grep_definitions.specs.SinkCalls.{Turn, breaks}
+use Rattle.grep_definitions.specs.Plans.{Planned, breaks}
 use Rattle.grep_definitions.proofs.AcrossWalkLemmas.{Near, front, front-through, n, S, starts, T}
 use Rattle.grep_definitions.proofs.BelowLemmas.{first_below-none, first_below-of, some_below-find, some_below-some}
 use Rattle.grep_definitions.proofs.BoolLemmas.{both_true, clash}
@@ -83,18 +84,18 @@ module _ (k : Settings) (meaning : Meaning) (bytes : List ℕ) where
   ends-turns_at : (bound j : ℕ)
       → ((kind : Kind) → AcrossLines.kind k meaning bytes j ≡ Some kind
       → bound ≤ turn_end k meaning bytes j (Some kind))
-      → All (λ turn. bound ≤ turn.end) (turns_at k meaning bytes j)
+      → All (λ turn. bound ≤ turn.if_false.count) (turns_at k meaning bytes j)
   ends-turns_at bound j late = go (AcrossLines.kind k meaning bytes j) refl
     where
-      P : Turn → Type 0
-      P turn = bound ≤ turn.end
+      P : Planned → Type 0
+      P turn = bound ≤ turn.if_false.count
 
-      choose : (b : Bool) (turn : Turn) (rest : List Turn) → P turn → All P rest
+      choose : (b : Bool) (turn : Planned) (rest : List Planned) → P turn → All P rest
           → All P (if b then turn ∷ rest else rest)
       choose true turn rest low all = All-cons P turn rest low all
       choose false turn rest low all = all
 
-      skip : (b : Bool) (turn : Turn) → P turn → All P (if b then [] else turn ∷ [])
+      skip : (b : Bool) (turn : Planned) → P turn → All P (if b then [] else turn ∷ [])
       skip true turn low = All-nil P
       skip false turn low = All-cons P turn [] low (All-nil P)
 
@@ -107,7 +108,7 @@ module _ (k : Settings) (meaning : Meaning) (bytes : List ℕ) where
       go None is = rw (is, and-false (nat_lt 0 (k.after_context + k.before_context))) (All-nil P)
       go (Some kind) is =
           let low = late kind is in
-          rw is (choose _ (record { call = breaks; end = turn_end k meaning bytes j (Some kind) })
+          rw is (choose _ (planned breaks (turn_end k meaning bytes j (Some kind)))
           (AcrossLines.report k meaning bytes j (Some kind)) low (report kind low))
 
   -- a line that a walk at line i passed unreported, or has still to come to, has a turn that ends after line i
@@ -118,7 +119,7 @@ module _ (k : Settings) (meaning : Meaning) (bytes : List ℕ) where
         (λ over. over)
         (cases_lt q i)
 
-    ends-late : (j : ℕ) → v ≤ j → j < count → All (λ turn. at (i + 1) ≤ turn.end) (T k meaning bytes j)
+    ends-late : (j : ℕ) → v ≤ j → j < count → All (λ turn. at (i + 1) ≤ turn.if_false.count) (T k meaning bytes j)
     ends-late j low inside = ends-turns_at (at (i + 1)) j (λ kind is. go kind is (cases_lt j i))
       where
         after : i ≤ j → at (i + 1) ≤ at (j + 1)
@@ -161,28 +162,28 @@ module _ (k : Settings) (meaning : Meaning) (bytes : List ℕ) where
             (cases_Bool (AcrossLines.precedes_selected k meaning bytes j))
 
     -- just the calls so far end at or before the start of line i, if their turns have ended by then
-    pub through-is : i < count → All (λ turn. turn.end ≤ at i) (front k meaning bytes v)
+    pub through-is : i < count → All (λ turn. turn.if_false.count ≤ at i) (front k meaning bytes v)
         → turns_through k meaning bytes (at i) ≡ front k meaning bytes v
     through-is inside ended =
         let split = ap (filter passes) (front-through k meaning bytes v count (omega (arith, near.low, inside)))
         ∙ filter-append passes (front k meaning bytes v) later in
         let early = filter-all passes (front k meaning bytes v)
-        (All-weaker (λ turn. turn.end ≤ at i) (λ turn. passes turn ≡ true)
-        (λ turn low. le-leb turn.end (at i) low) (front k meaning bytes v) ended) in
+        (All-weaker (λ turn. turn.if_false.count ≤ at i) (λ turn. passes turn ≡ true)
+        (λ turn low. le-leb turn.if_false.count (at i) low) (front k meaning bytes v) ended) in
         let late = filter-none passes later
         (All-joined_from (λ turn. passes turn ≡ false) (T k meaning bytes) v (count - v)
-        (λ j low high. All-weaker (λ turn. at (i + 1) ≤ turn.end) (λ turn. passes turn ≡ false) fails
+        (λ j low high. All-weaker (λ turn. at (i + 1) ≤ turn.if_false.count) (λ turn. passes turn ≡ false) fails
         (T k meaning bytes j)
         (ends-late j low (omega (arith, high, near.low, inside))))) in
         split ∙ (ap (λ xs. xs ++ filter passes later) early
         ∙ (ap (λ xs. front k meaning bytes v ++ xs) late ∙ append-nil (front k meaning bytes v)))
       where
-        passes : Turn → Bool
-        passes turn = nat_le turn.end (at i)
+        passes : Planned → Bool
+        passes turn = nat_le turn.if_false.count (at i)
 
-        later : List Turn
+        later : List Planned
         later = joined_from (T k meaning bytes) v (count - v)
 
-        fails : (turn : Turn) → at (i + 1) ≤ turn.end → passes turn ≡ false
-        fails turn low = lt-leb turn.end (at i)
+        fails : (turn : Planned) → at (i + 1) ≤ turn.if_false.count → passes turn ≡ false
+        fails turn low = lt-leb turn.if_false.count (at i)
             (omega (arith, low, line_start-ascends AreLines-lines (byte_of k.line_terminator) bytes i inside))

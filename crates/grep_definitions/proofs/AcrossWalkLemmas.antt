@@ -1,10 +1,9 @@
 -- The calls of a search across lines, as a walk over units of selected lines and over the lines between them makes
 -- them.
+use Rattle.grep_definitions.specs.Plans.{planned}
 use Rattle.std.proofs.Common.{◌≡◌, ℕ, suc, ◌+◌, ◌-◌, ◌<◌, ◌≤◌, Bool, true, false, not, ◌&&◌, ◌||◌, List, [], ◌∷◌, ◌++◌}
-use Rattle.std.proofs.Common.{length, take}
 use Rattle.std.proofs.Common.{refl, sym, ap, subst, ◌∙◌, arith, ⊎_elim, Some, None, if◌then◌else◌}
 use Rattle.std.proofs.Math.Bool.{and-false}
-use Rattle.std.proofs.Math.Seq.{take-append_seam}
 use Rattle.std.proofs.lemmas.Bool.{lt-ltb, lt-leb, le-leb, cases_Bool, cases_lt}
 use Rattle.std.proofs.lemmas.List.{append-nil}
 use Rattle.std.specs.Prelude.{nat_lt, nat_le}
@@ -14,7 +13,7 @@ use Rattle.grep_lines.specs.Positions.{slice}
 use Rattle.grep_lines.proofs.WalkLemmas.{lines-numbered}
 use Rattle.grep_report.specs.declared.sink_context.SinkContextKind.TheVariants.{Before, After, Other}
 use Rattle.grep_definitions.specs.Settings.{Settings}
-use Rattle.grep_definitions.specs.SinkCalls.{Turn, begins}
+use Rattle.grep_definitions.specs.Plans.{Planned, begins}
 use Rattle.grep_definitions.specs.Below.{some_below, joined_from}
 use Rattle.grep_definitions.specs.LineSearch.{matched, in_context, line_count, line, start, number}
 use Rattle.grep_definitions.specs.LineTurns.{before_turns, pending_turns, match_turns, context_turns, is_gap, number_of}
@@ -24,7 +23,7 @@ use Rattle.grep_definitions.specs.AcrossLines.{is_selected, continues_unit, turn
 use Rattle.grep_definitions.proofs.BelowLemmas.{joined_from-add, joined_from-equal, joined_from-none, headed-through}
 use Rattle.grep_definitions.proofs.RunLemmas.{run_end, IsRunEnd-run_end, IsRunEnd-one}
 use Rattle.grep_definitions.proofs.SelectionLemmas
-use Rattle.grep_definitions.proofs.UnitLemmas.{line-slice}
+use Rattle.grep_definitions.proofs.LineSliceLemmas.{slice-line}
 
 module _ (k : Settings) (meaning : Meaning) (bytes : List ℕ) where
   abbrev pub n : ℕ
@@ -36,7 +35,7 @@ module _ (k : Settings) (meaning : Meaning) (bytes : List ℕ) where
   abbrev pub S : ℕ → Bool
   S = is_selected k meaning bytes
 
-  abbrev pub T : ℕ → List Turn
+  abbrev pub T : ℕ → List Planned
   T = turns_at k meaning bytes
 
   -- the bytes of the lines from one up to another
@@ -50,8 +49,8 @@ module _ (k : Settings) (meaning : Meaning) (bytes : List ℕ) where
   Near v i left = IsNear k S no_line n n v i left
 
   -- `begin`, and the calls of the first i lines
-  abbrev pub front : ℕ → List Turn
-  front i = record { call = begins; end = 0 } ∷ joined_from T 0 i
+  abbrev pub front : ℕ → List Planned
+  front i = planned begins 0 ∷ joined_from T 0 i
 
   abbrev A : ℕ
   A = k.after_context
@@ -64,12 +63,7 @@ module _ (k : Settings) (meaning : Meaning) (bytes : List ℕ) where
 
   -- and then those of the lines up to a later one
   pub front-through : (v i : ℕ) → v ≤ i → front i ≡ front v ++ joined_from T v (i - v)
-  front-through = headed-through (record { call = begins; end = 0 }) T
-
-  -- they are the first of all calls
-  pub front-first : (v : ℕ) → v ≤ n → take (length (front v)) (AcrossLines.turns k meaning bytes) ≡ front v
-  front-first v low =
-      ap (take (length (front v))) (front-through v n low) ∙ take-append_seam (front v) (joined_from T v (n - v))
+  front-through = headed-through (planned begins 0) T
 
   number-is : (i : ℕ) → i < n → number k meaning bytes i ≡ number_of k i
   number-is i inside =
@@ -101,13 +95,13 @@ module _ (k : Settings) (meaning : Meaning) (bytes : List ℕ) where
       else (if k.passthru then context_turns Other (number_of k i) (starts i) (starts (i + 1)) (span i (i + 1))
       else []))
   front-missed bare v i left near inside missed =
-      SelectionLemmas.headed-missed k S no_line n n v i left near (record { call = begins; end = 0 }) T _ _ after other
+      SelectionLemmas.headed-missed k S no_line n n v i left near (planned begins 0) T _ _ after other
     where
       is_number : number k meaning bytes i ≡ number_of k i
       is_number = number-is i inside
 
       is_line : line k meaning bytes i ≡ span i (i + 1)
-      is_line = sym (line-slice k meaning bytes i inside)
+      is_line = sym (slice-line k bytes i)
 
       after : 0 < left → T i ≡ context_turns After (number_of k i) (starts i) (starts (i + 1)) (span i (i + 1))
       after some =
@@ -142,7 +136,7 @@ module _ (k : Settings) (meaning : Meaning) (bytes : List ℕ) where
     end-is : AcrossLines.unit_end k meaning bytes i ≡ e
     end-is = ⊎_elim
         (λ inverted. rw inverted (sym (alone inverted)))
-        (λ plain. ap (λ b. if b then i + 1 else run_end S n i) plain
+        (λ plain. ap (λ b. if not b then run_end S n i else i + 1) plain
         ∙ IsRunEnd-one S n i (run_end S n i) e (IsRunEnd-run_end S n i inside hit)
         (record { low = omega arith; high = high; inner = hits; closed = closed plain }))
         (cases_Bool k.invert_match)

@@ -1,4 +1,5 @@
 -- What a search across lines under inversion reports, against a search by line that selects the same lines.
+use Rattle.grep_definitions.specs.Plans.{planned}
 use Rattle.std.proofs.Common.{◌≡◌, ℕ, ◌+◌, ◌-◌, ◌<◌, Bool, true, false, not, ◌&&◌, List, [], ◌∷◌}
 use Rattle.std.proofs.Common.{refl, sym, ap, ap₂, ◌∙◌, arith, Option, Some, None, if◌then◌else◌}
 use Rattle.std.specs.Prelude.{nat_lt, nat_le, is_some}
@@ -7,14 +8,14 @@ use Rattle.grep_matcher.specs.Matching.{Meaning}
 use Rattle.grep_lines.specs.Positions.{slice}
 use Rattle.grep_report.specs.declared.sink_context.SinkContextKind.TheVariants.{Before, After, Other}
 use Rattle.grep_definitions.specs.Settings.{Settings}
-use Rattle.grep_definitions.specs.SinkCalls.{begins, matches, context, breaks}
+use Rattle.grep_definitions.specs.Plans.{begins, matches, context, breaks}
 use Rattle.grep_definitions.specs.Below.{some_below, first_below, joined_from}
 use Rattle.grep_definitions.specs.LineSearch
 use Rattle.grep_definitions.specs.LineSearch.{Kind, matched, in_context}
 use Rattle.grep_definitions.specs.AcrossLines
 use Rattle.grep_definitions.proofs.BelowLemmas.{joined_from-equal}
 use Rattle.grep_definitions.proofs.FirstLineLemmas.{some_below-same, first_below-same}
-use Rattle.grep_definitions.proofs.UnitLemmas.{line-slice}
+use Rattle.grep_definitions.proofs.LineSliceLemmas.{line-report, slice-line}
 
 module _ (k : Settings) (meaning other : Meaning) (bytes : List ℕ) (inverted : k.invert_match ≡ true)
     (same : (i : ℕ) → AcrossLines.is_selected k meaning bytes i ≡ LineSearch.is_selected k other bytes i)
@@ -32,10 +33,10 @@ module _ (k : Settings) (meaning other : Meaning) (bytes : List ℕ) (inverted :
   -- a unit is one line
   unit_end-next : (i : ℕ) → AcrossLines.unit_end k meaning bytes i ≡ i + 1
   unit_end-next i =
-      ap (λ b. if b then i + 1 else unwrap_or (first_below (λ j. nat_lt i j && not (selected j)) n) n) inverted
+      ap (λ b. if not b then unwrap_or (first_below (λ j. nat_lt i j && not (selected j)) n) n else i + 1) inverted
 
   unit-line : (i : ℕ) → i < n → AcrossLines.unit k meaning bytes i ≡ LineSearch.line k other bytes i
-  unit-line i inside = ap (λ e. slice bytes (at i) (at e)) (unit_end-next i) ∙ line-slice k meaning bytes i inside
+  unit-line i inside = ap (λ e. slice bytes (at i) (at e)) (unit_end-next i) ∙ slice-line k bytes i
 
   alone : (i : ℕ) → AcrossLines.continues_unit k meaning bytes i ≡ false
   alone i = ap (λ b. not b && nat_lt 0 i && selected (i - 1)) inverted
@@ -83,7 +84,7 @@ module _ (k : Settings) (meaning other : Meaning) (bytes : List ℕ) (inverted :
       ∙ go (first_below (λ j. nat_lt i j && LineSearch.is_selected k other bytes j) n)
     where
       go : (found : Option ℕ) → unwrap_or (option_map (AcrossLines.unit_end k meaning bytes) found) (i + 1)
-          ≡ elim found as (λ x. ℕ) [ None ↦ i + 1 | Some j ↦ j + 1 ]
+          ≡ unwrap_or (option_map (λ j. j + 1) found) (i + 1)
       go None = refl
       go (Some j) = unit_end-next j
 
@@ -98,31 +99,27 @@ module _ (k : Settings) (meaning other : Meaning) (bytes : List ℕ) (inverted :
       ≡ LineSearch.report k other bytes i x
   reports i None inside = refl
   reports i (Some matched) inside =
-      ap (λ b. if b then [] else record {
-        call = matches (LineSearch.number k meaning bytes i) (at i) (AcrossLines.unit k meaning bytes i);
-        end = at (AcrossLines.unit_end k meaning bytes i);
-      } ∷ []) (alone i)
-      ∙ ap₂ (λ line e. record { call = matches (LineSearch.number k meaning bytes i) (at i) line; end = at e } ∷ [])
+      ap (λ b. if b then [] else planned (matches (LineSearch.number k meaning bytes i) (at i) (AcrossLines.unit k
+      meaning bytes i)) (at (AcrossLines.unit_end k meaning bytes i)) ∷ []) (alone i)
+      ∙ ap₂ (λ line e. (planned (matches (LineSearch.number k meaning bytes i) (at i) line) (at e)) ∷ [])
       (unit-line i inside) (unit_end-next i)
+      ∙ sym (line-report k bytes other i)
   reports i (Some (in_context c)) inside =
-      ap (λ e. record {
-        call = context c (LineSearch.number k meaning bytes i) (at i)
-            (LineSearch.line k meaning bytes i);
-        end = e;
-      } ∷ [])
+      ap (λ e. planned (context c (LineSearch.number k meaning bytes i) (at i) (LineSearch.line k meaning bytes i)) e ∷
+      [])
       (ends i (Some (in_context c)))
 
   calls : (i : ℕ) → i < n → AcrossLines.turns_at k meaning bytes i ≡ LineSearch.turns_at k other bytes i
   calls i inside =
-      ap₂ (λ b x. if b then record { call = breaks; end = AcrossLines.turn_end k meaning bytes i x }
+      ap₂ (λ b x. if b then (planned breaks (AcrossLines.turn_end k meaning bytes i x))
       ∷ AcrossLines.report k meaning bytes i x else AcrossLines.report k meaning bytes i x) (broken i) (kind i)
-      ∙ ap₂ (λ e rest. if LineSearch.breaks_before k other bytes i then record { call = breaks; end = e }
+      ∙ ap₂ (λ e rest. if LineSearch.breaks_before k other bytes i then (planned breaks e)
       ∷ rest else rest)
       (ends i (LineSearch.kind k other bytes i)) (reports i (LineSearch.kind k other bytes i) inside)
 
   pub turns-same : AcrossLines.turns k meaning bytes ≡ LineSearch.turns k other bytes
   turns-same =
-      ap (λ rest. record { call = begins; end = 0 } ∷ rest)
+      ap (λ rest. planned begins 0 ∷ rest)
       (joined_from-equal (AcrossLines.turns_at k meaning bytes) (LineSearch.turns_at k other bytes) 0 n
       (λ j low high. calls j (omega arith))
       ∙ ap (joined_from (LineSearch.turns_at k other bytes) 0) (sym whole))

@@ -2,33 +2,55 @@
 -- them.
 use Rattle.std.proofs.Common.{◌≡◌, ℕ, true, false, List, [], ◌∷◌, ◌++◌, Some, None, inl, inr, refl, codes, arith}
 use Rattle.std.proofs.Common.{get_or}
-use Rattle.grep_matcher.specs.Lines.{lines}
+use Rattle.grep_matcher.specs.LineLists.{lines}
 use Rattle.grep_report.specs.declared.binary_detection.BinaryDetection.TheVariants.{Quit, Convert}
 use Rattle.grep_report.specs.declared.sink_context.SinkContextKind.TheVariants.{Before, After}
+use Rattle.grep_definitions.specs.Asking.{search_plan}
 use Rattle.grep_definitions.specs.BinaryBytes.{before_quit, binary_position, stream_view, look_of, nowhere, in_contents}
 use Rattle.grep_definitions.specs.BinaryBytes.{on_stream}
-use Rattle.grep_definitions.specs.InputFronts.{IsTooLong}
-use Rattle.grep_definitions.specs.LineSearch.{turns}
-use Rattle.grep_definitions.specs.QuitPoints.{quit_in_reports, quit_point}
+use Rattle.grep_definitions.specs.BinaryPlans.{contents_point, point_unless, plan_with}
 use Rattle.grep_definitions.specs.BuiltSettings.{default_settings}
-use Rattle.grep_definitions.proofs.WorkedExamples.{has_a, begun, match_turn, context_turn, break_turn}
+use Rattle.grep_definitions.specs.Plans.{binary_data, Finish, Planned, Plan}
+use Rattle.grep_definitions.specs.Readings.{IsTooLong}
+use Rattle.grep_definitions.specs.Settings.{Settings}
+use Rattle.grep_definitions.proofs.WorkedExamples.{has_a, begun, match_call, context_call, break_call, plan_of}
+
+module _ (settings : Settings) (bytes : List ℕ) where
+  -- the calls of whole contents as if they had no binary byte
+  abbrev all_calls : List Planned
+  all_calls = (search_plan settings has_a bytes).calls
+
+  -- the plan if they are searched up to the byte 0
+  abbrev quit_plan : Plan
+  quit_plan = plan_with (Quit 0) (contents_point 0 bytes all_calls) (search_plan settings has_a bytes)
+
+  -- the same if the byte isn't looked for among the first bytes
+  abbrev quit_in_reports : Plan
+  quit_in_reports = plan_with (Quit 0) (point_unless 0 all_calls None) (search_plan settings has_a bytes)
+
+-- some calls, and `binary_data` after them, with the offset of the byte and the count of the search that ends there
+abbrev told_plan : List Planned → ℕ → ℕ → Plan
+told_plan calls offset count =
+    record { calls = calls ++ record { call = binary_data offset; if_false = told_finish } ∷ []; finish = told_finish }
+  where
+    told_finish : Finish
+    told_finish = record { count = count; binary = Some offset }
 
 -- a text whose last byte is the byte 0
 abbrev nul_at_end : List ℕ
 nul_at_end = codes "a" ++ 0 ∷ []
 
 -- the byte is among the first, so no line is searched: no report is made, and no byte counts
-quit_at_first_look : quit_point 0 nul_at_end (turns default_settings has_a nul_at_end)
-    ≡ Some (record { before = begun ∷ []; offset = 1; count = 0 })
+quit_at_first_look : quit_plan default_settings nul_at_end ≡ told_plan (begun ∷ []) 1 0
 quit_at_first_look = refl
 
 -- nor does it matter that no match may be reported
-quit_at_limit_zero : quit_point 0 nul_at_end (turns (record default_settings { max_matches = Some 0 }) has_a nul_at_end)
-    ≡ Some (record { before = begun ∷ []; offset = 1; count = 0 })
+quit_at_limit_zero : quit_plan (record default_settings { max_matches = Some 0 }) nul_at_end
+    ≡ told_plan (begun ∷ []) 1 0
 quit_at_limit_zero = refl
 
--- a text without the byte has no such point
-quit_nowhere : quit_point 0 (codes "a\nb\n") (turns default_settings has_a (codes "a\nb\n")) ≡ None
+-- a text without the byte has no such point, so its plan is as ever
+quit_nowhere : quit_plan default_settings (codes "a\nb\n") ≡ plan_of (begun ∷ match_call 1 0 (codes "a\n") 2 ∷ []) 4
 quit_nowhere = refl
 
 -- after the first bytes only reports are looked at: a line that isn't reported may hold the byte, and the search ends
@@ -36,35 +58,27 @@ quit_nowhere = refl
 abbrev nul_in_lines : List ℕ
 nul_in_lines = codes "a\nb" ++ 0 ∷ codes "\na" ++ 0 ∷ codes "\na\n"
 
-quit_at_report : quit_in_reports 0 (turns default_settings has_a nul_in_lines)
-    ≡ Some (record { before = begun ∷ match_turn 1 0 (codes "a\n") 2 ∷ []; offset = 6; count = 6 })
+quit_at_report : quit_in_reports default_settings nul_in_lines
+    ≡ told_plan (begun ∷ match_call 1 0 (codes "a\n") 2 ∷ []) 6 6
 quit_at_report = refl
 
 -- a context line is a report
-quit_at_context : quit_in_reports 0 (turns (record default_settings { after_context = 1 }) has_a nul_in_lines)
-    ≡ Some (record { before = begun ∷ match_turn 1 0 (codes "a\n") 2 ∷ []; offset = 3; count = 3 })
+quit_at_context : quit_in_reports (record default_settings { after_context = 1 }) nul_in_lines
+    ≡ told_plan (begun ∷ match_call 1 0 (codes "a\n") 2 ∷ []) 3 3
 quit_at_context = refl
 
 -- the break before such a report isn't made
 abbrev nul_after_break : List ℕ
 nul_after_break = codes "a\nx\nx\na" ++ 0 ∷ codes "\n"
 
-break_not_made : quit_in_reports 0 (turns (record default_settings { after_context = 1 }) has_a nul_after_break)
-    ≡ Some (record {
-      before = begun ∷ match_turn 1 0 (codes "a\n") 2 ∷ context_turn After 2 2 (codes "x\n") 4 ∷ [];
-      offset = 7;
-      count = 7;
-    })
+break_not_made : quit_in_reports (record default_settings { after_context = 1 }) nul_after_break
+    ≡ told_plan (begun ∷ match_call 1 0 (codes "a\n") 2 ∷ context_call After 2 2 (codes "x\n") 4 ∷ []) 7 7
 break_not_made = refl
 
 -- one before a line that comes before it is
-break_before_context_made : quit_in_reports 0 (turns (record default_settings { before_context = 1 }) has_a
-    nul_after_break)
-    ≡ Some (record {
-      before = begun ∷ match_turn 1 0 (codes "a\n") 2 ∷ break_turn 9 ∷ context_turn Before 3 4 (codes "x\n") 9 ∷ [];
-      offset = 7;
-      count = 7;
-    })
+break_before_context_made : quit_in_reports (record default_settings { before_context = 1 }) nul_after_break
+    ≡ told_plan
+    (begun ∷ match_call 1 0 (codes "a\n") 2 ∷ break_call 9 ∷ context_call Before 3 4 (codes "x\n") 9 ∷ []) 7 7
 break_before_context_made = refl
 
 -- what is read before the first byte at which a search ends. A line that is too long for a buffer of two bytes, as it
@@ -84,9 +98,11 @@ converted : stream_view (Convert 0) 10 nul_in_lines ≡ codes "a\nb\n\na\n\na\n"
 converted = refl
 
 -- so there are more lines, and the offset is that of the first such byte
-converted_turns : turns default_settings has_a (stream_view (Convert 0) 10 nul_in_lines)
-    ≡ begun ∷ match_turn 1 0 (codes "a\n") 2 ∷ match_turn 4 5 (codes "a\n") 7 ∷ match_turn 6 8 (codes "a\n") 10 ∷ []
-converted_turns = refl
+converted_plan : search_plan default_settings has_a (stream_view (Convert 0) 10 nul_in_lines)
+    ≡ plan_of
+    (begun ∷ match_call 1 0 (codes "a\n") 2 ∷ match_call 4 5 (codes "a\n") 7 ∷ match_call 6 8 (codes "a\n") 10 ∷ [])
+    10
+converted_plan = refl
 
 converted_offset : binary_position (Convert 0) 10 nul_in_lines ≡ Some 3
 converted_offset = refl

@@ -9,100 +9,88 @@ use Rattle.std.specs.List.{position}
 use Rattle.std.specs.Option.{option_map}
 use Rattle.grep_matcher.specs.Matching.{Meaning}
 use Rattle.grep_matcher.specs.Terminators.{byte_of}
-use Rattle.grep_lines.specs.LineLaws.{LinesJoin, LinesAppend}
+use Rattle.grep_lines.specs.LineLaws.{LinesJoin}
 use Rattle.grep_lines.specs.Positions.{slice}
 use Rattle.grep_definitions.specs.BinaryBytes.{binary_position, position_of, stream_view}
-use Rattle.grep_definitions.specs.AcrossLines
-use Rattle.grep_definitions.specs.Below.{joined_from}
-use Rattle.grep_definitions.specs.BinaryLaws.{QuitReportsAreClear, SeenLinesAreClear, SeenLinesBegin}
+use Rattle.grep_definitions.specs.Reports.{calls_at, joined_from}
 use Rattle.grep_definitions.specs.LineSearch
 use Rattle.grep_definitions.specs.LineSearch.{Kind, matched, in_context}
-use Rattle.grep_definitions.specs.Modes.{is_across}
-use Rattle.grep_definitions.specs.QuitPoints.{QuitPoint, holds_byte, call_at, calls_before, first_look}
-use Rattle.grep_definitions.specs.QuitPoints.{quit_at, quit_point, quit_unless}
-use Rattle.grep_definitions.specs.SearchTurns.{calls_if}
 use Rattle.grep_definitions.specs.Settings.{Settings}
-use Rattle.grep_definitions.specs.SinkCalls.{Turn, begins, is_break}
-use Rattle.grep_definitions.proofs.FirstTurnLemmas.{turns-begin}
+use Rattle.grep_definitions.specs.Asking.{is_across, selection_in}
+use Rattle.grep_definitions.specs.BinaryLaws.{QuitReportsAreClear, CountedReportsAreClear, SeenLinesAreClear}
+use Rattle.grep_definitions.specs.BinaryPlans.{BinaryPoint, call_at, contents_point, first_look, point_at, point_unless}
+use Rattle.grep_definitions.specs.BinaryPlans.{holds_byte}
+use Rattle.grep_definitions.specs.Plans.{Planned, begins, is_break, planned}
 use Rattle.grep_definitions.proofs.LineReportLemmas.{reports-line}
 use Rattle.grep_definitions.proofs.LineStartLemmas.{line_start-within}
 use Rattle.grep_definitions.proofs.ListLemmas.{All-joined_from}
 use Rattle.grep_definitions.proofs.SearchLawLemmas.{turn_count-le}
 use Rattle.grep_definitions.proofs.TurnEndLemmas.{ends-late, line_start-le}
-use Rattle.grep_definitions.proofs.UnitLemmas.{line-slice}
+use Rattle.grep_definitions.proofs.LineSliceLemmas.{slice-line}
 use Rattle.grep_definitions.proofs.PositionLemmas.{none-passes, position-none, position-take-before}
 
 module _ (b : ℕ) where
-  abbrev AreClear : List Turn → Type 0
+  abbrev AreClear : List Planned → Type 0
   AreClear = All (λ turn. holds_byte b turn ≡ false)
 
   -- the calls before the first report that holds the byte
-  clear-before : (turns : List Turn) (n m : ℕ) → position (holds_byte b) turns ≡ Some n → m ≤ n
+  clear-before : (turns : List Planned) (n m : ℕ) → position (holds_byte b) turns ≡ Some n → m ≤ n
       → AreClear (take m turns)
   clear-before turns n m is low =
       none-passes (holds_byte b) (take m turns) (position-take-before (holds_byte b) m turns n is low)
 
-  clear-calls : (turns : List Turn) (n : ℕ) → position (holds_byte b) turns ≡ Some n → AreClear (calls_before b turns n)
+  clear-calls : (turns : List Planned) (n : ℕ) → position (holds_byte b) turns ≡ Some n
+      → AreClear (take (point_at b turns n).position turns)
   clear-calls turns n is = go (is_break (call_at b turns (n - 1)).call)
     where
       go : (c : Bool) → AreClear (take (if c then n - 1 else n) turns)
       go true = clear-before turns n (n - 1) is (omega arith)
       go false = clear-before turns n n is (omega arith)
 
-  abbrev before_of : Option QuitPoint → List Turn
-  before_of None = []
-  before_of (Some point) = point.before
-
   -- of calls that begin with `begin`, which reports nothing
-  module _ (later : List Turn) (bytes : List ℕ) where
-    abbrev turns : List Turn
-    turns = record { call = begins; end = 0 } ∷ later
+  module _ (later : List Planned) (bytes : List ℕ) where
+    abbrev turns : List Planned
+    turns = planned begins 0 ∷ later
+
+    abbrev before_of : Option BinaryPoint → List Planned
+    before_of None = []
+    before_of (Some point) = take point.position turns
 
     begun-clear : AreClear (take 1 turns)
     begun-clear =
-        All-cons (λ turn. holds_byte b turn ≡ false) (record { call = begins; end = 0 }) (take 0 later) refl
+        All-cons (λ turn. holds_byte b turn ≡ false) (planned begins 0) (take 0 later) refl
         (All-nil (λ turn. holds_byte b turn ≡ false))
 
-    clear-point : (point : QuitPoint) → quit_point b bytes turns ≡ Some point → AreClear point.before
+    pub clear-point : (point : BinaryPoint) → contents_point b bytes turns ≡ Some point
+        → AreClear (take point.position turns)
     clear-point point is = by (position_of b (take first_look bytes)) is
       where
-        reported : (o : Option ℕ) → position (holds_byte b) turns ≡ o → option_map (quit_at b turns) o ≡ Some point
-            → AreClear point.before
+        reported : (o : Option ℕ) → position (holds_byte b) turns ≡ o
+            → option_map (point_at b turns) o ≡ Some point → AreClear (take point.position turns)
         reported None found is = absurd (none-some point is)
         reported (Some n) found is = subst AreClear (ap before_of is) (clear-calls turns n found)
 
-        by : (o : Option ℕ) → quit_unless b turns o ≡ Some point → AreClear point.before
+        by : (o : Option ℕ) → point_unless b turns o ≡ Some point → AreClear (take point.position turns)
         by None is = reported (position (holds_byte b) turns) refl is
         by (Some offset) is = subst AreClear (ap before_of is) begun-clear
 
-    clear-all : quit_point b bytes turns ≡ None → AreClear turns
+    pub clear-all : contents_point b bytes turns ≡ None → AreClear turns
     clear-all is = by (position_of b (take first_look bytes)) is
       where
-        reported : (o : Option ℕ) → position (holds_byte b) turns ≡ o → option_map (quit_at b turns) o ≡ None
+        reported : (o : Option ℕ) → position (holds_byte b) turns ≡ o → option_map (point_at b turns) o ≡ None
             → AreClear turns
         reported None found is = none-passes (holds_byte b) turns found
-        reported (Some n) found is = absurd (none-some (quit_at b turns n) (sym is))
+        reported (Some n) found is = absurd (none-some (point_at b turns n) (sym is))
 
-        by : (o : Option ℕ) → quit_unless b turns o ≡ None → AreClear turns
+        by : (o : Option ℕ) → point_unless b turns o ≡ None → AreClear turns
         by None is = reported (position (holds_byte b) turns) refl is
         by (Some offset) is = absurd (none-some _ (sym is))
 
 pub quit_reports-clear : QuitReportsAreClear
-quit_reports-clear b settings meaning bytes = go (is_across settings meaning)
-  where
-    go : (across : Bool)
-        → ((point : QuitPoint) → quit_point b bytes ((calls_if settings meaning across).turns bytes) ≡ Some point
-        → All (λ turn. holds_byte b turn ≡ false) point.before)
-        × (quit_point b bytes ((calls_if settings meaning across).turns bytes) ≡ None
-        → All (λ turn. holds_byte b turn ≡ false) ((calls_if settings meaning across).turns bytes))
-    go true =
-        let later = joined_from (AcrossLines.turns_at settings meaning bytes) 0
-        (AcrossLines.turn_count settings meaning bytes) in
-        (clear-point b later bytes, clear-all b later bytes)
-    go false =
-        let later = joined_from (LineSearch.turns_at settings meaning bytes) 0
-        (LineSearch.turn_count settings meaning bytes) in
-        (clear-point b later bytes, clear-all b later bytes)
+quit_reports-clear b settings meaning bytes =
+    let lines = selection_in settings meaning bytes (is_across settings meaning) in
+    let later = joined_from (calls_at settings bytes lines) 0 lines.end in
+    (clear-point b later bytes, clear-all b later bytes)
 
 -- a slice of bytes that end before a test passes
 slice-clear : (p : ℕ → Bool) (bytes : List ℕ) (s e count : ℕ) → s ≤ e → e ≤ count → position p (take count bytes) ≡ None
@@ -122,20 +110,21 @@ module _ (k : Settings) (meaning : Meaning) (bytes : List ℕ) where
         → position_of b (LineSearch.line k meaning bytes i) ≡ None
     line-clear i inside low =
         let up = line_start-le (byte_of k.line_terminator) bytes i (i + 1) (omega arith) in
-        ap (position_of b) (sym (line-slice k meaning bytes i inside))
+        ap (position_of b) (sym (slice-line k bytes i))
         ∙ slice-clear (λ x. x == b) bytes (LineSearch.start k meaning bytes i)
         (LineSearch.start k meaning bytes (i + 1)) count up low
         clear
 
-    pub lines-clear : All (λ turn. turn.end ≤ count → holds_byte b turn ≡ false) (LineSearch.turns k meaning bytes)
+    pub lines-clear : All (λ turn. turn.if_false.count ≤ count → holds_byte b turn ≡ false)
+        (LineSearch.turns k meaning bytes)
     lines-clear =
-        All-cons P (record { call = begins; end = 0 })
+        All-cons P (planned begins 0)
         (joined_from (LineSearch.turns_at k meaning bytes) 0 (LineSearch.turn_count k meaning bytes)) (λ low. refl)
         (All-joined_from P (LineSearch.turns_at k meaning bytes) 0 (LineSearch.turn_count k meaning bytes)
         (λ i low high. each i (omega (arith, high, turn_count-le k meaning bytes))))
       where
-        P : Turn → Type 0
-        P turn = turn.end ≤ count → holds_byte b turn ≡ false
+        P : Planned → Type 0
+        P turn = turn.if_false.count ≤ count → holds_byte b turn ≡ false
 
         each : (i : ℕ) → i < LineSearch.line_count k meaning bytes → All P (LineSearch.turns_at k meaning bytes i)
         each i inside j d below low = ⊎_elim
@@ -145,15 +134,18 @@ module _ (k : Settings) (meaning : Meaning) (bytes : List ℕ) where
             ap (λ xs. is_some (position_of b xs)) line ∙ ap is_some (line-clear i inside (omega (arith, late, low))))
             (reports-line k meaning bytes i j d below)
 
+pub counted_reports-clear : CountedReportsAreClear
+counted_reports-clear b k meaning bytes count clear = lines-clear k meaning bytes b count clear
+
 -- lines that were seen are clear if what they are of the input is
 pub seen_lines-clear : LinesJoin → SeenLinesAreClear
 seen_lines-clear join b k meaning bytes seen quits front clear =
-    All-cons P (record { call = begins; end = 0 })
+    All-cons P (planned begins 0)
     (joined_from (LineSearch.turns_at k meaning seen) 0 (LineSearch.turn_count k meaning seen)) refl
     (All-joined_from P (LineSearch.turns_at k meaning seen) 0 (LineSearch.turn_count k meaning seen)
     (λ i low high. each i (omega (arith, high, turn_count-le k meaning seen))))
   where
-    P : Turn → Type 0
+    P : Planned → Type 0
     P turn = holds_byte b turn ≡ false
 
     whole : bytes ≡ seen ++ front.after
@@ -172,10 +164,3 @@ seen_lines-clear join b k meaning bytes seen quits front clear =
         ∙ ap is_some (line-clear k meaning seen b (length seen) is_clear i inside
         (line_start-within join (byte_of k.line_terminator) seen (i + 1))))
         (reports-line k meaning seen i j d below)
-
--- the calls for the lines before a binary byte
-pub seen_lines-begin : LinesJoin → LinesAppend → SeenLinesBegin
-seen_lines-begin join append k meaning bytes seen offset built cut =
-    let goes = cut.front in
-    let begun = turns-begin join append k meaning seen goes.front.after goes.closed built in
-    (begun.0, ap (λ xs. LineSearch.turns k meaning xs) goes.front.whole ∙ begun.1)

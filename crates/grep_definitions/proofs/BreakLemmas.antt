@@ -1,7 +1,8 @@
 -- A break is directly followed by a report, and their turns end alike.
+use Rattle.grep_definitions.specs.Plans.{planned}
 use Rattle.std.proofs.Common.{◌≡◌, ℕ, zero, suc, ◌+◌, ◌-◌, Bool, true, false, not, ◌&&◌, List, [], ◌∷◌, ◌++◌, Option}
 use Rattle.std.proofs.Common.{Some, None}
-use Rattle.std.proofs.Common.{refl, sym, ◌∙◌, ◌<◌, ◌≤◌, ap, arith, subst, ⊎_elim, if◌then◌else◌}
+use Rattle.std.proofs.Common.{refl, ◌∙◌, ◌<◌, ◌≤◌, ap, arith, ⊎_elim, if◌then◌else◌}
 use Rattle.std.proofs.lemmas.Bool.{cases_Bool, lt-ltb, ltb-true}
 use Rattle.std.specs.Prelude.{nat_le, nat_lt, filter, is_some}
 use Rattle.grep_matcher.specs.Matching.{Meaning}
@@ -10,40 +11,33 @@ use Rattle.grep_definitions.specs.AcrossLines
 use Rattle.grep_definitions.specs.Below.{joined_from, some_below}
 use Rattle.grep_definitions.specs.LineSearch
 use Rattle.grep_definitions.specs.LineSearch.{Kind, matched, in_context}
-use Rattle.grep_definitions.specs.Questions.{IsAskedByLine}
 use Rattle.grep_definitions.specs.Settings.{Settings}
-use Rattle.grep_definitions.specs.SinkCalls.{Turn, breaks, is_break}
+use Rattle.grep_definitions.specs.Plans.{Planned, breaks, is_break}
 use Rattle.grep_definitions.proofs.BoolLemmas.{clash, not_false}
 
 -- some calls begin with one that is no break, whose turn ends there
-abbrev pub BeginsWithReport : ℕ → List Turn → Type 0
+abbrev pub BeginsWithReport : ℕ → List Planned → Type 0
 BeginsWithReport end [] = ⊥
-BeginsWithReport end (turn ∷ later) = (is_break turn.call ≡ false) × (turn.end ≡ end)
+BeginsWithReport end (turn ∷ later) = (is_break turn.call ≡ false) × (turn.if_false.count ≡ end)
 
 -- each break is directly followed by such a call: none is the last
-abbrev pub AreBreaksPaired : List Turn → Type 0
+abbrev pub AreBreaksPaired : List Planned → Type 0
 AreBreaksPaired [] = Unit {0}
-AreBreaksPaired (turn ∷ later) = (is_break turn.call ≡ true → BeginsWithReport turn.end later) × AreBreaksPaired later
+AreBreaksPaired (turn ∷ later) = (is_break turn.call ≡ true → BeginsWithReport turn.if_false.count later) ×
+    AreBreaksPaired later
 
--- so a call alone is no break
-pub paired-alone : (turn : Turn) → AreBreaksPaired (turn ∷ []) → is_break turn.call ≡ false
-paired-alone turn (here, paired) = go (is_break turn.call) refl
-  where
-    go : (c : Bool) → is_break turn.call ≡ c → c ≡ false
-    go true is = absurd (here is)
-    go false is = refl
-
-begins-append : (end : ℕ) (front back : List Turn) → BeginsWithReport end front → BeginsWithReport end (front ++ back)
+begins-append : (end : ℕ) (front back : List Planned) → BeginsWithReport end front → BeginsWithReport end (front ++
+    back)
 begins-append end [] back report = absurd report
 begins-append end (turn ∷ front) back report = report
 
-pub paired-append : (front back : List Turn) → AreBreaksPaired front → AreBreaksPaired back
+pub paired-append : (front back : List Planned) → AreBreaksPaired front → AreBreaksPaired back
     → AreBreaksPaired (front ++ back)
 paired-append [] back front_is back_is = back_is
 paired-append (turn ∷ front) back (here, front_is) back_is =
-    (λ is. begins-append turn.end front back (here is), paired-append front back front_is back_is)
+    (λ is. begins-append turn.if_false.count front back (here is), paired-append front back front_is back_is)
 
-pub paired-joined : (f : ℕ → List Turn) (i n : ℕ) → ((j : ℕ) → i ≤ j → j < i + n → AreBreaksPaired (f j))
+pub paired-joined : (f : ℕ → List Planned) (i n : ℕ) → ((j : ℕ) → i ≤ j → j < i + n → AreBreaksPaired (f j))
     → AreBreaksPaired (joined_from f i n)
 paired-joined f i zero each = tt
 paired-joined f i (suc n) each =
@@ -51,25 +45,25 @@ paired-joined f i (suc n) each =
     (paired-joined f (i + 1) n (λ j low high. each j (omega arith) (omega arith)))
 
 -- those whose turn ends at or before an offset
-begins-through : (offset end : ℕ) (turns : List Turn) → nat_le end offset ≡ true → BeginsWithReport end turns
-    → BeginsWithReport end (filter (λ turn. nat_le turn.end offset) turns)
+begins-through : (offset end : ℕ) (turns : List Planned) → nat_le end offset ≡ true → BeginsWithReport end turns
+    → BeginsWithReport end (filter (λ turn. nat_le turn.if_false.count offset) turns)
 begins-through offset end [] low report = absurd report
 begins-through offset end (turn ∷ later) low (is, same) =
-    let kept : nat_le turn.end offset ≡ true = ap (λ e. nat_le e offset) same ∙ low in
+    let kept : nat_le turn.if_false.count offset ≡ true = ap (λ e. nat_le e offset) same ∙ low in
     rw kept (is, same)
 
-pub paired-through : (offset : ℕ) (turns : List Turn) → AreBreaksPaired turns
-    → AreBreaksPaired (filter (λ turn. nat_le turn.end offset) turns)
+pub paired-through : (offset : ℕ) (turns : List Planned) → AreBreaksPaired turns
+    → AreBreaksPaired (filter (λ turn. nat_le turn.if_false.count offset) turns)
 paired-through offset [] paired = tt
 paired-through offset (turn ∷ later) (here, paired) =
-    go (nat_le turn.end offset) refl (paired-through offset later paired)
+    go (nat_le turn.if_false.count offset) refl (paired-through offset later paired)
   where
-    rest : List Turn
-    rest = filter (λ turn. nat_le turn.end offset) later
+    rest : List Planned
+    rest = filter (λ turn. nat_le turn.if_false.count offset) later
 
-    go : (b : Bool) → nat_le turn.end offset ≡ b → AreBreaksPaired rest
+    go : (b : Bool) → nat_le turn.if_false.count offset ≡ b → AreBreaksPaired rest
         → AreBreaksPaired (if b then turn ∷ rest else rest)
-    go true low all = (λ is. begins-through offset turn.end later low (here is), all)
+    go true low all = (λ is. begins-through offset turn.if_false.count later low (here is), all)
     go false high all = all
 
 -- what a break needs of its line
@@ -82,7 +76,7 @@ breaks-need false b c d is = cc
 module _ (k : Settings) (meaning : Meaning) (bytes : List ℕ) where
   -- the report of a line, with its break or without
   report-by_line : (i : ℕ) (o : Option Kind) (b : Bool) → (b ≡ true → LineSearch.can_break k meaning bytes o ≡ true)
-      → AreBreaksPaired (if b then record { call = breaks; end = LineSearch.turn_end k meaning bytes i o }
+      → AreBreaksPaired (if b then (planned breaks (LineSearch.turn_end k meaning bytes i o))
       ∷ LineSearch.report k meaning bytes i o else LineSearch.report k meaning bytes i o)
   report-by_line i None true can = absurd (clash (can refl) refl)
   report-by_line i None false can = tt
@@ -101,13 +95,6 @@ module _ (k : Settings) (meaning : Meaning) (bytes : List ℕ) where
 
   pub paired-by_line : AreBreaksPaired (LineSearch.turns k meaning bytes)
   paired-by_line = paired-before (LineSearch.turn_count k meaning bytes)
-
-  -- the calls before a question: none of them is a break that still waits for its report
-  pub paired-asked : (haystack : List ℕ) (made : List Turn) → IsAskedByLine k meaning bytes haystack made
-      → AreBreaksPaired made
-  paired-asked haystack made asked =
-      subst AreBreaksPaired (sym asked.before)
-      (paired-through (LineSearch.start k meaning bytes asked.index) (LineSearch.turns k meaning bytes) paired-by_line)
 
   -- across lines a selected line is reported
   reported-selected : (i : ℕ) → i < AcrossLines.turn_count k meaning bytes → AcrossLines.is_selected k meaning bytes i
@@ -146,7 +133,7 @@ module _ (k : Settings) (meaning : Meaning) (bytes : List ℕ) where
 
   report-across : (i : ℕ) (o : Option Kind) (b : Bool) → (b ≡ true → LineSearch.can_break k meaning bytes o ≡ true)
       → (b ≡ true → AcrossLines.continues_unit k meaning bytes i ≡ false)
-      → AreBreaksPaired (if b then record { call = breaks; end = AcrossLines.turn_end k meaning bytes i o }
+      → AreBreaksPaired (if b then (planned breaks (AcrossLines.turn_end k meaning bytes i o))
       ∷ AcrossLines.report k meaning bytes i o else AcrossLines.report k meaning bytes i o)
   report-across i None true can whole = absurd (clash (can refl) refl)
   report-across i None false can whole = tt

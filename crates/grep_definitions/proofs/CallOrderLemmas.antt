@@ -1,36 +1,39 @@
 -- Calls in order, put together.
 use Rattle.std.proofs.Common.{◌≡◌, ℕ, inl, inr, List, [], ◌∷◌, ◌++◌, Bool, true, false, refl, sym, subst, ap, ◌∙◌}
-use Rattle.std.proofs.Common.{Option, None}
-use Rattle.std.specs.Prelude.{Result, Ok, Err, ◌-◌, ◌&&◌, if◌then◌else◌, nat_le, nat_lt}
+use Rattle.std.proofs.Common.{Option, None, map}
+use Rattle.std.specs.Prelude.{Result, Ok, Err, ◌+◌, ◌-◌, ◌≤◌, ◌&&◌, if◌then◌else◌, nat_le, nat_lt}
+use Rattle.std.proofs.Common.{arith, cond}
+use Rattle.std.proofs.lemmas.List.Sums.{sum_by-append, sum_by-cons}
 use Rattle.grep_report.specs.declared.sink_context.SinkContextKind.TheVariants.{Before}
 use Rattle.std.specs.declared.io.Error.{Error}
-use Rattle.std.proofs.lemmas.List.Elements.{All-nil, All-cons, All-append, All-head, All-tail}
+use Rattle.std.proofs.lemmas.List.Elements.{All-nil, All-cons, All-append, All-head, All-tail, All-map}
 use Rattle.grep_definitions.specs.BinaryBytes.{is_detecting}
-use Rattle.grep_definitions.specs.CallOrder.{is_inner, AreInner, after_begin, EndsAt, HasCalled, HasBegunWith}
-use Rattle.grep_definitions.specs.CallOrder.{HasCalledTo, HasBegunTo}
-use Rattle.grep_definitions.specs.CallOrder.{IsOrderedRun, HasFailedIn, of_call, of_question, IsOrderedFault, of_run}
-use Rattle.grep_definitions.specs.CallOrder.{of_matcher, of_reading}
-use Rattle.grep_definitions.specs.CallOrder.{BeginsInOrder, EndsInOrder, GoesOnInOrder, ReadsInOrder, RunsInOrder}
+use Rattle.grep_definitions.specs.CallOrder.{AreInner, after_begin, EndsAt, HasCalled, HasBegunWith, HasCalledTo}
+use Rattle.grep_definitions.specs.CallOrder.{HasBegunTo, HasFailedIn, of_call, of_question, BeginsInOrder, EndsInOrder}
+use Rattle.grep_definitions.specs.CallOrder.{GoesOnInOrder, ReadsInOrder, told_in}
 use Rattle.grep_definitions.specs.Searches.{ErrorMakers, MatcherFacts}
 use Rattle.grep_definitions.specs.Settings.{Settings}
-use Rattle.grep_definitions.specs.SinkCalls.{Call, Turn, begins, breaks, context, finishes, matches}
+use Rattle.grep_definitions.specs.Plans.{Call, Planned, begins, breaks, context, finishes, matches, Steps, Outcome}
+use Rattle.grep_definitions.specs.Plans.{all_true, stopped, failed, finish_result, AreMade, IsFinished, Finish}
+use Rattle.grep_definitions.specs.Plans.{binary_data, counted, is_binary_data, planned}
 use Rattle.grep_definitions.specs.LineTurns.{before_turns, broken_turns, is_gap, match_turns, number_of, one_turn}
-use Rattle.grep_definitions.specs.SinkRuns.{Steps, Outcome, all_true, stopped, failed, outcome_of, finish_result}
-use Rattle.grep_definitions.specs.SinkRuns.{AreReported, IsFinished}
-use Rattle.grep_definitions.proofs.SinkRunLemmas.{AreReported-append, AreReported-one}
+use Rattle.grep_definitions.specs.SinkRuns.{outcome_of, with_binary}
+use Rattle.grep_definitions.proofs.SinkRunLemmas.{AreMade-append, AreMade-one, made-binary, outcome_with}
+use Rattle.grep_definitions.specs.PlannedSearches.{AreInOrder, HasBegun, IsInOrder, ran_in_order, asked_in_order}
+use Rattle.grep_definitions.specs.PlannedSearches.{read_in_order, comes_between}
 
 -- a turn of a call between `begin` and `finish`
-abbrev pub IsInner : Settings → Turn → Type 0
-IsInner k turn = is_inner (is_detecting k.binary_detection) turn.call ≡ true
+abbrev pub IsInner : Settings → Planned → Type 0
+IsInner k turn = comes_between (is_detecting k.binary_detection) turn.call ≡ true
 
-pub inner-one : (k : Settings) (call : Call) (end : ℕ) → is_inner (is_detecting k.binary_detection) call ≡ true
+pub inner-one : (k : Settings) (call : Call) (end : ℕ) → comes_between (is_detecting k.binary_detection) call ≡ true
     → AreInner k (one_turn call end)
-inner-one k call end inner = All-cons (IsInner k) (record { call = call; end = end }) [] inner (All-nil (IsInner k))
+inner-one k call end inner = All-cons (IsInner k) (planned call end) [] inner (All-nil (IsInner k))
 
 pub inner-broken : (k : Settings) (gap : Bool) (call : Call) (end : ℕ)
-    → is_inner (is_detecting k.binary_detection) call ≡ true → AreInner k (broken_turns gap call end)
+    → comes_between (is_detecting k.binary_detection) call ≡ true → AreInner k (broken_turns gap call end)
 inner-broken k true call end inner =
-    All-cons (IsInner k) (record { call = breaks; end = end }) (one_turn call end) refl (inner-one k call end inner)
+    All-cons (IsInner k) (planned breaks end) (one_turn call end) refl (inner-one k call end inner)
 inner-broken k false call end inner = inner-one k call end inner
 
 -- the turns of a line before a match
@@ -48,85 +51,180 @@ pub inner-match : (k : Settings) (v i offset end : ℕ) (line : List ℕ) → Ar
 inner-match k v i offset end line =
     inner-broken k (nat_lt 0 k.after_context && is_gap k v i i) (matches (number_of k i) offset line) end refl
 
+-- how many calls are `binary_data`
+told-append : (front back : List Planned) → told_in (front ++ back) ≡ told_in front + told_in back
+told-append = sum_by-append (λ turn. cond (is_binary_data turn.call) 1 0)
+
+pub told-cons : (turn : Planned) (later : List Planned)
+    → told_in (turn ∷ later) ≡ cond (is_binary_data turn.call) 1 0 + told_in later
+told-cons = sum_by-cons (λ turn. cond (is_binary_data turn.call) 1 0)
+
+told-with : (binary : Option ℕ) (turns : List Planned) → told_in (map (with_binary binary) turns) ≡ told_in turns
+told-with binary [] = refl
+told-with binary (turn ∷ later) =
+    told-cons (with_binary binary turn) (map (with_binary binary) later)
+    ∙ (ap (λ n. cond (is_binary_data turn.call) 1 0 + n) (told-with binary later) ∙ sym (told-cons turn later))
+
+-- one call that isn't, also after a break
+told-one : (call : Call) (end : ℕ) → is_binary_data call ≡ false → told_in (one_turn call end) ≡ 0
+told-one call end plain = told-cons (planned call end) [] ∙ ap (λ b. cond b 1 0 + 0) plain
+
+told-broken : (gap : Bool) (call : Call) (end : ℕ) → is_binary_data call ≡ false
+    → told_in (broken_turns gap call end) ≡ 0
+told-broken true call end plain =
+    told-cons (planned breaks end) (one_turn call end) ∙ ap (λ n. 0 + n) (told-one call end plain)
+told-broken false call end plain = told-one call end plain
+
+told-before : (k : Settings) (v j i : ℕ) (number : Option ℕ) (offset end : ℕ) (line : List ℕ)
+    → told_in (before_turns k v j i number offset end line) ≡ 0
+told-before k v j i number offset end line =
+    elim (nat_le (i - j) k.before_context) as (λ near. told_in
+    (if near then broken_turns (is_gap k v j i) (context Before number offset line) end else []) ≡ 0) [
+      | true ↦ told-broken (is_gap k v j i) (context Before number offset line) end refl
+      | false ↦ refl
+    ]
+
+-- none of the calls is if at most none is
+none-told : (turn : Planned) (later : List Planned) → told_in (turn ∷ later) ≤ 0
+    → (is_binary_data turn.call ≡ false) × (told_in later ≤ 0)
+none-told turn later few = go (is_binary_data turn.call) refl
+  where
+    go : (b : Bool) → is_binary_data turn.call ≡ b → (is_binary_data turn.call ≡ false) × (told_in later ≤ 0)
+    go true is =
+        let one : cond (is_binary_data turn.call) 1 0 ≡ 1 = ap {B = ℕ} (λ b. cond b 1 0) is in
+        absurd (omega (arith, few, told-cons turn later, one))
+    go false is = (is, omega (arith, few, told-cons turn later))
+
 module _ {S E : Type 0} (step : Steps S E) (k : Settings) where
   -- no call
-  pub called-none : (old : S) → HasCalled step k old all_true old
-  called-none old = record { turns = []; inner = All-nil (IsInner k); reported = (refl, refl) }
+  pub called-none : {told : ℕ} (old : S) → HasCalled step k told old all_true old
+  called-none old = record {
+    turns = [];
+    inner = All-nil (IsInner k);
+    few = omega arith;
+    reported = (refl, refl);
+  }
 
   -- one call, by what it returned
-  pub called-one : (call : Call) (end : ℕ) (old : S) (result : Result Bool E) (new : S)
-      → step old k call result new → is_inner (is_detecting k.binary_detection) call ≡ true
-      → HasCalled step k old (outcome_of end result) new
-  called-one call end old result new made inner =
+  pub called-one : {told : ℕ} (call : Call) (end : ℕ) (old : S) (result : Result Bool E) (new : S)
+      → step old k call result new → comes_between (is_detecting k.binary_detection) call ≡ true
+      → is_binary_data call ≡ false → HasCalled step k told old (outcome_of end result) new
+  called-one call end old result new made inner plain =
       record {
         turns = one_turn call end;
         inner = inner-one k call end inner;
-        reported = AreReported-one step k call end old result new made;
+        few = omega (arith, told-one call end plain);
+        reported = AreMade-one step k call end old result new made;
+      }
+
+  -- `binary_data`, if it is looked for
+  pub called-binary : (offset end : ℕ) (old : S) (result : Result Bool E) (new : S)
+      → step old k (binary_data offset) result new → is_detecting k.binary_detection ≡ true
+      → HasCalled step k 1 old (outcome_of end result) new
+  called-binary offset end old result new made detecting =
+      record {
+        turns = one_turn (binary_data offset) end;
+        inner = inner-one k (binary_data offset) end detecting;
+        few = omega (arith, told-cons (planned (binary_data offset) end) []);
+        reported = AreMade-one step k (binary_data offset) end old result new made;
       }
 
   -- those of a line before a match
   pub called-before : (v j i : ℕ) (number : Option ℕ) (offset end : ℕ) (line : List ℕ) (old : S) (outcome : Outcome E)
       (new : S)
-      → AreReported step k old (before_turns k v j i number offset end line) outcome new
-      → HasCalled step k old outcome new
+      → AreMade step k old (before_turns k v j i number offset end line) outcome new
+      → HasCalled step k 0 old outcome new
   called-before v j i number offset end line old outcome new reported =
       record {
         turns = before_turns k v j i number offset end line;
         inner = inner-before k v j i number offset end line;
+        few = omega (arith, told-before k v j i number offset end line);
         reported = reported;
       }
 
   -- and of a match
   pub called-match : (v i offset end : ℕ) (line : List ℕ) (old : S) (outcome : Outcome E) (new : S)
-      → AreReported step k old (match_turns k v i offset end line) outcome new → HasCalled step k old outcome new
+      → AreMade step k old (match_turns k v i offset end line) outcome new → HasCalled step k 0 old outcome new
   called-match v i offset end line old outcome new reported =
       record {
         turns = match_turns k v i offset end line;
         inner = inner-match k v i offset end line;
+        few = omega (
+          arith,
+          told-broken (nat_lt 0 k.after_context && is_gap k v i i)
+              (matches (number_of k i) offset line) end refl,
+        );
         reported = reported;
       }
 
   -- calls after calls that all returned true
-  pub called-then : (old mid : S) (outcome : Outcome E) (new : S) → HasCalled step k old all_true mid
-      → HasCalled step k mid outcome new → HasCalled step k old outcome new
-  called-then old mid outcome new first later =
+  pub called-after : {before after told : ℕ} → before + after ≤ told → (old mid : S) (outcome : Outcome E) (new : S)
+      → HasCalled step k before old all_true mid → HasCalled step k after mid outcome new
+      → HasCalled step k told old outcome new
+  called-after enough old mid outcome new first later =
       record {
         turns = first.turns ++ later.turns;
         inner = All-append (IsInner k) first.turns later.turns first.inner later.inner;
-        reported = AreReported-append step k first.turns later.turns old mid outcome new first.reported later.reported;
+        few = omega (arith, enough, told-append first.turns later.turns, first.few, later.few);
+        reported = AreMade-append step k first.turns later.turns old mid outcome new first.reported later.reported;
       }
 
-  pub called-then-to : (old mid : S) (count : ℕ) (new : S) → HasCalled step k old all_true mid
-      → HasCalledTo step k mid count new → HasCalledTo step k old count new
-  called-then-to old mid count new first to =
+  pub called-after-to : {before after told : ℕ} → before + after ≤ told → (old mid : S) (count : ℕ) (new : S)
+      → HasCalled step k before old all_true mid → HasCalledTo step k after mid count new
+      → HasCalledTo step k told old count new
+  called-after-to enough old mid count new first to =
       record {
         outcome = to.outcome;
         ends = to.ends;
-        called = called-then old mid to.outcome new first to.called;
+        called = called-after enough old mid to.outcome new first to.called;
       }
 
+  -- reports after them
+  pub called-then : {told : ℕ} (old mid : S) (outcome : Outcome E) (new : S) → HasCalled step k told old all_true mid
+      → HasCalled step k 0 mid outcome new → HasCalled step k told old outcome new
+  called-then = called-after (omega arith)
+
+  -- more of them may be `binary_data`
+  pub called-most : {told most : ℕ} → told ≤ most → (old : S) (outcome : Outcome E) (new : S)
+      → HasCalled step k told old outcome new → HasCalled step k most old outcome new
+  called-most enough old outcome new called = record {
+    turns = called.turns;
+    inner = called.inner;
+    few = omega (arith, enough, called.few);
+    reported = called.reported;
+  }
+
   -- `begin`, by what it returned
-  pub begun-one : (old : S) (result : Result Bool E) (new : S) → step old k begins result new
-      → HasBegunWith step k old (outcome_of 0 result) new
-  begun-one old result new made =
-      record { turns = []; inner = All-nil (IsInner k); reported = AreReported-one step k begins 0 old result new made }
+  pub begun-one : {told : ℕ} (old : S) (result : Result Bool E) (new : S) → step old k begins result new
+      → HasBegunWith step k told old (outcome_of 0 result) new
+  begun-one old result new made = record {
+    turns = [];
+    inner = All-nil (IsInner k);
+    few = omega arith;
+    reported = AreMade-one step k begins 0 old result new made;
+  }
 
   -- calls after `begin`
-  pub begun-then : (old mid : S) (outcome : Outcome E) (new : S) → step old k begins (Ok true) mid
-      → HasCalled step k mid outcome new → HasBegunWith step k old outcome new
-  begun-then old mid outcome new begun called =
-      record { turns = called.turns; inner = called.inner; reported = inl (mid, begun, called.reported) }
+  pub begun-then : {told : ℕ} (old mid : S) (outcome : Outcome E) (new : S) → step old k begins (Ok true) mid
+      → HasCalled step k told mid outcome new → HasBegunWith step k told old outcome new
+  begun-then old mid outcome new begun called = record {
+    turns = called.turns;
+    inner = called.inner;
+    few = called.few;
+    reported = inl (mid, begun, called.reported);
+  }
 
-  pub begun-to : (old mid : S) (count : ℕ) (new : S) → step old k begins (Ok true) mid
-      → HasCalledTo step k mid count new → HasBegunTo step k old count new
+  pub begun-to : {told : ℕ} (old mid : S) (count : ℕ) (new : S) → step old k begins (Ok true) mid
+      → HasCalledTo step k told mid count new → HasBegunTo step k told old count new
   begun-to old mid count new begun to =
       record { outcome = to.outcome; ends = to.ends; called = begun-then old mid to.outcome new begun to.called }
 
   -- `begin` returned false, or true and nothing followed
-  pub begun-to-0 : (old : S) (begun : Bool) (new : S) → step old k begins (Ok begun) new → HasBegunTo step k old 0 new
+  pub begun-to-0 : {told : ℕ} (old : S) (begun : Bool) (new : S) → step old k begins (Ok begun) new
+      → HasBegunTo step k told old 0 new
   begun-to-0 old true new made = record { outcome = all_true; ends = tt; called = begun-one old (Ok true) new made }
   begun-to-0 old false new made = record {
-    outcome = stopped 0;
+    outcome = stopped (counted 0);
     ends = refl;
     called = begun-one old (Ok false) new
         made;
@@ -135,47 +233,16 @@ module _ {S E : Type 0} (step : Steps S E) (k : Settings) where
   -- `finish` follows
   finished : (outcome : Outcome E) (mid : S) (count : ℕ) (binary : Option ℕ) (result : Result (Unit {0}) E) (new : S)
       → EndsAt outcome count → step mid k (finishes count binary) (finish_result result) new
-      → IsFinished step k outcome mid count binary result new
+      → IsFinished step k (outcome_with binary outcome) mid (record { count = count; binary = binary }) result new
   finished all_true mid count binary result new ends made = made
-  finished (stopped end) mid count binary result new ends made =
-      subst (λ n. step mid k (finishes n binary) (finish_result result) new) (sym ends) made
+  finished (stopped finish) mid count binary result new ends made =
+      subst (λ (f : Finish). step mid k (finishes f.count binary) (finish_result result) new) (sym ends) made
   finished (failed e) mid count binary result new ends made = absurd ends
-
-  pub ordered-run : (old mid : S) (count : ℕ) (binary : Option ℕ) (result : Result (Unit {0}) E) (new : S)
-      → (is_detecting k.binary_detection ≡ false → binary ≡ None) → HasBegunTo step k old count mid
-      → step mid k (finishes count binary) (finish_result result) new → IsOrderedRun step k old result new
-  ordered-run old mid count binary result new noted to made =
-      record {
-        turns = to.called.turns;
-        inner = to.called.inner;
-        count = count;
-        binary = binary;
-        noted = noted;
-        run = record {
-          outcome = to.outcome;
-          mid = mid;
-          reported = to.called.reported;
-          finished = finished to.outcome mid count binary result new to.ends made;
-        };
-      }
-
-  -- an error of a call ends a run
-  pub ordered-failed : (old : S) (e : E) (new : S) → HasBegunWith step k old (failed e) new
-      → IsOrderedRun step k old (Err e) new
-  ordered-failed old e new begun =
-      record {
-        turns = begun.turns;
-        inner = begun.inner;
-        count = 0;
-        binary = None;
-        noted = λ none. refl;
-        run = record { outcome = failed e; mid = new; reported = begun.reported; finished = (refl, refl) };
-      }
 
   -- what each call keeps is kept
   pub reported-keeps : {X : Type 0} (name : S → X)
       → ((s : S) (call : Call) (result : Result Bool E) (t : S) → step s k call result t → name t ≡ name s)
-      → (turns : List Turn) (old : S) (outcome : Outcome E) (new : S) → AreReported step k old turns outcome new
+      → (turns : List Planned) (old : S) (outcome : Outcome E) (new : S) → AreMade step k old turns outcome new
       → name new ≡ name old
   reported-keeps name each [] old outcome new (is, same) = ap name same
   reported-keeps name each (turn ∷ later) old outcome new (inl (mid, made, reported)) =
@@ -186,31 +253,86 @@ module _ {S E : Type 0} (step : Steps S E) (k : Settings) where
       made
 
   module _ {F : Type 0} (errors : ErrorMakers E) (matcher : MatcherFacts F) where
+    -- `begin` and such calls are in order, if `finish` has an offset only if binary bytes are looked for
+    in-order : (binary : Option ℕ) → (is_detecting k.binary_detection ≡ false → binary ≡ None) → (turns : List Planned)
+        → AreInner k turns → told_in turns ≤ 1
+        → AreInOrder step errors matcher k (map (with_binary binary) (after_begin turns))
+    in-order binary plain turns inner few = record {
+      first = with_binary binary (planned begins 0);
+      later = map (with_binary binary) turns;
+      all = refl;
+      begin = (refl, refl);
+      inner = All-map (IsInner k) (with_binary binary) turns inner;
+      once = omega (arith, few, told-with binary turns);
+      plain = λ none. All-map (λ (call : Planned). call.if_false.binary ≡ None) (with_binary binary) (after_begin turns)
+          (λ n d below. plain none);
+    }
+
+    begun-in-order : {told : ℕ} → told ≤ 1 → (old new : S) → HasBegunWith step k told old all_true new
+        → HasBegun step errors matcher k old new
+    begun-in-order once old new begun = (
+      map (with_binary None) (after_begin begun.turns),
+      in-order None (λ none. refl) begun.turns begun.inner (omega (arith, once, begun.few)),
+      made-binary step k None (after_begin begun.turns) old all_true new begun.reported,
+    )
+
+    ordered-run : {IsOfReading : Error → Type 0} {told : ℕ} → told ≤ 1 → (old mid : S) (count : ℕ) (binary : Option ℕ)
+        (result : Result (Unit {0}) E) (new : S)
+        → (is_detecting k.binary_detection ≡ false → binary ≡ None) → HasBegunTo step k told old count mid
+        → step mid k (finishes count binary) (finish_result result) new
+        → IsInOrder step errors matcher k IsOfReading old result new
+    ordered-run once old mid count binary result new noted to made =
+        let turns = to.called.turns in
+        ran_in_order (record {
+          calls = map (with_binary binary) (after_begin turns);
+          finish = record { count = count; binary = binary };
+        }) (in-order binary noted turns to.called.inner (omega (arith, once, to.called.few))) noted (record {
+          outcome = outcome_with binary to.outcome;
+          mid = mid;
+          made = made-binary step k binary (after_begin turns) old to.outcome mid to.called.reported;
+          finished = finished to.outcome mid count binary result new to.ends made;
+        })
+
+    -- an error of a call ends a run
+    ordered-failed : {IsOfReading : Error → Type 0} {told : ℕ} → told ≤ 1 → (old : S) (e : E) (new : S)
+        → HasBegunWith step k told old (failed e) new → IsInOrder step errors matcher k IsOfReading old (Err e) new
+    ordered-failed once old e new begun =
+        ran_in_order (record {
+          calls = map (with_binary None) (after_begin begun.turns);
+          finish = record { count = 0; binary = None };
+        }) (in-order None (λ none. refl) begun.turns begun.inner (omega (arith, once, begun.few))) (λ none. refl)
+        (record {
+          outcome = failed e;
+          mid = new;
+          made = made-binary step k None (after_begin begun.turns) old (failed e) new begun.reported;
+          finished = (refl, refl);
+        })
+
     -- a part of a search that goes on or not may be its last
     pub called-to : (old : S) (count : ℕ) (goes_on : Bool) (new : S)
-        → GoesOnInOrder step k errors matcher old (Ok goes_on) count new → HasCalledTo step k old count new
+        → GoesOnInOrder step k errors matcher old (Ok goes_on) count new → HasCalledTo step k 0 old count new
     called-to old count true new called = record { outcome = all_true; ends = tt; called = called }
     called-to old count false new to = to
 
     -- an error after calls that all returned true
-    pub failed-then : (old mid : S) (e : E) (new : S) → HasCalled step k old all_true mid
-        → HasFailedIn step k errors matcher (HasCalled step k mid) e new
-        → HasFailedIn step k errors matcher (HasCalled step k old) e new
+    pub failed-then : {told : ℕ} (old mid : S) (e : E) (new : S) → HasCalled step k told old all_true mid
+        → HasFailedIn step k errors matcher (HasCalled step k 0 mid) e new
+        → HasFailedIn step k errors matcher (HasCalled step k told old) e new
     failed-then old mid e new first (of_call called) = of_call (called-then old mid (failed e) new first called)
     failed-then old mid e new first (of_question haystack error fails made called) =
         of_question haystack error fails made (called-then old mid all_true new first called)
 
     -- or after `begin`
-    pub failed-begun : (old mid : S) (e : E) (new : S) → step old k begins (Ok true) mid
-        → HasFailedIn step k errors matcher (HasCalled step k mid) e new
-        → HasFailedIn step k errors matcher (HasBegunWith step k old) e new
+    pub failed-begun : {told : ℕ} (old mid : S) (e : E) (new : S) → step old k begins (Ok true) mid
+        → HasFailedIn step k errors matcher (HasCalled step k told mid) e new
+        → HasFailedIn step k errors matcher (HasBegunWith step k told old) e new
     failed-begun old mid e new begun (of_call called) = of_call (begun-then old mid (failed e) new begun called)
     failed-begun old mid e new begun (of_question haystack error fails made called) =
         of_question haystack error fails made (begun-then old mid all_true new begun called)
 
     -- or of `begin` itself
-    pub failed-begin : (old : S) (e : E) (new : S) → step old k begins (Err e) new
-        → HasFailedIn step k errors matcher (HasBegunWith step k old) e new
+    pub failed-begin : {told : ℕ} (old : S) (e : E) (new : S) → step old k begins (Err e) new
+        → HasFailedIn step k errors matcher (HasBegunWith step k told old) e new
     failed-begin old e new made = of_call (begun-one old (Err e) new made)
 
     pub order-begun : (old mid : S) (result : Result ℕ E) (new : S) → step old k begins (Ok true) mid
@@ -232,182 +354,172 @@ module _ {S E : Type 0} (step : Steps S E) (k : Settings) where
       begun-keeps old (Ok count) new to =
           reported-keeps name each (after_begin to.called.turns) old to.outcome new to.called.reported
       begun-keeps old (Err e) new fails =
-          failed-keeps (HasBegunWith step k old) old
+          failed-keeps (HasBegunWith step k 0 old) old
           (λ outcome t called. reported-keeps name each (after_begin called.turns) old outcome t called.reported) e new
           fails
 
-      pub goes-keeps : (old : S) (result : Result Bool E) (count : ℕ) (new : S)
-          → GoesOnInOrder step k errors matcher old result count new → name new ≡ name old
-      goes-keeps old (Ok true) count new called = reported-keeps name each called.turns old all_true new called.reported
-      goes-keeps old (Ok false) count new to =
-          reported-keeps name each to.called.turns old to.outcome new to.called.reported
-      goes-keeps old (Err e) count new fails =
-          failed-keeps (HasCalled step k old) old
-          (λ outcome t called. reported-keeps name each called.turns old outcome t called.reported) e new fails
-
     -- it ends the search
-    pub order-failed : (IsOfReading : Error → Type 0) (old : S) (e : E) (new : S)
-        → HasFailedIn step k errors matcher (HasBegunWith step k old) e new
-        → IsOrderedFault step k errors matcher IsOfReading old e new
-    order-failed IsOfReading old e new (of_call begun) = of_run (ordered-failed old e new begun)
-    order-failed IsOfReading old e new (of_question haystack error fails made begun) =
-        of_matcher haystack error fails made begun
+    pub order-failed : (IsOfReading : Error → Type 0) {told : ℕ} → told ≤ 1 → (old : S) (e : E) (new : S)
+        → HasFailedIn step k errors matcher (HasBegunWith step k told old) e new
+        → IsInOrder step errors matcher k IsOfReading old (Err e) new
+    order-failed IsOfReading once old e new (of_call begun) = ordered-failed once old e new begun
+    order-failed IsOfReading once old e new (of_question haystack error fails made begun) =
+        asked_in_order haystack error fails made (begun-in-order once old new begun)
 
     -- an error after `begin`, of calls or of reading
     pub order-read : (IsOfReading : Error → Type 0) (old mid : S) (e : E) (new : S) → step old k begins (Ok true) mid
         → ReadsInOrder step k errors matcher IsOfReading mid (Err e) new
-        → IsOrderedFault step k errors matcher IsOfReading old e new
+        → IsInOrder step errors matcher k IsOfReading old (Err e) new
     order-read IsOfReading old mid e new begun (inl failed_so) =
-        order-failed IsOfReading old e new (failed-begun old mid e new begun failed_so)
+        order-failed IsOfReading (omega arith) old e new (failed-begun old mid e new begun failed_so)
     order-read IsOfReading old mid e new begun (inr (error, cause, made, called)) =
-        of_reading error cause made (inr (begun-then old mid all_true new begun called))
-
-    -- the errors of reading may be more, or seen otherwise
-    pub order-each : (IsOfReading IsLater : Error → Type 0) → ((error : Error) → IsOfReading error → IsLater error)
-        → (old : S)
-        (result : Result (Unit {0}) E) (new : S) → RunsInOrder step k errors matcher IsOfReading old result new
-        → RunsInOrder step k errors matcher IsLater old result new
-    order-each IsOfReading IsLater each old (Ok u) new run = run
-    order-each IsOfReading IsLater each old (Err e) new (of_run run) = of_run run
-    order-each IsOfReading IsLater each old (Err e) new (of_matcher haystack error fails made begun) =
-        of_matcher haystack error fails made begun
-    order-each IsOfReading IsLater each old (Err e) new (of_reading error cause made called) =
-        of_reading error (each error cause) made called
+        read_in_order error cause made (inr (begun-in-order (omega arith) old new (begun-then old mid all_true new begun
+        called)))
 
     -- a search that comes to `finish` runs in order
-    pub order-finished : (IsOfReading : Error → Type 0) (old mid : S) (count : ℕ) (binary : Option ℕ)
-        (result : Result (Unit {0}) E) (new : S) → (is_detecting k.binary_detection ≡ false → binary ≡ None)
-        → HasBegunTo step k old count mid → step mid k (finishes count binary) (finish_result result) new
-        → RunsInOrder step k errors matcher IsOfReading old result new
-    order-finished IsOfReading old mid count binary (Ok u) new noted to made =
-        ordered-run old mid count binary (Ok u) new noted to made
-    order-finished IsOfReading old mid count binary (Err e) new noted to made =
-        of_run (ordered-run old mid count binary (Err e) new noted to made)
+    pub order-finished : (IsOfReading : Error → Type 0) {told : ℕ} → told ≤ 1 → (old mid : S) (count : ℕ)
+        (binary : Option ℕ) (result : Result (Unit {0}) E) (new : S) → (is_detecting k.binary_detection ≡ false → binary
+        ≡ None)
+        → HasBegunTo step k told old count mid → step mid k (finishes count binary) (finish_result result) new
+        → IsInOrder step errors matcher k IsOfReading old result new
+    order-finished IsOfReading once old mid count binary result new noted to made =
+        ordered-run once old mid count binary result new noted to made
 
--- Calls of a sink that passes them on to another one, `view` of it. Each call is some calls of that one, in order. What
--- `Holds` of it holds while calls return true, and `count_of` is the byte count that it passes on.
+    -- the errors of reading may be more, or seen otherwise
+    pub in_order-each : (IsOfReading IsLater : Error → Type 0) → ((error : Error) → IsOfReading error → IsLater error)
+        → (old : S) (result : Result (Unit {0}) E) (new : S) → IsInOrder step errors matcher k IsOfReading old result
+        new
+        → IsInOrder step errors matcher k IsLater old result new
+    in_order-each IsOfReading IsLater each old result new (ran_in_order plan calls plain run) =
+        ran_in_order plan calls plain run
+    in_order-each IsOfReading IsLater each old (Err e) new (asked_in_order haystack error fails made begun) =
+        asked_in_order haystack error fails made begun
+    in_order-each IsOfReading IsLater each old (Err e) new (read_in_order error is made begun) =
+        read_in_order error (each error is) made begun
+
+-- Reports to a sink that passes them on to another one, `view` of it. Each is some calls of that one, in order:
+-- reports,
+-- and `binary_data` if the search ends then. What `Holds` of it holds while calls return true, and `count_of` is the
+-- byte count that it passes on.
 module _ {S T E : Type 0} (step : Steps S E) (around : Steps T E) (k : Settings) (view : T → S) (Holds : T → Type 0)
     (count_of : T → ℕ → ℕ) where
   -- what one call came to
   abbrev pub Passes : T → Result Bool E → ℕ → T → Type 0
-  Passes old (Ok true) end new = Holds new × HasCalled step k (view old) all_true (view new)
-  Passes old (Ok false) end new = HasCalledTo step k (view old) (count_of new end) (view new)
-  Passes old (Err e) end new = HasCalled step k (view old) (failed e) (view new)
+  Passes old (Ok true) end new = Holds new × HasCalled step k 0 (view old) all_true (view new)
+  Passes old (Ok false) end new = HasCalledTo step k 1 (view old) (count_of new end) (view new)
+  Passes old (Err e) end new = HasCalled step k 1 (view old) (failed e) (view new)
 
   -- and what some did
   abbrev pub HasPassed : T → Outcome E → T → Type 0
-  HasPassed old all_true new = Holds new × HasCalled step k (view old) all_true (view new)
-  HasPassed old (stopped end) new = HasCalledTo step k (view old) (count_of new end) (view new)
-  HasPassed old (failed e) new = HasCalled step k (view old) (failed e) (view new)
+  HasPassed old all_true new = Holds new × HasCalled step k 0 (view old) all_true (view new)
+  HasPassed old (stopped finish) new = HasCalledTo step k 1 (view old) (count_of new finish.count) (view new)
+  HasPassed old (failed e) new = HasCalled step k 1 (view old) (failed e) (view new)
 
-  passed-then : (old mid : T) (outcome : Outcome E) (new : T) → HasCalled step k (view old) all_true (view mid)
+  passed-then : (old mid : T) (outcome : Outcome E) (new : T) → HasCalled step k 0 (view old) all_true (view mid)
       → HasPassed mid outcome new → HasPassed old outcome new
   passed-then old mid all_true new first (holds, later) =
       (holds, called-then step k (view old) (view mid) all_true (view new) first later)
-  passed-then old mid (stopped end) new first to =
-      called-then-to step k (view old) (view mid) (count_of new end) (view new) first to
-  passed-then old mid (failed e) new first later = called-then step k (view old) (view mid) (failed e) (view new) first
-      later
+  passed-then old mid (stopped finish) new first to =
+      called-after-to step k (omega arith) (view old) (view mid) (count_of new finish.count) (view new) first to
+  passed-then old mid (failed e) new first later =
+      called-after step k (omega arith) (view old) (view mid) (failed e) (view new) first later
 
   module _ (one : (call : Call) (end : ℕ) (old : T) (result : Result Bool E) (new : T)
-      → is_inner (is_detecting k.binary_detection) call ≡ true → Holds old → around old k call result new
-      → Passes old result end new) where
-    passed-all : (turns : List Turn) (old : T) (outcome : Outcome E) (new : T) → AreInner k turns → Holds old
-        → AreReported around k old turns outcome new → HasPassed old outcome new
-    passed-all [] old outcome new inner holds (is, same) =
+      → comes_between (is_detecting k.binary_detection) call ≡ true → is_binary_data call ≡ false → Holds old
+      → around old k call result new → Passes old result end new) where
+    passed-all : (turns : List Planned) (old : T) (outcome : Outcome E) (new : T) → AreInner k turns
+        → told_in turns ≤ 0 → Holds old → AreMade around k old turns outcome new → HasPassed old outcome new
+    passed-all [] old outcome new inner few holds (is, same) =
         subst (λ o. HasPassed old o new) (sym is) (subst (λ t. HasPassed old all_true t) (sym same)
         (holds, called-none step k (view old)))
-    passed-all (turn ∷ later) old outcome new inner holds (inl (mid, made, reported)) =
-        let here = one turn.call turn.end old (Ok true) mid (All-head (IsInner k) turn later inner) holds made in
+    passed-all (turn ∷ later) old outcome new inner few holds (inl (mid, made, reported)) =
+        let plain = none-told turn later few in
+        let here = one turn.call turn.if_false.count old (Ok true) mid (All-head (IsInner k) turn later inner) plain.0
+        holds made in
         passed-then old mid outcome new here.1
-        (passed-all later mid outcome new (All-tail (IsInner k) turn later inner) here.0 reported)
-    passed-all (turn ∷ later) old outcome new inner holds (inr (inl (is, made))) =
+        (passed-all later mid outcome new (All-tail (IsInner k) turn later inner) plain.1 here.0 reported)
+    passed-all (turn ∷ later) old outcome new inner few holds (inr (inl (is, made))) =
         subst (λ o. HasPassed old o new) (sym is)
-        (one turn.call turn.end old (Ok false) new (All-head (IsInner k) turn later inner) holds made)
-    passed-all (turn ∷ later) old outcome new inner holds (inr (inr (e, is, made))) =
+        (one turn.call turn.if_false.count old (Ok false) new (All-head (IsInner k) turn later inner)
+        (none-told turn later few).0 holds made)
+    passed-all (turn ∷ later) old outcome new inner few holds (inr (inr (e, is, made))) =
         subst (λ o. HasPassed old o new) (sym is)
-        (one turn.call turn.end old (Err e) new (All-head (IsInner k) turn later inner) holds made)
-
-    pub passed : (old : T) (outcome : Outcome E) (new : T) → Holds old → HasCalled around k old outcome new
-        → HasPassed old outcome new
-    passed old outcome new holds called = passed-all called.turns old outcome new called.inner holds called.reported
+        (one turn.call turn.if_false.count old (Err e) new (All-head (IsInner k) turn later inner)
+        (none-told turn later few).0 holds made)
 
     passed-ended : (old : T) (count : ℕ) (outcome : Outcome E) (new : T) → EndsAt outcome count
         → HasPassed old outcome new
-        → HasCalledTo step k (view old) (count_of new count) (view new)
-    passed-ended old count all_true new ends (holds, called) = record { outcome = all_true; ends = tt; called = called }
-    passed-ended old count (stopped end) new ends to =
-        subst (λ n. HasCalledTo step k (view old) (count_of new n) (view new)) ends to
+        → HasCalledTo step k 1 (view old) (count_of new count) (view new)
+    passed-ended old count all_true new ends (holds, called) = record {
+      outcome = all_true;
+      ends = tt;
+      called = called-most step k (omega arith) (view old) all_true (view new) called;
+    }
+    passed-ended old count (stopped finish) new ends to =
+        subst (λ (f : Finish). HasCalledTo step k 1 (view old) (count_of new f.count) (view new)) ends to
     passed-ended old count (failed e) new ends called = absurd ends
 
-    pub passed-to : (old : T) (count : ℕ) (new : T) → Holds old → HasCalledTo around k old count new
-        → HasCalledTo step k (view old) (count_of new count) (view new)
-    passed-to old count new holds to =
-        passed-ended old count to.outcome new to.ends (passed old to.outcome new holds to.called)
-
     module _ {F : Type 0} (errors : ErrorMakers E) (matcher : MatcherFacts F) where
-      pub passed-failed : (old : T) (e : E) (new : T) → Holds old
-          → HasFailedIn around k errors matcher (HasCalled around k old) e new
-          → HasFailedIn step k errors matcher (HasCalled step k (view old)) e (view new)
-      passed-failed old e new holds (of_call called) = of_call (passed old (failed e) new holds called)
-      passed-failed old e new holds (of_question haystack error fails made called) =
-          of_question haystack error fails made (passed old all_true new holds called).1
-
       -- with `begin`, which is passed on as it is
       module _ (begun : (old : T) (result : Result Bool E) (new : T) → Holds old → around old k begins result new
           → Holds new × step (view old) k begins result (view new))
           (held : (new : T) (count : ℕ) → Holds new → count_of new count ≡ count) where
-        passed-begun : (old : T) (e : E) (new : T) → Holds old → HasBegunWith around k old (failed e) new
-            → HasBegunWith step k (view old) (failed e) (view new)
-        passed-begun old e new holds with_turns = go with_turns.turns with_turns.inner with_turns.reported
+        passed-begun : (old : T) (e : E) (new : T) → Holds old → HasBegunWith around k 0 old (failed e) new
+            → HasBegunWith step k 1 (view old) (failed e) (view new)
+        passed-begun old e new holds with_turns =
+            go with_turns.turns with_turns.inner with_turns.few with_turns.reported
           where
-            go : (turns : List Turn) → AreInner k turns → AreReported around k old (after_begin turns) (failed e) new
-                → HasBegunWith step k (view old) (failed e) (view new)
-            go turns inner (inl (mid, made, reported)) =
+            go : (turns : List Planned) → AreInner k turns → told_in turns ≤ 0
+                → AreMade around k old (after_begin turns) (failed e) new
+                → HasBegunWith step k 1 (view old) (failed e) (view new)
+            go turns inner few (inl (mid, made, reported)) =
                 let first = begun old (Ok true) mid holds made in
                 begun-then step k (view old) (view mid) (failed e) (view new) first.1
-                (passed-all turns mid (failed e) new inner first.0 reported)
-            go turns inner (inr (inl (is, made))) = absurd (cc)
-            go turns inner (inr (inr (error, is, made))) =
+                (passed-all turns mid (failed e) new inner few first.0 reported)
+            go turns inner few (inr (inl (is, made))) = absurd (cc)
+            go turns inner few (inr (inr (error, is, made))) =
                 let same : error ≡ e = cc in
-                subst (λ x. HasBegunWith step k (view old) (failed x) (view new)) same
+                subst (λ x. HasBegunWith step k 1 (view old) (failed x) (view new)) same
                 (begun-one step k (view old) (Err error) (view new) (begun old (Err error) new holds made).1)
 
-        passed-begun-true : (old new : T) → Holds old → HasBegunWith around k old all_true new
-            → HasBegunWith step k (view old) all_true (view new)
-        passed-begun-true old new holds with_turns = go with_turns.turns with_turns.inner with_turns.reported
+        passed-begun-true : (old new : T) → Holds old → HasBegunWith around k 0 old all_true new
+            → HasBegunWith step k 1 (view old) all_true (view new)
+        passed-begun-true old new holds with_turns =
+            go with_turns.turns with_turns.inner with_turns.few with_turns.reported
           where
-            go : (turns : List Turn) → AreInner k turns → AreReported around k old (after_begin turns) all_true new
-                → HasBegunWith step k (view old) all_true (view new)
-            go turns inner (inl (mid, made, reported)) =
+            go : (turns : List Planned) → AreInner k turns → told_in turns ≤ 0
+                → AreMade around k old (after_begin turns) all_true new
+                → HasBegunWith step k 1 (view old) all_true (view new)
+            go turns inner few (inl (mid, made, reported)) =
                 let first = begun old (Ok true) mid holds made in
                 begun-then step k (view old) (view mid) all_true (view new) first.1
-                (passed-all turns mid all_true new inner first.0 reported).1
-            go turns inner (inr (inl (is, made))) = absurd (cc)
-            go turns inner (inr (inr (error, is, made))) = absurd (cc)
+                (called-most step k (omega arith) (view mid) all_true (view new)
+                (passed-all turns mid all_true new inner few first.0 reported).1)
+            go turns inner few (inr (inl (is, made))) = absurd (cc)
+            go turns inner few (inr (inr (error, is, made))) = absurd (cc)
 
-        pub passed-begun-to : (old : T) (count : ℕ) (new : T) → Holds old → HasBegunTo around k old count new
-            → HasBegunTo step k (view old) (count_of new count) (view new)
-        passed-begun-to old count new holds to = go to.outcome to.ends to.called.turns to.called.inner
-            to.called.reported
+        pub passed-begun-to : (old : T) (count : ℕ) (new : T) → Holds old → HasBegunTo around k 0 old count new
+            → HasBegunTo step k 1 (view old) (count_of new count) (view new)
+        passed-begun-to old count new holds to =
+            go to.outcome to.ends to.called.turns to.called.inner to.called.few to.called.reported
           where
-            go : (outcome : Outcome E) → EndsAt outcome count → (turns : List Turn) → AreInner k turns
-                → AreReported around k old (after_begin turns) outcome new
-                → HasBegunTo step k (view old) (count_of new count) (view new)
-            go outcome ends turns inner (inl (mid, made, reported)) =
+            go : (outcome : Outcome E) → EndsAt outcome count → (turns : List Planned) → AreInner k turns
+                → told_in turns ≤ 0 → AreMade around k old (after_begin turns) outcome new
+                → HasBegunTo step k 1 (view old) (count_of new count) (view new)
+            go outcome ends turns inner few (inl (mid, made, reported)) =
                 let first = begun old (Ok true) mid holds made in
                 begun-to step k (view old) (view mid) (count_of new count) (view new) first.1
-                (passed-ended mid count outcome new ends (passed-all turns mid outcome new inner first.0 reported))
-            go outcome ends turns inner (inr (inl (is, made))) =
+                (passed-ended mid count outcome new ends (passed-all turns mid outcome new inner few first.0 reported))
+            go outcome ends turns inner few (inr (inl (is, made))) =
                 let first = begun old (Ok false) new holds made in
-                let none : count ≡ 0 = sym (subst (λ o. EndsAt o count) is ends) in
-                subst (λ n. HasBegunTo step k (view old) n (view new)) (sym (held new count first.0 ∙ none))
+                let none : count ≡ 0 = sym (ap (λ (f : Finish). f.count) (subst (λ o. EndsAt o count) is ends)) in
+                subst (λ n. HasBegunTo step k 1 (view old) n (view new)) (sym (held new count first.0 ∙ none))
                 (begun-to-0 step k (view old) false (view new) first.1)
-            go outcome ends turns inner (inr (inr (error, is, made))) = absurd (subst (λ o. EndsAt o count) is ends)
+            go outcome ends turns inner few (inr (inr (error, is, made))) = absurd (subst (λ o. EndsAt o count) is ends)
 
         pub passed-begun-failed : (old : T) (e : E) (new : T) → Holds old
-            → HasFailedIn around k errors matcher (HasBegunWith around k old) e new
-            → HasFailedIn step k errors matcher (HasBegunWith step k (view old)) e (view new)
+            → HasFailedIn around k errors matcher (HasBegunWith around k 0 old) e new
+            → HasFailedIn step k errors matcher (HasBegunWith step k 1 (view old)) e (view new)
         passed-begun-failed old e new holds (of_call called) = of_call (passed-begun old e new holds called)
         passed-begun-failed old e new holds (of_question haystack error fails made called) =
             of_question haystack error fails made (passed-begun-true old new holds called)

@@ -9,6 +9,7 @@ use Rattle.grep_matcher.specs.Lines.{lines}
 use Rattle.grep_matcher.specs.Matching.{Meaning}
 use Rattle.grep_report.specs.declared.sink_context.SinkContextKind.TheVariants.{Before, After, Other}
 use Rattle.grep_definitions.specs.Settings.{Settings}
+use Rattle.grep_definitions.proofs.LineSliceLemmas.{slice-line}
 use Rattle.grep_definitions.specs.Below.{some_below}
 use Rattle.grep_definitions.specs.LineSearch
 use Rattle.grep_definitions.specs.LineSearch.{turns_at, matched, in_context}
@@ -77,7 +78,7 @@ module _ (k : Settings) (meaning : Meaning) (bytes : List ℕ) where
         go : (b : Bool) → is_trailing i ≡ b → turns_at k meaning bytes i ≡ after_turns k b v i start end line
         go true is =
             let as_match = kind ∙ ap (λ b. Some (if b then matched else in_context After)) is in
-            rw (as_match, gap, is_number, is_end, is_start, is_line) refl
+            rw (as_match, gap, slice-line k bytes i, is_number, is_end, is_start, is_line) refl
         go false is =
             let as_context = kind ∙ ap (λ b. Some (if b then matched else in_context After)) is in
             rw (as_context, and-false (nat_lt 0 (A + B)), is_number, is_end, is_start, is_line) refl
@@ -145,4 +146,4 @@ module _ (k : Settings) (meaning : Meaning) (bytes : List ℕ) where
           let gap : (nat_lt 0 (A + B) && true && not (is_reported (i - 1)) && some_below is_reported i)
           ≡ (nat_lt 0 A && is_gap k v i i) =
           SelectionLemmas.gap-hit k is_selected is_trailing n turned v i left near inside has hit in
-          rw (kind, gap, is_number, is_end, is_start, is_line) refl
+          rw (kind, gap, slice-line k bytes i, is_number, is_end, is_start, is_line) refl

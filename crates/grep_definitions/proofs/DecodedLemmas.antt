@@ -5,7 +5,7 @@ use Rattle.grep_decode.specs.Decoded.{by_mark, decoded, found_mark, is_unchanged
 use Rattle.grep_decode.specs.Marks.{mark_of, marked}
 use Rattle.grep_decode.specs.declared.label.Label.{Label}
 use Rattle.grep_decode.specs.declared.label.Label.TheVariants.{Utf8}
-use Rattle.grep_definitions.specs.DecodedInputs.{searched_bytes, is_searched_unchanged, passes_after, passes_unchanged}
+use Rattle.grep_definitions.specs.DecodedInputs.{searched_bytes, is_searched_unchanged, encoding_after, encoding_of}
 use Rattle.grep_definitions.specs.SearchLaws.{MarkedPasses, UnchangedIsInput, UnchangedPasses, UnsniffedIsUnchanged}
 use Rattle.grep_definitions.specs.SearchLaws.{UnmarkedIsUnchanged}
 
@@ -29,19 +29,19 @@ unmarked-unchanged settings input unlabelled unmarked =
     rw unlabelled (none-found settings.bom_sniffing (marked input) unmarked)
 
 passes-without : (label mark : Option Label) → (not (is_some label) && not (is_some mark)) ≡ true
-    → passes_after mark label ≡ true
+    → encoding_after mark label ≡ None
 passes-without None None unchanged = refl
 passes-without None (Some mark) unchanged = absurd (cc)
 passes-without (Some label) mark unchanged = absurd (cc)
 
 pub unchanged-passes : UnchangedPasses
-unfolding is_searched_unchanged passes_unchanged
+unfolding is_searched_unchanged encoding_of
 unchanged-passes settings input is =
     passes-without settings.encoding (found_mark settings.encoding settings.bom_sniffing input) is
 
 pub marked-passes : MarkedPasses
-unfolding searched_bytes passes_unchanged
+unfolding searched_bytes encoding_of
 marked-passes settings input looks = (
-  ap (λ b. passes_after (if b then Some Utf8 else None) settings.encoding) looks,
+  ap (λ b. encoding_after (if b then Some Utf8 else None) settings.encoding) looks,
   ap (λ b. by_mark (if b then Some Utf8 else None) settings.encoding (mark_of Utf8 ++ input)) looks,
 )

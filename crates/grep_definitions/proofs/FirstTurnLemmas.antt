@@ -1,4 +1,5 @@
 -- The calls of the first lines begin the calls of all.
+use Rattle.grep_definitions.specs.Plans.{planned}
 use Rattle.std.proofs.Common.{◌≡◌, ℕ, zero, suc, ◌+◌, ◌-◌, ◌<◌, ◌≤◌, min, Bool, true, false, ◌&&◌, not, List, [], ◌∷◌}
 use Rattle.std.proofs.Common.{◌++◌, length, refl, sym, ap, subst, ◌∙◌, arith, inl, inr, ◌⊎◌, ⊎_elim, Option, Some, None}
 use Rattle.std.proofs.Common.{is_some, length-append, append-nil, if◌then◌else◌}
@@ -12,15 +13,23 @@ use Rattle.grep_matcher.specs.Matching.{Meaning}
 use Rattle.grep_lines.specs.LineLaws.{LinesJoin, LinesAppend}
 use Rattle.grep_report.specs.declared.sink_context.SinkContextKind.TheVariants.{Before, After, Other}
 use Rattle.grep_definitions.specs.Settings.{Settings}
-use Rattle.grep_definitions.specs.SinkCalls.{Turn, begins, breaks, matches, context}
+use Rattle.grep_definitions.proofs.LineSliceLemmas.{line-report}
+use Rattle.grep_definitions.specs.Plans.{Call, Planned, begins, breaks, matches, context}
 use Rattle.grep_definitions.specs.Below.{some_below, first_below, at_most, joined_from}
 use Rattle.grep_definitions.specs.LineSearch
 use Rattle.grep_definitions.specs.LineSearch.{can_break, Kind, matched, in_context}
 use Rattle.grep_definitions.proofs.BelowLemmas.{some_below-find, first_below-nowhere, some_below-some, first_below-of}
-use Rattle.grep_definitions.proofs.BelowLemmas.{first_below-late, joined_from-add, joined_from-equal, joined_from-none}
+use Rattle.grep_definitions.proofs.BelowLemmas.{first_below-late, first_below-none, joined_from-add, joined_from-equal}
+use Rattle.grep_definitions.proofs.BelowLemmas.{headed-through, joined_from-none}
 use Rattle.grep_definitions.proofs.FirstLineLemmas as prefix
 use Rattle.grep_definitions.proofs.FirstLineLemmas.{IsClosed, some_below-same, first_below-same}
-use Rattle.grep_definitions.proofs.BoolLemmas.{and-both, both_true}
+use Rattle.grep_definitions.proofs.BoolLemmas.{and-both, both_true, clash}
+use Rattle.grep_definitions.proofs.LineStartLemmas.{line_start-ascends}
+use Rattle.grep_definitions.proofs.TurnEndLemmas.{line_start-le}
+use Rattle.grep_definitions.specs.LineWalks.{IsNear}
+use Rattle.std.proofs.lemmas.List.{take_at, drop_at}
+use Rattle.std.proofs.lemmas.List.Elements.{All-drop, All-take}
+use Rattle.std.specs.Prelude.{All}
 
 -- a first number that passes stays the first, however far one looks
 first_below-far : (p : ℕ → Bool) (n m : ℕ) → some_below p n ≡ true → first_below p (n + m) ≡ first_below p n
@@ -291,51 +300,29 @@ module _ (join : LinesJoin) (append : LinesAppend) (k : Settings) (meaning : Mea
       let start = prefix.start-same join append k meaning front back closed i (omega arith) in
       let line = prefix.line-same join append k meaning front back closed i below in
       let end = end-same i below (Some matched) is in
-      ap (λ x. record {
-        call = matches x (LineSearch.start k meaning whole i)
-            (LineSearch.line k meaning whole i);
-        end = LineSearch.turn_end k meaning whole i (Some matched);
-      } ∷ []) number
-      ∙ ap (λ x. record {
-        call = matches (LineSearch.number k meaning front i) x
-            (LineSearch.line k meaning whole i);
-        end = LineSearch.turn_end k meaning whole i (Some matched);
-      } ∷ []) start
-      ∙ ap (λ x. record {
-        call = matches (LineSearch.number k meaning front i)
-            (LineSearch.start k meaning front i) x;
-        end = LineSearch.turn_end k meaning whole i (Some matched);
-      } ∷ []) line
-      ∙ ap (λ x. record {
-        call = matches (LineSearch.number k meaning front i) (LineSearch.start k meaning front i)
-            (LineSearch.line k meaning front i);
-        end = x;
-      } ∷ []) end
+      line-report k whole meaning i
+      ∙ ap (λ x. planned (matches x (LineSearch.start k meaning whole i) (LineSearch.line k meaning whole i))
+      (LineSearch.turn_end k meaning whole i (Some matched)) ∷ []) number
+      ∙ ap (λ x. planned (matches (LineSearch.number k meaning front i) x (LineSearch.line k meaning whole i))
+      (LineSearch.turn_end k meaning whole i (Some matched)) ∷ []) start
+      ∙ ap (λ x. planned (matches (LineSearch.number k meaning front i) (LineSearch.start k meaning front i) x)
+      (LineSearch.turn_end k meaning whole i (Some matched)) ∷ []) line
+      ∙ ap (λ x. planned (matches (LineSearch.number k meaning front i) (LineSearch.start k meaning front i)
+      (LineSearch.line k meaning front i)) x ∷ []) end
+      ∙ sym (line-report k front meaning i)
   report-same i below (Some (in_context c)) is =
       let number = prefix.number-same join append k meaning front back closed i (omega arith) in
       let start = prefix.start-same join append k meaning front back closed i (omega arith) in
       let line = prefix.line-same join append k meaning front back closed i below in
       let end = end-same i below (Some (in_context c)) is in
-      ap (λ x. record {
-        call = context c x (LineSearch.start k meaning whole i)
-            (LineSearch.line k meaning whole i);
-        end = LineSearch.turn_end k meaning whole i (Some (in_context c));
-      } ∷ []) number
-      ∙ ap (λ x. record {
-        call = context c (LineSearch.number k meaning front i) x
-            (LineSearch.line k meaning whole i);
-        end = LineSearch.turn_end k meaning whole i (Some (in_context c));
-      } ∷ []) start
-      ∙ ap (λ x. record {
-        call = context c (LineSearch.number k meaning front i)
-            (LineSearch.start k meaning front i) x;
-        end = LineSearch.turn_end k meaning whole i (Some (in_context c));
-      } ∷ []) line
-      ∙ ap (λ x. record {
-        call = context c (LineSearch.number k meaning front i) (LineSearch.start k meaning front i)
-            (LineSearch.line k meaning front i);
-        end = x;
-      } ∷ []) end
+      ap (λ x. (planned (context c x (LineSearch.start k meaning whole i) (LineSearch.line k meaning whole i))
+      (LineSearch.turn_end k meaning whole i (Some (in_context c)))) ∷ []) number
+      ∙ ap (λ x. (planned (context c (LineSearch.number k meaning front i) x (LineSearch.line k meaning whole i))
+      (LineSearch.turn_end k meaning whole i (Some (in_context c)))) ∷ []) start
+      ∙ ap (λ x. (planned (context c (LineSearch.number k meaning front i) (LineSearch.start k meaning front i) x)
+      (LineSearch.turn_end k meaning whole i (Some (in_context c)))) ∷ []) line
+      ∙ ap (λ x. planned (context c (LineSearch.number k meaning front i) (LineSearch.start k meaning front i)
+      (LineSearch.line k meaning front i)) x ∷ []) end
 
   -- how many lines have a turn, in the front and in the whole
   abbrev count_front : ℕ
@@ -465,7 +452,7 @@ module _ (join : LinesJoin) (append : LinesAppend) (k : Settings) (meaning : Mea
       ∙ ap (λ b. nat_lt 0 (k.after_context + k.before_context) && b
       && not (LineSearch.is_reported k meaning front (i - 1))
       && some_below (LineSearch.is_reported k meaning front) i) (breaks-same (LineSearch.kind k meaning front i)) in
-      let F : Bool → ℕ → List Turn → List Turn = λ b e ts. if b then record { call = breaks; end = e } ∷ ts else ts in
+      let F : Bool → ℕ → List Planned → List Planned = λ b e ts. if b then planned breaks e ∷ ts else ts in
       ap (λ b. F b (LineSearch.turn_end k meaning whole i (LineSearch.kind k meaning whole i))
       (LineSearch.report k meaning whole i (LineSearch.kind k meaning whole i))) breaks_same
       ∙ ap (λ o. F (LineSearch.breaks_before k meaning front i) (LineSearch.turn_end k meaning whole i o)
@@ -501,14 +488,14 @@ module _ (join : LinesJoin) (append : LinesAppend) (k : Settings) (meaning : Mea
 
   module _ (built : k.passthru ≡ true → k.before_context ≡ 0) where
     -- the calls over the front begin those over the whole
-    pub turns-begin : (later : List Turn) × (LineSearch.turns k meaning whole ≡ LineSearch.turns k meaning front
+    pub turns-begin : (later : List Planned) × (LineSearch.turns k meaning whole ≡ LineSearch.turns k meaning front
         ++ later)
     turns-begin = elim (split count_front (omega (arith, count-same))) [
       | inl same ↦
           let sum : count_whole ≡ count_front + (count_whole - count_front) = omega (arith, count-same) in (
             joined_from (LineSearch.turns_at k meaning whole) (0 + count_front) (count_whole - count_front),
-            ap (λ m. record { call = begins; end = 0 } ∷ joined_from (LineSearch.turns_at k meaning whole) 0 m) sum
-                ∙ ap (λ ts. record { call = begins; end = 0 } ∷ ts)
+            ap (λ m. planned begins 0 ∷ joined_from (LineSearch.turns_at k meaning whole) 0 m) sum
+                ∙ ap (λ ts. planned begins 0 ∷ ts)
                 (joined_from-add (LineSearch.turns_at k meaning whole) 0 count_front (count_whole - count_front)
                 ∙ ap (λ ts. ts ++ joined_from (LineSearch.turns_at k meaning whole) (0 + count_front)
                 (count_whole - count_front))
@@ -523,8 +510,8 @@ module _ (join : LinesJoin) (append : LinesAppend) (k : Settings) (meaning : Mea
           let empty = joined_from-none (LineSearch.turns_at k meaning front) (0 + i) (count_front - i)
           (λ j low high. late-turns built i j late.2 (omega arith) (omega (arith, count-same, late.1))) in (
             joined_from (LineSearch.turns_at k meaning whole) (0 + i) (count_whole - i),
-            ap (λ m. record { call = begins; end = 0 } ∷ joined_from (LineSearch.turns_at k meaning whole) 0 m) sum
-                ∙ ap (λ ts. record { call = begins; end = 0 } ∷ ts)
+            ap (λ m. planned begins 0 ∷ joined_from (LineSearch.turns_at k meaning whole) 0 m) sum
+                ∙ ap (λ ts. planned begins 0 ∷ ts)
                 (joined_from-add (LineSearch.turns_at k meaning whole) 0 i (count_whole - i)
                 ∙ ap (λ ts. ts ++ joined_from (LineSearch.turns_at k meaning whole) (0 + i) (count_whole - i))
                 (here ∙ sym (append-nil _) ∙ ap (λ ts. joined_from (LineSearch.turns_at k meaning front) 0 i ++ ts)
@@ -533,3 +520,120 @@ module _ (join : LinesJoin) (append : LinesAppend) (k : Settings) (meaning : Mea
                 ∙ ap (joined_from (LineSearch.turns_at k meaning front) 0) (sym part))),
           )
     ]
+
+    -- the calls that a walk has made that has come to the end of the front, if their turns have ended there, are those
+    -- over the front
+    module _ (v left : ℕ) (near : IsNear k meaning whole v n left) (turned : n ≤ count_whole)
+        (ended : All (λ turn. turn.if_false.count ≤ LineSearch.start k meaning whole n) (LineSearch.turns_before k
+        meaning whole v))
+      where
+        front_turned : n ≡ count_front
+        front_turned = omega (arith, count-same, turned)
+
+        -- a line that was passed has no call
+        passed-kind : (j : ℕ) → v ≤ j → j < n → LineSearch.kind k meaning front j ≡ None
+        passed-kind j low below =
+            let out = near.passed j low below in
+            let unselected : selected j ≡ false = sym (same_selected j below) ∙ out.0 in
+            let unfollowed : LineSearch.follows_selected k meaning front j ≡ false =
+            sym (prefix.follows-same join append k meaning front back closed j below) ∙ out.1 in
+            let plain : k.passthru ≡ false = ⊎_elim (λ yes. absurd (omega (arith, near.bare yes, low, below)))
+            (λ no. no) (cases_Bool k.passthru) in
+            let unpreceded : LineSearch.precedes_selected k meaning front j ≡ false = ⊎_elim
+            (λ holds. absurd (let found = some_below-find (near_before front j) n holds in
+            let match = near-from front j found.0 found.2 in
+            clash match.chosen (sym (same_selected found.0 found.1)
+            ∙ (near.passed found.0 (omega (arith, low, match.beyond)) found.1).0)))
+            (λ no. no) (cases_Bool (LineSearch.precedes_selected k meaning front j)) in
+            rw (unselected, unfollowed, unpreceded, plain) refl
+
+        passed-turns : (j : ℕ) → v ≤ j → j < n → LineSearch.turns_at k meaning front j ≡ []
+        passed-turns j low below =
+            let none = passed-kind j low below in
+            rw (none, and-false (nat_lt 0 (k.after_context + k.before_context))) refl
+
+        -- the calls of a line before
+        ended-at : (i : ℕ) → i < v
+            → All (λ turn. turn.if_false.count ≤ LineSearch.start k meaning whole n) (LineSearch.turns_at k meaning
+            whole i)
+        ended-at i below =
+            let f = LineSearch.turns_at k meaning whole in
+            let one : v ≡ i + suc (v - (i + 1)) = omega (arith, below) in
+            let from_zero : 0 + i ≡ i = omega arith in
+            let split : joined_from f 0 v ≡ joined_from f 0 i ++ (f i ++ joined_from f (i + 1) (v - (i + 1))) =
+            ap (joined_from f 0) one ∙ (joined_from-add f 0 i (suc (v - (i + 1)))
+            ∙ ap (λ m. joined_from f 0 i ++ joined_from f m (suc (v - (i + 1)))) from_zero) in
+            let P : Planned → Type 0 = λ turn. turn.if_false.count ≤ LineSearch.start k meaning whole n in
+            let later : All P (joined_from f 0 v) = λ m d inside. ended (suc m) d (omega (arith, inside)) in
+            let rest : List Planned = f i ++ joined_from f (i + 1) (v - (i + 1)) in
+            let there : All P rest = subst (All P) (drop_at (joined_from f 0 i) rest (length (joined_from f 0 i)) refl)
+            (All-drop P (length (joined_from f 0 i)) (joined_from f 0 i ++ rest) (subst (All P) split later)) in
+            subst (All P) (take_at (f i) (joined_from f (i + 1) (v - (i + 1))) (length (f i)) refl)
+            (All-take P (length (f i)) rest there)
+
+        -- a late line's calls belong to a match after the front
+        late-through : (i : ℕ) → IsLate i
+            → LineSearch.start k meaning whole n < LineSearch.start k meaning whole
+            (LineSearch.lines_through_next k meaning whole i)
+        late-through i late = go (first_below (later_in whole i) all) refl
+          where
+            go : (first : Option ℕ) → first_below (later_in whole i) all ≡ first
+                → LineSearch.start k meaning whole n < LineSearch.start k meaning whole
+                (LineSearch.lines_through_next k meaning whole i)
+            go None is =
+                let found = some_below-find (near_before whole i) all late.precedes in
+                let match = near-from whole i found.0 found.2 in
+                absurd (clash (some_below-some (later_in whole i) all found.0 found.1
+                (and-both (nat_lt i found.0) (LineSearch.is_selected k meaning whole found.0)
+                (lt-ltb i found.0 match.beyond) match.chosen)) (first_below-none (later_in whole i) all is))
+            go (Some q) is =
+                let found = first_below-of (later_in whole i) all q is in
+                let both = both_true (nat_lt i q) (LineSearch.is_selected k meaning whole q) found.1 in
+                let beyond = ltb-true i q both.0 in
+                let far : n ≤ q = ⊎_elim
+                (λ less. absurd (clash (sym (same_selected q less) ∙ both.1)
+                (late-unselected i q late (omega (arith, beyond)) less))) (λ out. out) (cases_lt q n) in
+                let up = line_start-ascends join (byte_of k.line_terminator) whole n (omega (arith, far, found.0)) in
+                let le = line_start-le (byte_of k.line_terminator) whole (n + 1) (q + 1) (omega (arith, far)) in
+                rw is (omega (arith, up, le))
+
+        not-late : (i : ℕ) → i < v → IsLate i → ⊥
+        not-late i below late =
+            let is : LineSearch.kind k meaning whole i ≡ Some (in_context Before) =
+            let s = same_selected i late.inside ∙ late.unselected in
+            let f = prefix.follows-same join append k meaning front back closed i late.inside ∙ late.unfollowed in
+            let p = late.precedes in
+            rw (s, f, p) refl in
+            let end = LineSearch.turn_end k meaning whole i (Some (in_context Before)) in
+            let all_ended = subst (λ kd. All (λ (turn : Planned). turn.if_false.count ≤ LineSearch.start k meaning whole
+            n)
+            (if LineSearch.breaks_before k meaning whole i
+            then (planned breaks (LineSearch.turn_end k meaning whole i kd))
+            ∷ LineSearch.report k meaning whole i kd
+            else LineSearch.report k meaning whole i kd)) is (ended-at i below) in
+            let low : end ≤ LineSearch.start k meaning whole n = go (LineSearch.breaks_before k meaning whole i)
+            (context Before (LineSearch.number k meaning whole i) (LineSearch.start k meaning whole i)
+            (LineSearch.line k meaning whole i)) end all_ended in
+            omega (arith, low, late-through i late)
+          where
+            go : (b : Bool) (call : Call) (end : ℕ)
+                → All (λ (turn : Planned). turn.if_false.count ≤ LineSearch.start k meaning whole n)
+                (if b then planned breaks end ∷ (planned call end) ∷ []
+                else planned call end ∷ [])
+                → end ≤ LineSearch.start k meaning whole n
+            go true call end all_ended = all_ended 0 (planned call end) (omega arith)
+            go false call end all_ended = all_ended 0 (planned call end) (omega arith)
+
+        same-kinds : Same v
+        same-kinds j below = ⊎_elim (λ same. same) (λ late. absurd (not-late j below late))
+            (kind-same j (omega (arith, below, near.low)))
+
+        pub turns-seen : LineSearch.turns_before k meaning whole v ≡ LineSearch.turns k meaning front
+        turns-seen =
+            let begin : Planned = (planned begins 0) in
+            let f = LineSearch.turns_at k meaning front in
+            let same = ap (λ ts. begin ∷ ts) (joined-same v same-kinds (omega (arith, front_turned, near.low))) in
+            let none = joined_from-none f v (count_front - v)
+            (λ j low high. passed-turns j low (omega (arith, high, front_turned, near.low))) in
+            same ∙ sym (headed-through begin f v count_front (omega (arith, front_turned, near.low))
+            ∙ (ap (λ ts. (begin ∷ joined_from f 0 v) ++ ts) none ∙ append-nil (begin ∷ joined_from f 0 v)))

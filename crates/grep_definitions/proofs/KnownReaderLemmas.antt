@@ -5,13 +5,8 @@ use Rattle.std.specs.List.{concat}
 use Rattle.std.specs.Io.KnownBytes.{Consumes, IsAtEnd}
 use Rattle.grep_decode.specs.DecoderStates.{Calls}
 use Rattle.grep_decode.specs.Source.{ReadResult}
-use Rattle.grep_definitions.specs.DecodedInputs.{IsInput, searched_bytes}
-use Rattle.grep_definitions.specs.ReaderSearches.{Taken}
-use Rattle.grep_definitions.specs.Searches.{ErrorMakers, MatcherFacts}
+use Rattle.grep_definitions.specs.Readings.{IsInput, Taken, searched_bytes}
 use Rattle.grep_definitions.specs.Settings.{Settings}
-use Rattle.grep_definitions.specs.SinkFolds.{KnownReadersRun}
-use Rattle.grep_definitions.specs.SinkRuns.{Steps}
-use Rattle.grep_definitions.proofs.SinkFoldLemmas.{reader_searches-run}
 
 module _ {R : Type 0} (remaining : R → Option (List ℕ)) (read_step : R → ReadResult → R → Type 0) where
   -- the decoded bytes of what remains are those of a whole input, whatever was taken
@@ -37,10 +32,3 @@ module _ {R : Type 0} (remaining : R → Option (List ℕ)) (read_step : R → R
         ap (searched_bytes k)
             takes,
       )
-
-  pub known_readers-run : {S E F : Type 0} (step : Steps S E) (errors : ErrorMakers E) (matcher : MatcherFacts F)
-      → KnownReadersRun step errors matcher remaining read_step
-  known_readers-run step errors matcher state reader input old reader' new none all lawful searched =
-      let run = reader_searches-run step errors matcher remaining read_step state reader old reader' new none lawful
-      searched in
-      run.run (searched_bytes state.settings input) (taken-input state.settings input reader reader' all run.taken)

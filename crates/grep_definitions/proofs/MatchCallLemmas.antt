@@ -1,4 +1,5 @@
 -- The matches that are reported, and the matched lines: those that are selected, or trailing after a selected one.
+use Rattle.grep_definitions.specs.Plans.{planned}
 use Rattle.std.proofs.Math.Bool.{and-false}
 use Rattle.std.proofs.Common.{◌≡◌, ℕ, zero, suc, ◌+◌, ◌-◌, ◌<◌, ◌≤◌, Bool, true, false, not, ◌&&◌, ◌||◌, List, [], ◌∷◌}
 use Rattle.std.proofs.Common.{◌++◌, length, refl, sym}
@@ -14,7 +15,8 @@ use Rattle.grep_matcher.specs.Matching.{Meaning}
 use Rattle.grep_lines.specs.LineLaws.{LinesAreNumbered}
 use Rattle.grep_report.specs.declared.sink_context.SinkContextKind.TheVariants.{Before, After, Other}
 use Rattle.grep_definitions.specs.Settings.{Settings}
-use Rattle.grep_definitions.specs.SinkCalls.{Call, Turn, breaks, matches}
+use Rattle.grep_definitions.proofs.LineSliceLemmas.{line-report}
+use Rattle.grep_definitions.specs.Plans.{Call, Planned, breaks, matches}
 use Rattle.grep_definitions.specs.SearchLaws.{is_match, is_matched, match_calls, match_of, matched_lines}
 use Rattle.grep_definitions.specs.Below.{some_below, count_below, first_below, is_below, is_at, joined_from}
 use Rattle.grep_definitions.specs.LineSearch
@@ -90,12 +92,12 @@ map-passing f p i (suc n) =
     go false = refl
 
 -- the matches of joined calls
-match_calls-append : (front back : List Turn) → match_calls (front ++ back) ≡ match_calls front ++ match_calls back
+match_calls-append : (front back : List Planned) → match_calls (front ++ back) ≡ match_calls front ++ match_calls back
 match_calls-append front back =
     rw (map-append (λ turn. turn.call) front back) (filter-append is_match (map (λ turn. turn.call) front)
     (map (λ turn. turn.call) back))
 
-match_calls-joined : (f : ℕ → List Turn) (i n : ℕ) → match_calls (joined_from f i n)
+match_calls-joined : (f : ℕ → List Planned) (i n : ℕ) → match_calls (joined_from f i n)
     ≡ joined_from (λ j. match_calls (f j)) i n
 match_calls-joined f i zero = refl
 match_calls-joined f i (suc n) =
@@ -189,7 +191,7 @@ module _ (numbered : LinesAreNumbered) (k : Settings) (meaning : Meaning) (bytes
 
   -- the match of a line, if it is one
   abbrev match_at : ℕ → List Call
-  match_at i = if is_matched k meaning bytes i then match_of k meaning bytes i ∷ [] else []
+  match_at i = if is_matched k meaning bytes i then match_of k bytes i ∷ [] else []
 
   match_calls-kind : (i : ℕ) → i < n
       → match_calls (LineSearch.report k meaning bytes i (LineSearch.kind k meaning bytes i)) ≡ match_at i
@@ -197,17 +199,16 @@ module _ (numbered : LinesAreNumbered) (k : Settings) (meaning : Meaning) (bytes
       go (selected i) (LineSearch.follows_selected k meaning bytes i) (LineSearch.is_trailing k meaning bytes i)
       (LineSearch.precedes_selected k meaning bytes i) k.passthru
     where
-      one : matches (LineSearch.number k meaning bytes i) (LineSearch.start k meaning bytes i)
-          (LineSearch.line k meaning bytes i) ∷ []
-          ≡ match_of k meaning bytes i ∷ []
-      one = ap (λ number. matches number (LineSearch.start k meaning bytes i) (LineSearch.line k meaning bytes i) ∷ [])
+      one : match_calls (LineSearch.report k meaning bytes i (Some LineSearch.matched)) ≡ match_of k bytes i ∷ []
+      one = ap match_calls (line-report k bytes meaning i) ∙ ap (λ number. matches number (LineSearch.start k meaning
+          bytes i) (LineSearch.line k meaning bytes i) ∷ [])
           (rw (numbered (byte_of k.line_terminator) bytes i inside) refl)
 
       go : (a b t c d : Bool)
           → match_calls (LineSearch.report k meaning bytes i (if a then Some LineSearch.matched
           else (if b then Some (if t then LineSearch.matched else in_context After)
           else (if c then Some (in_context Before) else (if d then Some (in_context Other) else None)))))
-          ≡ (if a || (b && t) then match_of k meaning bytes i ∷ [] else [])
+          ≡ (if a || (b && t) then match_of k bytes i ∷ [] else [])
       go true b t c d = one
       go false true true c d = one
       go false true false c d = refl
@@ -215,7 +216,7 @@ module _ (numbered : LinesAreNumbered) (k : Settings) (meaning : Meaning) (bytes
       go false false t false true = refl
       go false false t false false = refl
 
-  abbrev report : ℕ → List Turn
+  abbrev report : ℕ → List Planned
   report i = LineSearch.report k meaning bytes i (LineSearch.kind k meaning bytes i)
 
   match_calls-line : (i : ℕ) → i < n → match_calls (LineSearch.turns_at k meaning bytes i) ≡ match_at i
@@ -223,24 +224,24 @@ module _ (numbered : LinesAreNumbered) (k : Settings) (meaning : Meaning) (bytes
       go (LineSearch.breaks_before k meaning bytes i)
       (LineSearch.turn_end k meaning bytes i (LineSearch.kind k meaning bytes i))
     where
-      go : (b : Bool) (end : ℕ) → match_calls (if b then record { call = breaks; end = end } ∷ report i else report i)
+      go : (b : Bool) (end : ℕ) → match_calls (if b then planned breaks end ∷ report i else report i)
           ≡ match_at i
       go true end = match_calls-kind i inside
       go false end = match_calls-kind i inside
 
   -- the matches are those of the matched lines
   pub match_calls-turns : match_calls (LineSearch.turns k meaning bytes)
-      ≡ map (match_of k meaning bytes) (matched_lines k meaning bytes)
+      ≡ map (match_of k bytes) (matched_lines k meaning bytes)
   match_calls-turns =
       match_calls-joined (LineSearch.turns_at k meaning bytes) 0 turned
       ∙ joined_from-equal _ match_at 0 turned (λ j low high. match_calls-line j
       (omega (arith, high, turn_count-le k meaning bytes)))
-      ∙ sym (map-passing (match_of k meaning bytes) (is_matched k meaning bytes) 0 turned)
+      ∙ sym (map-passing (match_of k bytes) (is_matched k meaning bytes) 0 turned)
 
   pub length-match_calls : length (match_calls (LineSearch.turns k meaning bytes))
       ≡ count_below (is_matched k meaning bytes) turned
   length-match_calls =
-      ap length match_calls-turns ∙ length-map (matched_lines k meaning bytes) (match_of k meaning bytes)
+      ap length match_calls-turns ∙ length-map (matched_lines k meaning bytes) (match_of k bytes)
       ∙ length-passing (is_matched k meaning bytes) turned
 
   -- the first matched line is the first selected one
@@ -267,11 +268,11 @@ module _ (numbered : LinesAreNumbered) (k : Settings) (meaning : Meaning) (bytes
           (some_below-none _ q (λ j less. unmatched j (λ i low. first_below-before selected n q i is (omega arith))))
 
   pub first-match_calls : slice_get (match_calls (LineSearch.turns k meaning bytes)) 0
-      ≡ option_map (match_of k meaning bytes) (first_below selected n)
+      ≡ option_map (match_of k bytes) (first_below selected n)
   first-match_calls =
-      ap (λ xs. slice_get xs 0) match_calls-turns ∙ slice_get-map (match_of k meaning bytes)
+      ap (λ xs. slice_get xs 0) match_calls-turns ∙ slice_get-map (match_of k bytes)
       (matched_lines k meaning bytes) 0
-      ∙ ap (option_map (match_of k meaning bytes)) (first-passing (is_matched k meaning bytes) turned ∙ first-matched)
+      ∙ ap (option_map (match_of k bytes)) (first-passing (is_matched k meaning bytes) turned ∙ first-matched)
 
 -- no more numbers pass than there are
 pub count_below-few : (p : ℕ → Bool) (n : ℕ) → count_below p n ≤ n

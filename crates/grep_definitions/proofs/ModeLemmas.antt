@@ -1,12 +1,11 @@
--- A search in the mode that it runs in.
+-- The plan of a search in the mode that it runs in.
 use Rattle.std.proofs.Common.{◌≡◌, ℕ, false, List, ap}
-use Rattle.grep_matcher.specs.Matching.{Meaning}
-use Rattle.grep_definitions.specs.LineSearch
-use Rattle.grep_definitions.specs.Modes.{is_across}
-use Rattle.grep_definitions.specs.SearchTurns.{search_turns, calls_if}
+use Rattle.grep_matcher.specs.Meanings.{Meaning}
+use Rattle.grep_definitions.specs.Asking.{is_across, search_plan, selection_in}
+use Rattle.grep_definitions.specs.Reports.{reports_plan}
+use Rattle.grep_definitions.specs.SearchLaws.{line_plan}
 use Rattle.grep_definitions.specs.Settings.{Settings}
 
 module _ (k : Settings) (meaning : Meaning) (bytes : List ℕ) where
-  -- by line, the calls are those by line
-  pub turns-by_line : is_across k meaning ≡ false → search_turns k meaning bytes ≡ LineSearch.turns k meaning bytes
-  turns-by_line by_line = ap (λ b. (calls_if k meaning b).turns bytes) by_line
+  pub plan-by_line : is_across k meaning ≡ false → search_plan k meaning bytes ≡ line_plan k meaning bytes
+  plan-by_line by_line = ap (λ b. reports_plan k bytes (selection_in k meaning bytes b)) by_line

@@ -22,7 +22,7 @@ use Rattle.grep_definitions.specs.Modes.{is_across}
 use Rattle.grep_definitions.specs.Parties.{ErrorMakers, MatcherFacts}
 use Rattle.grep_definitions.specs.PlannedSearches.{Points, IsSearchOf, IsReaderSearch, IsCutSearch, IsRead, ran, asked}
 use Rattle.grep_definitions.specs.Plans.{Steps, Planned, Plan, Outcome, all_true, finish_after, AreMade, IsFinished}
-use Rattle.grep_definitions.specs.Plans.{IsRun}
+use Rattle.grep_definitions.specs.Plans.{IsRun, counted}
 use Rattle.grep_definitions.specs.ReaderSearches
 use Rattle.grep_definitions.specs.Readings.{Taken, IsCut}
 use Rattle.grep_definitions.specs.Readings
@@ -31,10 +31,8 @@ use Rattle.grep_definitions.specs.SearchTurns.{calls_across, calls_if, search_ca
 use Rattle.grep_definitions.specs.SearchTurns.{search_turn_count}
 use Rattle.grep_definitions.specs.Searches
 use Rattle.grep_definitions.specs.Settings.{Settings, SearcherState}
-use Rattle.grep_definitions.specs.SinkRuns
 use Rattle.grep_definitions.proofs.PlanLemmas.{plans-turns}
-use Rattle.grep_definitions.proofs.PlannedRunLemmas.{made-turns, finished-turns, outcome_by}
-use Rattle.grep_definitions.proofs.PlannedSliceLemmas.{plain-fault, quit-fault, run-planned, until-planned}
+use Rattle.grep_definitions.proofs.PlannedSliceLemmas.{plain-fault, quit-fault, until-planned}
 
 -- what the modes say of themselves
 across-in : (k : Settings) (meaning : Meaning) (b : Bool) → (calls_if k meaning b).across ≡ b
@@ -53,19 +51,7 @@ pub end-is : (k : Settings) (meaning : Meaning) (bytes : List ℕ)
     → search_turn_count k meaning bytes ≡ (selection_in k meaning bytes (is_across k meaning)).end
 end-is k meaning bytes = end-in k meaning bytes (is_across k meaning)
 
-pub all-by : {E : Type 0} (binary : Option ℕ) (o : SinkRuns.Outcome E) → outcome_by binary o ≡ all_true → o
-    ≡ SinkRuns.all_true
-all-by binary SinkRuns.all_true is = refl
-all-by binary (SinkRuns.stopped end) is = absurd (cc)
-all-by binary (SinkRuns.failed e) is = absurd (cc)
-
-pub count-by : {E : Type 0} (o : SinkRuns.Outcome E) (count : ℕ) (plan : Plan) → plan.finish.count ≡ count
-    → (finish_after (outcome_by None o) plan.finish).count ≡ SinkRuns.count_of o count
-count-by SinkRuns.all_true count plan is = is
-count-by (SinkRuns.stopped end) count plan is = refl
-count-by (SinkRuns.failed e) count plan is = is
-
-so-far : {k : Settings} {pieces : List (List ℕ)} {came : List ℕ} → IsDecodedSoFar k pieces came
+pub so-far : {k : Settings} {pieces : List (List ℕ)} {came : List ℕ} → IsDecodedSoFar k pieces came
     → IsComeSoFar k pieces came
 so-far decoded = record { none = decoded.none; all = decoded.all }
 
@@ -80,7 +66,7 @@ pub passes-unchanged : (k : Settings) (input : List ℕ) → encoding_of k input
 unfolding encoding_of passes_unchanged
 passes-unchanged k input is = passes-after (found_mark k.encoding k.bom_sniffing input) k.encoding is
 
-consumes-none : (o : Option (List ℕ)) → Consumes o o []
+pub consumes-none : (o : Option (List ℕ)) → Consumes o o []
 consumes-none None = tt
 consumes-none (Some bytes) = refl
 
@@ -90,21 +76,18 @@ module _ {R : Type 0} (remaining : R → Option (List ℕ)) (read_step : R → R
   IsReadAt = IsRead remaining read_step step errors matcher
 
   -- the calls over the lines that were seen, up to the first false or the last, and `finish`
-  abbrev planned-run : (k : Settings) (seen : List ℕ) (old : S) (outcome : SinkRuns.Outcome E) (mid : S)
+  abbrev planned-run : (k : Settings) (seen : List ℕ) (old : S) (outcome : Outcome E) (mid : S)
       (result : Result (Unit {0}) E) (new : S)
-      → SinkRuns.AreReported step k old (search_turns k matcher.meaning seen) outcome mid
-      → SinkRuns.IsFinished step k outcome mid (search_byte_count k matcher.meaning seen) None result new
+      → AreMade step k old (search_turns k matcher.meaning seen) outcome mid
+      → IsFinished step k outcome mid (counted (search_byte_count k matcher.meaning seen)) result new
       → IsRun step k old (search_plan k matcher.meaning seen) result new
   planned-run k seen old outcome mid result new reported finished =
-      let listed = plans-turns k matcher.meaning seen in
+      let listed = sym (plans-turns k matcher.meaning seen) in
       record {
-        outcome = outcome_by None outcome;
+        outcome = outcome;
         mid = mid;
-        made = subst (λ (p : Plan). AreMade step k old p.calls (outcome_by None outcome) mid) (sym listed)
-            (made-turns step k None (search_turns k matcher.meaning seen) old outcome mid reported);
-        finished = subst (λ (p : Plan). IsFinished step k (outcome_by None outcome) mid p.finish result new)
-            (sym listed)
-            (finished-turns step k None outcome mid (search_byte_count k matcher.meaning seen) result new finished);
+        made = subst (λ (p : Plan). AreMade step k old p.calls outcome mid) listed reported;
+        finished = subst (λ (p : Plan). IsFinished step k outcome mid p.finish result new) listed finished;
       }
 
   plain-run : (state : SearcherState) (reader : R) (old : S) (reader' : R) (new : S)
@@ -121,22 +104,22 @@ module _ {R : Type 0} (remaining : R → Option (List ℕ)) (read_step : R → R
         over_seen = ran None (λ bytes input. refl)
             (planned-run k run.seen old run.outcome run.mid (Ok tt) new run.reported run.finished) (
               (λ all goes_on bytes input. subst (λ n. n ≤ line_count k run.seen) (end-is k meaning bytes)
-                  (run.all bytes input (all-by None run.outcome all))),
+                  (run.all bytes input all)),
               (λ by_line. record {
                 begun = run.begun;
                 first = run.first;
                 begin = run.begin;
                 unread = run.unread (same ∙ by_line);
                 ahead = λ limit limited passes.
-                    subst (λ n. length (concat run.taken.pieces) ≤ n + limit + 3)
-                    (sym (count-by run.outcome (search_byte_count k meaning run.seen) (search_plan k meaning run.seen)
-                    (ap (λ (p : Plan). p.finish.count) (plans-turns k meaning run.seen))))
+                    subst (λ (p : Plan). length (concat run.taken.pieces)
+                    ≤ (finish_after run.outcome p.finish).count + limit + 3)
+                    (sym (plans-turns k meaning run.seen))
                     (run.ahead (same ∙ by_line) limit limited (passes-unchanged k (concat run.taken.pieces) passes));
               }),
             );
         each = λ bytes input. ran None refl
-            (run-planned step k (search_turns k meaning bytes) (search_byte_count k meaning bytes)
-            (search_plan k meaning bytes) (plans-turns k meaning bytes) old (Ok tt) new (run.run bytes input)) tt;
+            (subst (λ (p : Plan). IsRun step k old p (Ok tt) new) (sym (plans-turns k meaning bytes))
+            (run.run bytes input)) tt;
         whole = λ across. (run.whole (same ∙ across), run.below (same ∙ across));
       }
 
@@ -165,11 +148,11 @@ module _ {R : Type 0} (remaining : R → Option (List ℕ)) (read_step : R → R
 
   -- the calls for the lines that were seen, which all returned true
   made-seen : (k : Settings) (seen : List ℕ) (old new : S)
-      → SinkRuns.AreReported step k old (search_turns k matcher.meaning seen) SinkRuns.all_true new
+      → AreMade step k old (search_turns k matcher.meaning seen) all_true new
       → AreMade step k old (search_plan k matcher.meaning seen).calls all_true new
   made-seen k seen old new reported =
       subst (λ (p : Plan). AreMade step k old p.calls all_true new) (sym (plans-turns k matcher.meaning seen))
-      (made-turns step k None (search_turns k matcher.meaning seen) old SinkRuns.all_true new reported)
+      reported
 
   cut-none : (look : Look) (across : Bool) (view : List ℕ → List ℕ) (state : SearcherState)
       → (across ≡ true → is_across state.settings matcher.meaning ≡ true)

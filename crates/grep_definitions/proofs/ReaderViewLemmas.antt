@@ -1,28 +1,35 @@
 -- A reader that is seen through another that refers to it: if each call of the one is a call of the other, and the
 -- reference stays the same, a search of the one is a search of the other.
-use Rattle.std.proofs.Common.{◌≡◌, ◌⊎◌, ◌∙◌, ℕ, Bool, true, false, List, [], ◌∷◌, Option, Some, None, ap, inl, inr}
-use Rattle.std.proofs.Common.{refl, sym, subst}
+use Rattle.std.proofs.Common.{◌≡◌, ◌∙◌, ℕ, Bool, true, false, List, [], ◌∷◌, Option, Some, None, ap, inl, inr}
+use Rattle.std.proofs.Common.{sym, subst}
 use Rattle.std.specs.Prelude.{Result, Ok, Err}
 use Rattle.std.specs.declared.io.Error.{Error}
-use Rattle.grep_decode.specs.DecoderStates.{Calls}
 use Rattle.grep_decode.specs.Source.{ReadResult, Pulls}
-use Rattle.grep_matcher.specs.Matching.{Meaning}
+use Rattle.grep_matcher.specs.Meanings.{Meaning}
 use Rattle.grep_report.specs.declared.config_error.ConfigError.{ConfigError}
-use Rattle.grep_definitions.specs.BinaryBytes.{Look, nowhere, in_contents, on_stream, look_of, view_of}
-use Rattle.grep_definitions.specs.ReaderSearches.{Taken, Came, IsUnread, IsUnreadIn, IsReaderFaultIn}
-use Rattle.grep_definitions.specs.ReaderSearches.{IsReaderFaultUnless}
-use Rattle.grep_definitions.specs.ReaderSearches.{IsContentsRun, IsNotedReaderRun, IsPlainlySearched, IsReaderCut}
-use Rattle.grep_definitions.specs.ReaderSearches.{IsReaderRunIn, IsReaderSearched, IsSearchedAt}
-use Rattle.grep_definitions.specs.CallOrder.{IsReadingError}
-use Rattle.grep_definitions.specs.NotedSinks.{noted}
-use Rattle.grep_definitions.specs.StreamSearches.{stream_calls}
-use Rattle.grep_definitions.specs.ReaderSearches.{of_cut, of_reader, of_contents, of_failed_read, of_buffers, of_search}
-use Rattle.grep_definitions.specs.ReaderSearches.{of_reading}
-use Rattle.grep_definitions.specs.Refusals.{refusal_of}
-use Rattle.grep_definitions.specs.Searches.{ErrorMakers, MatcherFacts}
-use Rattle.grep_definitions.specs.SearchTurns.{SearchCalls, search_calls}
-use Rattle.grep_definitions.specs.Settings.{SearcherState}
-use Rattle.grep_definitions.specs.SinkRuns.{Steps}
+use Rattle.grep_definitions.specs.BinaryBytes.{Look, look_of}
+use Rattle.grep_definitions.specs.Parties.{ErrorMakers, MatcherFacts, refusal_of}
+use Rattle.grep_definitions.specs.PlannedSearches.{Points, IsSearchOf, HasReadLines, IsReaderSearch, IsRead}
+use Rattle.grep_definitions.specs.PlannedSearches.{IsUnlessThis, IsReaderSearched, ran, asked}
+use Rattle.grep_definitions.specs.Plans.{Steps, Plan, Outcome}
+use Rattle.grep_definitions.specs.Readings.{Reads, Taken, IsCut, IsUnread, IsReadingError}
+use Rattle.grep_definitions.specs.Readings.{of_lines, of_reader, of_contents, of_failed_read, of_buffers}
+use Rattle.grep_definitions.specs.Settings.{Settings, SearcherState}
+
+-- how far a search has read is said of it
+search-reads : {S E F : Type 0} (step : Steps S E) (errors : ErrorMakers E) (matcher : MatcherFacts F)
+    (settings : Settings) (IsAt : Points) (HasRead HasRead2 : Plan → Outcome E → Type 0)
+    → ((plan : Plan) (outcome : Outcome E) → HasRead plan outcome → HasRead2 plan outcome)
+    → (bytes : List ℕ) (old : S) (result : Result (Unit {0}) E) (new : S)
+    → IsSearchOf step errors matcher settings IsAt HasRead bytes old result new
+    → IsSearchOf step errors matcher settings IsAt HasRead2 bytes old result new
+search-reads step errors matcher settings IsAt HasRead HasRead2 more bytes old (Ok u) new (ran point at run read) =
+    ran point at run (more _ run.outcome read)
+search-reads step errors matcher settings IsAt HasRead HasRead2 more bytes old (Err e) new (ran point at run read) =
+    ran point at run tt
+search-reads step errors matcher settings IsAt HasRead HasRead2 more bytes old (Err e) new
+    (asked haystack error calls asks fails message made) =
+    asked haystack error calls asks fails message made
 
 module _ {R T N : Type 0} (view : R → T) (name : R → N) (remaining : T → Option (List ℕ))
     (read : R → ReadResult → R → Type 0) (seen_read : T → ReadResult → T → Type 0)
@@ -36,88 +43,29 @@ module _ {R T N : Type 0} (view : R → T) (name : R → N) (remaining : T → O
       let rest = Pulls-seen mid pieces new later in
       (sym first.0 ∙ rest.0, (filled, (view mid, first.1, rest.1)))
 
-  Calls-seen : (ended : Bool) (old : R) (pieces : List (List ℕ)) (new : R)
-      → Calls (λ s. remaining (view s)) read false ended old pieces new
-      → (name old ≡ name new) × Calls remaining seen_read false ended (view old) pieces (view new)
-  Calls-seen false old pieces new calls = Pulls-seen old pieces new calls
-  Calls-seen true old pieces new (mid, calls, last, at_end) =
+  Reads-seen : (ended : Bool) (old : R) (pieces : List (List ℕ)) (new : R)
+      → Reads (λ s. remaining (view s)) read ended old pieces new
+      → (name old ≡ name new) × Reads remaining seen_read ended (view old) pieces (view new)
+  Reads-seen false old pieces new calls = Pulls-seen old pieces new calls
+  Reads-seen true old pieces new (mid, calls, last, at_end) =
       let first = Pulls-seen old pieces mid calls in
       let ended = seen mid (Ok []) new last in
       (first.0 ∙ sym ended.0, (view mid, first.1, ended.1, at_end))
 
   Taken-named : (old new : R) → Taken (λ s. remaining (view s)) read old new → name old ≡ name new
-  Taken-named old new taken = (Calls-seen taken.ended old taken.pieces new taken.calls).0
+  Taken-named old new taken = (Reads-seen taken.ended old taken.pieces new taken.calls).0
 
   abbrev Taken-seen : (old new : R) → Taken (λ s. remaining (view s)) read old new
       → Taken remaining seen_read (view old) (view new)
   Taken-seen old new taken = record {
     ended = taken.ended;
     pieces = taken.pieces;
-    calls = (Calls-seen taken.ended old taken.pieces new taken.calls).1;
+    calls = (Reads-seen taken.ended old taken.pieces new taken.calls).1;
     takes = taken.takes;
   }
 
-  -- one more call, if it failed, is one of the other too
-  Then-seen : (ended : Bool) (mid new : R) → (mid ≡ new)
-      ⊎ ((error : Error) × (ended ≡ false) × read mid (Err error) new)
-      → (name mid ≡ name new)
-      × ((view mid ≡ view new) ⊎ ((error : Error) × (ended ≡ false) × seen_read (view mid) (Err error) (view new)))
-  Then-seen ended mid new (inl same) = (ap name same, inl (ap view same))
-  Then-seen ended mid new (inr (error, unended, failed)) =
-      let one = seen mid (Err error) new failed in
-      (sym one.0, inr (error, unended, one.1))
-
   module _ (state : SearcherState) (reader reader' : R) (last : T)
       (ends : name reader ≡ name reader' → last ≡ view reader') where
-    abbrev Came-seen : Came (λ s. remaining (view s)) read reader reader' → Came remaining seen_read (view reader) last
-    Came-seen came =
-        let then_seen = Then-seen came.taken.ended came.mid reader' came.then_failed in
-        record {
-          mid = view came.mid;
-          taken = Taken-seen reader came.mid came.taken;
-          then_failed = subst (λ after. (view came.mid ≡ after)
-              ⊎ ((error : Error) × (came.taken.ended ≡ false) × seen_read (view came.mid) (Err error) after))
-              (sym (ends (Taken-named reader came.mid came.taken ∙ then_seen.0))) then_seen.1;
-        }
-
-    IsUnreadIn-seen : (across : Bool) (shown : List ℕ → List ℕ) (meaning : Meaning) (lines : Option (List ℕ))
-        (error : Error)
-        → IsUnreadIn (λ s. remaining (view s)) read across shown state meaning reader lines error reader'
-        → IsUnreadIn remaining seen_read across shown state meaning (view reader) lines error last
-    IsUnreadIn-seen across shown meaning lines error unread =
-        subst (IsUnreadIn remaining seen_read across shown state meaning (view reader) lines error)
-        (sym (ends (named lines error reader' unread))) (whole lines error reader' unread)
-      where
-        named : (lines : Option (List ℕ)) (error : Error) (after : R)
-            → IsUnreadIn (λ s. remaining (view s)) read across shown state meaning reader lines error after
-            → name reader ≡ name after
-        named (Some lines) error after (of_cut by_line unquit taken cut) = Taken-named reader after taken
-        named (Some lines) error after (of_reader by_line unquit mid taken unended failed goes_on came so_far
-            unended_line) =
-            Taken-named reader mid taken ∙ sym (seen mid (Err error) after failed).0
-        named None error after (of_contents is_across taken cut) = Taken-named reader after taken
-        named None error after (of_failed_read is_across mid taken unended failed came so_far below) =
-            Taken-named reader mid taken ∙ sym (seen mid (Err error) after failed).0
-        named None error after (of_buffers none memory) = refl
-
-        whole : (lines : Option (List ℕ)) (error : Error) (after : R)
-            → IsUnreadIn (λ s. remaining (view s)) read across shown state meaning reader lines error after
-            → IsUnreadIn remaining seen_read across shown state meaning (view reader) lines error (view after)
-        whole (Some lines) error after (of_cut by_line unquit taken cut) = of_cut by_line unquit
-            (Taken-seen reader after taken) cut
-        whole (Some lines) error after (of_reader by_line unquit mid taken unended failed goes_on came so_far
-            unended_line) =
-            of_reader by_line unquit (view mid) (Taken-seen reader mid taken) unended
-            (seen mid (Err error) after failed).1 goes_on came
-            so_far unended_line
-        whole None error after (of_contents is_across taken cut) = of_contents is_across (Taken-seen reader after taken)
-            cut
-        whole None error after (of_failed_read is_across mid taken unended failed came so_far below) =
-            of_failed_read is_across (view mid) (Taken-seen reader mid taken) unended
-            (seen mid (Err error) after failed).1
-            came so_far below
-        whole None error after (of_buffers none memory) = of_buffers none memory
-
     pub IsReadingError-seen : (error : Error) → IsReadingError (λ s. remaining (view s)) read reader reader' error
         → IsReadingError remaining seen_read (view reader) last error
     IsReadingError-seen error (inl (mid, taken, unended, failed)) =
@@ -130,115 +78,117 @@ module _ {R T N : Type 0} (view : R → T) (name : R → N) (remaining : T → O
         )
     IsReadingError-seen error (inr own) = inr own
 
-    pub IsUnread-seen : (meaning : Meaning) (lines : Option (List ℕ)) (error : Error)
-        → IsUnread (λ s. remaining (view s)) read state meaning reader lines error reader'
-        → IsUnread remaining seen_read state meaning (view reader) lines error last
-    IsUnread-seen meaning = IsUnreadIn-seen (search_calls state.settings meaning).across (view_of state.settings)
-        meaning
+    module _ (meaning : Meaning) (mid : R) (taken : Taken (λ s. remaining (view s)) read reader mid)
+        (lines : List ℕ) where
+      IsCut-named : (begun : Bool) (error : Error)
+          → IsCut (λ s. remaining (view s)) read state meaning reader mid reader' taken lines begun error
+          → name reader ≡ name reader'
+      IsCut-named true error (of_lines stops same cut) = Taken-named reader mid taken ∙ ap name same
+      IsCut-named true error (of_reader stops (unended, failed) came so_far open_line) =
+          Taken-named reader mid taken ∙ sym (seen mid (Err error) reader' failed).0
+      IsCut-named false error (of_contents across same cut) = Taken-named reader mid taken ∙ ap name same
+      IsCut-named false error (of_failed_read across (unended, failed) came so_far below) =
+          Taken-named reader mid taken ∙ sym (seen mid (Err error) reader' failed).0
+      IsCut-named false error (of_buffers none memory same) = sym (ap name same)
 
-    module _ {S E F : Type 0} (step : Steps S E) (errors : ErrorMakers E) (matcher : MatcherFacts F)
-        (calls : SearchCalls) where
-      IsReaderFaultIn-seen : (old : S) (e : E) (new : S)
-          → IsReaderFaultIn (λ s. remaining (view s)) read step errors matcher calls state reader old e reader' new
-          → IsReaderFaultIn remaining seen_read step errors matcher calls state (view reader) old e last new
-      IsReaderFaultIn-seen old e new (of_search taken lines ended fault all) =
-          subst (λ after. IsReaderFaultIn remaining seen_read step errors matcher calls state (view reader) old e after
-          new)
-          (sym (ends (Taken-named reader reader' taken)))
-          (of_search (Taken-seen reader reader' taken) lines ended fault all)
-      IsReaderFaultIn-seen old e new (of_reading lines error unread made reported) =
-          of_reading lines error (IsUnreadIn-seen calls.across calls.view matcher.meaning lines error unread) made
-          reported
+      IsCut-view : (begun : Bool) (error : Error)
+          → IsCut (λ s. remaining (view s)) read state meaning reader mid reader' taken lines begun error
+          → IsCut remaining seen_read state meaning (view reader) (view mid) (view reader')
+          (Taken-seen reader mid taken) lines begun error
+      IsCut-view true error (of_lines stops same cut) = of_lines stops (ap view same) cut
+      IsCut-view true error (of_reader stops (unended, failed) came so_far open_line) =
+          of_reader stops (unended, (seen mid (Err error) reader' failed).1) came so_far open_line
+      IsCut-view false error (of_contents across same cut) = of_contents across (ap view same) cut
+      IsCut-view false error (of_failed_read across (unended, failed) came so_far below) =
+          of_failed_read across (unended, (seen mid (Err error) reader' failed).1) came so_far below
+      IsCut-view false error (of_buffers none memory same) = of_buffers none memory (ap view same)
 
-      abbrev IsReaderRunIn-view : (old new : S)
-          → IsReaderRunIn (λ s. remaining (view s)) read step errors matcher calls state.settings reader old reader' new
-          → IsReaderRunIn remaining seen_read step errors matcher calls state.settings (view reader) old (view reader')
-          new
-      IsReaderRunIn-view old new run = record {
-        taken = Taken-seen reader reader' run.taken;
-        seen = run.seen;
-        outcome = run.outcome;
-        mid = run.mid;
-        reported = run.reported;
-        finished = run.finished;
-        front = run.front;
-        run = run.run;
-        all = run.all;
-        begun = run.begun;
-        first = run.first;
-        begin = run.begin;
-        unread = λ by_line idle. ap view (run.unread by_line idle);
-        whole = run.whole;
-        below = run.below;
-        ahead = run.ahead;
-      }
+      IsCut-seen : (begun : Bool) (error : Error)
+          → IsCut (λ s. remaining (view s)) read state meaning reader mid reader' taken lines begun error
+          → IsCut remaining seen_read state meaning (view reader) (view mid) last
+          (Taken-seen reader mid taken) lines begun error
+      IsCut-seen begun error cut =
+          subst (λ after. IsCut remaining seen_read state meaning (view reader) (view mid) after
+          (Taken-seen reader mid taken) lines begun error)
+          (sym (ends (IsCut-named begun error cut))) (IsCut-view begun error cut)
+
+    pub IsUnread-seen : (meaning : Meaning) (begun : Bool) (lines : List ℕ) (error : Error)
+        → IsUnread (λ s. remaining (view s)) read state meaning reader begun lines error reader'
+        → IsUnread remaining seen_read state meaning (view reader) begun lines error last
+    IsUnread-seen meaning begun lines error (mid, taken, cut) =
+        (view mid, Taken-seen reader mid taken, IsCut-seen meaning mid taken lines begun error cut)
+
+    module _ {S E F : Type 0} (step : Steps S E) (errors : ErrorMakers E) (matcher : MatcherFacts F) (look : Look)
+      where
+        search-view : (old : S) (result : Result (Unit {0}) E) (new : S)
+            → IsReaderSearch (λ s. remaining (view s)) read step errors matcher state look reader old result reader' new
+            → IsReaderSearch remaining seen_read step errors matcher state look (view reader) old result (view reader')
+            new
+        search-view old result new search = record {
+          taken = Taken-seen reader reader' search.taken;
+          seen = search.seen;
+          front = search.front;
+          over_seen = search-reads step errors matcher state.settings _ _ _
+              (λ plan outcome read. (read.0, λ by_line. lines-view plan outcome (read.1 by_line)))
+              search.seen old result new search.over_seen;
+          each = search.each;
+          whole = search.whole;
+        }
+          where
+            lines-view : (plan : Plan) (outcome : Outcome E)
+                → HasReadLines (λ s. remaining (view s)) read step errors matcher state look reader old reader'
+                search.taken plan outcome
+                → HasReadLines remaining seen_read step errors matcher state look (view reader) old (view reader')
+                (Taken-seen reader reader' search.taken) plan outcome
+            lines-view plan outcome lines = record {
+              begun = lines.begun;
+              first = lines.first;
+              begin = lines.begin;
+              unread = λ idle. ap view (lines.unread idle);
+              ahead = lines.ahead;
+            }
+
+        search-seen : (old : S) (result : Result (Unit {0}) E) (new : S)
+            → IsReaderSearch (λ s. remaining (view s)) read step errors matcher state look reader old result reader' new
+            → IsReaderSearch remaining seen_read step errors matcher state look (view reader) old result last new
+        search-seen old result new search =
+            subst (λ after. IsReaderSearch remaining seen_read step errors matcher state look (view reader) old result
+            after new)
+            (sym (ends (Taken-named reader reader' search.taken))) (search-view old result new search)
+
+        IsRead-seen : (old : S) (result : Result (Unit {0}) E) (new : S)
+            → IsRead (λ s. remaining (view s)) read step errors matcher state look reader old result reader' new
+            → IsRead remaining seen_read step errors matcher state look (view reader) old result last new
+        IsRead-seen old (Ok u) new search = search-seen old (Ok u) new search
+        IsRead-seen old (Err e) new (inl search) = inl (search-seen old (Err e) new search)
+        IsRead-seen old (Err e) new (inr cut) = inr (record {
+          mid = view cut.mid;
+          taken = Taken-seen reader cut.mid cut.taken;
+          seen = cut.seen;
+          begun = cut.begun;
+          error = cut.error;
+          cause = IsCut-seen matcher.meaning cut.mid cut.taken cut.seen cut.begun cut.error cut.cause;
+          made = cut.made;
+          calls = cut.calls;
+          none = cut.none;
+        })
 
     module _ {S E F : Type 0} (step : Steps S E) (errors : ErrorMakers E) (matcher : MatcherFacts F) where
-      contents-seen : (Ends : List ℕ → Type 0)
-          → IsContentsRun (λ s. remaining (view s)) read step errors matcher state.settings reader reader' Ends
-          → IsContentsRun remaining seen_read step errors matcher state.settings (view reader) last Ends
-      contents-seen Ends run =
-          subst (λ after. IsContentsRun remaining seen_read step errors matcher state.settings (view reader) after Ends)
-          (sym (ends (Taken-named reader reader' run.taken)))
-          (record { taken = Taken-seen reader reader' run.taken; whole = run.whole; run = run.run; below = run.below })
-
-      cut-seen : (old : S) (result : Result (Unit {0}) E) (new : S)
-          → IsReaderCut (λ s. remaining (view s)) read step errors matcher state.settings reader old result reader' new
-          → IsReaderCut remaining seen_read step errors matcher state.settings (view reader) old result last new
-      cut-seen old result new cut =
-          subst (λ after. IsReaderCut remaining seen_read step errors matcher state.settings (view reader) old result
-          after new)
-          (sym (ends (Taken-named reader reader' cut.taken)))
-          (record { taken = Taken-seen reader reader' cut.taken; run = cut.run; ahead = cut.ahead })
-
-      at-seen : (look : Look) (old : S) (result : Result (Unit {0}) E) (new : S)
-          → IsSearchedAt (λ s. remaining (view s)) read step errors matcher look state reader old result reader' new
-          → IsSearchedAt remaining seen_read step errors matcher look state (view reader) old result last new
-      at-seen nowhere old (Ok u) new run =
-          subst (λ after. IsPlainlySearched remaining seen_read step errors matcher state (view reader) old (Ok u) after
-          new)
-          (sym (ends (Taken-named reader reader' run.taken)))
-          (IsReaderRunIn-view step errors matcher (search_calls state.settings matcher.meaning) old new run)
-      at-seen nowhere old (Err e) new fault =
-          IsReaderFaultIn-seen step errors matcher (search_calls state.settings matcher.meaning) old e new fault
-      at-seen (in_contents b) old (Ok u) new run = contents-seen _ run
-      at-seen (in_contents b) old (Err e) new (inl run) = inl (contents-seen _ run)
-      at-seen (in_contents b) old (Err e) new (inr (error, unread, made, same)) =
-          inr (error, IsUnreadIn-seen true (view_of state.settings) matcher.meaning None error unread, made, same)
-      at-seen on_stream old (Ok u) new (inl run) = inl (
-          subst (λ after. IsNotedReaderRun remaining seen_read step errors matcher state.settings (view reader) old
-          after new)
-          (sym (ends (Taken-named reader reader' run.run.taken))) (record {
-            found = run.found;
-            run = IsReaderRunIn-view (noted step) errors matcher (stream_calls state.settings matcher.meaning)
-                (old, None) (new, run.found) run.run;
-            noted_for = run.noted_for;
-            clear = run.clear;
-            each = run.each;
-          }))
-      at-seen on_stream old (Ok u) new (inr cut) = inr (cut-seen old (Ok u) new cut)
-      at-seen on_stream old (Err e) new (inl fault) = inl (record {
-        found = fault.found;
-        fault = IsReaderFaultIn-seen (noted step) errors matcher (stream_calls state.settings matcher.meaning)
-            (old, None) e (new, fault.found) fault.fault;
-        came = Came-seen fault.came;
-        noted_for = fault.noted_for;
-        clear = fault.clear;
-      })
-      at-seen on_stream old (Err e) new (inr cut) = inr (cut-seen old (Err e) new cut)
-
       pub IsReaderSearched-seen : (old : S) (result : Result (Unit {0}) E) (new : S)
           → IsReaderSearched (λ s. remaining (view s)) read step errors matcher state reader old result reader' new
           → IsReaderSearched remaining seen_read step errors matcher state (view reader) old result last new
-      IsReaderSearched-seen old (Ok u) new (allowed, searched) =
-          (allowed, λ lawful. at-seen (look_of state.settings matcher.meaning false) old (Ok u) new (searched lawful))
-      IsReaderSearched-seen old (Err e) new searched = fault (refusal_of state.settings matcher.meaning) searched
+      IsReaderSearched-seen old result new searched = go (refusal_of state.settings matcher.meaning) searched
         where
-          fault : (refusal : Option ConfigError)
-              → IsReaderFaultUnless (λ s. remaining (view s)) read step errors matcher refusal state reader old e
-              reader' new
-              → IsReaderFaultUnless remaining seen_read step errors matcher refusal state (view reader) old e last new
-          fault (Some refusal) (made, same, untouched) =
-              (made, same, ends (ap name (sym untouched)) ∙ ap view untouched)
-          fault None fails = λ lawful. at-seen (look_of state.settings matcher.meaning false) old (Err e) new
-              (fails lawful)
+          go : (refusal : Option ConfigError)
+              → IsUnlessThis errors matcher state.settings old result new (reader' ≡ reader)
+              (IsRead (λ s. remaining (view s)) read step errors matcher state (look_of state.settings matcher.meaning
+              false) reader old result
+              reader' new) refusal
+              → IsUnlessThis errors matcher state.settings old result new (last ≡ view reader)
+              (IsRead remaining seen_read step errors matcher state (look_of state.settings matcher.meaning false)
+              (view reader) old result last new) refusal
+          go None searched = λ lawful. IsRead-seen step errors matcher (look_of state.settings matcher.meaning false)
+              old
+              result new (searched lawful)
+          go (Some refusal) (e, is, made, same, left) =
+              (e, is, made, same, ends (sym (ap name left)) ∙ ap view left)

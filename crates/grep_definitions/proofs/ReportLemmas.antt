@@ -1,4 +1,5 @@
 -- The reports of lines ascend: each ends by the offset of each later one.
+use Rattle.grep_definitions.specs.Plans.{planned}
 use Rattle.std.proofs.Common.{◌≡◌, ℕ, zero, suc, ◌+◌, ◌<◌, ◌≤◌, Bool, true, false, List, [], ◌∷◌, ◌++◌, length, refl}
 use Rattle.std.proofs.Common.{sym, ap, subst, ◌∙◌, arith, ◌⊎◌, ⊎_elim, if◌then◌else◌}
 use Rattle.std.proofs.lemmas.Bool.{cases_lt}
@@ -7,15 +8,15 @@ use Rattle.std.proofs.lemmas.List.Elements.{All-nil, All-cons, All-weaker, filte
 use Rattle.std.proofs.lemmas.List.Kept.{AllPairs-cons}
 use Rattle.std.specs.Prelude.{All, map, filter}
 use Rattle.grep_definitions.specs.Below.{joined_from}
-use Rattle.grep_definitions.specs.NotedSinks.{reported_to}
-use Rattle.grep_definitions.specs.SearchLaws.{AreInOrder, report_calls}
-use Rattle.grep_definitions.specs.SinkCalls.{Call, Turn, breaks, is_report, reported_bytes, reported_from}
+use Rattle.grep_definitions.specs.SearchLaws.{reported_to, AreInOrder, is_report, report_calls}
+use Rattle.grep_definitions.specs.Plans.{Call, Planned, breaks, reported_bytes, reported_from}
 
 -- the reports of some calls, and then those of the later calls
-report_calls-append : (front back : List Turn) → report_calls (front ++ back) ≡ report_calls front ++ report_calls back
+report_calls-append : (front back : List Planned) → report_calls (front ++ back) ≡ report_calls front ++ report_calls
+    back
 report_calls-append front back =
-    ap (filter is_report) (map-append (λ (turn : Turn). turn.call) front back)
-    ∙ filter-append is_report (map (λ (turn : Turn). turn.call) front) (map (λ (turn : Turn). turn.call) back)
+    ap (filter is_report) (map-append (λ (turn : Planned). turn.call) front back)
+    ∙ filter-append is_report (map (λ (turn : Planned). turn.call) front) (map (λ (turn : Planned). turn.call) back)
 
 -- some reports, of which the first isn't before a bound
 pub record InOrderFrom (low : ℕ) (reports : List Call) : Type 0 where
@@ -53,12 +54,12 @@ in_order-cons low report later above some follow = record {
 }
 
 -- a break is no report
-pub report_calls-broken : (broken : Bool) (end : ℕ) (turns : List Turn)
-    → report_calls (if broken then record { call = breaks; end = end } ∷ turns else turns) ≡ report_calls turns
+pub report_calls-broken : (broken : Bool) (end : ℕ) (turns : List Planned)
+    → report_calls (if broken then planned breaks end ∷ turns else turns) ≡ report_calls turns
 report_calls-broken true end turns = refl
 report_calls-broken false end turns = refl
 
-module _ (f : ℕ → List Turn) (start : ℕ → ℕ) where
+module _ (f : ℕ → List Planned) (start : ℕ → ℕ) where
   -- line i has a report, of itself and of the lines up to line `next`, which have none
   pub record IsReported (i : ℕ) : Type 0 where
     pub call : Call

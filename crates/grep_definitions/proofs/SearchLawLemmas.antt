@@ -1,4 +1,5 @@
 -- What the calls of a line, and of the lines together, tell.
+use Rattle.grep_definitions.specs.Plans.{planned}
 use Rattle.std.proofs.Common.{◌≡◌, ℕ, zero, suc, ◌+◌, ◌-◌, ◌<◌, ◌≤◌, Bool, true, false, List, [], ◌∷◌, length}
 use Rattle.std.proofs.Common.{slice_index, refl, sym, ap, subst, ◌∙◌, arith, ◌⊎◌, inl, inr, ⊎_elim, Option, Some, None}
 use Rattle.std.proofs.Common.{if◌then◌else◌}
@@ -12,7 +13,8 @@ use Rattle.grep_matcher.specs.Matching.{Meaning}
 use Rattle.grep_lines.specs.LineLaws.{LinesJoin}
 use Rattle.grep_report.specs.declared.sink_context.SinkContextKind.TheVariants.{Before, After, Other}
 use Rattle.grep_definitions.specs.Settings.{Settings}
-use Rattle.grep_definitions.specs.SinkCalls.{Call, Turn, matches, context, breaks, reported_bytes, reported_from}
+use Rattle.grep_definitions.proofs.LineSliceLemmas.{line-report, slice-line}
+use Rattle.grep_definitions.specs.Plans.{Call, Planned, matches, context, breaks, reported_bytes, reported_from}
 use Rattle.grep_definitions.specs.SearchLaws.{AreInOrder, is_match, is_matched, report_calls}
 use Rattle.grep_definitions.specs.Below.{count_below, first_below, at_most, joined_from}
 use Rattle.grep_definitions.specs.LineSearch
@@ -56,12 +58,12 @@ abbrev pub AscendFrom : ℕ → List ℕ → Type 0
 AscendFrom low offsets = IsStrictlyIncreasing offsets × (0 < length offsets → low ≤ slice_index offsets 0)
 
 -- how many matches some calls report
-abbrev pub matches_in : List Turn → ℕ
+abbrev pub matches_in : List Planned → ℕ
 matches_in = count_by (λ turn. is_match turn.call)
 
 -- some first lines report no more matches than numbers pass, if a line reports one at most, and only if its number
 -- passes
-pub matches-joined : (f : ℕ → List Turn) (p : ℕ → Bool) → ((i : ℕ) → matches_in (f i) ≤ (if p i then 1 else 0))
+pub matches-joined : (f : ℕ → List Planned) (p : ℕ → Bool) → ((i : ℕ) → matches_in (f i) ≤ (if p i then 1 else 0))
     → (m : ℕ)
     → matches_in (joined_from f 0 m) ≤ count_below p m
 matches-joined f p one zero = omega arith
@@ -139,7 +141,7 @@ module _ (k : Settings) (meaning : Meaning) (bytes : List ℕ) where
   abbrev has_room : ℕ → Bool
   has_room = LineSearch.is_open_at k meaning bytes
 
-  abbrev T : ℕ → List Turn
+  abbrev T : ℕ → List Planned
   T = turns_at k meaning bytes
 
   -- no more lines have a turn than there are
@@ -181,12 +183,9 @@ module _ (k : Settings) (meaning : Meaning) (bytes : List ℕ) where
   -- trailing
   pub turns_at-follows : (i j : ℕ) → i < LineSearch.turn_count k meaning bytes → selected i ≡ false → selected j ≡ true
       → j < i → i - j ≤ k.after_context → T i
-      ≡ record {
-        call = if LineSearch.is_trailing k meaning bytes i
-            then matches (LineSearch.number k meaning bytes i) (start i) (LineSearch.line k meaning bytes i)
-            else context After (LineSearch.number k meaning bytes i) (start i) (LineSearch.line k meaning bytes i);
-        end = start (i + 1);
-      } ∷ []
+      ≡ planned (if LineSearch.is_trailing k meaning bytes i then matches (LineSearch.number k meaning bytes i) (start
+      i) (LineSearch.line k meaning bytes i) else context After (LineSearch.number k meaning bytes i) (start i)
+      (LineSearch.line k meaning bytes i)) (start (i + 1)) ∷ []
   turns_at-follows i j has misses hit less close = go (LineSearch.is_trailing k meaning bytes i) refl
     where
       is_kind : LineSearch.kind k meaning bytes i ≡ Some
@@ -197,14 +196,13 @@ module _ (k : Settings) (meaning : Meaning) (bytes : List ℕ) where
       shown = shown-near (i - 1) j (omega (arith, has)) hit (omega (arith, less)) (omega (arith, close))
 
       go : (t : Bool) → LineSearch.is_trailing k meaning bytes i ≡ t → T i
-          ≡ record {
-            call = if t then matches (LineSearch.number k meaning bytes i) (start i) (LineSearch.line k meaning bytes i)
-                else context After (LineSearch.number k meaning bytes i) (start i) (LineSearch.line k meaning bytes i);
-            end = start (i + 1);
-          } ∷ []
+          ≡ planned (if t then matches (LineSearch.number k meaning bytes i) (start i) (LineSearch.line k meaning bytes
+          i) else context After (LineSearch.number k meaning bytes i) (start i) (LineSearch.line k meaning bytes i))
+          (start (i + 1)) ∷ []
       go true is =
           let kind = is_kind ∙ ap (λ b. Some (if b then matched else in_context After)) is in
-          rw (kind, shown, and-false (nat_lt 0 (k.after_context + k.before_context) && true)) refl
+          rw (kind, shown, and-false (nat_lt 0 (k.after_context + k.before_context) && true)) (line-report k bytes
+          meaning i)
       go false is =
           let kind = is_kind ∙ ap (λ b. Some (if b then matched else in_context After)) is in
           rw (kind, and-false (nat_lt 0 (k.after_context + k.before_context))) refl
@@ -230,7 +228,7 @@ module _ (k : Settings) (meaning : Meaning) (bytes : List ℕ) where
       go : (o : Option Kind) → report_calls (T i) ≡ report_calls (LineSearch.report k meaning bytes i o)
           → (report_calls (T i) ≡ []) ⊎ IsReported T start i
       go None is = inl is
-      go (Some matched) is = inr (one _ is refl refl)
+      go (Some matched) is = inr (one _ is refl (slice-line k bytes i))
       go (Some (in_context c)) is = inr (one _ is refl refl)
 
   -- the reports ascend
@@ -259,11 +257,7 @@ module _ (k : Settings) (meaning : Meaning) (bytes : List ℕ) where
   matches-line i = go (LineSearch.breaks_before k meaning bytes i)
     where
       go : (b : Bool) → matches_in
-          (if b then record {
-            call = breaks;
-            end = LineSearch.turn_end k meaning bytes i
-                (LineSearch.kind k meaning bytes i);
-          }
+          (if b then (planned breaks (LineSearch.turn_end k meaning bytes i (LineSearch.kind k meaning bytes i)))
           ∷ LineSearch.report k meaning bytes i (LineSearch.kind k meaning bytes i) else LineSearch.report k meaning
           bytes i
           (LineSearch.kind k meaning bytes i)) ≤ (if is_matched k meaning bytes i then 1 else 0)

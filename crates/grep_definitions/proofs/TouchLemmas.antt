@@ -175,9 +175,6 @@ module _ (terminator : LineTerminator) (meaning : Meaning) (bytes : List ℕ) (p
   abbrev starts : ℕ → ℕ
   starts = from (byte_of terminator) bytes
 
-  abbrev Holds : Type 0
-  Holds = HoldsPosition terminator meaning bytes i p
-
   -- where the line of the end is among the lines
   all-before : length bytes ≤ p → lines_before t bytes p ≡ count (byte_of terminator) bytes
   all-before over = ap (count (byte_of terminator)) (take_all p bytes over)

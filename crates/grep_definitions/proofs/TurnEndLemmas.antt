@@ -1,4 +1,5 @@
 -- Where the turns of calls end, against where lines start.
+use Rattle.grep_definitions.specs.Plans.{planned}
 use Rattle.std.proofs.Common.{◌≡◌, ℕ, zero, suc, ◌+◌, ◌-◌, ◌<◌, ◌≤◌, Bool, true, false, ◌&&◌, List, [], ◌∷◌}
 use Rattle.std.proofs.Common.{refl, sym, ◌∙◌, arith, ⊎_elim, Option, Some, None, if◌then◌else◌}
 use Rattle.std.proofs.Math.Bool.{and-false}
@@ -10,7 +11,7 @@ use Rattle.grep_matcher.specs.Lines.{lines, line_start}
 use Rattle.grep_matcher.specs.Matching.{Meaning}
 use Rattle.grep_report.specs.declared.sink_context.SinkContextKind.TheVariants.{Before, After, Other}
 use Rattle.grep_definitions.specs.Settings.{Settings}
-use Rattle.grep_definitions.specs.SinkCalls.{Call, Turn, matches, context, breaks}
+use Rattle.grep_definitions.specs.Plans.{Call, Planned, matches, context, breaks}
 use Rattle.grep_definitions.specs.Below.{first_below}
 use Rattle.grep_definitions.specs.LineSearch
 use Rattle.grep_definitions.specs.LineSearch.{turns_at, Kind, matched, in_context}
@@ -33,18 +34,18 @@ line_start-le t bytes i j low = at (j - i) j (omega arith)
         rw next (omega (arith, at d (i + d) refl, line_start-next t bytes (i + d)))
 
 -- a call and the break before it end alike
-pub ends-one : (call : Call) (end : ℕ) → All (λ turn. turn.end ≡ end) (one_turn call end)
+pub ends-one : (call : Call) (end : ℕ) → All (λ turn. turn.if_false.count ≡ end) (one_turn call end)
 ends-one call end =
-    All-cons (λ x. x.end ≡ end) (record { call = call; end = end }) [] refl (All-nil (λ x. x.end ≡ end))
+    All-cons (λ x. x.if_false.count ≡ end) (planned call end) [] refl (All-nil (λ x. x.if_false.count ≡ end))
 
-ends-broken : (gap : Bool) (call : Call) (end : ℕ) → All (λ turn. turn.end ≡ end) (broken_turns gap call end)
+ends-broken : (gap : Bool) (call : Call) (end : ℕ) → All (λ turn. turn.if_false.count ≡ end) (broken_turns gap call end)
 ends-broken true call end =
-    All-cons (λ x. x.end ≡ end) (record { call = breaks; end = end }) (one_turn call end) refl (ends-one call end)
+    All-cons (λ x. x.if_false.count ≡ end) (planned breaks end) (one_turn call end) refl (ends-one call end)
 ends-broken false call end = ends-one call end
 
 module _ (k : Settings) (bytes : List ℕ) (v i end : ℕ) where
-  abbrev EndThere : List Turn → Type 0
-  EndThere = All (λ turn. turn.end ≡ end)
+  abbrev EndThere : List Planned → Type 0
+  EndThere = All (λ turn. turn.if_false.count ≡ end)
 
   -- the calls of a chosen line and of those before it end with that line
   ends-listed : (q : ℕ) → EndThere (listed_turns k bytes v i end q)
@@ -55,10 +56,11 @@ module _ (k : Settings) (bytes : List ℕ) (v i end : ℕ) where
     where
       go : (near : Bool) (call : Call) → EndThere (if near then broken_turns (is_gap k v q i) call end else [])
       go true call = ends-broken (is_gap k v q i) call end
-      go false call = All-nil (λ x. x.end ≡ end)
+      go false call = All-nil (λ x. x.if_false.count ≡ end)
 
   pub ends-pending : (j n : ℕ) → EndThere (pending_turns k bytes v i end j n)
-  ends-pending j n = All-joined_from (λ x. x.end ≡ end) (listed_turns k bytes v i end) j n (λ q low high. ends-listed q)
+  ends-pending j n = All-joined_from (λ x. x.if_false.count ≡ end) (listed_turns k bytes v i end) j n (λ q low high.
+      ends-listed q)
 
   pub ends-match : (offset : ℕ) (line : List ℕ) → EndThere (match_turns k v i offset end line)
   ends-match offset line = ends-broken (nat_lt 0 k.after_context && is_gap k v i i)
@@ -88,14 +90,14 @@ module _ (k : Settings) (meaning : Meaning) (bytes : List ℕ) where
           rw is (line_start-le (byte_of k.line_terminator) bytes (q + 1) (j + 1) (omega (arith, above)))
 
   -- if the turn of a line ends no earlier than some offset, each of its calls does so
-  ends-turns_at : (bound j : ℕ)
+  pub ends-turns_at : (bound j : ℕ)
       → ((kind : Kind) → LineSearch.kind k meaning bytes j ≡ Some kind
       → bound ≤ LineSearch.turn_end k meaning bytes j (Some kind))
-      → All (λ turn. bound ≤ turn.end) (turns_at k meaning bytes j)
+      → All (λ turn. bound ≤ turn.if_false.count) (turns_at k meaning bytes j)
   ends-turns_at bound j late = go (LineSearch.kind k meaning bytes j) refl
     where
-      P : Turn → Type 0
-      P turn = bound ≤ turn.end
+      P : Planned → Type 0
+      P turn = bound ≤ turn.if_false.count
 
       end : Kind → ℕ
       end kind = LineSearch.turn_end k meaning bytes j (Some kind)
@@ -104,7 +106,7 @@ module _ (k : Settings) (meaning : Meaning) (bytes : List ℕ) where
       report matched low = All-cons P _ [] low (All-nil P)
       report (in_context c) low = All-cons P _ [] low (All-nil P)
 
-      choose : (b : Bool) (turn : Turn) (rest : List Turn) → P turn → All P rest
+      choose : (b : Bool) (turn : Planned) (rest : List Planned) → P turn → All P rest
           → All P (if b then turn ∷ rest else rest)
       choose true turn rest low all = All-cons P turn rest low all
       choose false turn rest low all = all
@@ -113,12 +115,12 @@ module _ (k : Settings) (meaning : Meaning) (bytes : List ℕ) where
       go None is = rw (is, and-false (nat_lt 0 (k.after_context + k.before_context))) (All-nil P)
       go (Some kind) is =
           let low = late kind is in
-          rw is (choose _ (record { call = breaks; end = end kind }) (LineSearch.report k meaning bytes j (Some kind))
+          rw is (choose _ (planned breaks (end kind)) (LineSearch.report k meaning bytes j (Some kind))
           low
           (report kind low))
 
   -- the calls of a line end no earlier than the line
-  pub ends-late : (i q : ℕ) → i ≤ q → All (λ turn. start (i + 1) ≤ turn.end) (turns_at k meaning bytes q)
+  pub ends-late : (i q : ℕ) → i ≤ q → All (λ turn. start (i + 1) ≤ turn.if_false.count) (turns_at k meaning bytes q)
   ends-late i q low = ends-turns_at (start (i + 1)) q
       (λ kind is. omega (
         arith,
@@ -129,7 +131,7 @@ module _ (k : Settings) (meaning : Meaning) (bytes : List ℕ) where
 
   -- those of a line that was passed unreported can only belong to a later match
   pub ends-passed : (v i left : ℕ) → IsNear k meaning bytes v i left → (j : ℕ) → v ≤ j → j < i
-      → All (λ turn. start (i + 1) ≤ turn.end) (turns_at k meaning bytes j)
+      → All (λ turn. start (i + 1) ≤ turn.if_false.count) (turns_at k meaning bytes j)
   ends-passed v i left near j low high = ends-turns_at (start (i + 1)) j late
     where
       n : ℕ

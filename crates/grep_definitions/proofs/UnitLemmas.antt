@@ -1,4 +1,5 @@
 -- The bytes that the match reports across lines have.
+use Rattle.grep_definitions.specs.Plans.{planned}
 use Rattle.std.proofs.Common.{◌≡◌, ℕ, zero, suc, ◌+◌, ◌-◌, ◌<◌, ◌≤◌, Bool, true, false, not, ◌&&◌, List, [], ◌∷◌, ◌++◌}
 use Rattle.std.proofs.Common.{length, take, drop}
 use Rattle.std.proofs.Common.{refl, sym, ap, subst, ◌∙◌, arith, ⊎_elim, Option, Some, None, if◌then◌else◌}
@@ -13,11 +14,11 @@ use Rattle.grep_matcher.specs.Matching.{Meaning}
 use Rattle.grep_matcher.specs.Terminators.{byte_of}
 use Rattle.grep_lines.specs.Positions.{slice}
 use Rattle.grep_lines.proofs.LawLemmas.{AreLines-lines}
-use Rattle.grep_lines.proofs.WalkLemmas.{IsStep-line}
 use Rattle.grep_report.specs.declared.sink_context.SinkContextKind.{SinkContextKind}
 use Rattle.grep_report.specs.declared.sink_context.SinkContextKind.TheVariants.{Before, After, Other}
 use Rattle.grep_definitions.specs.Settings.{Settings}
-use Rattle.grep_definitions.specs.SinkCalls.{Call, Turn, matches, context, breaks}
+use Rattle.grep_definitions.proofs.LineSliceLemmas.{slice-line}
+use Rattle.grep_definitions.specs.Plans.{Call, Planned, matches, context, breaks}
 use Rattle.grep_definitions.specs.Below.{joined_from}
 use Rattle.grep_definitions.specs.LineSearch.{Kind, matched, in_context, line_count, line, start, number}
 use Rattle.grep_definitions.specs.AcrossLines
@@ -40,7 +41,7 @@ kind-other true b c d kind is other = absurd (other (sym is))
 kind-other false b c d kind is other = refl
 
 -- what is gathered of joined calls
-flat_map-joined : (g : Turn → List ℕ) (f : ℕ → List Turn) (i n : ℕ)
+flat_map-joined : (g : Planned → List ℕ) (f : ℕ → List Planned) (i n : ℕ)
     → flat_map g (joined_from f i n) ≡ joined_from (λ j. flat_map g (f j)) i n
 flat_map-joined g f i zero = refl
 flat_map-joined g f i (suc n) =
@@ -75,10 +76,6 @@ module _ (k : Settings) (meaning : Meaning) (bytes : List ℕ) where
   abbrev whole : ℕ → List ℕ
   whole i = if selected i && not (goes_on i) then AcrossLines.unit k meaning bytes i else []
 
-  -- the bytes of line i are those from its start up to the start of the next one
-  pub line-slice : (i : ℕ) → i < n → slice bytes (at i) (at (i + 1)) ≡ line k meaning bytes i
-  line-slice i inside = sym (IsStep-line (byte_of k.line_terminator) bytes i inside).line
-
   -- and so are those of selected lines, one after the other
   lines-slice : (i m : ℕ) → i + m ≤ n → ((j : ℕ) → i ≤ j → j < i + m → selected j ≡ true)
       → slice bytes (at i) (at (i + m)) ≡ joined_from each i m
@@ -95,7 +92,7 @@ module _ (k : Settings) (meaning : Meaning) (bytes : List ℕ) where
       (line_start-le (byte_of k.line_terminator) bytes i (i + 1) (omega arith))
       (line_start-le (byte_of k.line_terminator) bytes (i + 1) ((i + 1) + m) (omega arith)))
       ∙ (rw (
-        line-slice i (omega arith),
+        slice-line k bytes i,
         lines-slice (i + 1) m (omega arith)
             (λ j low below. all j (omega arith) (omega arith)),
         here,
@@ -135,7 +132,7 @@ module _ (k : Settings) (meaning : Meaning) (bytes : List ℕ) where
         (AcrossLines.turn_end k meaning bytes i (AcrossLines.kind k meaning bytes i))
       where
         go : (b : Bool) (end : ℕ) → flat_map (λ turn. g turn.call)
-            (if b then record { call = breaks; end = end }
+            (if b then (planned breaks end)
             ∷ AcrossLines.report k meaning bytes i (AcrossLines.kind k meaning bytes i)
             else AcrossLines.report k meaning bytes i (AcrossLines.kind k meaning bytes i)) ≡ gathered i
         go true end = rw in_breaks_none (gathered-report i (AcrossLines.kind k meaning bytes i) refl)
@@ -151,7 +148,7 @@ module _ (k : Settings) (meaning : Meaning) (bytes : List ℕ) where
   -- under inversion a report has one line
   alone : k.invert_match ≡ true → (i : ℕ) → i < n → whole i ≡ each i
   alone inverted i inside = ⊎_elim
-      (λ (here : selected i ≡ true). rw (here, inverted) (line-slice i inside))
+      (λ (here : selected i ≡ true). rw (here, inverted) (slice-line k bytes i))
       (λ (none : selected i ≡ false). rw none refl)
       (cases_Bool (selected i))
 
@@ -164,7 +161,7 @@ module _ (k : Settings) (meaning : Meaning) (bytes : List ℕ) where
       (λ i inside here first.
       let fresh = same i plain ∙ first in
       let end : AcrossLines.unit_end k meaning bytes i ≡ run_end selected n i =
-      ap (λ b. if b then i + 1 else run_end selected n i) plain in
+      ap (λ b. if not b then run_end selected n i else i + 1) plain in
       let run = IsRunEnd-run_end selected n i inside here in
       let sum : i + (run_end selected n i - i) ≡ run_end selected n i = omega (arith, run.low) in
       let unit : AcrossLines.unit k meaning bytes i ≡ joined_from each i (run_end selected n i - i) =
@@ -190,7 +187,7 @@ module _ (k : Settings) (meaning : Meaning) (bytes : List ℕ) where
       → at i + length (AcrossLines.unit k meaning bytes i) ≡ at (run_end selected n i)
   unit-end i inside here plain =
       let end : AcrossLines.unit_end k meaning bytes i ≡ run_end selected n i =
-      ap (λ b. if b then i + 1 else run_end selected n i) plain in
+      ap (λ b. if not b then run_end selected n i else i + 1) plain in
       let run = IsRunEnd-run_end selected n i inside here in
       omega (
         arith,
@@ -211,21 +208,21 @@ module _ (k : Settings) (meaning : Meaning) (bytes : List ℕ) where
   unit-lines i inside here = ⊎_elim
       (λ (inverted : k.invert_match ≡ true).
       let end : AcrossLines.unit_end k meaning bytes i
-      ≡ i + 1 = ap (λ b. if b then i + 1 else run_end selected n i) inverted in
+      ≡ i + 1 = ap (λ b. if not b then run_end selected n i else i + 1) inverted in
       record {
         later = omega (arith, end);
         size = omega (
           arith,
           ap (λ e. length (slice bytes (at i) (at e))) end,
           ap at end,
-          ap length (line-slice i inside),
+          ap length (slice-line k bytes i),
           line_start-more (byte_of k.line_terminator) bytes i inside,
         );
         hits = λ j low high. absurd (omega (arith, low, high, end));
       })
       (λ (plain : k.invert_match ≡ false).
       let end : AcrossLines.unit_end k meaning bytes i ≡ run_end selected n i =
-      ap (λ b. if b then i + 1 else run_end selected n i) plain in
+      ap (λ b. if not b then run_end selected n i else i + 1) plain in
       let run = IsRunEnd-run_end selected n i inside here in
       record {
         later = ⊎_elim

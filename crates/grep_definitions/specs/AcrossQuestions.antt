@@ -7,14 +7,14 @@ use Rattle.grep_definitions.specs.AcrossLines.{is_free, turns_through}
 use Rattle.grep_definitions.specs.Below.{count_below, is_below}
 use Rattle.grep_definitions.specs.LineSearch.{start}
 use Rattle.grep_definitions.specs.Settings.{Settings}
-use Rattle.grep_definitions.specs.SinkCalls.{Turn}
+use Rattle.grep_definitions.specs.Plans.{Planned}
 pub use Rattle.grep_definitions.specs.Asking.{match_limit, counted_matches, IsAskedAfter, IsAskedAt}
 
 module _ (settings : Settings) (meaning : Meaning) (bytes : List ℕ) where
   -- what a matcher is asked across lines, and the calls that were made before: just those whose
   -- turn ends at or before the start of the line at which it is asked. Under inversion fewer lines
   -- before that line are free than the limit has
-  pub record IsAskedAcross (haystack : List ℕ) (made : List Turn) : Type 0 where
+  pub record IsAskedAcross (haystack : List ℕ) (made : List Planned) : Type 0 where
     pub index : ℕ
     pub question : IsAskedAt settings meaning bytes index haystack
     pub room : settings.invert_match ≡ true

@@ -12,11 +12,9 @@ use Rattle.grep_definitions.specs.Asking.{search_plan}
 use Rattle.grep_definitions.specs.BinaryBytes.{Look, nowhere, in_contents, on_stream, binary_of}
 use Rattle.grep_definitions.specs.BinaryBytes.{position_of, view_of}
 use Rattle.grep_definitions.specs.Readings.{GoesOnAfter}
-use Rattle.grep_definitions.specs.Plans.{Finish, Planned, Plan}
-use Rattle.grep_definitions.specs.Reports.{counted, planned}
+use Rattle.grep_definitions.specs.Plans.{Finish, Planned, Plan, counted, planned, begins}
+use Rattle.grep_definitions.specs.Plans.{binary_data, is_break, reported_bytes, reported_from}
 use Rattle.grep_definitions.specs.Settings.{Settings}
-use Rattle.grep_definitions.specs.Plans.{begins, binary_data, is_break, reported_bytes}
-use Rattle.grep_definitions.specs.Plans.{reported_from}
 
 -- `binary_data` comes after so many calls, with the offset of the byte; and the byte count if the
 -- search ends there
@@ -70,11 +68,11 @@ plan_with detection (Some point) plan =
 abbrev pub first_look : ℕ
 first_look = 65536
 
-module _ (b : ℕ) (bytes : List ℕ) (calls : List Planned) where
-  -- whether a call reports bytes that hold the byte
-  abbrev pub shows_byte : Planned → Bool
-  shows_byte call = is_some (position_of b (reported_bytes call.call))
+-- whether a call reports bytes that hold the byte
+abbrev pub holds_byte : ℕ → Planned → Bool
+holds_byte b call = is_some (position_of b (reported_bytes call.call))
 
+module _ (b : ℕ) (calls : List Planned) where
   abbrev pub call_at : ℕ → Planned
   call_at n = slice_index_or calls n (planned begins 0)
 
@@ -93,11 +91,12 @@ module _ (b : ℕ) (bytes : List ℕ) (calls : List Planned) where
   }
 
   abbrev pub point_unless : Option ℕ → Option BinaryPoint
-  point_unless None = option_map point_at (position shows_byte calls)
+  point_unless None = option_map point_at (position (holds_byte b) calls)
   point_unless (Some offset) = Some (record { position = 1; offset = offset; count = 0 })
 
-  abbrev pub contents_point : Option BinaryPoint
-  contents_point = point_unless (position_of b (take first_look bytes))
+-- where a search of some contents with these calls ends at the byte
+abbrev pub contents_point : ℕ → List ℕ → List Planned → Option BinaryPoint
+contents_point b bytes calls = point_unless b calls (position_of b (take first_look bytes))
 
 -- ---- a stream: each read's bytes are looked at before its lines are searched
 

@@ -3,10 +3,11 @@ use Rattle.std.specs.Prelude.{◌≡◌, ◌⊎◌, ℕ, List, Option, Result, O
 use Rattle.std.specs.Io.KnownBytes.{Consumes, Keeps}
 use Rattle.std.specs.declared.io.Error.{Error}
 use Rattle.grep_decode.specs.Source.{ReadResult}
-use Rattle.grep_definitions.specs.ReaderSearches.{IsReaderSearched}
-use Rattle.grep_definitions.specs.Searches.{ErrorMakers, MatcherFacts}
-use Rattle.grep_definitions.specs.Settings.{SearcherState}
-use Rattle.grep_definitions.specs.SinkRuns.{Steps}
+use Rattle.grep_definitions.specs.Parties.{ErrorMakers, MatcherFacts}
+use Rattle.grep_definitions.specs.PlannedSearches.{IsInOrder, IsReaderSearched}
+use Rattle.grep_definitions.specs.Plans.{Steps}
+use Rattle.grep_definitions.specs.Readings.{IsReadingError}
+use Rattle.grep_definitions.specs.Settings.{SearcherState, Settings}
 
 -- a read of a file, if it says which bytes remain: what it returned was their front, and an error
 -- took none
@@ -32,3 +33,11 @@ module _ {F : Type 0} (remaining : F → Option (List ℕ))
   IsPathSearched state old result new =
       IsUnopened old result new
       ⊎ ((file : F) × (file' : F) × IsFileSearched state file old result file' new)
+
+  -- in which order a search of a path that isn't refused calls its sink: not at all if the file
+  -- couldn't be opened, else as a search of the file that was opened
+  abbrev pub IsPathInOrder : Settings → S → Result (Unit {0}) E → S → Type 0
+  IsPathInOrder settings old result new =
+      IsUnopened old result new
+      ⊎ ((file : F) × (file' : F) × IsInOrder step errors matcher settings
+      (IsReadingError remaining (IsFileRead remaining) file file') old result new)

@@ -16,13 +16,10 @@ pub mod LineSearch
 pub mod LineTurns
 pub mod LineWalks
 pub mod Modes
-pub mod NotedSinks
 pub mod Parties
-pub mod PlanLaws
 pub mod PlannedSearches
 pub mod Plans
 pub mod Questions
-pub mod QuitPoints
 pub mod ReaderSearches
 pub mod ReadingFaults
 pub mod Readings
@@ -34,9 +31,8 @@ pub mod Searches
 pub mod SelectedLines
 pub mod Selections
 pub mod Settings
-pub mod SinkCalls
+pub mod SinkArguments
 pub mod SinkFolds
 pub mod SinkRuns
-pub mod SliceReads
-pub mod StreamSearches
+pub mod SliceSearches
 pub mod SuccessiveMatches

@@ -1,6 +1,6 @@
 -- What a search does to its sink, and what it returns.
 use Rattle.std.specs.Prelude.{◌≡◌, ◌⊎◌, ◌≤◌, ◌+◌, ◌&&◌, ℕ, Bool, true, false, List, ◌∷◌, length}
-use Rattle.std.specs.Prelude.{All}
+use Rattle.std.specs.Prelude.{All, count_by}
 use Rattle.std.specs.Prelude.{Option, None, Some, Result, Ok, Err, OnOk}
 use Rattle.std.specs.List.{concat}
 use Rattle.std.specs.declared.io.Error.{Error}
@@ -16,8 +16,7 @@ use Rattle.grep_definitions.specs.Readings.{Taken, IsBelowLimit, IsCut, IsInput,
 use Rattle.grep_definitions.specs.Readings.{encoding_of, reads_lines, view_in}
 use Rattle.grep_definitions.specs.Reports.{line_count}
 use Rattle.grep_definitions.specs.Settings.{Settings, SearcherState}
-use Rattle.grep_definitions.specs.Plans.{Call, begins, matches, context, breaks, binary_data}
-use Rattle.grep_definitions.specs.Plans.{finishes}
+use Rattle.grep_definitions.specs.Plans.{Call, begins, binary_data, finishes, is_binary_data}
 
 -- where `binary_data` comes among some calls, if it does
 abbrev pub Points : Type 1
@@ -157,30 +156,30 @@ IsReaderSearched remaining read_step step errors matcher state reader old result
     (IsRead remaining read_step step errors matcher state
     (look_of state.settings matcher.meaning false) reader old result reader' new)
 
--- ---- in which order a search that isn't refused calls its sink, whatever the matcher finds and the reader gives
+-- ---- in which order a search that isn't refused calls its sink, whatever the matcher finds and
+-- the reader gives
 
 -- whether a call may come between `begin` and `finish`: `binary_data` may if the search looks for
 -- binary bytes
 abbrev pub comes_between : Bool → Call → Bool
 comes_between detecting begins = false
-comes_between detecting (matches number offset bytes) = true
-comes_between detecting (context kind number offset bytes) = true
-comes_between detecting breaks = true
-comes_between detecting (binary_data offset) = detecting
 comes_between detecting (finishes count binary) = false
+comes_between detecting (binary_data offset) = detecting
+comes_between detecting _ = true
 
 module _ {S E F : Type 0} (step : Steps S E) (errors : ErrorMakers E) (matcher : MatcherFacts F)
     (settings : Settings) where
   abbrev pub detecting : Bool
   detecting = is_detecting settings.binary_detection
 
-  -- `begin`, and such calls
+  -- `begin`, and such calls, of which at most one is `binary_data`
   pub record AreInOrder (calls : List Planned) : Type 0 where
     pub first : Planned
     pub later : List Planned
     pub all : calls ≡ first ∷ later
     pub begin : (first.call ≡ begins) × (first.if_false.count ≡ 0)
     pub inner : All (λ planned. comes_between detecting planned.call ≡ true) later
+    pub once : count_by (λ planned. is_binary_data planned.call) later ≤ 1
     pub plain : detecting ≡ false → All (λ planned. planned.if_false.binary ≡ None) calls
 
   -- some calls in this order that all returned true

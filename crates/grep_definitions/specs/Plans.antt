@@ -1,6 +1,6 @@
 -- A plan: the calls that a search makes of its sink. And what a sink makes of a plan.
-use Rattle.std.specs.Prelude.{◌≡◌, ◌⊎◌, ℕ, Bool, true, false, List, [], ◌∷◌, Option, Result, Ok}
-use Rattle.std.specs.Prelude.{Err}
+use Rattle.std.specs.Prelude.{◌≡◌, ◌⊎◌, ℕ, Bool, true, false, List, [], ◌∷◌, Option, None, Result}
+use Rattle.std.specs.Prelude.{Ok, Err}
 use Rattle.grep_report.specs.declared.sink_context.SinkContextKind.{SinkContextKind}
 use Rattle.grep_definitions.specs.Settings.{Settings}
 
@@ -20,28 +20,22 @@ pub data Call : Type 0 where
 -- the bytes of the line or the lines that a call reports, and the offset of the first; other calls
 -- have none
 abbrev pub reported_bytes : Call → List ℕ
-reported_bytes begins = []
 reported_bytes (matches number offset bytes) = bytes
 reported_bytes (context kind number offset bytes) = bytes
-reported_bytes breaks = []
-reported_bytes (binary_data offset) = []
-reported_bytes (finishes count binary) = []
+reported_bytes _ = []
 
 abbrev pub reported_from : Call → ℕ
-reported_from begins = 0
 reported_from (matches number offset bytes) = offset
 reported_from (context kind number offset bytes) = offset
-reported_from breaks = 0
-reported_from (binary_data offset) = 0
-reported_from (finishes count binary) = 0
+reported_from _ = 0
 
 abbrev pub is_break : Call → Bool
-is_break begins = false
-is_break (matches number offset bytes) = false
-is_break (context kind number offset bytes) = false
 is_break breaks = true
-is_break (binary_data offset) = false
-is_break (finishes count binary) = false
+is_break _ = false
+
+abbrev pub is_binary_data : Call → Bool
+is_binary_data (binary_data offset) = true
+is_binary_data _ = false
 
 -- what `finish` has: the byte count, and the offset of the first binary byte if the sink was told
 -- of it
@@ -49,10 +43,17 @@ pub record Finish : Type 0 where
   pub count : ℕ
   pub binary : Option ℕ
 
+-- what `finish` has after so many bytes, while the sink was told of no binary byte
+abbrev pub counted : ℕ → Finish
+counted count = record { count = count; binary = None }
+
 -- a call, and what `finish` has if the call returns false
 pub record Planned : Type 0 where
   pub call : Call
   pub if_false : Finish
+
+abbrev pub planned : Call → ℕ → Planned
+planned call count = record { call = call; if_false = counted count }
 
 -- the calls before the last, and what `finish` has if each of them returns true
 pub record Plan : Type 0 where
@@ -104,3 +105,9 @@ module _ {S E : Type 0} (step : Steps S E) (settings : Settings) where
     pub mid : S
     pub made : AreMade old plan.calls outcome mid
     pub finished : IsFinished outcome mid plan.finish result new
+
+-- no step fails, of those that are made where the sink may be called
+abbrev pub NeverFails : {S E : Type 0} → Steps S E → (S → Type 0) → Type 0
+NeverFails {S} {E} step may_call =
+    (old : S) (settings : Settings) (call : Call) (e : E) (new : S)
+    → may_call old → step old settings call (Err e) new → ⊥

@@ -4,14 +4,14 @@ use Rattle.grep_matcher.specs.Matching.{Meaning}
 use Rattle.grep_definitions.specs.LineSearch.{turn_count, turns_through, start}
 use Rattle.grep_definitions.specs.LineSearch.{is_open_at, follows_selected}
 use Rattle.grep_definitions.specs.Settings.{Settings}
-use Rattle.grep_definitions.specs.SinkCalls.{Turn}
+use Rattle.grep_definitions.specs.Plans.{Planned}
 pub use Rattle.grep_definitions.specs.Asking.{AsksAhead, IsLawfulFor, IsAskedAhead, IsAsked}
 
 module _ (settings : Settings) (meaning : Meaning) (bytes : List ℕ) where
   -- what a matcher is asked by line, and the calls that were made before: at a line that has a
   -- turn, while fewer lines before it hit than the limit has, or in the context after a selected
   -- line. Just those calls were made whose turn ends at or before the start of that line
-  pub record IsAskedByLine (haystack : List ℕ) (made : List Turn) : Type 0 where
+  pub record IsAskedByLine (haystack : List ℕ) (made : List Planned) : Type 0 where
     pub index : ℕ
     pub has_turn : index < turn_count settings meaning bytes
     pub room : (is_open_at settings meaning bytes index

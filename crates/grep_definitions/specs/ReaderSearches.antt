@@ -11,36 +11,23 @@ use Rattle.grep_decode.specs.Source.{ReadResult}
 use Rattle.grep_matcher.specs.Lines.{lines}
 use Rattle.grep_matcher.specs.Matching.{Meaning}
 use Rattle.grep_matcher.specs.Terminators.{byte_of}
-use Rattle.grep_report.specs.declared.config_error.ConfigError.{ConfigError}
-use Rattle.grep_definitions.specs.BinaryBytes.{Look, nowhere, in_contents, on_stream, look_of}
 use Rattle.grep_definitions.specs.BinaryBytes.{before_quit, view_of}
 use Rattle.grep_definitions.specs.DecodedInputs.{IsDecodedSoFar, IsInput, passes_unchanged}
 use Rattle.grep_definitions.specs.InputFronts.{GoesOnAfter, HasOpenLine, IsFront}
-use Rattle.grep_definitions.specs.NotedSinks.{noted}
 use Rattle.grep_definitions.specs.ReadingFaults.{CutsShort, CutsContents, IsBelowLimit}
-use Rattle.grep_definitions.specs.Refusals.{refusal_of}
 use Rattle.grep_definitions.specs.Searches.{ErrorMakers, MatcherFacts, IsFaultIn, HasReportedIn}
-use Rattle.grep_definitions.specs.Searches.{IsLawful}
-use Rattle.grep_definitions.specs.Searches.{IsClearFault, IsQuitFault, IsRunUntil}
-use Rattle.grep_definitions.specs.SearchTurns.{SearchCalls, search_calls, calls_by_line}
+use Rattle.grep_definitions.specs.Searches.{IsQuitFault, IsRunUntil}
+use Rattle.grep_definitions.specs.SearchTurns.{SearchCalls, search_calls}
 use Rattle.grep_definitions.specs.SearchTurns.{calls_across}
 use Rattle.grep_definitions.specs.Settings.{Settings, SearcherState}
-use Rattle.grep_definitions.specs.SinkCalls.{begins}
-use Rattle.grep_definitions.specs.StreamSearches.{IsClear, IsCutRun, IsNotedFor, IsNotedRun}
-use Rattle.grep_definitions.specs.StreamSearches.{stream_calls}
-use Rattle.grep_definitions.specs.SinkRuns.{Steps, Outcome, all_true, AreReported, IsFinished}
-use Rattle.grep_definitions.specs.SinkRuns.{IsRun, count_of}
+use Rattle.grep_definitions.specs.Plans.{begins, Steps, Outcome, all_true, AreMade, IsFinished}
+use Rattle.grep_definitions.specs.Plans.{IsRun}
+use Rattle.grep_definitions.specs.Plans.{counted, finish_after}
+use Rattle.grep_definitions.specs.SinkRuns.{plan_of}
 pub use Rattle.grep_definitions.specs.Readings.{reads_lines, reports_nothing, Taken}
 
 module _ {R : Type 0} (remaining : R → Option (List ℕ))
     (read_step : R → ReadResult → R → Type 0) where
-  -- What came of a reader: what was taken of it, and no call followed but one that failed.
-  pub record Came (old new : R) : Type 0 where
-    pub mid : R
-    pub taken : Taken remaining read_step old mid
-    pub then_failed : (mid ≡ new)
-        ⊎ ((error : Error) × (taken.ended ≡ false) × read_step mid (Err error) new)
-
   -- why a reader's input wasn't searched to its end, by line or across lines: after the lines that
   -- were seen, or before `begin`. By line it is searched as detection makes it, in a view of it,
   -- and no byte of the lines that were seen ends the search
@@ -84,14 +71,6 @@ module _ {R : Type 0} (remaining : R → Option (List ℕ))
     of_buffers : {error : Error} → state.has_buffers ≡ false → error_kind error ≡ OutOfMemory
         → IsUnreadIn across view state meaning reader None error reader
 
-  abbrev pub IsUnread : SearcherState → Meaning → R → Option (List ℕ) → Error → R → Type 0
-  IsUnread state meaning =
-      IsUnreadIn (search_calls state.settings meaning).across (view_of state.settings) state meaning
-
-  -- the same by line
-  abbrev pub IsLineUnread : SearcherState → Meaning → R → Option (List ℕ) → Error → R → Type 0
-  IsLineUnread state = IsUnreadIn false (view_of state.settings) state
-
   module _ {S E F : Type 0} (step : Steps S E) (errors : ErrorMakers E)
       (matcher : MatcherFacts F) where
     -- A search with these calls that ended in `Ok`: they were made over the lines that were seen,
@@ -105,13 +84,14 @@ module _ {R : Type 0} (remaining : R → Option (List ℕ))
       pub seen : List ℕ
       pub outcome : Outcome E
       pub mid : S
-      pub reported : AreReported step settings old (calls.turns seen) outcome mid
-      pub finished : IsFinished step settings outcome mid (calls.byte_count seen) None (Ok tt) new
+      pub reported : AreMade step settings old (calls.turns seen) outcome mid
+      pub finished : IsFinished step settings outcome mid (counted (calls.byte_count seen)) (Ok tt)
+          new
       pub front : (bytes : List ℕ) → IsInput settings taken.ended taken.pieces bytes
           → IsFront settings (calls.view bytes) seen
       pub run : (bytes : List ℕ) → IsInput settings taken.ended taken.pieces bytes
-          → IsRun step settings old (calls.turns (calls.view bytes))
-          (calls.byte_count (calls.view bytes)) None
+          → IsRun step settings old (plan_of (calls.turns (calls.view bytes))
+          (calls.byte_count (calls.view bytes)))
           (Ok tt) new
       pub all : (bytes : List ℕ) → IsInput settings taken.ended taken.pieces bytes
           → outcome ≡ all_true
@@ -132,7 +112,8 @@ module _ {R : Type 0} (remaining : R → Option (List ℕ))
       -- dropped
       pub ahead : calls.across ≡ false → (limit : ℕ) → settings.heap_limit ≡ Some limit
           → passes_unchanged settings (concat taken.pieces) ≡ true
-          → length (concat taken.pieces) ≤ count_of outcome (calls.byte_count seen) + limit + 3
+          → length (concat taken.pieces) ≤ (finish_after outcome (counted (calls.byte_count
+          seen))).count + limit + 3
 
     -- how a search with these calls that isn't refused ends in an error
     pub data IsReaderFaultIn (calls : SearchCalls) (state : SearcherState) (reader : R) (old : S)
@@ -160,13 +141,6 @@ module _ {R : Type 0} (remaining : R → Option (List ℕ))
 
     abbrev pub IsReaderFault : SearcherState → R → S → E → R → S → Type 0
     IsReaderFault state = IsReaderFaultIn (search_calls state.settings matcher.meaning) state
-
-    -- the same by line
-    abbrev pub IsLineReaderRun : Settings → R → S → R → S → Type 0
-    IsLineReaderRun settings = IsReaderRunIn (calls_by_line settings matcher.meaning) settings
-
-    abbrev pub IsLineReaderFault : SearcherState → R → S → E → R → S → Type 0
-    IsLineReaderFault state = IsReaderFaultIn (calls_by_line state.settings matcher.meaning) state
 
 -- how a search of a reader under binary detection ends
 module _ {R : Type 0} (remaining : R → Option (List ℕ)) (read_step : R → ReadResult → R → Type 0)
@@ -197,86 +171,9 @@ module _ {R : Type 0} (remaining : R → Option (List ℕ)) (read_step : R → R
       error reader'
       × errors.is_io error e × (new ≡ old))
 
-  -- by line: the search of the view by a sink that is called with `binary_data` in between
-  pub record IsNotedReaderRun (settings : Settings) (reader : R) (old : S) (reader' : R)
-      (new : S) : Type 0 where
-    pub found : Option ℕ
-    pub run : IsReaderRunIn remaining read_step (noted step) errors matcher
-        (stream_calls settings matcher.meaning)
-        settings reader (old, None) reader' (new, found)
-    pub noted_for : (bytes : List ℕ) → IsInput settings run.taken.ended run.taken.pieces bytes
-        → IsNotedFor settings bytes found
-    pub clear : (bytes : List ℕ) → IsInput settings run.taken.ended run.taken.pieces bytes
-        → IsClear settings bytes found
-        (count_of run.outcome ((stream_calls settings matcher.meaning).byte_count run.seen))
-    -- whatever follows what was taken, it is such a run over the whole input
-    pub each : (bytes : List ℕ) → IsInput settings run.taken.ended run.taken.pieces bytes
-        → IsNotedRun step settings matcher.meaning bytes old new
-
-  -- such a search that ended in an error; this holds whatever would have followed the bytes that
-  -- came
-  pub record IsNotedReaderFault (state : SearcherState) (reader : R) (old : S) (e : E)
-      (reader' : R) (new : S)
-      : Type 0 where
-    pub found : Option ℕ
-    pub fault : IsReaderFaultIn remaining read_step (noted step) errors matcher
-        (stream_calls state.settings matcher.meaning) state reader (old, None) e reader'
-        (new, found)
-    pub came : Came remaining read_step reader reader'
-    pub noted_for : (bytes : List ℕ)
-        → IsInput state.settings came.taken.ended came.taken.pieces bytes
-        → IsNotedFor state.settings bytes found
-    pub clear : found ≡ None → IsClearFault step errors matcher
-        (IsInput state.settings came.taken.ended came.taken.pieces) state.settings old e new
-
-  -- or it ended at the first binary byte, in `finish` or in the sink's error
-  pub record IsReaderCut (settings : Settings) (reader : R) (old : S) (result : Result (Unit {0}) E)
-      (reader' : R) (new : S) : Type 0 where
-    pub taken : Taken remaining read_step reader reader'
-    pub run : IsCutRun step settings matcher.meaning
-        (IsInput settings taken.ended taken.pieces) old result new
-    -- how far the reader is ahead of the byte count, as after any search that ends in `Ok`
-    pub ahead : (limit : ℕ) → settings.heap_limit ≡ Some limit
-        → passes_unchanged settings (concat taken.pieces) ≡ true
-        → length (concat taken.pieces) ≤ length run.seen + limit + 3
-
-  abbrev pub IsStreamSearched : SearcherState → R → S → Result (Unit {0}) E → R → S → Type 0
-  IsStreamSearched state reader old (Ok u) reader' new =
-      IsNotedReaderRun state.settings reader old reader' new
-      ⊎ IsReaderCut state.settings reader old (Ok u) reader' new
-  IsStreamSearched state reader old (Err e) reader' new =
-      IsNotedReaderFault state reader old e reader' new
-      ⊎ IsReaderCut state.settings reader old (Err e) reader' new
-
   -- without detection: along the calls for its input, or it ends in an error
   abbrev pub IsPlainlySearched : SearcherState → R → S → Result (Unit {0}) E → R → S → Type 0
   IsPlainlySearched state reader old (Ok u) reader' new =
       IsReaderRun remaining read_step step errors matcher state.settings reader old reader' new
   IsPlainlySearched state reader old (Err e) reader' new =
       IsReaderFault remaining read_step step errors matcher state reader old e reader' new
-
-  -- what a search of a reader that isn't refused comes to, by where it looks for binary bytes
-  abbrev pub IsSearchedAt : Look → SearcherState → R → S → Result (Unit {0}) E → R → S → Type 0
-  IsSearchedAt nowhere = IsPlainlySearched
-  IsSearchedAt (in_contents b) = IsContentsSearched b
-  IsSearchedAt on_stream = IsStreamSearched
-
-  abbrev pub IsSourceSearched : SearcherState → R → S → Result (Unit {0}) E → R → S → Type 0
-  IsSourceSearched state = IsSearchedAt (look_of state.settings matcher.meaning false) state
-
-  -- an error: that of the refusal, which leaves the reader and the sink as they were, or that of
-  -- the search, which is said if the matcher is lawful
-  abbrev pub IsReaderFaultUnless : Option ConfigError → SearcherState → R → S → E → R → S → Type 0
-  IsReaderFaultUnless (Some refusal) state reader old e reader' new =
-      errors.is_config refusal e × (new ≡ old) × (reader' ≡ reader)
-  IsReaderFaultUnless None state reader old e reader' new =
-      IsLawful matcher state.settings → IsSourceSearched state reader old (Err e) reader' new
-
-  -- a search of a reader: it isn't refused and, if the matcher is lawful, runs along the calls for
-  -- its input, or it ends in an error
-  abbrev pub IsReaderSearched : SearcherState → R → S → Result (Unit {0}) E → R → S → Type 0
-  IsReaderSearched state reader old (Ok u) reader' new =
-      (refusal_of state.settings matcher.meaning ≡ None)
-      × (IsLawful matcher state.settings → IsSourceSearched state reader old (Ok u) reader' new)
-  IsReaderSearched state reader old (Err e) reader' new =
-      IsReaderFaultUnless (refusal_of state.settings matcher.meaning) state reader old e reader' new

@@ -159,6 +159,13 @@ pub data CutsShort (settings : Settings) (meaning : Meaning) (input seen : List 
       → IsCrowded settings meaning input seen buffer_capacity
       → CutsShort settings meaning input seen error
 
+-- an error of reading that isn't a reader's: of the heap limit, of offsets above 2^64 - 1, or of
+-- being out of memory
+abbrev pub IsOwnError : Error → Type 0
+IsOwnError error =
+    (error_kind error ≡ Other) ⊎ ((error_kind error ≡ InvalidData)
+    ⊎ (error_kind error ≡ OutOfMemory))
+
 -- an input is shorter than the heap limit, if there is one
 abbrev pub IsBelowLimit : Settings → List ℕ → Type 0
 IsBelowLimit settings input = (limit : ℕ) → settings.heap_limit ≡ Some limit → length input < limit
@@ -240,3 +247,19 @@ module _ {R : Type 0} (remaining : R → Option (List ℕ))
       -- there were no buffers, and no memory for them
       of_buffers : {error : Error} → state.has_buffers ≡ false → error_kind error ≡ OutOfMemory
           → new ≡ old → IsCut false error
+
+  -- why an input wasn't searched to its end, of which so much was taken: after the lines that were
+  -- seen, or before `begin`
+  abbrev pub IsUnread : SearcherState → Meaning → R → Bool → List ℕ → Error → R → Type 0
+  IsUnread state meaning old begun seen error new =
+      (mid : R) × (taken : Taken old mid)
+      × IsCut state meaning old mid new taken seen begun error
+
+  -- an error of reading, whatever the search: that of the last call of the reader, or one that
+  -- isn't a reader's
+  abbrev pub HasFailedRead : R → Error → R → Type 0
+  HasFailedRead old error new =
+      (mid : R) × (taken : Taken old mid) × (taken.ended ≡ false) × read_step mid (Err error) new
+
+  abbrev pub IsReadingError : R → R → Error → Type 0
+  IsReadingError old new error = HasFailedRead old error new ⊎ IsOwnError error

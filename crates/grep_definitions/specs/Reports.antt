@@ -14,8 +14,8 @@ use Rattle.grep_report.specs.declared.sink_context.SinkContextKind.{SinkContextK
 use Rattle.grep_report.specs.declared.sink_context.SinkContextKind.TheVariants.{Before, After}
 use Rattle.grep_report.specs.declared.sink_context.SinkContextKind.TheVariants.{Other}
 use Rattle.grep_definitions.specs.Settings.{Settings}
-use Rattle.grep_definitions.specs.Plans.{Call, begins, matches, context, breaks, Finish, Planned}
-use Rattle.grep_definitions.specs.Plans.{Plan}
+use Rattle.grep_definitions.specs.Plans.{begins, matches, context, breaks, Planned, Plan, counted}
+use Rattle.grep_definitions.specs.Plans.{planned}
 
 -- whether some number below n passes
 abbrev pub some_below : (ℕ → Bool) → ℕ → Bool
@@ -63,13 +63,6 @@ pub record Selection : Type 0 where
 pub data Kind : Type 0 where
   matched : Kind
   in_context : SinkContextKind → Kind
-
--- what `finish` has after so many bytes, while the sink was told of no binary byte
-abbrev pub counted : ℕ → Finish
-counted count = record { count = count; binary = None }
-
-abbrev pub planned : Call → ℕ → Planned
-planned call count = record { call = call; if_false = counted count }
 
 -- the calls after which that count is at most an offset
 abbrev pub through : ℕ → List Planned → List Planned

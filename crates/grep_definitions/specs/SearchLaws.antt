@@ -1,30 +1,28 @@
--- Laws of the defined calls.
-use Rattle.std.specs.Prelude.{◌≡◌, ℕ, ◌+◌, ◌-◌, ◌<◌, ◌≤◌, Bool, true, false, not, ◌&&◌, ◌||◌}
+-- Laws of the planned calls.
+use Rattle.std.specs.Prelude.{◌≡◌, ℕ, ◌+◌, ◌-◌, ◌<◌, ◌≤◌, Bool, true, false, not, ◌||◌, ◌&&◌}
 use Rattle.std.specs.Prelude.{if◌then◌else◌, nat_lt}
 use Rattle.std.specs.Prelude.{List, [], ◌∷◌, ◌++◌, length, slice_index, count_by, filter, map}
-use Rattle.std.specs.Prelude.{slice_get, Some, None}
+use Rattle.std.specs.Prelude.{Option, slice_get, Some, None}
 use Rattle.std.specs.Prelude.{All}
 use Rattle.std.specs.List.{AllPairs}
 use Rattle.std.specs.Option.{option_map}
 use Rattle.grep_decode.specs.declared.label.Label.TheVariants.{Utf8}
 use Rattle.grep_decode.specs.Marks.{mark_of, marked}
 use Rattle.grep_matcher.specs.Terminators.{byte_of}
-use Rattle.grep_matcher.specs.Matching.{Meaning, plain}
+use Rattle.grep_matcher.specs.Matching.{plain}
+use Rattle.grep_matcher.specs.Meanings.{Meaning}
 use Rattle.grep_report.specs.declared.sink_context.SinkContextKind.TheVariants.{After}
+use Rattle.grep_definitions.specs.Asking.{is_across, search_plan}
+use Rattle.grep_definitions.specs.Plans.{Call, begins, matches, context, breaks, binary_data}
+use Rattle.grep_definitions.specs.Plans.{finishes, Planned, Plan, reported_bytes, reported_from}
+use Rattle.grep_definitions.specs.Plans.{planned}
+use Rattle.grep_definitions.specs.Readings.{searched_bytes, is_searched_unchanged, encoding_of}
+use Rattle.grep_definitions.specs.Readings.{looks_for_mark}
+use Rattle.grep_definitions.specs.Reports.{count_below, first_below, joined_from, line_count, line}
+use Rattle.grep_definitions.specs.Reports.{start, number, follows_selected, calls_at, reports_plan}
+use Rattle.grep_definitions.specs.SelectedLines.{is_selected, is_trailing, line_end}
+use Rattle.grep_definitions.specs.SelectedLines.{selected_lines}
 use Rattle.grep_definitions.specs.Settings.{Settings}
-use Rattle.grep_definitions.specs.NotedSinks.{reported_to}
-use Rattle.grep_definitions.specs.SinkCalls.{Call, Turn, begins, matches, context, breaks}
-use Rattle.grep_definitions.specs.SinkCalls.{binary_data, finishes}
-use Rattle.grep_definitions.specs.SinkCalls.{is_report, reported_bytes, reported_from}
-use Rattle.grep_definitions.specs.Below.{count_below, first_below, joined_from}
-use Rattle.grep_definitions.specs.LineTurns.{number_of}
-use Rattle.grep_definitions.specs.LineSearch.{turns, turns_at, turn_count, line_count, byte_count}
-use Rattle.grep_definitions.specs.LineSearch.{number, start, line, is_selected, is_trailing}
-use Rattle.grep_definitions.specs.LineSearch.{follows_selected}
-use Rattle.grep_definitions.specs.Modes.{is_across}
-use Rattle.grep_definitions.specs.SearchTurns.{search_turns}
-use Rattle.grep_definitions.specs.DecodedInputs.{searched_bytes, is_searched_unchanged}
-use Rattle.grep_definitions.specs.DecodedInputs.{looks_for_mark, passes_unchanged}
 
 -- without a label and a mark that is found, what is searched is the input
 abbrev pub UnchangedIsInput : Type 0
@@ -50,23 +48,22 @@ UnmarkedIsUnchanged =
 abbrev pub UnchangedPasses : Type 0
 UnchangedPasses =
     (settings : Settings) (input : List ℕ) → is_searched_unchanged settings input ≡ true
-    → passes_unchanged settings input ≡ true
+    → encoding_of settings input ≡ None
 
 abbrev pub MarkedPasses : Type 0
 MarkedPasses =
     (settings : Settings) (input : List ℕ) → looks_for_mark settings ≡ true
-    → (passes_unchanged settings (mark_of Utf8 ++ input) ≡ true)
+    → (encoding_of settings (mark_of Utf8 ++ input) ≡ None)
     × (searched_bytes settings (mark_of Utf8 ++ input) ≡ input)
 
--- the calls that report lines, in order
-abbrev pub report_calls : List Turn → List Call
-report_calls turns = filter is_report (map (λ turn. turn.call) turns)
-
--- each of some reports has a byte, and ends by the offset of each later one
-abbrev pub AreInOrder : List Call → Type 0
-AreInOrder reports =
-    All (λ report. 0 < length (reported_bytes report)) reports
-    × AllPairs (λ report later. reported_to report ≤ reported_from later) reports
+-- whether a call reports lines, and whether it reports a match
+abbrev pub is_report : Call → Bool
+is_report begins = false
+is_report (matches number offset bytes) = true
+is_report (context kind number offset bytes) = true
+is_report breaks = false
+is_report (binary_data offset) = false
+is_report (finishes count binary) = false
 
 abbrev pub is_match : Call → Bool
 is_match begins = false
@@ -76,40 +73,59 @@ is_match breaks = false
 is_match (binary_data offset) = false
 is_match (finishes count binary) = false
 
--- the calls that report a match, in order
-abbrev pub match_calls : List Turn → List Call
-match_calls turns = filter is_match (map (λ turn. turn.call) turns)
+-- some calls without the counts, and those of them that report lines, or a match, in order
+abbrev pub calls_of : List Planned → List Call
+calls_of calls = map (λ planned. planned.call) calls
+
+abbrev pub report_calls : List Planned → List Call
+report_calls calls = filter is_report (calls_of calls)
+
+abbrev pub match_calls : List Planned → List Call
+match_calls calls = filter is_match (calls_of calls)
+
+-- where the bytes end that a call reports
+abbrev pub reported_to : Call → ℕ
+reported_to call = reported_from call + length (reported_bytes call)
+
+-- each of some reports has a byte, and ends by the offset of each later one
+abbrev pub AreInOrder : List Call → Type 0
+AreInOrder reports =
+    All (λ report. 0 < length (reported_bytes report)) reports
+    × AllPairs (λ report later. reported_to report ≤ reported_from later) reports
+
+-- the plan of a search by line
+abbrev pub line_plan : Settings → Meaning → List ℕ → Plan
+line_plan settings meaning bytes =
+    reports_plan settings bytes (selected_lines settings meaning bytes)
 
 -- the reports ascend, and no byte is reported twice
 abbrev pub ReportsAscend : Type 0
 ReportsAscend =
     (settings : Settings) (meaning : Meaning) (bytes : List ℕ)
-    → AreInOrder (report_calls (turns settings meaning bytes))
+    → AreInOrder (report_calls (line_plan settings meaning bytes).calls)
 
--- a line that has a turn, isn't selected and is in reach of an earlier selected line is reported as
--- the line after it, even if it is also before a later one, and as a match if it is trailing
+-- a line that may be reported, isn't selected and is in reach of an earlier selected line is
+-- reported as the line after it, even if it is also before a later one, and as a match if it is
+-- trailing
 abbrev pub AfterWins : Type 0
 AfterWins =
     (settings : Settings) (meaning : Meaning) (bytes : List ℕ) (i j : ℕ)
-    → i < turn_count settings meaning bytes
+    → i < line_end settings meaning bytes
     → is_selected settings meaning bytes i ≡ false → is_selected settings meaning bytes j ≡ true
     → j < i → i - j ≤ settings.after_context
-    → turns_at settings meaning bytes i
-    ≡ record {
-      call = if is_trailing settings meaning bytes i
-          then matches (number settings meaning bytes i) (start settings meaning bytes i)
-          (line settings meaning bytes i)
-          else context After (number settings meaning bytes i) (start settings meaning bytes i)
-          (line settings meaning bytes i);
-      end = start settings meaning bytes (i + 1);
-    } ∷ []
+    → calls_at settings bytes (selected_lines settings meaning bytes) i
+    ≡ planned
+    (if is_trailing settings meaning bytes i
+    then matches (number settings bytes i) (start settings bytes i) (line settings bytes i)
+    else context After (number settings bytes i) (start settings bytes i) (line settings bytes i))
+    (start settings bytes (i + 1)) ∷ []
 
 -- without limit and stop, a search and its inversion select complementary lines
 abbrev pub InversionComplements : Type 0
 InversionComplements =
     (settings : Settings) (meaning : Meaning) (bytes : List ℕ) (i : ℕ)
     → settings.max_matches ≡ None → settings.stop_on_nonmatch ≡ false
-    → i < line_count settings meaning bytes
+    → i < line_count settings bytes
     → is_selected (record settings { invert_match = not settings.invert_match }) meaning bytes i
     ≡ not (is_selected settings meaning bytes i)
 
@@ -119,8 +135,9 @@ FirstLinesBegin =
     (settings : Settings) (meaning : Meaning) (front back : List ℕ)
     → (0 < length front → slice_index front (length front - 1) ≡ byte_of settings.line_terminator)
     → (settings.passthru ≡ true → settings.before_context ≡ 0)
-    → (later : List Turn)
-    × (turns settings meaning (front ++ back) ≡ turns settings meaning front ++ later)
+    → (later : List Planned)
+    × ((line_plan settings meaning (front ++ back)).calls
+    ≡ (line_plan settings meaning front).calls ++ later)
 
 -- no more matches are reported than the limit has, and those in the context after the last of them;
 -- none at limit 0
@@ -128,73 +145,76 @@ abbrev pub AtMostLimit : Type 0
 AtMostLimit =
     (settings : Settings) (meaning : Meaning) (bytes : List ℕ) (limit : ℕ)
     → settings.max_matches ≡ Some limit
-    → count_by (λ turn. is_match turn.call) (turns settings meaning bytes)
+    → count_by is_match (calls_of (line_plan settings meaning bytes).calls)
     ≤ (if nat_lt 0 limit then limit + settings.after_context else 0)
 
--- if each line has a turn, the byte count is the length
+-- if each line may be reported, the byte count is the length
 abbrev pub WholeCount : Type 0
 WholeCount =
     (settings : Settings) (meaning : Meaning) (bytes : List ℕ)
-    → turn_count settings meaning bytes ≡ line_count settings meaning bytes
-    → byte_count settings meaning bytes ≡ length bytes
+    → line_end settings meaning bytes ≡ line_count settings bytes
+    → (line_plan settings meaning bytes).finish.count ≡ length bytes
 
--- by line the calls, how many lines have a turn, and the byte count depend on a matcher's matches
--- alone, not on what it says of terminators: a search by line with `Plain` of it has the same
+-- by line the plan, and which lines may be reported, depend on a matcher's matches alone, not on
+-- what it says of terminators: a search by line with `Plain` of it has the same
 abbrev pub MatchesDecide : Type 0
 MatchesDecide =
     (settings : Settings) (meaning : Meaning) (bytes : List ℕ)
-    → (turns settings (plain meaning.first) bytes ≡ turns settings meaning bytes)
-    × (turn_count settings (plain meaning.first) bytes ≡ turn_count settings meaning bytes)
-    × (byte_count settings (plain meaning.first) bytes ≡ byte_count settings meaning bytes)
+    → (line_plan settings (plain meaning.first) bytes ≡ line_plan settings meaning bytes)
+    × (line_end settings (plain meaning.first) bytes ≡ line_end settings meaning bytes)
+
+-- the number of line i
+abbrev pub number_of : Settings → ℕ → Option ℕ
+number_of settings i = if settings.line_number then Some (i + 1) else None
 
 -- line i has the number i + 1, if lines are numbered
 abbrev pub LinesAreNumbered : Type 0
 LinesAreNumbered =
-    (settings : Settings) (meaning : Meaning) (bytes : List ℕ) (i : ℕ)
-    → i < line_count settings meaning bytes
-    → number settings meaning bytes i ≡ number_of settings i
+    (settings : Settings) (bytes : List ℕ) (i : ℕ) → i < line_count settings bytes
+    → number settings bytes i ≡ number_of settings i
 
 -- the call that reports line i as a match: with the number i + 1, if lines are numbered
-abbrev pub match_of : Settings → Meaning → List ℕ → ℕ → Call
-match_of settings meaning bytes i =
-    matches (number_of settings i) (start settings meaning bytes i) (line settings meaning bytes i)
+abbrev pub match_of : Settings → List ℕ → ℕ → Call
+match_of settings bytes i =
+    matches (number_of settings i) (start settings bytes i) (line settings bytes i)
 
 -- whether a line is a match: it is selected, or trailing in the context after a selected line
 abbrev pub is_matched : Settings → Meaning → List ℕ → ℕ → Bool
 is_matched settings meaning bytes i =
     is_selected settings meaning bytes i
-    || (follows_selected settings meaning bytes i && is_trailing settings meaning bytes i)
+    || (follows_selected settings bytes (selected_lines settings meaning bytes) i
+    && is_trailing settings meaning bytes i)
 
--- the lines that have a turn and are matches, in order
+-- the lines that may be reported and are matches, in order
 abbrev pub matched_lines : Settings → Meaning → List ℕ → List ℕ
 matched_lines settings meaning bytes =
     joined_from (λ i. if is_matched settings meaning bytes i then i ∷ [] else []) 0
-    (turn_count settings meaning bytes)
+    (line_end settings meaning bytes)
 
 -- by line, the matches that are reported are these lines, in order
 abbrev pub MatchesAreMatchedLines : Type 0
 MatchesAreMatchedLines =
     (settings : Settings) (meaning : Meaning) (bytes : List ℕ) → is_across settings meaning ≡ false
-    → match_calls (search_turns settings meaning bytes)
-    ≡ map (match_of settings meaning bytes) (matched_lines settings meaning bytes)
+    → match_calls (search_plan settings meaning bytes).calls
+    ≡ map (match_of settings bytes) (matched_lines settings meaning bytes)
 
 -- as many as there are of them
 abbrev pub MatchesAreCounted : Type 0
 MatchesAreCounted =
     (settings : Settings) (meaning : Meaning) (bytes : List ℕ) → is_across settings meaning ≡ false
-    → length (match_calls (search_turns settings meaning bytes))
-    ≡ count_below (is_matched settings meaning bytes) (turn_count settings meaning bytes)
+    → length (match_calls (search_plan settings meaning bytes).calls)
+    ≡ count_below (is_matched settings meaning bytes) (line_end settings meaning bytes)
 
 -- the first of them is the first selected line
 abbrev pub FirstMatchIsFirst : Type 0
 FirstMatchIsFirst =
     (settings : Settings) (meaning : Meaning) (bytes : List ℕ) → is_across settings meaning ≡ false
-    → slice_get (match_calls (search_turns settings meaning bytes)) 0
-    ≡ option_map (match_of settings meaning bytes)
-    (first_below (is_selected settings meaning bytes) (line_count settings meaning bytes))
+    → slice_get (match_calls (search_plan settings meaning bytes).calls) 0
+    ≡ option_map (match_of settings bytes)
+    (first_below (is_selected settings meaning bytes) (line_count settings bytes))
 
 -- there are at most as many as bytes
 abbrev pub MatchesAreFew : Type 0
 MatchesAreFew =
     (settings : Settings) (meaning : Meaning) (bytes : List ℕ) → is_across settings meaning ≡ false
-    → length (match_calls (search_turns settings meaning bytes)) ≤ length bytes
+    → length (match_calls (search_plan settings meaning bytes).calls) ≤ length bytes

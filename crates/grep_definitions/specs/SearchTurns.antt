@@ -1,25 +1,25 @@
--- The calls of a search, by line or across lines, as the settings and the matcher say.
+-- The calls of a search by line and of one across lines, as the loops of a search name them.
 use Rattle.std.specs.Prelude.{ℕ, Bool, true, false, List}
-use Rattle.grep_matcher.specs.Matching.{Meaning}
+use Rattle.grep_matcher.specs.Meanings.{Meaning}
 use Rattle.grep_definitions.specs.Settings.{Settings}
-use Rattle.grep_definitions.specs.SinkCalls.{Turn}
+use Rattle.grep_definitions.specs.Plans.{Planned}
 use Rattle.grep_definitions.specs.LineSearch
 use Rattle.grep_definitions.specs.AcrossLines
 use Rattle.grep_definitions.specs.AcrossQuestions.{IsAskedAcross}
-use Rattle.grep_definitions.specs.Modes.{is_across}
+use Rattle.grep_definitions.specs.Asking.{is_across}
 use Rattle.grep_definitions.specs.Questions.{IsAskedByLine}
 
 -- what is defined of a search over any bytes, in one of the modes
 pub record SearchCalls : Type 1 where
   pub across : Bool
   -- the calls before the last
-  pub turns : List ℕ → List Turn
+  pub turns : List ℕ → List Planned
   -- how many lines have a turn
   pub turn_count : List ℕ → ℕ
   -- the byte count if every call returns true
   pub byte_count : List ℕ → ℕ
   -- what the matcher is asked over some bytes, and the calls that were made before
-  pub IsAsked : List ℕ → List ℕ → List Turn → Type 0
+  pub IsAsked : List ℕ → List ℕ → List Planned → Type 0
   -- what is searched of decoded bytes
   pub view : List ℕ → List ℕ
 
@@ -57,7 +57,7 @@ module _ (settings : Settings) (meaning : Meaning) where
 
 module _ (settings : Settings) (meaning : Meaning) (bytes : List ℕ) where
   -- the calls before the last
-  abbrev pub search_turns : List Turn
+  abbrev pub search_turns : List Planned
   search_turns = (search_calls settings meaning).turns bytes
 
   -- how many lines have a turn

@@ -85,7 +85,7 @@ module _ (settings : Settings) (meaning : Meaning) (bytes : List ℕ) where
 abbrev pub position_after : ℕ × ℕ → ℕ
 position_after m = if nat_lt m.0 m.1 then m.1 else m.1 + 1
 
--- the same after some matches that were looked for from a position on
+-- and after some matches, which were looked for from a position on
 abbrev pub position_past : ℕ → List (ℕ × ℕ) → ℕ
 position_past position [] = position
 position_past position (m ∷ later) = position_past (position_after m) later

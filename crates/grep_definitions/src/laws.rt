@@ -16,7 +16,6 @@ ghost use Rattle.grep_definitions.specs.AcrossLaws.{MatchesAreAll, SelectedAreRe
 ghost use Rattle.grep_definitions.specs.AcrossLaws.{ReportsAreApart, ReportsAreAsByLine};
 ghost use Rattle.grep_definitions.specs.BinaryLaws.{QuitReportsAreClear, CountedReportsAreClear};
 ghost use Rattle.grep_definitions.specs.BinaryLaws.{SeenLinesAreClear, SeenLinesBegin};
-ghost use Rattle.grep_definitions.specs.PlanLaws.{PlansAreTurns};
 ghost use Rattle.grep_definitions.specs.CountLaws.{NumbersChangeNoCount, NumbersChangeNoBytes};
 
 use grep_decode::laws::unchanged_is_decoded;
@@ -68,7 +67,7 @@ pub fn at_most_limit()
     ensures { AtMostLimit }
 {}
 
-/// If every line has a turn, the byte count is the length: that of a search in which every call
+/// If every line may be reported, the byte count is the length: that of a search in which every call
 /// returns true.
 pub fn whole_count()
     ensures { WholeCount }
@@ -76,9 +75,9 @@ pub fn whole_count()
     lines_join();
 }
 
-/// By line the calls depend on a matcher's matches alone, not on the terminator or the bytes that
-/// it excludes: a search by line with `Plain` of a matcher, which asks about one line at a time,
-/// makes the same calls as one with the matcher. It has as many turns and the same byte count.
+/// By line the plan depends on a matcher's matches alone, not on the terminator or the bytes that it
+/// excludes: a search by line with `Plain` of a matcher, which asks about one line at a time, makes
+/// the same calls as one with the matcher, with the same byte counts.
 pub fn matches_decide()
     ensures { MatchesDecide }
 {}
@@ -184,8 +183,8 @@ pub fn reports_are_apart_across()
     ensures { ReportsAreApart }
 {}
 
-/// Across lines contexts, breaks and turns are as by line: if a search under inversion selects the
-/// lines that a search by line does, and each line has a turn in that too, their calls are the
+/// Across lines contexts, breaks and counts are as by line: if a search under inversion selects the
+/// lines that a search by line does, and each line may be reported in that too, their calls are the
 /// same.
 pub fn reports_are_as_by_line()
     ensures { ReportsAreAsByLine }
@@ -209,8 +208,8 @@ pub fn quit_reports_are_clear()
     ensures { QuitReportsAreClear }
 {}
 
-/// By line, if a byte isn't among the first `count` bytes, no report whose turn ends within them
-/// holds it. Nor does a report over lines at the front of an input, if the byte that ends the
+/// By line, if a byte isn't among the first `count` bytes, no report after which the count is within
+/// them holds it. Nor does a report over lines at the front of an input, if the byte that ends the
 /// search isn't among these.
 pub fn counted_reports_are_clear()
     ensures first { CountedReportsAreClear }
@@ -226,11 +225,4 @@ pub fn seen_lines_begin()
 {
     lines_join();
     lines_append();
-}
-
-/// A plan has the calls of the turns.
-pub fn plans_are_turns()
-    ensures { PlansAreTurns }
-{
-    lines_join();
 }

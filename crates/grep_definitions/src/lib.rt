@@ -2,9 +2,9 @@
 //! lines, what a sink makes of those calls, and how a search ends. Every contract of grep_searcher
 //! cites them.
 //!
-//! The definitions are in `specs/`: `LineSearch` has the calls of a search by line, `SinkRuns` a
-//! sink's run along calls, `Searches` and `ReaderSearches` a search with its faults. What follows
-//! from them is in `laws`.
+//! The definitions are in `specs/`: `Plans` has the calls of a search and a sink's run along them,
+//! `Reports` and `SelectedLines` which calls they are, `Readings` what is read of an input, and
+//! `PlannedSearches` a search with its faults. What follows from them is in `laws`.
 #![tactic(auto)]
 
 pub mod laws;

@@ -62,11 +62,6 @@ slice-grown old new a e n same below =
     (slice-kept old new a e e same (omega arith))
     ∙ ap (λ k. slice old a e ++ take k (drop e new)) left
 
--- a slice of bytes that others follow
-pub slice-front : (bytes more : List ℕ) (a b : ℕ) → b ≤ length bytes → slice (bytes ++ more) a b ≡ slice bytes a b
-slice-front bytes more a b within = slice-kept bytes (bytes ++ more) a b b (take-append-le b bytes more within)
-    (omega arith)
-
 -- a byte of a slice
 pub slice_index-slice : (bytes : List ℕ) (start end k : ℕ) → k < end - start → slice_index (slice bytes start end) k
     ≡ slice_index bytes (start + k)

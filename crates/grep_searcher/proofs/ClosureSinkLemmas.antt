@@ -5,14 +5,13 @@ use Rattle.std.proofs.lemmas.List.{append-nil}
 use Rattle.std.specs.Prelude.{Result, Ok, map, if◌then◌else◌}
 use Rattle.std.specs.Borrow.{Bor}
 use Rattle.std.specs.declared.io.Error.{Error}
-use Rattle.grep_definitions.specs.LineSearch.{line, start}
-use Rattle.grep_definitions.specs.SearchTurns.{search_turns}
+use Rattle.grep_definitions.specs.Reports.{line, start}
 use Rattle.grep_definitions.specs.SearchLaws.{MatchesAreMatchedLines, match_of, matched_lines}
 use Rattle.grep_definitions.specs.Settings.{Settings}
-use Rattle.grep_definitions.specs.SinkCalls.{Call, begins, matches, context, breaks, binary_data, finishes}
+use Rattle.grep_definitions.specs.Plans.{Call, begins, matches, context, breaks, binary_data, finishes}
 use Rattle.grep_definitions.specs.SinkFolds.{AreTaken, IsTakenOk}
 use Rattle.grep_definitions.proofs.SinkFoldLemmas.{runs-take_matches}
-use Rattle.grep_matcher.specs.Matching.{Meaning}
+use Rattle.grep_matcher.specs.Meanings.{Meaning}
 use Rattle.grep_searcher.specs.ClosureSinks.{IsClosureStep, IsCalledAt, ClosureSteps, ClosuresAreCalled, KeepsCalls}
 use Rattle.grep_searcher.specs.ClosureSinks.{ClosuresKeep}
 
@@ -31,11 +30,11 @@ module _ {F : Type 0} (call : F → ℕ → Bor (List ℕ) → Result Bool Error
   closure-takes old (finishes count binary) b new (is, same) = (cc, same)
 
   pub closures-are_called : {S : Type 0} (closure : S → F) → ClosuresAreCalled call is_text closure
-  closures-are_called closure settings old turns count binary new run = record {
+  closures-are_called closure settings old plan new run = record {
     taken =
         runs-take_matches (ClosureSteps call is_text closure)
-        settings count binary new closure (IsCalledAt call is_text)
-        (λ from made b after h. closure-takes (closure from) made b (closure after) h) old turns run;
+        settings plan.finish new closure (IsCalledAt call is_text)
+        (λ from made b after h. closure-takes (closure from) made b (closure after) h) old plan.calls run;
   }
 
 -- What is kept of the calls, if each call that returns adds its number and its text.
@@ -44,44 +43,43 @@ module _ {F : Type 0} (call : F → ℕ → Bor (List ℕ) → Result Bool Error
     (texts : (bytes text : List ℕ) → is_text bytes (Ok text) → text ≡ text_of bytes) where
   module _ (name : F → ℕ) (kept : F → List (ℕ × List ℕ)) (by : KeepsCalls call is_text name kept)
       (settings : Settings) (meaning : Meaning) (bytes : List ℕ) where
-    kept-one : (i : ℕ) (old new : F) (b : Bool) → IsCalledAt call is_text old (match_of settings meaning bytes i) b new
-        → (b ≡ true) × (name new ≡ name old) × (kept new ≡ kept old ++ (i + 1, text_of (line settings meaning bytes i))
+    kept-one : (i : ℕ) (old new : F) (b : Bool) → IsCalledAt call is_text old (match_of settings bytes i) b new
+        → (b ≡ true) × (name new ≡ name old) × (kept new ≡ kept old ++ (i + 1, text_of (line settings bytes i))
         ∷ [])
     kept-one i old new b = go settings.line_number
       where
         go : (has_numbers : Bool)
             → IsCalledAt call is_text old
-            (matches (if has_numbers then Some (i + 1) else None) (start settings meaning bytes i)
-            (line settings meaning bytes i)) b new
+            (matches (if has_numbers then Some (i + 1) else None) (start settings bytes i)
+            (line settings bytes i)) b new
             → (b ≡ true) × (name new ≡ name old) × (kept new ≡ kept old
-            ++ (i + 1, text_of (line settings meaning bytes i)) ∷ [])
+            ++ (i + 1, text_of (line settings bytes i)) ∷ [])
         go true (text, is, (passed, same, called)) =
             let here = by old (i + 1) passed b new called in
-            let whole = same ∙ texts (line settings meaning bytes i) text is in
+            let whole = same ∙ texts (line settings bytes i) text is in
             (here.0, here.1, here.2 ∙ ap (λ t. kept old ++ (i + 1, t) ∷ []) whole)
         go false never = absurd never
 
     kept-matches : (listed : List ℕ) (old new : F)
-        → AreTaken (IsCalledAt call is_text) old (map (match_of settings meaning bytes) listed) new
+        → AreTaken (IsCalledAt call is_text) old (map (match_of settings bytes) listed) new
         → (name new ≡ name old)
-        × (kept new ≡ kept old ++ map (λ i. (i + 1, text_of (line settings meaning bytes i))) listed)
+        × (kept new ≡ kept old ++ map (λ i. (i + 1, text_of (line settings bytes i))) listed)
     kept-matches [] old new same = (ap name same, ap kept same ∙ sym (append-nil (kept old)))
     kept-matches (i ∷ later) old new (inl (mid, here, rest)) =
         let first = kept-one i old mid true here in
         let others = kept-matches later mid new rest in
-        let more = map (λ i. (i + 1, text_of (line settings meaning bytes i))) later in (
+        let more = map (λ i. (i + 1, text_of (line settings bytes i))) later in (
           others.0 ∙ first.1,
           others.1 ∙ ap (λ k. k ++ more) first.2
-              ∙ append_assoc (kept old) ((i + 1, text_of (line settings meaning bytes i)) ∷ []) more,
+              ∙ append_assoc (kept old) ((i + 1, text_of (line settings bytes i)) ∷ []) more,
         )
     kept-matches (i ∷ later) old new (inr here) = absurd (let never = (kept-one i old new false here).0 in cc)
 
   pub closures-keep : MatchesAreMatchedLines → {S : Type 0} (closure : S → F)
       → ClosuresKeep call is_text closure text_of
-  closures-keep are_matched closure name kept by settings meaning bytes by_line old count binary new run =
+  closures-keep are_matched closure name kept by settings meaning bytes by_line plan same old new run =
       kept-matches name kept by settings meaning bytes (matched_lines settings meaning bytes) (closure old)
       (closure new)
       (subst (λ calls. AreTaken (IsCalledAt call is_text) (closure old) calls (closure new))
-      (are_matched settings meaning bytes by_line)
-      (closures-are_called call is_text closure settings old (search_turns settings meaning bytes) count binary new
-      run).taken)
+      (same ∙ are_matched settings meaning bytes by_line)
+      (closures-are_called call is_text closure settings old plan new run).taken)

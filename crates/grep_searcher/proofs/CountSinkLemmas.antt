@@ -1,7 +1,7 @@
 -- What a sink that counts the matches makes of a run.
 use Rattle.std.proofs.Common.{◌≡◌, ℕ, ◌+◌, ◌<◌, ◌-◌, ◌^◌, min, true, List, [], ◌∷◌, length, ◌∙◌, arith}
 use Rattle.grep_definitions.specs.SearchLaws.{match_calls}
-use Rattle.grep_definitions.specs.SinkCalls.{Call}
+use Rattle.grep_definitions.specs.Plans.{Call}
 use Rattle.grep_definitions.specs.SinkFolds.{fold_while}
 use Rattle.grep_definitions.proofs.SinkFoldLemmas.{runs-fold_matches}
 use Rattle.grep_searcher.specs.CountSinks.{counted, IsCountStep, RunsCount, RunsCountAll}
@@ -13,11 +13,9 @@ fold_while-counted old [] fits = omega arith
 fold_while-counted old (call ∷ later) fits = omega (arith, fold_while-counted (counted old call) later (omega arith))
 
 pub runs-count : (E : Type 0) → RunsCount E
-runs-count E settings old turns count binary new fits run =
-    runs-fold_matches {E = E} IsCountStep (λ _ _. true) counted (λ _ _ _ _ _ h. h) settings old turns count binary new
-    run
-    ∙ fold_while-counted old (match_calls turns) fits
+runs-count E settings old plan new fits run =
+    runs-fold_matches {E = E} IsCountStep (λ _ _. true) counted (λ _ _ _ _ _ h. h) settings old plan new run
+    ∙ fold_while-counted old (match_calls plan.calls) fits
 
 pub runs-count_all : (E : Type 0) → RunsCountAll E
-runs-count_all E settings turns count binary new run =
-    omega (arith, runs-count E settings 0 turns count binary new (omega arith) run)
+runs-count_all E settings plan new run = omega (arith, runs-count E settings 0 plan new (omega arith) run)

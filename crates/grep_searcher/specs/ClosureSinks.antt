@@ -7,16 +7,14 @@ use Rattle.std.specs.Str.{IsUtf8}
 use Rattle.std.specs.Str.Lossy.{utf8_lossy}
 use Rattle.std.specs.declared.io.Error.{Error}
 use Rattle.std.specs.declared.io.ErrorKind.TheVariants.{Other, OutOfMemory}
-use Rattle.grep_definitions.specs.LineSearch.{line}
-use Rattle.grep_definitions.specs.Modes.{is_across}
-use Rattle.grep_definitions.specs.SearchTurns.{search_turns}
+use Rattle.grep_definitions.specs.Asking.{is_across, search_plan}
+use Rattle.grep_definitions.specs.Plans.{Call, begins, matches, context, breaks, binary_data}
+use Rattle.grep_definitions.specs.Plans.{finishes, Plan, Steps, IsRun}
+use Rattle.grep_definitions.specs.Reports.{line}
 use Rattle.grep_definitions.specs.SearchLaws.{match_calls, matched_lines}
 use Rattle.grep_definitions.specs.Settings.{Settings}
-use Rattle.grep_definitions.specs.SinkCalls.{Call, Turn, begins, matches, context, breaks}
-use Rattle.grep_definitions.specs.SinkCalls.{binary_data, finishes}
 use Rattle.grep_definitions.specs.SinkFolds.{AreTaken}
-use Rattle.grep_definitions.specs.SinkRuns.{Steps, IsRun}
-use Rattle.grep_matcher.specs.Matching.{Meaning}
+use Rattle.grep_matcher.specs.Meanings.{Meaning}
 
 -- The text of a match as the closure gets it, or the error if it gets none.
 
@@ -89,9 +87,9 @@ module _ {F : Type 0} (call : F → ℕ → Bor (List ℕ) → Result Bool Error
   -- in a run that ended in `Ok`, of such a sink, it was called at the matches that are reported
   abbrev pub ClosuresAreCalled : {S : Type 0} → (S → F) → Type 0
   ClosuresAreCalled {S} closure =
-      (settings : Settings) (old : S) (turns : List Turn) (count : ℕ) (binary : Option ℕ) (new : S)
-      → IsRun (ClosureSteps closure) settings old turns count binary (Ok tt) new
-      → AreCalled (closure old) (match_calls turns) (closure new)
+      (settings : Settings) (old : S) (plan : Plan) (new : S)
+      → IsRun (ClosureSteps closure) settings old plan (Ok tt) new
+      → AreCalled (closure old) (match_calls plan.calls) (closure new)
 
   -- a call of the closure that returns goes on, adds its number and its text to what is kept, and
   -- leaves the name of the reference through which it is kept
@@ -101,17 +99,17 @@ module _ {F : Type 0} (call : F → ℕ → Bor (List ℕ) → Result Bool Error
       → call old number text (Ok b) new → (b ≡ true) × (name new ≡ name old)
       × (kept new ≡ kept old ++ (number, text.now) ∷ [])
 
-  -- then a run by line along the calls for some bytes that ended in `Ok` adds the numbers and the
-  -- texts of the matched lines
+  -- then a run along a plan with the matches of a search by line, that ended in `Ok`, adds the
+  -- numbers and the texts of the matched lines
   abbrev pub ClosuresKeep : {S : Type 0} → (S → F) → (List ℕ → List ℕ) → Type 0
   ClosuresKeep {S} closure text_of =
       (name : F → ℕ) (kept : F → List (ℕ × List ℕ)) → KeepsCalls name kept
       → (settings : Settings) (meaning : Meaning) (bytes : List ℕ)
       → is_across settings meaning ≡ false
-      → (old : S) (count : ℕ) (binary : Option ℕ) (new : S)
-      → IsRun (ClosureSteps closure) settings old
-      (search_turns settings meaning bytes) count binary (Ok tt) new
+      → (plan : Plan)
+      → match_calls plan.calls ≡ match_calls (search_plan settings meaning bytes).calls
+      → (old new : S) → IsRun (ClosureSteps closure) settings old plan (Ok tt) new
       → (name (closure new) ≡ name (closure old))
       × (kept (closure new) ≡ kept (closure old)
-      ++ map (λ i. (i + 1, text_of (line settings meaning bytes i)))
+      ++ map (λ i. (i + 1, text_of (line settings bytes i)))
       (matched_lines settings meaning bytes))

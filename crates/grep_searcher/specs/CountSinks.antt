@@ -1,10 +1,9 @@
 -- What a sink that counts the matches makes of a call, and of a search.
-use Rattle.std.specs.Prelude.{◌≡◌, ℕ, ◌+◌, ◌-◌, ◌^◌, ◌<◌, true, min, List, length, Option, Ok}
+use Rattle.std.specs.Prelude.{◌≡◌, ℕ, ◌+◌, ◌-◌, ◌^◌, ◌<◌, true, min, length, Ok}
+use Rattle.grep_definitions.specs.Plans.{Call, Plan, Steps, IsRun}
 use Rattle.grep_definitions.specs.SearchLaws.{match_calls}
 use Rattle.grep_definitions.specs.Settings.{Settings}
-use Rattle.grep_definitions.specs.SinkCalls.{Call, Turn}
 use Rattle.grep_definitions.specs.SinkFolds.{IsMatchStep}
-use Rattle.grep_definitions.specs.SinkRuns.{Steps, IsRun}
 
 -- one match more, up to the largest number
 abbrev pub counted : ℕ → Call → ℕ
@@ -17,13 +16,13 @@ IsCountStep = IsMatchStep (λ _ _. true) counted (λ _. ⊥)
 -- a run that ended in `Ok` adds how many matches are reported, up to the largest number
 abbrev pub RunsCount : Type 0 → Type 0
 RunsCount E =
-    (settings : Settings) (old : ℕ) (turns : List Turn) (count : ℕ) (binary : Option ℕ) (new : ℕ)
-    → old < 2 ^ 64 → IsRun {E = E} IsCountStep settings old turns count binary (Ok tt) new
-    → new ≡ min (old + length (match_calls turns)) (2 ^ 64 - 1)
+    (settings : Settings) (old : ℕ) (plan : Plan) (new : ℕ)
+    → old < 2 ^ 64 → IsRun {E = E} IsCountStep settings old plan (Ok tt) new
+    → new ≡ min (old + length (match_calls plan.calls)) (2 ^ 64 - 1)
 
 -- from 0 it counts them
 abbrev pub RunsCountAll : Type 0 → Type 0
 RunsCountAll E =
-    (settings : Settings) (turns : List Turn) (count : ℕ) (binary : Option ℕ) (new : ℕ)
-    → IsRun {E = E} IsCountStep settings 0 turns count binary (Ok tt) new
-    → new ≡ min (length (match_calls turns)) (2 ^ 64 - 1)
+    (settings : Settings) (plan : Plan) (new : ℕ)
+    → IsRun {E = E} IsCountStep settings 0 plan (Ok tt) new
+    → new ≡ min (length (match_calls plan.calls)) (2 ^ 64 - 1)

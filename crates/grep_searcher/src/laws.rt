@@ -6,7 +6,7 @@ ghost use Rattle.grep_searcher.specs.ClosureSinks.{ClosuresAreCalled, ClosuresKe
 ghost use Rattle.grep_searcher.specs.ClosureSinks.{IsUtf8Text, IsLossyText, IsWholeText};
 ghost use Rattle.grep_searcher.specs.CountSinks.{RunsCount, RunsCountAll};
 ghost use Rattle.grep_definitions.specs.FileSearches.{IsFileRead};
-ghost use Rattle.grep_definitions.specs.Searches.{errors_by, facts_by};
+ghost use Rattle.grep_definitions.specs.Parties.{errors_by, facts_by};
 ghost use Rattle.grep_definitions.specs.SinkFolds.{RunsFold, RunsFoldAll, RunsFoldMatches};
 ghost use Rattle.grep_definitions.specs.SinkFolds.{SearchesRun, ReaderSearchesRun};
 ghost use Rattle.grep_definitions.specs.SinkFolds.{SearchesFail, ReaderSearchesFail};
@@ -32,7 +32,8 @@ use std::io;
 use std::io::Read;
 
 /// A run that ended in `Ok`, of a sink whose steps are functions of the state and the call, is a
-/// fold over its turns: up to the first after which the sink doesn't go on, and then `finish`.
+/// fold over the planned calls: up to the first after which the sink doesn't go on, and then
+/// `finish`.
 pub fn runs_fold<S: Sink>()
     ensures { RunsFold S.step }
 {}
@@ -63,33 +64,37 @@ pub fn closures_are_called<F: FnMut(u64, &str) -> Result<bool, io::Error>>(_: &U
     ensures { ClosuresAreCalled F.step IsUtf8Text (λ (s : UTF8 F). s.0) }
 {}
 
-/// The same of `Lossy`.
+/// A run of `Lossy` that ended in `Ok` called its closure so, with each ill-formed part of the text
+/// replaced.
 pub fn lossy_closures_are_called<F: FnMut(u64, &str) -> Result<bool, io::Error>>(_: &Lossy<F>)
     ensures { ClosuresAreCalled F.step IsLossyText (λ (s : Lossy F). s.0) }
 {}
 
-/// The same of `Bytes`.
+/// A run of `Bytes` that ended in `Ok` called its closure so, with the bytes as they are.
 pub fn bytes_closures_are_called<F: FnMut(u64, &[u8]) -> Result<bool, io::Error>>(_: &Bytes<F>)
     ensures { ClosuresAreCalled F.step IsWholeText (λ (s : Bytes F). s.0) }
 {}
 
 /// If each call of such a closure that returns adds its number and its text to what is kept,
-/// through one reference, then a run along the calls for some bytes that ended in `Ok` adds those
-/// of the matched lines, and the reference is the same.
+/// through one reference, then a run along the plan of some bytes that ended in `Ok` adds those of
+/// the matched lines, and the reference is the same. So does any run along a plan with the same
+/// matches.
 pub fn closures_keep_calls<F: FnMut(u64, &str) -> Result<bool, io::Error>>(_: &UTF8<F>)
     ensures { ClosuresKeep F.step IsUtf8Text (λ (s : UTF8 F). s.0) (λ bytes. bytes) }
 {
     matches_are_matched_lines();
 }
 
-/// The same of `Lossy`.
+/// If the closure of `Lossy` keeps its calls so, a run adds the numbers and texts of the matched
+/// lines, with each ill-formed part replaced.
 pub fn lossy_closures_keep_calls<F: FnMut(u64, &str) -> Result<bool, io::Error>>(_: &Lossy<F>)
     ensures { ClosuresKeep F.step IsLossyText (λ (s : Lossy F). s.0) utf8_lossy }
 {
     matches_are_matched_lines();
 }
 
-/// The same of `Bytes`.
+/// If the closure of `Bytes` keeps its calls so, a run adds the numbers and bytes of the matched
+/// lines.
 pub fn bytes_closures_keep_calls<F: FnMut(u64, &[u8]) -> Result<bool, io::Error>>(_: &Bytes<F>)
     ensures { ClosuresKeep F.step IsWholeText (λ (s : Bytes F). s.0) (λ bytes. bytes) }
 {
@@ -97,16 +102,19 @@ pub fn bytes_closures_keep_calls<F: FnMut(u64, &[u8]) -> Result<bool, io::Error>
 }
 
 /// Without binary detection, a search of a slice with a lawful matcher, if it ended in `Ok`, is a
-/// run along the calls for its decoded bytes. Pass the sink, since a closure's type has no name.
+/// run along the plan of its decoded bytes. Pass the sink, since a closure's type has no name.
 pub fn searches_run<A: Allocator + Copy, M: Matcher, S: Sink>(_: &S)
 where
     S::Error: SinkError<A>,
     ensures { (matcher : M) → SearchesRun S.step
         (errors_by S.Error.is_message S.Error.is_io S.Error.is_config)
         (facts_by M.meaning M.fails M.is_lawful M.Error.output matcher) }
-{}
+{
+    unchanged_is_searched();
+}
 
-/// The same of a search of a reader: it is a run over what was taken, whatever follows.
+/// Without binary detection, a search of a reader with a lawful matcher that ended in `Ok` is a run
+/// over what was taken, whatever follows.
 pub fn reader_searches_run<A: Allocator + Copy, M: Matcher, R: Source, S: Sink>(_: &S)
 where
     S::Error: SinkError<A>,
@@ -127,7 +135,8 @@ where
         (facts_by M.meaning M.fails M.is_lawful M.Error.output matcher) }
 {}
 
-/// The same of a search of a reader: an error is that of a step of the sink, or one of reading.
+/// Under these conditions an error that a search of a reader ended in is that of a step of the
+/// sink, or one of reading.
 pub fn reader_searches_fail<A: Allocator + Copy, M: Matcher, R: Source, S: Sink>()
 where
     S::Error: SinkError<A>,
@@ -138,7 +147,7 @@ where
 {}
 
 /// Without binary detection, a search of a reader that says which bytes remain, with a lawful
-/// matcher, if it ended in `Ok`, is a run along the calls for the decoded bytes of them all, as a
+/// matcher, if it ended in `Ok`, is a run along the plan of the decoded bytes of them all, as a
 /// search of a slice is.
 pub fn known_readers_run<A: Allocator + Copy, M: Matcher, R: Source, S: Sink>()
 where
@@ -149,8 +158,8 @@ where
         R.remaining R.step }
 {}
 
-/// The same of a search of a file that says which bytes remain. After `search_path` such a file is
-/// one that was opened.
+/// Without binary detection, a search of a file that says which bytes remain is such a run too.
+/// After `search_path` such a file is one that was opened.
 pub fn known_files_run<A: Allocator + Copy, M: Matcher, F: Read, S: Sink>()
 where
     S::Error: SinkError<A>,

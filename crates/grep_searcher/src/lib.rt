@@ -1,10 +1,10 @@
 //! Line-oriented search: a `Searcher` takes a caller's `Matcher` and the bytes to search, and
 //! reports to a caller's `Sink` the matching lines, the lines near them, and how far it came.
 //!
-//! Which calls a search makes is defined in grep_definitions: `specs/LineSearch.antt` says it of
-//! the whole list of lines, `specs/AcrossLines.antt` of a search across lines,
-//! `specs/SinkRuns.antt` what a sink makes of the calls, and `specs/Searches.antt` what a search
-//! does, with its faults.
+//! What a search does is one plan, which grep_definitions defines: `specs/Plans.antt` has the calls
+//! and a sink's run along them, `specs/Reports.antt` and `specs/SelectedLines.antt` which calls they
+//! are, by line and across lines, and `specs/PlannedSearches.antt` what a search does, with its
+//! faults.
 #![tactic(auto)]
 
 pub mod laws;

@@ -3,9 +3,8 @@ ghost use Rattle.std.specs.Prelude.{◌≡◌, ◌+◌, ◌<◌, ◌^◌, Bool, 
 ghost use Rattle.grep_matcher.specs.Terminators.{byte_of};
 ghost use Rattle.grep_definitions.specs.Settings.{Settings};
 ghost use Rattle.grep_report.specs.SinkReports.{match_bytes};
-ghost use Rattle.grep_definitions.specs.SinkCalls.{Call, begins, breaks, binary_data};
-ghost use Rattle.grep_definitions.specs.SinkCalls.{match_call, context_call, finish_call};
-ghost use Rattle.grep_definitions.specs.SinkRuns.{finish_result};
+ghost use Rattle.grep_definitions.specs.Plans.{Call, begins, breaks, binary_data, finish_result};
+ghost use Rattle.grep_definitions.specs.SinkArguments.{match_call, context_call, finish_call};
 
 mod boxes;
 
@@ -36,7 +35,8 @@ pub trait Sink {
         ensures step { step self.old searcher.now.settings begins result self.new }
         ensures may_call { may_call self.new };
 
-    /// Selected lines, split as the searcher splits lines. Returns whether the search goes on; an
+    /// A match: selected lines, split as the searcher splits lines, or a line that hits past the
+    /// limit, in the context after the last selected line. Returns whether the search goes on; an
     /// error is the sink's own.
     ///
     /// The caller ensures that the match has a line number exactly if the searcher numbers lines,
@@ -53,7 +53,7 @@ pub trait Sink {
         ensures step { step self.old searcher.now.settings (match_call found.now) result self.new }
         ensures may_call { may_call self.new };
 
-    /// A line that isn't selected and is reported. Returns whether the search goes on; an error is
+    /// A line that is reported, and not as a match. Returns whether the search goes on; an error is
     /// the sink's own.
     ///
     /// The caller ensures that the line has a number exactly if the searcher numbers lines, and

@@ -4,8 +4,8 @@ use Rattle.std.specs.Prelude.{Option, Some, None, Result, MatchResult}
 use Rattle.hex.specs.Hex.{encode_lower}
 use Rattle.grep_searcher.specs.declared.SinkContextKind.{SinkContextKind}
 use Rattle.grep_searcher.specs.declared.SinkContextKind.TheVariants.{Before, After, Other}
-use Rattle.grep_searcher.specs.SinkCalls.{Call, begins, matches, context, breaks, binary_data}
-use Rattle.grep_searcher.specs.SinkCalls.{finishes}
+use Rattle.grep_searcher.specs.Plans.{Call, begins, matches, context, breaks, binary_data}
+use Rattle.grep_searcher.specs.Plans.{finishes}
 use Rattle.grep_testing.specs.Counts.{counted}
 
 -- a number, or a dash for none

@@ -16,13 +16,12 @@ use Rattle.grep_definitions.specs.LineSearch.{start}
 use Rattle.grep_definitions.specs.Searches.{ErrorMakers, MatcherFacts, IsFaultIn, of_sink, of_matcher}
 use Rattle.grep_definitions.specs.SearchTurns.{calls_across}
 use Rattle.grep_definitions.specs.Settings.{Settings}
-use Rattle.grep_definitions.specs.SinkCalls.{Turn, begins}
-use Rattle.grep_definitions.specs.SinkRuns.{Steps, Outcome, all_true, stopped, failed, AreReported}
+use Rattle.grep_definitions.specs.Plans.{Planned, begins, Steps, Outcome, all_true, stopped, failed, AreMade, counted}
 use Rattle.grep_definitions.proofs.AcrossTurnEndLemmas.{through-is}
 use Rattle.grep_definitions.proofs.BelowLemmas.{below_none}
 use Rattle.grep_definitions.proofs.BoolLemmas.{clash, not_false}
 use Rattle.grep_definitions.proofs.LineStartLemmas.{line_start-ascends, line_start-within}
-use Rattle.grep_definitions.proofs.SinkRunLemmas.{AreReported-append, AreReported-ended}
+use Rattle.grep_definitions.proofs.SinkRunLemmas.{AreMade-append, AreMade-ended}
 use Rattle.grep_walk.specs.declared.walk.Walk.{Walk}
 use Rattle.grep_walk.specs.AcrossWalks.{IsAcross, is_done, turns_before}
 use Rattle.grep_walk.specs.Walks.{Counted, skip_lines}
@@ -35,10 +34,10 @@ module _ (k : Settings) (meaning : Meaning) (bytes : List ℕ) where
   abbrev n : ℕ
   n = length (lines (byte_of k.line_terminator) bytes)
 
-  abbrev T : ℕ → List Turn
+  abbrev T : ℕ → List Planned
   T = turns_at k meaning bytes
 
-  abbrev front : ℕ → List Turn
+  abbrev front : ℕ → List Planned
   front = turns_before k meaning bytes
 
   passed-few : (w : Walk) → IsAcross k meaning bytes w → w.next_unreported ≤ n
@@ -49,38 +48,39 @@ module _ (k : Settings) (meaning : Meaning) (bytes : List ℕ) where
     IsCounted count outcome new = Counted step k first (turns k meaning bytes) (byte_count k meaning bytes) count
         outcome new
 
-    pub counted-unbegun : (new : State) → step first k begins (Ok false) new → IsCounted 0 (stopped 0) new
+    pub counted-unbegun : (new : State) → step first k begins (Ok false) new → IsCounted 0 (stopped (counted 0)) new
     counted-unbegun new stops = record { reported = inr (inl (refl, stops)); is_count = refl }
 
     pub reported-begin : (now : State) → step first k begins (Ok true) now
-        → AreReported step k first (front 0) all_true now
+        → AreMade step k first (front 0) all_true now
     reported-begin now goes = inl (now, goes, (refl, refl))
 
     -- more calls
-    pub reported-next : (w : Walk) (v : ℕ) (own : List Turn) (now : State) → front v ≡ front w.next_unreported ++ own
-        → AreReported step k first (front w.next_unreported) all_true now → (outcome : Outcome E) (new : State)
-        → AreReported step k now own outcome new → AreReported step k first (front v) outcome new
+    pub reported-next : (w : Walk) (v : ℕ) (own : List Planned) (now : State) → front v ≡ front w.next_unreported ++ own
+        → AreMade step k first (front w.next_unreported) all_true now → (outcome : Outcome E) (new : State)
+        → AreMade step k now own outcome new → AreMade step k first (front v) outcome new
     reported-next w v own now is reported outcome new later =
-        subst (λ ts. AreReported step k first ts outcome new) (sym is)
-        (AreReported-append step k (front w.next_unreported) own first now outcome new reported later)
+        subst (λ ts. AreMade step k first ts outcome new) (sym is)
+        (AreMade-append step k (front w.next_unreported) own first now outcome new reported later)
 
     -- what ended early ended the whole
     ended-whole : (v : ℕ) (outcome : Outcome E) (new : State) → v ≤ n → (outcome ≡ all_true → ⊥)
-        → AreReported step k first (front v) outcome new → AreReported step k first (turns k meaning bytes) outcome new
+        → AreMade step k first (front v) outcome new → AreMade step k first (turns k meaning bytes) outcome new
     ended-whole v outcome new low ended reported =
-        subst (λ ts. AreReported step k first ts outcome new) (sym (calls.front-through k meaning bytes v n low))
-        (AreReported-ended step k (front v) (joined_from T v (n - v)) first outcome new ended reported)
+        subst (λ ts. AreMade step k first ts outcome new) (sym (calls.front-through k meaning bytes v n low))
+        (AreMade-ended step k (front v) (joined_from T v (n - v)) first outcome new ended reported)
 
     pub counted-stopped : (w : Walk) (end count : ℕ) (new : State) → IsAcross k meaning bytes w → count ≡ end
-        → AreReported step k first (front w.next_unreported) (stopped end) new → IsCounted count (stopped end) new
+        → AreMade step k first (front w.next_unreported) (stopped (counted end)) new → IsCounted count (stopped (counted
+        end)) new
     counted-stopped w end count new across same reported = record {
-      reported = ended-whole w.next_unreported (stopped end) new (passed-few w across) (λ same. cc) reported;
-      is_count = same;
+      reported = ended-whole w.next_unreported (stopped (counted end)) new (passed-few w across) (λ same. cc) reported;
+      is_count = ap counted same;
     }
 
     pub failed-whole : (w : Walk) (e : E) (new : State) → IsAcross k meaning bytes w
-        → AreReported step k first (front w.next_unreported) (failed e) new
-        → AreReported step k first (turns k meaning bytes) (failed e) new
+        → AreMade step k first (front w.next_unreported) (failed e) new
+        → AreMade step k first (turns k meaning bytes) (failed e) new
     failed-whole w e new across reported = ended-whole w.next_unreported (failed e) new (passed-few w across)
         (λ same. cc) reported
 
@@ -98,11 +98,11 @@ module _ (k : Settings) (meaning : Meaning) (bytes : List ℕ) where
         (cases_lt w.line n)
 
     pub counted-end : (w : Walk) (new : State) → IsAcross k meaning bytes w → w.offset ≡ length bytes
-        → AreReported step k first (front w.next_unreported) all_true new → IsCounted w.offset all_true new
+        → AreMade step k first (front w.next_unreported) all_true new → IsCounted w.offset all_true new
     counted-end w new across end reported =
         let all = all-passed w across end in
         record {
-          reported = subst (λ ts. AreReported step k first ts all_true new)
+          reported = subst (λ ts. AreMade step k first ts all_true new)
               (sym (calls.front-done k meaning bytes w.next_unreported w.after_context_left
               (subst (λ i. calls.Near k meaning bytes w.next_unreported i w.after_context_left) all across.near)))
               reported;
@@ -112,7 +112,7 @@ module _ (k : Settings) (meaning : Meaning) (bytes : List ℕ) where
     -- the lines up to the end are passed unreported
     pub counted-past : (w : Walk) (p q : ℕ) → w.offset ≡ p → IsAcross k meaning bytes w → IsNext k meaning bytes w p q
         → q ≡ length bytes → k.passthru ≡ false → w.after_context_left ≡ 0 → (new : State)
-        → AreReported step k first (front w.next_unreported) all_true new → IsCounted q all_true new
+        → AreMade step k first (front w.next_unreported) all_true new → IsCounted q all_true new
     counted-past w p q same across next end plain none new reported =
         let past = steps.across-past k meaning bytes w p q same across next plain none in
         let size : w.offset + length (slice bytes p q) ≡ q =
@@ -126,28 +126,27 @@ module _ {State E F : Type 0} (step : Steps State E) (errors : ErrorMakers E) (m
   abbrev IsFaulty : E → State → Type 0
   IsFaulty e new = IsFaultIn step errors matcher (calls_across k matcher.meaning) k bytes first e new
 
-  failed-run : (e : E) (new : State) → AreReported step k first (turns k matcher.meaning bytes) (failed e) new
+  failed-run : (e : E) (new : State) → AreMade step k first (turns k matcher.meaning bytes) (failed e) new
       → IsFaulty e new
   failed-run e new reported = of_sink (record {
     outcome = failed e;
     mid = new;
-    reported = reported;
-    finished =
-        (refl, refl);
+    made = reported;
+    finished = (refl, refl);
   })
 
   pub fault-begin : (e : E) (new : State) → step first k begins (Err e) new → IsFaulty e new
   fault-begin e new fails = failed-run e new (inr (inr (e, refl, fails)))
 
   pub fault-sink : (w : Walk) (e : E) (new : State) → IsAcross k matcher.meaning bytes w
-      → AreReported step k first (turns_before k matcher.meaning bytes w.next_unreported) (failed e) new
+      → AreMade step k first (turns_before k matcher.meaning bytes w.next_unreported) (failed e) new
       → IsFaulty e new
   fault-sink w e new across reported = failed-run e new
       (failed-whole k matcher.meaning bytes step first w e new across reported)
 
   -- a question at the line that a walk is at
   pub fault-matcher : (w : Walk) (now : State) → IsAcross k matcher.meaning bytes w
-      → AreReported step k first (turns_before k matcher.meaning bytes w.next_unreported) all_true now
+      → AreMade step k first (turns_before k matcher.meaning bytes w.next_unreported) all_true now
       → (haystack : List ℕ) (error : F) (e : E) → IsAskedAt k matcher.meaning bytes w.line haystack
       → is_done k w ≡ false → matcher.fails haystack error → errors.is_message (matcher.text_of error) e
       → IsFaulty e now
@@ -161,7 +160,7 @@ module _ {State E F : Type 0} (step : Steps State E) (errors : ErrorMakers E) (m
             ∙ ap not (sym (ap (λ b. b && is_at w.match_count k.max_matches) inverted) ∙ goes);
         before = sym (through-is k matcher.meaning bytes w.next_unreported w.line w.after_context_left across.near
             (asked-inside k matcher.meaning bytes w.line haystack asked)
-            (subst (λ o. All (λ turn. turn.end ≤ o) (turns_before k matcher.meaning bytes w.next_unreported))
+            (subst (λ o. All (λ turn. turn.if_false.count ≤ o) (turns_before k matcher.meaning bytes w.next_unreported))
             (sym across.placed.at.begins) across.ended));
       })
       fails message reported

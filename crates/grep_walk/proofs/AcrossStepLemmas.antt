@@ -15,7 +15,7 @@ use Rattle.grep_definitions.specs.AcrossLines.{is_free, is_selected}
 use Rattle.grep_definitions.specs.Below.{count_below, is_at, is_below}
 use Rattle.grep_definitions.specs.LineTurns.{context_turns, match_turns, number_of, pending_turns}
 use Rattle.grep_definitions.specs.Settings.{Settings}
-use Rattle.grep_definitions.specs.SinkCalls.{Turn}
+use Rattle.grep_definitions.specs.Plans.{Planned}
 use Rattle.grep_definitions.proofs.BelowLemmas.{below_next, below_none, count_below-le, is_below-le}
 use Rattle.grep_definitions.proofs.BoolLemmas.{both_true, clash}
 use Rattle.grep_walk.specs.declared.walk.Walk.{Walk}
@@ -34,9 +34,6 @@ module _ (k : Settings) (meaning : Meaning) (bytes : List ℕ) where
   abbrev t : ℕ
   t = byte_of k.line_terminator
 
-  abbrev n : ℕ
-  n = length (lines t bytes)
-
   abbrev starts : ℕ → ℕ
   starts = line_start t bytes
 
@@ -49,7 +46,7 @@ module _ (k : Settings) (meaning : Meaning) (bytes : List ℕ) where
   abbrev Limited : ℕ → ℕ → Type 0
   Limited = IsLimited k meaning bytes
 
-  abbrev front : ℕ → List Turn
+  abbrev front : ℕ → List Planned
   front = turns_before k meaning bytes
 
   abbrev Bare : Type 0
@@ -120,12 +117,12 @@ module _ (k : Settings) (meaning : Meaning) (bytes : List ℕ) where
     here = slice bytes p q
 
     -- the calls of the line, if it isn't chosen, and those of the unit
-    abbrev line-turns : ℕ → ℕ → List ℕ → List Turn
+    abbrev line-turns : ℕ → ℕ → List ℕ → List Planned
     line-turns offset end line =
         if nat_lt 0 w.after_context_left then context_turns After (number_of k w.line) offset end line
         else (if k.passthru then context_turns Other (number_of k w.line) offset end line else [])
 
-    abbrev unit-turns : ℕ → ℕ → List ℕ → List Turn
+    abbrev unit-turns : ℕ → ℕ → List ℕ → List Planned
     unit-turns offset end unit =
         pending_turns k bytes w.next_unreported w.line end w.next_unreported (w.line - w.next_unreported)
         ++ match_turns k w.next_unreported w.line offset end unit
@@ -167,7 +164,8 @@ module _ (k : Settings) (meaning : Meaning) (bytes : List ℕ) where
             limited = λ inverted. limited-lines inverted (length (lines t here)) w.line w.match_count
                 (across.limited inverted)
                 (λ j low high. next.missed j low (omega (arith, high, count)));
-            ended = All-weaker (λ turn. turn.end ≤ w.offset) (λ turn. turn.end ≤ w.offset + length here)
+            ended = All-weaker (λ turn. turn.if_false.count ≤ w.offset) (λ turn. turn.if_false.count ≤ w.offset + length
+                here)
                 (λ turn low. omega (arith, low)) (front w.next_unreported) across.ended;
           }
 
@@ -191,7 +189,7 @@ module _ (k : Settings) (meaning : Meaning) (bytes : List ℕ) where
         near = calls.near-missed k meaning bytes bare w.next_unreported w.line w.after_context_left across.near
             line.listed missed;
         limited = λ inverted. limited-missed inverted w.line w.match_count (across.limited inverted) missed;
-        ended = subst (All (λ turn. turn.end ≤ line_end w here)) (sym front-missed)
+        ended = subst (All (λ turn. turn.if_false.count ≤ line_end w here)) (sym front-missed)
             (ended-next k bytes w here false false (front w.next_unreported) across.ended);
       }
 
@@ -254,7 +252,7 @@ module _ (k : Settings) (meaning : Meaning) (bytes : List ℕ) where
         limited = λ inverted. subst (λ e. Limited e (w.match_count + 1)) (sym (chosen.single inverted))
             (limited-hit inverted w.line w.match_count (across.limited inverted) (chosen.room inverted)
             (chosen.hits w.line (omega arith) chosen.some));
-        ended = subst (All (λ turn. turn.end ≤ line_end w here))
+        ended = subst (All (λ turn. turn.if_false.count ≤ line_end w here))
             (sym (sym (ap (λ (next : Walk). front next.next_unreported) walk-is) ∙ front-chosen))
             (ended-next k bytes w here true false (front w.next_unreported) across.ended);
       }

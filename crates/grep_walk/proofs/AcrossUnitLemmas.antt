@@ -84,12 +84,6 @@ module _ (k : Settings) (meaning : Meaning) (bytes : List ℕ) where
   module _ (start i low : ℕ) (unit : ℕ × ℕ) (some : start < length bytes) (at : IsLineStart t bytes start i)
       (same : start ≡ low)
       (is_unit : IsUnit k meaning bytes low unit) where
-    pub ahead-next : start < unit.1
-    ahead-next = ⊎_elim
-        (λ less. omega (arith, is_unit.some less, is_unit.after, same))
-        (λ over. omega (arith, over, some, is_unit.ordered))
-        (cases_lt unit.0 (length bytes))
-
     -- the line before it comes after the end of the last one
     between : 0 < is_unit.first → i < is_unit.first
     between above = ⊎_elim

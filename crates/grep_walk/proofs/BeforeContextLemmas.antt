@@ -8,12 +8,11 @@ use Rattle.grep_matcher.specs.Terminators.{byte_of}
 use Rattle.grep_matcher.specs.Lines.{lines, line_start}
 use Rattle.grep_lines.specs.Positions.{slice, IsLine, IsLineStart}
 use Rattle.grep_definitions.specs.Settings.{Settings}
-use Rattle.grep_definitions.specs.SinkCalls.{Turn}
+use Rattle.grep_definitions.specs.Plans.{Planned, Steps, Outcome, all_true, AreMade}
 use Rattle.grep_definitions.specs.Below.{joined_from}
 use Rattle.grep_definitions.specs.LineTurns.{before_turns, listed_turns, pending_turns, listed_number, number_of}
-use Rattle.grep_definitions.specs.SinkRuns.{Steps, Outcome, all_true, AreReported}
 use Rattle.grep_definitions.proofs.BelowLemmas.{joined_from-add, joined_from-more, joined_from-none}
-use Rattle.grep_definitions.proofs.SinkRunLemmas.{AreReported-append, AreReported-ended}
+use Rattle.grep_definitions.proofs.SinkRunLemmas.{AreMade-append, AreMade-ended}
 use Rattle.grep_walk.specs.declared.walk.Walk.{Walk}
 use Rattle.grep_walk.specs.Windows.{IsInWindow, IsLineIn}
 use Rattle.grep_walk.proofs.WindowLemmas as windows
@@ -23,7 +22,7 @@ module _ (k : Settings) (bytes : List ℕ) (v i end : ℕ) where
   t = byte_of k.line_terminator
 
   -- the calls of line q
-  abbrev at_line : ℕ → List Turn
+  abbrev at_line : ℕ → List Planned
   at_line = listed_turns k bytes v i end
 
   -- a line as the walk sees it
@@ -58,43 +57,43 @@ module _ (k : Settings) (bytes : List ℕ) (v i end : ℕ) where
 
   -- and no step makes them
   pub reported-none : {S E : Type 0} (step : Steps S E) (old : S) → v ≤ i → min k.before_context (i - v) ≡ 0
-      → AreReported step k old (pending_turns k bytes v i end v (i - v)) all_true old
+      → AreMade step k old (pending_turns k bytes v i end v (i - v)) all_true old
   reported-none step old low none =
-      subst (λ turns. AreReported step k old turns all_true old) (sym (pending-none low none)) (refl, refl)
+      subst (λ turns. AreMade step k old turns all_true old) (sym (pending-none low none)) (refl, refl)
 
   module _ {S E : Type 0} (step : Steps S E) (old mid new : S) (first q start next offset : ℕ)
       (line : IsLine t bytes q start next) (own : List ℕ) (bytes_same : slice bytes start next ≡ own)
       (same : offset ≡ start) (low : first ≤ q)
-      (before : AreReported step k old (pending_turns k bytes v i end first (q - first)) all_true mid)
+      (before : AreMade step k old (pending_turns k bytes v i end first (q - first)) all_true mid)
       (outcome : Outcome E)
-      (here : AreReported step k mid (before_turns k v q i (number_of k q) offset end own) outcome new) where
-    through : AreReported step k old (pending_turns k bytes v i end first ((q - first) + 1)) outcome new
+      (here : AreMade step k mid (before_turns k v q i (number_of k q) offset end own) outcome new) where
+    through : AreMade step k old (pending_turns k bytes v i end first ((q - first) + 1)) outcome new
     through =
         let at : first + (q - first) ≡ q = omega arith in
         let there : at_line q ≡ at_line (first + (q - first)) = ap at_line (sym at) in
-        subst (λ turns. AreReported step k old turns outcome new) (sym (joined_from-more at_line first (q - first)))
-        (AreReported-append step k (joined_from at_line first (q - first)) (at_line (first + (q - first))) old mid
+        subst (λ turns. AreMade step k old turns outcome new) (sym (joined_from-more at_line first (q - first)))
+        (AreMade-append step k (joined_from at_line first (q - first)) (at_line (first + (q - first))) old mid
         outcome new before
-        (subst (λ turns. AreReported step k mid turns outcome new)
+        (subst (λ turns. AreMade step k mid turns outcome new)
         (ap (λ o. before_turns k v q i (number_of k q) o end own) same
         ∙ (ap (before_turns k v q i (number_of k q) start end) (sym bytes_same) ∙ (here-is q start next line ∙ there)))
         here))
 
     -- one more line
-    pub reported-more : AreReported step k old (pending_turns k bytes v i end first ((q + 1) - first)) outcome new
+    pub reported-more : AreMade step k old (pending_turns k bytes v i end first ((q + 1) - first)) outcome new
     reported-more =
         let sum : (q - first) + 1 ≡ (q + 1) - first = omega arith in
-        subst (λ m. AreReported step k old (pending_turns k bytes v i end first m) outcome new) sum through
+        subst (λ m. AreMade step k old (pending_turns k bytes v i end first m) outcome new) sum through
 
     -- a line whose calls end early ends them all
     pub reported-ended : q < i → (outcome ≡ all_true → ⊥)
-        → AreReported step k old (pending_turns k bytes v i end first (i - first)) outcome new
+        → AreMade step k old (pending_turns k bytes v i end first (i - first)) outcome new
     reported-ended less over =
         let sum : i - first ≡ ((q - first) + 1) + (i - (q + 1)) = omega arith in
         let split = ap (λ m. joined_from at_line first m) sum
         ∙ joined_from-add at_line first ((q - first) + 1) (i - (q + 1)) in
-        subst (λ turns. AreReported step k old turns outcome new) (sym split)
-        (AreReported-ended step k (joined_from at_line first ((q - first) + 1))
+        subst (λ turns. AreMade step k old turns outcome new) (sym split)
+        (AreMade-ended step k (joined_from at_line first ((q - first) + 1))
         (joined_from at_line (first + ((q - first) + 1)) (i - (q + 1))) old outcome new over through)
 
 -- the same of a line of a window, for the walk at `start`
@@ -105,10 +104,10 @@ module _ (k : Settings) (gone window input : List ℕ) (w : Walk) (start : ℕ)
     (line : (j : ℕ) → IsLineStart (byte_of k.line_terminator) window p j
     → IsLine (byte_of k.line_terminator) window j p next)
     (same : offset + start ≡ w.offset + p) (low : first ≤ q)
-    (before : AreReported step k old (pending_turns k input w.next_unreported w.line end first (q - first)) all_true
+    (before : AreMade step k old (pending_turns k input w.next_unreported w.line end first (q - first)) all_true
     mid)
     (outcome : Outcome E)
-    (here : AreReported step k mid
+    (here : AreMade step k mid
     (before_turns k w.next_unreported q w.line (number_of k q) offset end (slice window p next)) outcome new) where
   own_line : IsLine (byte_of k.line_terminator) window (q - length (lines (byte_of k.line_terminator) gone)) p next
   own_line = line (q - length (lines (byte_of k.line_terminator) gone)) at.begins
@@ -120,14 +119,14 @@ module _ (k : Settings) (gone window input : List ℕ) (w : Walk) (start : ℕ)
   shown_bytes = windows.slice-in gone window inside.shown.after input inside.shown.whole p next
       (omega (arith, own_line.above)) own_line.within
 
-  pub window-more : AreReported step k old (pending_turns k input w.next_unreported w.line end first ((q + 1) - first))
+  pub window-more : AreMade step k old (pending_turns k input w.next_unreported w.line end first ((q + 1) - first))
       outcome new
   window-more = reported-more k input w.next_unreported w.line end step old mid new first q (length gone + p)
       (length gone + next) offset
       shown_line (slice window p next) shown_bytes (omega (arith, same, inside.at)) low before outcome here
 
   pub window-ended : q < w.line → (outcome ≡ all_true → ⊥)
-      → AreReported step k old (pending_turns k input w.next_unreported w.line end first (w.line - first)) outcome new
+      → AreMade step k old (pending_turns k input w.next_unreported w.line end first (w.line - first)) outcome new
   window-ended = reported-ended k input w.next_unreported w.line end step old mid new first q (length gone + p)
       (length gone + next) offset
       shown_line (slice window p next) shown_bytes (omega (arith, same, inside.at)) low before outcome here
@@ -135,11 +134,11 @@ module _ (k : Settings) (gone window input : List ℕ) (w : Walk) (start : ℕ)
 -- a window that has the lines before a walk does not end among them
 pub window-short : (k : Settings) (gone window input : List ℕ) (w : Walk) (start : ℕ)
     → IsInWindow k gone window input start w
-    → {S E : Type 0} (step : Steps S E) (old new : S) (turns : List Turn) (outcome : Outcome E) (q p : ℕ)
+    → {S E : Type 0} (step : Steps S E) (old new : S) (turns : List Planned) (outcome : Outcome E) (q p : ℕ)
     → IsLineIn k gone window p q
     → ((i : ℕ) → IsLineStart (byte_of k.line_terminator) window p i → i
     ≡ length (lines (byte_of k.line_terminator) window))
-    → q < w.line → AreReported step k old turns outcome new
+    → q < w.line → AreMade step k old turns outcome new
 window-short k gone window input w start inside step old new turns outcome q p at last below = absurd
     (let all = last (q - length (lines (byte_of k.line_terminator) gone)) at.begins in
     omega (arith, at.low, all, inside.line.low, inside.line.begins.listed, below))

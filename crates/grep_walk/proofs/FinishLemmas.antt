@@ -1,31 +1,32 @@
 -- The end of a search.
 use Rattle.std.proofs.Common.{ℕ, List, subst, None, Result, Ok, Err}
 use Rattle.grep_definitions.specs.Settings.{Settings}
-use Rattle.grep_definitions.specs.SinkCalls.{Turn, finishes}
+use Rattle.grep_definitions.specs.Plans.{Planned, finishes, Steps, Outcome, all_true, stopped, failed, IsFinished}
+use Rattle.grep_definitions.specs.Plans.{IsRun, Finish, finish_result, counted}
+use Rattle.grep_definitions.specs.SinkRuns.{plan_of}
 use Rattle.grep_definitions.specs.SearchTurns.{search_turns, search_byte_count}
-use Rattle.grep_definitions.specs.SinkRuns.{Steps, Outcome, all_true, stopped, failed, IsFinished, IsRun, finish_result}
 use Rattle.grep_definitions.specs.Searches.{ErrorMakers, MatcherFacts, IsSearchedAlong, of_sink}
 use Rattle.grep_walk.specs.Walks.{Counted, IsCount}
 
-module _ {S E : Type 0} (step : Steps S E) (k : Settings) (old : S) (turns : List Turn) (whole : ℕ) where
+module _ {S E : Type 0} (step : Steps S E) (k : Settings) (old : S) (turns : List Planned) (whole : ℕ) where
   -- the call of `finish` with what was counted is the one that is defined
   pub finish-counted : (count : ℕ) (outcome : Outcome E) (mid : S) (result : Result (Unit {0}) E) (new : S)
       → IsCount outcome whole count → step mid k (finishes count None) (finish_result result) new
-      → IsFinished step k outcome mid whole None result new
+      → IsFinished step k outcome mid (counted whole) result new
   finish-counted count all_true mid result new same finish =
       subst (λ n. step mid k (finishes n None) (finish_result result) new) same finish
-  finish-counted count (stopped end) mid result new same finish =
-      subst (λ n. step mid k (finishes n None) (finish_result result) new) same finish
+  finish-counted count (stopped _) mid result new same finish =
+      subst (λ (f : Finish). step mid k (finishes f.count f.binary) (finish_result result) new) same finish
   finish-counted count (failed e) mid result new never finish = absurd never
 
   -- `finish` ends what was counted
   pub run-finish : (count : ℕ) (outcome : Outcome E) (mid : S) (result : Result (Unit {0}) E) (new : S)
       → Counted step k old turns whole count outcome mid
-      → step mid k (finishes count None) (finish_result result) new → IsRun step k old turns whole None result new
+      → step mid k (finishes count None) (finish_result result) new → IsRun step k old (plan_of turns whole) result new
   run-finish count outcome mid result new counted finish = record {
     outcome = outcome;
     mid = mid;
-    reported = counted.reported;
+    made = counted.reported;
     finished = finish-counted count outcome mid result new counted.is_count finish;
   }
 

@@ -8,6 +8,7 @@ pub mod FoundMatchLemmas
 pub mod FrontLemmas
 pub mod LineRangeLemmas
 pub mod LookAheadLemmas
+pub mod OriginLemmas
 pub mod QuestionLemmas
 pub mod SkipLemmas
 pub mod TouchedLemmas

@@ -1,7 +1,7 @@
 -- A walk that skips lines which don't match.
 use Rattle.std.proofs.Common.{◌≡◌, ℕ, zero, suc, ◌+◌, ◌-◌, ◌<◌, ◌≤◌, Bool, true, false, not, ◌&&◌, ◌||◌, ◌==◌}
 use Rattle.std.proofs.Common.{if◌then◌else◌}
-use Rattle.std.proofs.Common.{List, [], length, drop, Option, Some, None, refl, sym, ◌∙◌, ap, subst, arith, ⊎_elim}
+use Rattle.std.proofs.Common.{List, [], length, drop, Some, None, refl, sym, ◌∙◌, ap, subst, arith, ⊎_elim}
 use Rattle.std.proofs.Common.{length-take, length-drop}
 use Rattle.std.proofs.lemmas.Bool.{cases_lt, cases_Bool, eqb-true, ltb-true, ltb-false}
 use Rattle.std.specs.Prelude.{nat_lt, IfSome}
@@ -17,18 +17,20 @@ use Rattle.grep_definitions.proofs.TurnEndLemmas.{line_start-le}
 use Rattle.grep_definitions.specs.Below.{is_at}
 use Rattle.grep_definitions.specs.LineSearch.{differ}
 use Rattle.grep_definitions.specs.LineTurns.{context_turns, matches_line, number_of}
-use Rattle.grep_definitions.specs.Searches.{ErrorMakers, MatcherFacts, IsLineFault}
+use Rattle.grep_definitions.specs.Searches.{ErrorMakers, MatcherFacts}
+use Rattle.grep_walk.specs.WalkFaults.{IsWalkFault}
 use Rattle.grep_definitions.specs.Settings.{Settings}
-use Rattle.grep_definitions.specs.SinkRuns.{Steps, all_true, AreReported}
+use Rattle.grep_definitions.specs.Plans.{Steps, all_true, AreMade}
 use Rattle.grep_walk.specs.declared.look_ahead.Ahead.{Ahead}
 use Rattle.grep_walk.specs.declared.walk.Walk.{Walk}
-use Rattle.grep_walk.specs.LookAheads.{IsBounded, IsExact, IsKnown, MayAskAhead, can_skip, known_at, skips}
+use Rattle.grep_walk.specs.LookAheads.{IsKnown, MayAskAhead, can_skip, known_at, skips}
 use Rattle.grep_walk.specs.Walks.{IsDecided, is_over, line_end, line_turns, after_line, skip_lines}
 use Rattle.grep_walk.specs.Windows.{HasWalked}
 use Rattle.grep_walk.proofs.LineRangeLemmas.{line-at, lines-between, starts-ordered}
 use Rattle.grep_walk.proofs.WalkLemmas.{Bare}
 use Rattle.grep_walk.proofs.WindowLemmas.{start-same}
 use Rattle.grep_walk.proofs.WindowSearchLemmas.{asked-ahead, failed-matcher, searched-next}
+use Rattle.grep_walk.specs.Origins.{Origin}
 
 -- what a walk that may skip lines has
 record IsSkipping (k : Settings) (w : Walk) : Type 0 where
@@ -103,7 +105,7 @@ module _ (k : Settings) (meaning : Meaning) (window : List ℕ) where
       go false false is_b is_c = tt
 
 module _ {S E F : Type 0} (join : LinesJoin) (append : LinesAppend) (step : Steps S E) (errors : ErrorMakers E)
-    (matcher : MatcherFacts F) (k : Settings) (gone window input : List ℕ) (first now : S)
+    (matcher : MatcherFacts F) (k : Settings) (gone window input : List ℕ) (first : Origin S) (now : S)
     (bare : Bare k matcher.meaning input) where
   abbrev t : ℕ
   t = byte_of k.line_terminator
@@ -141,7 +143,7 @@ module _ {S E F : Type 0} (join : LinesJoin) (append : LinesAppend) (step : Step
   -- the matcher's error for the lines from there on
   pub failed-ahead : (w : Walk) (p : ℕ) → Walked p w → p < length window → MayAskAhead k matcher.meaning w
       → (error : F) (e : E) → errors.is_message (matcher.text_of error) e → matcher.fails (drop p window) error
-      → IsLineFault step errors matcher k input first e now
+      → IsWalkFault step errors matcher k input first e now
   failed-ahead w p so_far less may error e message fails =
       let there = line-there w p so_far less in
       failed-matcher step errors matcher k gone window input first bare p there.0 w now so_far there.1 there.2 there.3
@@ -180,10 +182,10 @@ module _ {S E F : Type 0} (join : LinesJoin) (append : LinesAppend) (step : Step
       none_left : nat_lt 0 w.after_context_left ≡ false
       none_left = ap (nat_lt 0) skipping.none_left
 
-      silent : AreReported step k now (line_turns k input w here false false) all_true now
+      silent : AreMade step k now (line_turns k input w here false false) all_true now
       silent = go (nat_lt 0 w.after_context_left) k.passthru none_left skipping.selects
         where
-          go : (a b : Bool) → a ≡ false → b ≡ false → AreReported step k now
+          go : (a b : Bool) → a ≡ false → b ≡ false → AreMade step k now
               (if a then context_turns After (number_of k w.line) w.offset (line_end w here) here
               else (if b then context_turns Other (number_of k w.line) w.offset (line_end w here) here else []))
               all_true now

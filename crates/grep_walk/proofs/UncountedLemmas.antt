@@ -2,32 +2,31 @@
 -- counted, no call depends on their count.
 use Rattle.std.proofs.Common.{◌≡◌, ℕ, ◌+◌, ◌-◌, ◌<◌, ◌≤◌, ◌||◌, min, Bool, true, false, if◌then◌else◌, List, [], ◌++◌}
 use Rattle.std.proofs.Common.{length, drop}
-use Rattle.std.proofs.Common.{Option, refl, sym, ◌∙◌, ap, ap₂, subst, arith, ⊎_elim, length-take}
-use Rattle.std.proofs.lemmas.Bool.{cases_Bool, cases_lt, false≢true, lt-ltb, ltb-false}
+use Rattle.std.proofs.Common.{Option, refl, sym, ◌∙◌, ap, ap₂, subst, arith, ⊎_elim}
+use Rattle.std.proofs.lemmas.Bool.{cases_lt, false≢true, lt-ltb, ltb-false}
 use Rattle.std.specs.Prelude.{nat_lt, IfSome}
 use Rattle.grep_lines.specs.LineLaws.{LinesJoin, LinesAppend}
 use Rattle.grep_lines.specs.Positions.{slice, IsLine, IsLineStart}
 use Rattle.grep_matcher.specs.Lines.{lines, strip}
-use Rattle.grep_matcher.specs.Matching.{Meaning}
 use Rattle.grep_matcher.specs.Terminators.{byte_of}
 use Rattle.grep_definitions.specs.Below.{joined_from}
 use Rattle.grep_definitions.specs.LineSearch.{byte_count, turns}
-use Rattle.grep_definitions.specs.LineTurns.{is_gap, listed_turns, match_turns, matches_line, number_of, pending_turns}
-use Rattle.grep_definitions.specs.Searches.{ErrorMakers, MatcherFacts, IsLineFault}
+use Rattle.grep_definitions.specs.LineTurns.{listed_turns, match_turns, matches_line, pending_turns}
+use Rattle.grep_definitions.specs.Searches.{ErrorMakers, MatcherFacts}
+use Rattle.grep_walk.specs.WalkFaults.{IsWalkFault}
 use Rattle.grep_definitions.specs.Settings.{Settings}
-use Rattle.grep_definitions.specs.SinkCalls.{Turn}
-use Rattle.grep_definitions.specs.SinkRuns.{Steps, Outcome, all_true, failed, stopped, AreReported}
+use Rattle.grep_definitions.specs.Plans.{Steps, Outcome, all_true, failed, stopped, AreMade, counted}
 use Rattle.grep_walk.specs.declared.look_ahead.Ahead.{Ahead}
 use Rattle.grep_walk.specs.declared.walk.Walk.{Walk}
 use Rattle.grep_walk.specs.LookAheads.{IsBounded, IsExact, IsKnown, MayAskAhead, known_at, skips}
-use Rattle.grep_walk.specs.Walks.{AreCounts, Counted, IsDecided, can_hit, counts_lines, is_over, line_end, line_turns}
-use Rattle.grep_walk.specs.Walks.{after_line}
-use Rattle.grep_walk.specs.Walks.{recounted, reports_line, skip_unmatched, skip_lines}
+use Rattle.grep_walk.specs.Walks.{AreCounts, IsDecided, can_hit, counts_lines, is_over, line_end, line_turns}
+use Rattle.grep_walk.specs.Walks.{after_line, recounted, reports_line, skip_unmatched, CountedFrom}
 use Rattle.grep_walk.specs.Windows.{HasSearched, IsInWindow}
 use Rattle.grep_walk.proofs.BeforeContextLemmas.{pending-none}
 use Rattle.grep_walk.proofs.SkipLemmas as skips
 use Rattle.grep_walk.proofs.SkipLemmas.{known-later, known-line}
 use Rattle.grep_walk.proofs.WalkLemmas.{Bare}
+use Rattle.grep_walk.specs.Origins.{Origin}
 use Rattle.grep_walk.proofs.WindowSearchLemmas as search
 
 -- what no search has that doesn't count lines
@@ -122,7 +121,7 @@ module _ (k : Settings) (w : Walk) (line through : ℕ) (counts : AreCounts k w 
   )
 
 module _ {S E F : Type 0} (step : Steps S E) (errors : ErrorMakers E) (matcher : MatcherFacts F) (k : Settings)
-    (gone window input : List ℕ) (first : S) where
+    (gone window input : List ℕ) (first : Origin S) where
   abbrev t : ℕ
   t = byte_of k.line_terminator
 
@@ -131,7 +130,7 @@ module _ {S E F : Type 0} (step : Steps S E) (errors : ErrorMakers E) (matcher :
 
   abbrev IsCounted : ℕ → Outcome E → S → Type 0
   IsCounted count outcome new =
-      Counted step k first (turns k matcher.meaning input) (byte_count k matcher.meaning input) count outcome new
+      CountedFrom step k first (turns k matcher.meaning input) (byte_count k matcher.meaning input) count outcome new
 
   -- where lines are counted, the walk is in the window as it is
   pub inside-counted : (p : ℕ) (w : Walk) (now : S) → Searched p w now → counts_lines k ≡ true
@@ -159,7 +158,7 @@ module _ {S E F : Type 0} (step : Steps S E) (errors : ErrorMakers E) (matcher :
 
       -- the matcher's error for that line
       pub failed-asked : can_hit k w ≡ true → (error : F) (e : E) → errors.is_message (matcher.text_of error) e
-          → matcher.fails (strip k.line_terminator here) error → IsLineFault step errors matcher k input first e now
+          → matcher.fails (strip k.line_terminator here) error → IsWalkFault step errors matcher k input first e now
       failed-asked can error e message fails = search.failed-matcher step errors matcher k gone window input first bare
           p q exact now
           so_far.walked below within line can (strip k.line_terminator here) error e
@@ -172,34 +171,34 @@ module _ {S E F : Type 0} (step : Steps S E) (errors : ErrorMakers E) (matcher :
         decided-exact = record { chosen_is = decided.chosen_is; trailing_is = decided.trailing_is }
 
         reported-exact : (outcome : Outcome E) (new : S)
-            → AreReported step k now (line_turns k input w here chosen trailing) outcome new
-            → AreReported step k now (line_turns k input exact here chosen trailing) outcome new
-        reported-exact outcome new = subst (λ turns. AreReported step k now turns outcome new)
+            → AreMade step k now (line_turns k input w here chosen trailing) outcome new
+            → AreMade step k now (line_turns k input exact here chosen trailing) outcome new
+        reported-exact outcome new = subst (λ turns. AreMade step k now turns outcome new)
             (turns-same k w so_far.line so_far.through so_far.counts input here chosen trailing)
 
-        pub failed-line : (e : E) (new : S) → AreReported step k now (line_turns k input w here chosen trailing)
+        pub failed-line : (e : E) (new : S) → AreMade step k now (line_turns k input w here chosen trailing)
             (failed e) new
-            → IsLineFault step errors matcher k input first e new
+            → IsWalkFault step errors matcher k input first e new
         failed-line e new reported = search.failed-line step errors matcher k gone window input first bare p q exact now
             so_far.walked
             below within line chosen trailing decided-exact e new (reported-exact (failed e) new reported)
 
         pub counted-stopped : (new : S)
-            → AreReported step k now (line_turns k input w here chosen trailing) (stopped (line_end w here)) new
-            → IsCounted (line_end w here) (stopped (line_end w here)) new
+            → AreMade step k now (line_turns k input w here chosen trailing) (stopped (counted (line_end w here))) new
+            → IsCounted (line_end w here) (stopped (counted (line_end w here))) new
         counted-stopped new reported = search.counted-stopped step errors matcher k gone window input first bare p q
             exact now
             so_far.walked below within line chosen trailing decided-exact new
-            (reported-exact (stopped (line_end w here)) new reported)
+            (reported-exact (stopped (counted (line_end w here))) new reported)
 
-        pub counted-over : (new : S) → AreReported step k now (line_turns k input w here chosen trailing) all_true new
+        pub counted-over : (new : S) → AreMade step k now (line_turns k input w here chosen trailing) all_true new
             → is_over k (after_line k w here chosen) chosen ≡ true → IsCounted (line_end w here) all_true new
         counted-over new reported over = search.counted-over step errors matcher k gone window input first bare p q
             exact now
             so_far.walked below within line chosen trailing decided-exact new (reported-exact all_true new reported)
             over
 
-        pub searched-next : (new : S) → AreReported step k now (line_turns k input w here chosen trailing) all_true new
+        pub searched-next : (new : S) → AreMade step k now (line_turns k input w here chosen trailing) all_true new
             → is_over k (after_line k w here chosen) chosen ≡ false → Searched q (after_line k w here chosen) new
         searched-next new reported goes_on = record {
           line = so_far.line + 1;
@@ -213,7 +212,7 @@ module _ {S E F : Type 0} (step : Steps S E) (errors : ErrorMakers E) (matcher :
       -- the matcher's error for the lines from a position on
       pub failed-ahead : (w : Walk) (p : ℕ) → Searched p w now → p < length window → MayAskAhead k matcher.meaning w
           → (error : F) (e : E) → errors.is_message (matcher.text_of error) e → matcher.fails (drop p window) error
-          → IsLineFault step errors matcher k input first e now
+          → IsWalkFault step errors matcher k input first e now
       failed-ahead w p so_far less may = skips.failed-ahead join append step errors matcher k gone window input first
           now bare
           (recounted w so_far.line so_far.through) p so_far.walked less

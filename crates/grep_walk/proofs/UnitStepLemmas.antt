@@ -1,5 +1,5 @@
 -- How a search across lines puts one unit together, from one match to the next.
-use Rattle.std.proofs.Common.{◌≡◌, ℕ, ◌-◌, ◌<◌, ◌≤◌, List, [], ◌∷◌, ◌++◌, length, refl, sym, ◌∙◌, ap, ap₂, subst, arith}
+use Rattle.std.proofs.Common.{◌≡◌, ℕ, ◌-◌, ◌<◌, ◌≤◌, List, [], ◌∷◌, ◌++◌, length, sym, ◌∙◌, ap, ap₂, subst, arith}
 use Rattle.std.proofs.Common.{⊎_elim}
 use Rattle.std.proofs.Common.{Option, Some, None}
 use Rattle.std.proofs.lemmas.Bool.{cases_lt}
@@ -106,16 +106,6 @@ module _ (k : Settings) (meaning : Meaning) (bytes : List ℕ) where
       line = length (lines t bytes);
       ends = last_start k meaning bytes;
     }
-
-  -- the first match of a unit
-  pub reached-first : (b : Blocks) (u : ℕ × ℕ) → AreLeft k meaning bytes b → b.next ≡ Some u
-      → IsReached k meaning bytes b.end (record b { next = None }) u
-  reached-first b u left is = record {
-    asked = left.asked;
-    found = left.found;
-    touched = subst (AreTouched k meaning bytes b.end b.position left.asked) is left.touched;
-    taken = refl;
-  }
 
   module _ (low : ℕ) (b b' : Blocks) (u : ℕ × ℕ) (so_far : IsReached k meaning bytes low b u) (same : b'.next ≡ b.next)
     where

@@ -1,4 +1,6 @@
 -- A walk over lines, against the calls that are defined.
+use Rattle.grep_definitions.specs.Plans.{planned, Planned, begins, context, Steps, Outcome, all_true, stopped, failed}
+use Rattle.grep_definitions.specs.Plans.{AreMade, counted}
 use Rattle.std.proofs.Common.{◌≡◌, ℕ, ◌+◌, ◌-◌, ◌<◌, ◌≤◌, Bool, true, false, not, ◌&&◌, ◌||◌, List, [], ◌∷◌, ◌++◌}
 use Rattle.std.proofs.Common.{length, take, drop}
 use Rattle.std.proofs.Common.{refl, sym, ◌∙◌, ap, subst, arith, ⊎_elim, inl, inr, Some, None, Ok, Err, if◌then◌else◌}
@@ -13,17 +15,14 @@ use Rattle.grep_matcher.specs.Matching.{Meaning}
 use Rattle.grep_lines.specs.Positions.{slice, IsLine, IsLineStart}
 use Rattle.grep_report.specs.declared.sink_context.SinkContextKind.TheVariants.{After, Other}
 use Rattle.grep_definitions.specs.Settings.{Settings}
-use Rattle.grep_definitions.specs.SinkCalls.{Turn, begins, context}
 use Rattle.grep_definitions.specs.Below.{is_at, joined_from}
 use Rattle.grep_definitions.specs.LineSearch
 use Rattle.grep_definitions.specs.LineSearch.{differ, turns_at, turns, turns_through, byte_count, in_context}
 use Rattle.grep_definitions.specs.LineTurns.{after_turns, context_turns, match_turns, pending_turns, matches_line}
 use Rattle.grep_definitions.specs.LineTurns.{number_of}
-use Rattle.grep_definitions.specs.SinkRuns.{Steps, Outcome, all_true, stopped, failed, AreReported}
 use Rattle.grep_definitions.specs.Searches.{ErrorMakers, MatcherFacts, IsLineFault, of_sink, of_matcher}
 use Rattle.grep_definitions.specs.LineWalks.{IsNear, IsOpen}
 use Rattle.grep_definitions.specs.Questions.{IsAsked}
-use Rattle.grep_definitions.proofs.SinkRunLemmas.{AreReported-append, AreReported-ended}
 use Rattle.grep_definitions.proofs.BelowLemmas.{joined_from-equal, joined_from-none, headed-through, headed-many}
 use Rattle.grep_definitions.proofs.LimitLemmas.{IsOpen-none, IsOpen-chosen, IsOpen-missed, turn_above, turn_all}
 use Rattle.grep_definitions.proofs.LimitLemmas.{IsDone, IsDone-chosen, IsDone-limit, IsDone-stop, IsDone-none}
@@ -34,25 +33,30 @@ use Rattle.grep_definitions.proofs.ContextLemmas.{turns_at-done}
 use Rattle.grep_definitions.proofs.ContextLemmas.{turns_at-passed, turns_at-hit, turns_at-after, turns_at-other}
 use Rattle.grep_definitions.proofs.TurnEndLemmas.{ends-one, ends-pending, ends-match, ends-late, ends-passed}
 use Rattle.grep_walk.specs.declared.walk.Walk.{Walk}
-use Rattle.grep_walk.specs.Walks.{IsDecided, IsPlaced, IsWalk, HasReported, Counted}
-use Rattle.grep_walk.specs.Walks.{can_hit, line_end, line_turns, after_line, is_over, reports_line}
+use Rattle.grep_walk.specs.WalkFaults.{IsWalkFault, at_call, at_question}
+use Rattle.grep_walk.specs.Walks.{IsDecided, IsPlaced, IsWalk, HasReported, Counted, can_hit, line_end, line_turns}
+use Rattle.grep_walk.specs.Walks.{after_line, is_over, reports_line, CountedFrom}
 use Rattle.grep_definitions.proofs.BoolLemmas.{above_zero, and-swap, both_true, clash, neither, not_false, or-cases}
 use Rattle.grep_definitions.proofs.ListLemmas.{All-joined_from, filter-all, filter-none}
+use Rattle.grep_walk.proofs.OriginLemmas.{from-append, from-ended, from-fresh, fresh-made}
+use Rattle.grep_walk.specs.Origins.{AreMadeFrom, Origin, fresh}
 
 -- if the turns so far have ended where a walk is, those with the calls of its line have ended where the line ends
-pub ended-next : (k : Settings) (window : List ℕ) (w : Walk) (line : List ℕ) (chosen trailing : Bool) (made : List Turn)
-    → All (λ turn. turn.end ≤ w.offset) made
-    → All (λ turn. turn.end ≤ line_end w line) (made ++ line_turns k window w line chosen trailing)
+pub ended-next : (k : Settings) (window : List ℕ) (w : Walk) (line : List ℕ) (chosen trailing : Bool) (made : List
+    Planned)
+    → All (λ turn. turn.if_false.count ≤ w.offset) made
+    → All (λ turn. turn.if_false.count ≤ line_end w line) (made ++ line_turns k window w line chosen trailing)
 ended-next k window w line chosen trailing made ended =
-    All-append (λ turn. turn.end ≤ line_end w line) made (line_turns k window w line chosen trailing)
-    (All-weaker (λ turn. turn.end ≤ w.offset) (λ turn. turn.end ≤ line_end w line) (λ turn low. omega (arith, low)) made
+    All-append (λ turn. turn.if_false.count ≤ line_end w line) made (line_turns k window w line chosen trailing)
+    (All-weaker (λ turn. turn.if_false.count ≤ w.offset) (λ turn. turn.if_false.count ≤ line_end w line) (λ turn low.
+    omega (arith, low)) made
     ended)
-    (All-weaker E (λ turn. turn.end ≤ line_end w line) (λ turn is. omega (arith, is))
+    (All-weaker E (λ turn. turn.if_false.count ≤ line_end w line) (λ turn is. omega (arith, is))
     (line_turns k window w line chosen trailing)
     (go chosen trailing (nat_lt 0 w.after_context_left) k.passthru))
   where
-    E : Turn → Type 0
-    E turn = turn.end ≡ line_end w line
+    E : Planned → Type 0
+    E turn = turn.if_false.count ≡ line_end w line
 
     go : (b r a p : Bool) → All E (if b
         then pending_turns k window w.next_unreported w.line (line_end w line) w.next_unreported
@@ -76,7 +80,7 @@ module _ (k : Settings) (meaning : Meaning) (bytes : List ℕ) where
   abbrev pub n : ℕ
   n = length (lines t bytes)
 
-  abbrev pub T : ℕ → List Turn
+  abbrev pub T : ℕ → List Planned
   T = turns_at k meaning bytes
 
   abbrev pub turned : ℕ
@@ -89,8 +93,8 @@ module _ (k : Settings) (meaning : Meaning) (bytes : List ℕ) where
   Bare = k.passthru ≡ true → (k.after_context ≡ 0) × (k.before_context ≡ 0)
 
   -- `begin`, and the calls of the first i lines
-  abbrev pub front : ℕ → List Turn
-  front i = record { call = begins; end = 0 } ∷ joined_from T 0 i
+  abbrev pub front : ℕ → List Planned
+  front i = planned begins 0 ∷ joined_from T 0 i
 
   abbrev pub start_walk : Walk
   start_walk = record { offset = 0; line = 0; next_unreported = 0; after_context_left = 0; match_count = 0 }
@@ -104,9 +108,9 @@ module _ (k : Settings) (meaning : Meaning) (bytes : List ℕ) where
   }
 
   -- the turn of `begin` has ended
-  pub ended-start : All (λ turn. turn.end ≤ 0) (front 0)
-  ended-start = All-cons (λ turn. turn.end ≤ 0) (record { call = begins; end = 0 }) [] (omega arith)
-      (All-nil (λ turn. turn.end ≤ 0))
+  pub ended-start : All (λ turn. turn.if_false.count ≤ 0) (front 0)
+  ended-start = All-cons (λ turn. turn.if_false.count ≤ 0) (planned begins 0) [] (omega arith)
+      (All-nil (λ turn. turn.if_false.count ≤ 0))
 
   walk-start : (k.passthru ≡ false → is_at 0 k.max_matches ≡ true → ⊥) → IsWalk k meaning bytes start_walk
   walk-start busy = record {
@@ -117,7 +121,7 @@ module _ (k : Settings) (meaning : Meaning) (bytes : List ℕ) where
   }
 
   front-through : (v i : ℕ) → v ≤ i → front i ≡ front v ++ joined_from T v (i - v)
-  front-through = headed-through (record { call = begins; end = 0 }) T
+  front-through = headed-through (planned begins 0) T
 
   -- the line that a walk is at
   module _ (w : Walk) (start end : ℕ) (same : w.offset ≡ start) (line : IsLine t bytes w.line start end) where
@@ -234,13 +238,13 @@ module _ (k : Settings) (meaning : Meaning) (bytes : List ℕ) where
           let hit = selected true is in
           let pending = pending_turns k bytes w.next_unreported w.line (line_end w here) w.next_unreported
           (w.line - w.next_unreported) in
-          headed-many (record { call = begins; end = 0 }) T w.next_unreported w.line walk.near.low
+          headed-many (planned begins 0) T w.next_unreported w.line walk.near.low
           ∙ (ap (λ xs. front w.next_unreported ++ (xs ++ T w.line)) (pending-is hit)
           ∙ ap (λ xs. front w.next_unreported ++ (pending ++ xs)) (hit-is hit))
       front-step false trailing is late =
           headed-missed k (LineSearch.is_selected k meaning bytes) (LineSearch.is_trailing k meaning bytes) n turned
           w.next_unreported w.line w.after_context_left walk.near
-          (record { call = begins; end = 0 }) T _ _ after_is other_is
+          (planned begins 0) T _ _ after_is other_is
         where
           miss : LineSearch.is_selected k meaning bytes w.line ≡ false
           miss = selected false is
@@ -299,7 +303,7 @@ module _ (k : Settings) (meaning : Meaning) (bytes : List ℕ) where
         placed = placed-next walk.placed chosen;
         near = near-next chosen is;
         opened = open-next chosen is goes;
-        ended = subst (All (λ turn. turn.end ≤ line_end w here)) (sym (front-step chosen trailing is late))
+        ended = subst (All (λ turn. turn.if_false.count ≤ line_end w here)) (sym (front-step chosen trailing is late))
             (ended-next k bytes w here chosen trailing (front w.next_unreported) walk.ended);
       }
 
@@ -337,8 +341,9 @@ module _ (k : Settings) (meaning : Meaning) (bytes : List ℕ) where
           ∙ filter-append passes (front w.next_unreported)
           (joined_from T w.next_unreported (turned - w.next_unreported)) in
           let early = filter-all passes (front w.next_unreported)
-          (All-weaker (λ turn. turn.end ≤ w.offset) (λ turn. passes turn ≡ true)
-          (λ turn low. le-leb turn.end (starts w.line) (omega (arith, low, start-is))) (front w.next_unreported)
+          (All-weaker (λ turn. turn.if_false.count ≤ w.offset) (λ turn. passes turn ≡ true)
+          (λ turn low. le-leb turn.if_false.count (starts w.line) (omega (arith, low, start-is))) (front
+          w.next_unreported)
           walk.ended) in
           let late = filter-none passes (joined_from T w.next_unreported (turned - w.next_unreported))
           (All-joined_from (λ turn. passes turn ≡ false) T w.next_unreported (turned - w.next_unreported)
@@ -347,14 +352,21 @@ module _ (k : Settings) (meaning : Meaning) (bytes : List ℕ) where
           split ∙ (ap (λ xs. xs ++ filter passes (joined_from T w.next_unreported (turned - w.next_unreported))) early
           ∙ (ap (λ xs. front w.next_unreported ++ xs) late ∙ append-nil (front w.next_unreported)))
         where
-          passes : Turn → Bool
-          passes turn = nat_le turn.end (starts w.line)
+          passes : Planned → Bool
+          passes turn = nat_le turn.if_false.count (starts w.line)
 
-          fails : (turn : Turn) → starts (w.line + 1) ≤ turn.end → passes turn ≡ false
-          fails turn low = lt-leb turn.end (starts w.line) (omega (arith, low, line.begins, line.ends, line.above))
+          fails : (turn : Planned) → starts (w.line + 1) ≤ turn.if_false.count → passes turn ≡ false
+          fails turn low = lt-leb turn.if_false.count (starts w.line) (omega (
+            arith,
+            low,
+            line.begins,
+            line.ends,
+            line.above,
+          ))
 
           later : (j : ℕ) → w.next_unreported ≤ j → All (λ turn. passes turn ≡ false) (T j)
-          later j low = All-weaker (λ turn. starts (w.line + 1) ≤ turn.end) (λ turn. passes turn ≡ false) fails (T j)
+          later j low = All-weaker (λ turn. starts (w.line + 1) ≤ turn.if_false.count) (λ turn. passes turn ≡ false)
+              fails (T j)
               (⊎_elim (λ less. ends-passed k meaning bytes w.next_unreported w.line w.after_context_left walk.near j low
               less)
               (λ above. ends-late k meaning bytes w.line j above) (cases_lt j w.line))
@@ -375,30 +387,31 @@ module _ (k : Settings) (meaning : Meaning) (bytes : List ℕ) where
       turns_at-done k meaning bytes w.next_unreported w.line w.after_context_left near done.silent j low
       (omega (arith, done.last, near.low)))
 
-  module _ {S E : Type 0} (step : Steps S E) (old : S) where
+  module _ {S E : Type 0} (step : Steps S E) (old : Origin S) where
     -- what ended early ended the whole
-    AreReported-whole : (i : ℕ) (outcome : Outcome E) (new : S) → i ≤ turned → (outcome ≡ all_true → ⊥)
-        → AreReported step k old (front i) outcome new → AreReported step k old (turns k meaning bytes) outcome new
-    AreReported-whole i outcome new inside ended reported =
-        subst (λ ts. AreReported step k old ts outcome new) (sym (front-through i turned inside))
-        (AreReported-ended step k (front i) (joined_from T i (turned - i)) old outcome new ended reported)
+    AreMade-whole : (i : ℕ) (outcome : Outcome E) (new : S) → i ≤ turned → (outcome ≡ all_true → ⊥)
+        → AreMadeFrom step k old (front i) outcome new → AreMadeFrom step k old (turns k meaning bytes) outcome new
+    AreMade-whole i outcome new inside ended reported =
+        subst (λ ts. AreMadeFrom step k old ts outcome new) (sym (front-through i turned inside))
+        (from-ended step k old (front i) (joined_from T i (turned - i)) outcome new ended reported)
 
     abbrev IsCounted : ℕ → Outcome E → S → Type 0
-    IsCounted count outcome new = Counted step k old (turns k meaning bytes) (byte_count k meaning bytes) count outcome
+    IsCounted count outcome new = CountedFrom step k old (turns k meaning bytes) (byte_count k meaning bytes) count
+        outcome
         new
 
     -- no more calls are to come
     counted-done : (w : Walk) (new : S) → IsLineStart t bytes w.offset w.line
         → IsNear k meaning bytes w.next_unreported w.line w.after_context_left → IsDone k meaning bytes w.line
-        → AreReported step k old (front w.next_unreported) all_true new → IsCounted w.offset all_true new
+        → AreMadeFrom step k old (front w.next_unreported) all_true new → IsCounted w.offset all_true new
     counted-done w new at near done reported = record {
-      reported = subst (λ ts. AreReported step k old ts all_true new)
+      reported = subst (λ ts. AreMadeFrom step k old ts all_true new)
           (sym (front-through w.next_unreported turned (omega (arith, done.last, near.low))))
-          (AreReported-append step k (front w.next_unreported)
-          (joined_from T w.next_unreported (turned - w.next_unreported)) old new
+          (from-append step k old (front w.next_unreported)
+          (joined_from T w.next_unreported (turned - w.next_unreported)) new
           all_true
           new reported
-          (subst (λ ts. AreReported step k new ts all_true new) (sym (rest-is w near done)) (refl, refl)));
+          (subst (λ ts. AreMade step k new ts all_true new) (sym (rest-is w near done)) (refl, refl)));
       is_count = sym at.begins ∙ ap starts (sym done.last);
     }
 
@@ -406,29 +419,6 @@ module _ (k : Settings) (meaning : Meaning) (bytes : List ℕ) where
         → IsCounted w.offset all_true new
     counted-end w new so_far all = counted-done w new so_far.walk.placed.at so_far.walk.near
         (done-end w so_far.walk all) so_far.reported
-
-    pub counted-unbegun : (new : S) → step old k begins (Ok false) new → IsCounted 0 (stopped 0) new
-    counted-unbegun new stops = record { reported = inr (inl (refl, stops)); is_count = refl }
-
-    reported-begin : (new : S) → step old k begins (Ok true) new → AreReported step k old (front 0) all_true new
-    reported-begin new goes = inl (new, goes, (refl, refl))
-
-    pub counted-idle : (new : S) → (not k.passthru && is_at 0 k.max_matches) ≡ true → step old k begins (Ok true) new
-        → IsCounted 0 all_true new
-    counted-idle new idle goes =
-        let parts = both_true (not k.passthru) (is_at 0 k.max_matches) idle in
-        counted-done start_walk new (placed-start).at (IsNear-none k meaning bytes)
-        (IsDone-none k meaning bytes (not_false k.passthru parts.0) parts.1) (reported-begin new goes)
-
-    pub reported-start : (new : S) → (not k.passthru && is_at 0 k.max_matches) ≡ false → step old k begins (Ok true) new
-        → HasReported k meaning bytes step old start_walk new
-    reported-start new busy goes = record {
-      walk = walk-start (λ plain full. clash
-          (let all : (not k.passthru && is_at 0 k.max_matches) ≡ true = ap (λ p. not p && is_at 0 k.max_matches) plain
-          ∙ full in all)
-          busy);
-      reported = reported-begin new goes;
-    }
 
     -- one line
     module _ (bare : Bare) (w : Walk) (mid : S) (so_far : HasReported k meaning bytes step old w mid)
@@ -440,18 +430,18 @@ module _ (k : Settings) (meaning : Meaning) (bytes : List ℕ) where
       late : 0 < w.after_context_left → LineSearch.is_trailing k meaning bytes w.line ≡ trailing
       late = trailing-here w start end same line bare so_far.walk chosen trailing decided
 
-      abbrev own : List Turn
+      abbrev own : List Planned
       own = line_turns k bytes w (here w start end same line) chosen trailing
 
       abbrev next : Walk
       next = after_line k w (here w start end same line) chosen
 
-      reported-line : (outcome : Outcome E) (new : S) → AreReported step k mid own outcome new
-          → AreReported step k old (front next.next_unreported) outcome new
+      reported-line : (outcome : Outcome E) (new : S) → AreMade step k mid own outcome new
+          → AreMadeFrom step k old (front next.next_unreported) outcome new
       reported-line outcome new reported =
-          subst (λ ts. AreReported step k old ts outcome new)
+          subst (λ ts. AreMadeFrom step k old ts outcome new)
           (sym (front-step w start end same line bare so_far.walk chosen trailing is late))
-          (AreReported-append step k (front w.next_unreported) own old mid outcome new so_far.reported reported)
+          (from-append step k old (front w.next_unreported) own mid outcome new so_far.reported reported)
 
       few : next.next_unreported ≤ turned
       few = go (reports_line k w chosen)
@@ -460,61 +450,92 @@ module _ (k : Settings) (meaning : Meaning) (bytes : List ℕ) where
           go true = omega (arith, has w start end same line bare so_far.walk)
           go false = omega (arith, has w start end same line bare so_far.walk, so_far.walk.near.low)
 
-      pub counted-stopped : (new : S) → AreReported step k mid own (stopped (line_end w (here w start end same line)))
+      pub counted-stopped : (new : S) → AreMade step k mid own (stopped (counted (line_end w (here w start end same
+          line))))
           new
-          → IsCounted (line_end w (here w start end same line)) (stopped (line_end w (here w start end same line))) new
+          → IsCounted (line_end w (here w start end same line)) (stopped (counted (line_end w (here w start end same
+          line)))) new
       counted-stopped new reported = record {
-        reported = AreReported-whole _ (stopped (line_end w (here w start end same line))) new few (λ e. cc)
-            (reported-line (stopped (line_end w (here w start end same line))) new reported);
+        reported = AreMade-whole _ (stopped (counted (line_end w (here w start end same line)))) new few (λ e. cc)
+            (reported-line (stopped (counted (line_end w (here w start end same line)))) new reported);
         is_count = refl;
       }
 
-      pub counted-over : (new : S) → AreReported step k mid own all_true new → is_over k next chosen ≡ true
+      pub counted-over : (new : S) → AreMade step k mid own all_true new → is_over k next chosen ≡ true
           → IsCounted next.offset all_true new
       counted-over new reported over = counted-done next new (after w start end same line)
           (near-next w start end same line bare so_far.walk chosen is)
           (done-next w start end same line bare so_far.walk chosen is over)
           (reported-line all_true new reported)
 
-      pub reported-next : (new : S) → AreReported step k mid own all_true new → is_over k next chosen ≡ false
+      pub reported-next : (new : S) → AreMade step k mid own all_true new → is_over k next chosen ≡ false
           → HasReported k meaning bytes step old next new
       reported-next new reported goes_on = record {
         walk = walk-next w start end same line bare so_far.walk chosen trailing is late goes_on;
         reported = reported-line all_true new reported;
       }
 
-      pub failed-line : (e : E) (new : S) → AreReported step k mid own (failed e) new
-          → AreReported step k old (turns k meaning bytes) (failed e) new
-      failed-line e new reported = AreReported-whole _ (failed e) new few (λ x. cc)
+      pub failed-line : (e : E) (new : S) → AreMade step k mid own (failed e) new
+          → AreMadeFrom step k old (turns k meaning bytes) (failed e) new
+      failed-line e new reported = AreMade-whole _ (failed e) new few (λ x. cc)
           (reported-line (failed e) new reported)
+
+    -- only `begin` was called, and no line may be reported
+    pub counted-idle : (new : S) → (not k.passthru && is_at 0 k.max_matches) ≡ true
+        → AreMadeFrom step k old (front 0) all_true new → IsCounted 0 all_true new
+    counted-idle new idle begun =
+        let parts = both_true (not k.passthru) (is_at 0 k.max_matches) idle in
+        counted-done start_walk new (placed-start).at (IsNear-none k meaning bytes)
+        (IsDone-none k meaning bytes (not_false k.passthru parts.0) parts.1) begun
+
+  -- of a sink that had no call
+  module _ {S E : Type 0} (step : Steps S E) (old : S) where
+    pub counted-unbegun : (new : S) → step old k begins (Ok false) new
+        → IsCounted step (fresh old) 0 (stopped (counted 0)) new
+    counted-unbegun new stops = record {
+      reported = from-ended step k (fresh old) (front 0) (joined_from T 0 turned) (stopped (counted 0)) new (λ is. cc)
+          (from-fresh step k old (front 0) (stopped (counted 0)) new (inr (inl (refl, stops))));
+      is_count = refl;
+    }
+
+    pub reported-begin : (new : S) → step old k begins (Ok true) new
+        → AreMadeFrom step k (fresh old) (front 0) all_true new
+    reported-begin new goes = from-fresh step k old (front 0) all_true new (inl (new, goes, (refl, refl)))
+
+    pub reported-start : (new : S) → (not k.passthru && is_at 0 k.max_matches) ≡ false → step old k begins (Ok true) new
+        → HasReported k meaning bytes step (fresh old) start_walk new
+    reported-start new busy goes = record {
+      walk = walk-start (λ plain full. clash
+          (let all : (not k.passthru && is_at 0 k.max_matches) ≡ true = ap (λ p. not p && is_at 0 k.max_matches) plain
+          ∙ full in all)
+          busy);
+      reported = reported-begin new goes;
+    }
 
 -- how a search ends in a fault
 module _ {S E F : Type 0} (step : Steps S E) (errors : ErrorMakers E) (matcher : MatcherFacts F) (k : Settings)
-    (bytes : List ℕ)
-    (old : S) where
-  pub fault-begin : (e : E) (new : S) → step old k begins (Err e) new
+    (bytes : List ℕ) where
+  pub fault-begin : (old : S) (e : E) (new : S) → step old k begins (Err e) new
       → IsLineFault step errors matcher k bytes old e new
-  fault-begin e new fails = of_sink
-      (record { outcome = failed e; mid = new; reported = inr (inr (e, refl, fails)); finished = (refl, refl) })
+  fault-begin old e new fails = of_sink
+      (record { outcome = failed e; mid = new; made = inr (inr (e, refl, fails)); finished = (refl, refl) })
 
-  pub fault-line : (e : E) (new : S) → AreReported step k old (turns k matcher.meaning bytes) (failed e) new
-      → IsLineFault step errors matcher k bytes old e new
-  fault-line e new reported = of_sink (record {
-    outcome = failed e;
-    mid = new;
-    reported = reported;
-    finished =
-        (refl, refl);
-  })
+  pub fault-line : (old : Origin S) (e : E) (new : S) → AreMadeFrom step k old (turns k matcher.meaning bytes) (failed
+      e) new
+      → IsWalkFault step errors matcher k bytes old e new
+  fault-line old e new reported = at_call reported
 
-  pub fault-matcher : (w : Walk) (new : S) → HasReported k matcher.meaning bytes step old w new
+  pub fault-matcher : (old : Origin S) (w : Walk) (new : S) → HasReported k matcher.meaning bytes step old w new
       → (start end : ℕ) (same : w.offset ≡ start) (line : IsLine (byte_of k.line_terminator) bytes w.line start end)
       → Bare k matcher.meaning bytes → can_hit k w ≡ true → (haystack : List ℕ) (error : F) (e : E)
       → IsAsked k matcher.meaning bytes w.line haystack → errors.is_message (matcher.text_of error) e
-      → matcher.fails haystack error → IsLineFault step errors matcher k bytes old e new
-  fault-matcher w new so_far start end same line bare room haystack error e asked message fails = of_matcher haystack
+      → matcher.fails haystack error → IsWalkFault step errors matcher k bytes old e new
+  fault-matcher old w new so_far start end same line bare room haystack error e asked message fails = at_question
+      haystack
       error
       (front k matcher.meaning bytes w.next_unreported)
+      (joined_from (T k matcher.meaning bytes) w.next_unreported
+      (turned k matcher.meaning bytes - w.next_unreported))
       (record {
         index = w.line;
         has_turn = has k matcher.meaning bytes w start end same line bare so_far.walk;
@@ -522,4 +543,25 @@ module _ {S E F : Type 0} (step : Steps S E) (errors : ErrorMakers E) (matcher :
         question = asked;
         before = sym (through-is k matcher.meaning bytes w start end same line bare so_far.walk);
       })
+      (front-through k matcher.meaning bytes w.next_unreported (turned k matcher.meaning bytes)
+      (omega (arith, has k matcher.meaning bytes w start end same line bare so_far.walk, so_far.walk.near.low)))
       fails message so_far.reported
+
+  -- such a fault is one of the search by line
+  pub fault-by_line : (old : S) (e : E) (new : S) → IsWalkFault step errors matcher k bytes (fresh old) e new
+      → IsLineFault step errors matcher k bytes old e new
+  fault-by_line old e new (at_call reported) = of_sink (record {
+    outcome = failed e;
+    mid = new;
+    made = fresh-made step k old (turns k matcher.meaning bytes) (failed e) new reported;
+    finished = (refl, refl);
+  })
+  fault-by_line old e new (at_question haystack error made later asked first fails message reported) =
+      of_matcher haystack error made asked fails message (fresh-made step k old made all_true new reported)
+
+-- what was counted of a sink that had no call
+pub counted-fresh : {S E : Type 0} (step : Steps S E) (k : Settings) (old : S) (calls : List Planned) (whole count : ℕ)
+    (outcome : Outcome E) (new : S) → CountedFrom step k (fresh old) calls whole count outcome new
+    → Counted step k old calls whole count outcome new
+counted-fresh step k old calls whole count outcome new counted =
+    record { reported = fresh-made step k old calls outcome new counted.reported; is_count = counted.is_count }

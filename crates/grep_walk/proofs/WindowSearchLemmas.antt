@@ -9,22 +9,22 @@ use Rattle.grep_lines.specs.LineLaws.{LinesJoin}
 use Rattle.grep_lines.specs.Positions.{slice, IsLine, IsLineStart}
 use Rattle.grep_definitions.proofs.LineStartLemmas.{line_start-last}
 use Rattle.grep_definitions.specs.Settings.{Settings}
-use Rattle.grep_definitions.specs.SinkCalls.{begins}
+use Rattle.grep_definitions.specs.Plans.{begins, Steps, Outcome, all_true, stopped, failed, AreMade, counted}
 use Rattle.grep_definitions.specs.Below.{is_at}
-use Rattle.grep_definitions.specs.LineSearch.{differ, turns, byte_count}
-use Rattle.grep_definitions.specs.LineTurns.{matches_line}
-use Rattle.grep_definitions.specs.SinkRuns.{Steps, Outcome, all_true, stopped, failed, AreReported}
-use Rattle.grep_definitions.specs.Searches.{ErrorMakers, MatcherFacts, IsLineFault}
+use Rattle.grep_definitions.specs.LineSearch.{turns, byte_count}
+use Rattle.grep_definitions.specs.Searches.{ErrorMakers, MatcherFacts}
+use Rattle.grep_walk.specs.WalkFaults.{IsWalkFault}
 use Rattle.grep_matcher.specs.Terminators.{byte_of}
 use Rattle.grep_walk.specs.declared.walk.Walk.{Walk}
-use Rattle.grep_walk.specs.Walks.{IsDecided, IsOrdered, HasReported, Counted}
-use Rattle.grep_walk.specs.Walks.{can_hit, line_end, line_turns, after_line, is_over, recounted, reports_line}
+use Rattle.grep_walk.specs.Walks.{IsDecided, IsOrdered, HasReported, can_hit, line_end, line_turns, after_line, is_over}
+use Rattle.grep_walk.specs.Walks.{recounted, reports_line, CountedFrom}
 use Rattle.grep_definitions.specs.Questions.{IsAsked}
 use Rattle.grep_walk.specs.LookAheads.{MayAskAhead}
 use Rattle.grep_walk.specs.Windows.{IsWindow, IsInWindow, HasPassed, HasSearched, HasWalked}
 use Rattle.grep_walk.proofs.LineRangeLemmas.{line-at}
 use Rattle.grep_walk.proofs.WalkLemmas as walks
 use Rattle.grep_walk.proofs.WalkLemmas.{Bare, start_walk}
+use Rattle.grep_walk.specs.Origins.{Origin, fresh}
 use Rattle.grep_walk.proofs.WindowLemmas as windows
 
 -- a line leaves the counts of a walk in order
@@ -50,7 +50,7 @@ pub searched-start : {S E : Type 0} (step : Steps S E) (k : Settings) (meaning :
     (first now : S)
     → IsWindow (byte_of k.line_terminator) [] window input
     → (not k.passthru && is_at 0 k.max_matches) ≡ false → step first k begins (Ok true) now
-    → HasSearched step k meaning [] window input first 0 (start_walk k meaning input) now
+    → HasSearched step k meaning [] window input (fresh first) 0 (start_walk k meaning input) now
 searched-start step k meaning window input first now shown busy begun = record {
   line = 0;
   through = 0;
@@ -68,7 +68,7 @@ searched-start step k meaning window input first now shown busy begun = record {
 
 -- it goes on with the next window: nothing of what was reported changes
 pub searched-rolled : {S E : Type 0} (step : Steps S E) (k : Settings) (meaning : Meaning) (gone window input : List ℕ)
-    (first : S)
+    (first : Origin S)
     (w : Walk) (now : S) (passed : HasPassed step k meaning gone window input first w now)
     → (gone' window' : List ℕ) (start : ℕ)
     → IsInWindow k gone' window' input start (recounted w passed.searched.line passed.searched.through)
@@ -82,7 +82,7 @@ searched-rolled step k meaning gone window input first w now passed gone' window
 
 -- at the end of the window all its lines are passed
 pub passed-all : {S E : Type 0} (step : Steps S E) (k : Settings) (meaning : Meaning) (gone window input : List ℕ)
-    (first : S)
+    (first : Origin S)
     (p : ℕ) (w : Walk) (now : S) → HasSearched step k meaning gone window input first p w now → p ≡ length window
     → ((i : ℕ) → IsLineStart (byte_of k.line_terminator) window p i → i
     ≡ length (lines (byte_of k.line_terminator) window))
@@ -103,23 +103,23 @@ passed-all step k meaning gone window input first p w now so_far end last = reco
 
 -- once all lines of the input are passed, all calls were made and returned true
 pub counted-passed : {S E : Type 0} (step : Steps S E) (k : Settings) (meaning : Meaning) (gone window input : List ℕ)
-    (first : S)
+    (first : Origin S)
     (w : Walk) (now : S) → HasPassed step k meaning gone window input first w now
     → length (lines (byte_of k.line_terminator) gone) + length (lines (byte_of k.line_terminator) window)
     ≡ length (lines (byte_of k.line_terminator) input)
-    → Counted step k first (turns k meaning input) (byte_count k meaning input) w.offset all_true now
+    → CountedFrom step k first (turns k meaning input) (byte_count k meaning input) w.offset all_true now
 counted-passed step k meaning gone window input first w now passed all =
     walks.counted-end k meaning input step first (recounted w passed.searched.line passed.searched.through) now
     passed.searched.walked.reported (passed.all ∙ all)
 
 module _ {S E F : Type 0} (step : Steps S E) (errors : ErrorMakers E) (matcher : MatcherFacts F) (k : Settings)
-    (gone window input : List ℕ) (first : S) where
+    (gone window input : List ℕ) (first : Origin S) where
   abbrev pub t : ℕ
   t = byte_of k.line_terminator
 
   abbrev IsCounted : ℕ → Outcome E → S → Type 0
   IsCounted count outcome new =
-      Counted step k first (turns k matcher.meaning input) (byte_count k matcher.meaning input) count outcome new
+      CountedFrom step k first (turns k matcher.meaning input) (byte_count k matcher.meaning input) count outcome new
 
   -- at the end of the input the walk has made all calls, and if it doesn't go on earlier no more are to come
   pub counted-either : (goes_on : Bool) (w : Walk) (now : S)
@@ -150,7 +150,7 @@ module _ {S E F : Type 0} (step : Steps S E) (errors : ErrorMakers E) (matcher :
     -- the matcher's error for a question at that line
     pub failed-matcher : can_hit k w ≡ true → (haystack : List ℕ) (error : F) (e : E)
         → IsAsked k matcher.meaning input w.line haystack → errors.is_message (matcher.text_of error) e
-        → matcher.fails haystack error → IsLineFault step errors matcher k input first e now
+        → matcher.fails haystack error → IsWalkFault step errors matcher k input first e now
     failed-matcher room haystack error e asked message fails = walks.fault-matcher step errors matcher k input first w
         now
         so_far.reported (length gone + p) (length gone + q) so_far.inside.at at bare room haystack error e asked message
@@ -195,30 +195,30 @@ module _ {S E F : Type 0} (step : Steps S E) (errors : ErrorMakers E) (matcher :
           → P (slice input (length gone + p) (length gone + q))) → P here
       matched P holds = shifted (λ xs. IsDecided k matcher.meaning w xs chosen trailing → P xs) holds decided
 
-      pub failed-line : (e : E) (new : S) → AreReported step k now (line_turns k input w here chosen trailing)
+      pub failed-line : (e : E) (new : S) → AreMade step k now (line_turns k input w here chosen trailing)
           (failed e) new
-          → IsLineFault step errors matcher k input first e new
+          → IsWalkFault step errors matcher k input first e new
       failed-line e new = matched
-          (λ xs. AreReported step k now (line_turns k input w xs chosen trailing) (failed e) new
-          → IsLineFault step errors matcher k input first e new)
+          (λ xs. AreMade step k now (line_turns k input w xs chosen trailing) (failed e) new
+          → IsWalkFault step errors matcher k input first e new)
           (λ is reported. walks.fault-line step errors matcher k input first e new
           (walks.failed-line k matcher.meaning input step first bare w now so_far.reported (length gone + p)
           (length gone + q)
           so_far.inside.at at chosen trailing is e new reported))
 
-      pub counted-stopped : (new : S) → AreReported step k now (line_turns k input w here chosen trailing)
-          (stopped (line_end w here)) new
-          → IsCounted (line_end w here) (stopped (line_end w here)) new
+      pub counted-stopped : (new : S) → AreMade step k now (line_turns k input w here chosen trailing)
+          (stopped (counted (line_end w here))) new
+          → IsCounted (line_end w here) (stopped (counted (line_end w here))) new
       counted-stopped new = matched
-          (λ xs. AreReported step k now (line_turns k input w xs chosen trailing) (stopped (line_end w xs)) new
-          → IsCounted (line_end w xs) (stopped (line_end w xs)) new)
+          (λ xs. AreMade step k now (line_turns k input w xs chosen trailing) (stopped (counted (line_end w xs))) new
+          → IsCounted (line_end w xs) (stopped (counted (line_end w xs))) new)
           (λ is reported. walks.counted-stopped k matcher.meaning input step first bare w now so_far.reported
           (length gone + p) (length gone + q) so_far.inside.at at chosen trailing is new reported)
 
-      pub counted-over : (new : S) → AreReported step k now (line_turns k input w here chosen trailing) all_true new
+      pub counted-over : (new : S) → AreMade step k now (line_turns k input w here chosen trailing) all_true new
           → is_over k (after_line k w here chosen) chosen ≡ true → IsCounted (line_end w here) all_true new
       counted-over new = matched
-          (λ xs. AreReported step k now (line_turns k input w xs chosen trailing) all_true new
+          (λ xs. AreMade step k now (line_turns k input w xs chosen trailing) all_true new
           → is_over k (after_line k w xs chosen) chosen ≡ true → IsCounted (line_end w xs) all_true new)
           (λ is reported over. walks.counted-over k matcher.meaning input step first bare w now so_far.reported
           (length gone + p) (length gone + q) so_far.inside.at at chosen trailing is new reported over)
@@ -234,7 +234,7 @@ module _ {S E F : Type 0} (step : Steps S E) (errors : ErrorMakers E) (matcher :
           go true = omega (arith, so_far.inside.line.low)
           go false = omega (arith, so_far.inside.kept)
 
-      pub searched-next : (new : S) → AreReported step k now (line_turns k input w here chosen trailing) all_true new
+      pub searched-next : (new : S) → AreMade step k now (line_turns k input w here chosen trailing) all_true new
           → is_over k (after_line k w here chosen) chosen ≡ false
           → HasWalked step k matcher.meaning gone window input first q (after_line k w here chosen) new
       searched-next new reported goes_on = record {
@@ -252,7 +252,7 @@ module _ {S E F : Type 0} (step : Steps S E) (errors : ErrorMakers E) (matcher :
           kept = kept-next;
         };
         reported = matched
-            (λ xs. AreReported step k now (line_turns k input w xs chosen trailing) all_true new
+            (λ xs. AreMade step k now (line_turns k input w xs chosen trailing) all_true new
             → is_over k (after_line k w xs chosen) chosen ≡ false
             → HasReported k matcher.meaning input step first (after_line k w xs chosen) new)
             (λ is reported goes_on. walks.reported-next k matcher.meaning input step first bare w now so_far.reported

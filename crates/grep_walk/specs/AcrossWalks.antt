@@ -1,5 +1,6 @@
 -- The walk of a search across lines: what it knows of the lines before it and of the unit that it
 -- comes to, and how lines move it on. No contract of grep_searcher cites these definitions.
+use Rattle.grep_definitions.specs.Plans.{planned}
 use Rattle.std.specs.Prelude.{◌≡◌, ℕ, ◌+◌, ◌-◌, ◌<◌, ◌≤◌, Bool, true, false, not, ◌&&◌, nat_lt}
 use Rattle.std.specs.Prelude.{if◌then◌else◌, List, ◌∷◌, length, All}
 use Rattle.grep_matcher.specs.Lines.{lines}
@@ -10,7 +11,7 @@ use Rattle.grep_definitions.specs.Below.{count_below, is_at, is_below, joined_fr
 use Rattle.grep_definitions.specs.LineSearch.{line_count}
 use Rattle.grep_definitions.specs.Selections.{IsNear, no_line}
 use Rattle.grep_definitions.specs.Settings.{Settings}
-use Rattle.grep_definitions.specs.SinkCalls.{Turn, begins}
+use Rattle.grep_definitions.specs.Plans.{Planned, begins}
 use Rattle.grep_walk.specs.declared.blocks.Blocks.{Blocks}
 use Rattle.grep_walk.specs.declared.walk.Walk.{Walk}
 use Rattle.grep_walk.specs.Units.{AreLeft, IsUnit, is_hit}
@@ -47,9 +48,9 @@ after_lines settings w unit chosen =
 
 module _ (settings : Settings) (meaning : Meaning) (bytes : List ℕ) where
   -- `begin`, and the calls of the first i lines
-  abbrev pub turns_before : ℕ → List Turn
+  abbrev pub turns_before : ℕ → List Planned
   turns_before i =
-      record { call = begins; end = 0 } ∷ joined_from (turns_at settings meaning bytes) 0 i
+      planned begins 0 ∷ joined_from (turns_at settings meaning bytes) 0 i
 
   -- what a walk at line i knows of the limit under inversion, if c lines were chosen
   pub record IsLimited (i c : ℕ) : Type 0 where
@@ -65,7 +66,7 @@ module _ (settings : Settings) (meaning : Meaning) (bytes : List ℕ) where
         (line_count settings meaning bytes) (line_count settings meaning bytes)
         w.next_unreported w.line w.after_context_left
     pub limited : settings.invert_match ≡ true → IsLimited w.line w.match_count
-    pub ended : All (λ turn. turn.end ≤ w.offset) (turns_before w.next_unreported)
+    pub ended : All (λ turn. turn.if_false.count ≤ w.offset) (turns_before w.next_unreported)
 
   -- a walk at `start` comes to a unit or is in it: without inversion it comes to it. No match
   -- touches the line before the unit

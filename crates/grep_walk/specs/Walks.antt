@@ -9,16 +9,17 @@ use Rattle.grep_matcher.specs.Matching.{Meaning}
 use Rattle.grep_lines.specs.Positions.{IsLineStart}
 use Rattle.grep_report.specs.declared.sink_context.SinkContextKind.TheVariants.{Other}
 use Rattle.grep_definitions.specs.Settings.{Settings}
-use Rattle.grep_definitions.specs.SinkCalls.{Turn}
+use Rattle.grep_definitions.specs.Plans.{Planned, Outcome, all_true, stopped, failed, Steps}
+use Rattle.grep_definitions.specs.Plans.{AreMade, counted}
 use Rattle.grep_definitions.specs.Below.{is_at}
 use Rattle.grep_definitions.specs.LineSearch.{differ, turns_before}
 use Rattle.grep_definitions.specs.LineWalks.{IsNear, IsOpen}
 use Rattle.grep_definitions.specs.LineTurns.{number_of, matches_line, pending_turns, match_turns}
 use Rattle.grep_definitions.specs.LineTurns.{after_turns, context_turns}
-use Rattle.grep_definitions.specs.SinkRuns.{Outcome, all_true, stopped, failed, Steps, AreReported}
 use Rattle.grep_walk.specs.declared.walk.Verdict.{Verdict}
 use Rattle.grep_walk.specs.declared.walk.Verdict.TheVariants.{Chosen, Trailing, Missed}
 use Rattle.grep_walk.specs.declared.walk.Walk.{Walk}
+use Rattle.grep_walk.specs.Origins.{AreMadeFrom, Origin}
 
 -- whether a line is chosen by a verdict, and whether it is trailing
 abbrev pub chooses : Verdict → Bool
@@ -51,7 +52,7 @@ abbrev pub line_end : Walk → List ℕ → ℕ
 line_end w line = w.offset + length line
 
 -- the calls of the line that a walk is at
-abbrev pub line_turns : Settings → List ℕ → Walk → List ℕ → Bool → Bool → List Turn
+abbrev pub line_turns : Settings → List ℕ → Walk → List ℕ → Bool → Bool → List Planned
 line_turns settings window w line chosen trailing =
     if chosen
     then pending_turns settings window w.next_unreported w.line (line_end w line)
@@ -116,15 +117,21 @@ is_over settings w chosen =
 -- the byte count after calls: that of the whole search, or the end of the turn that returned false
 abbrev pub IsCount : {E : Type 0} → Outcome E → ℕ → ℕ → Type 0
 IsCount all_true whole count = count ≡ whole
-IsCount (stopped end) whole count = count ≡ end
+IsCount (stopped finish) whole count = counted count ≡ finish
 IsCount (failed e) whole count = ⊥
 
 -- the calls were made up to the first false or the last, with this outcome, and that is the byte
 -- count
 pub record Counted {S E : Type 0} (step : Steps S E) (settings : Settings) (old : S)
-    (turns : List Turn)
+    (turns : List Planned)
     (whole count : ℕ) (outcome : Outcome E) (new : S) : Type 0 where
-  pub reported : AreReported step settings old turns outcome new
+  pub reported : AreMade step settings old turns outcome new
+  pub is_count : IsCount outcome whole count
+
+-- what was counted of calls from an origin on
+pub record CountedFrom {S E : Type 0} (step : Steps S E) (settings : Settings) (first : Origin S)
+    (calls : List Planned) (whole count : ℕ) (outcome : Outcome E) (new : S) : Type 0 where
+  pub reported : AreMadeFrom step settings first calls outcome new
   pub is_count : IsCount outcome whole count
 
 -- the counts of a walk are in order
@@ -147,12 +154,12 @@ module _ (settings : Settings) (meaning : Meaning) (bytes : List ℕ) where
     pub placed : IsPlaced w
     pub near : IsNear settings meaning bytes w.next_unreported w.line w.after_context_left
     pub opened : IsOpen settings meaning bytes w.line w.after_context_left w.match_count
-    pub ended : All (λ turn. turn.end ≤ w.offset)
+    pub ended : All (λ turn. turn.if_false.count ≤ w.offset)
         (turns_before settings meaning bytes w.next_unreported)
 
-  -- the calls that are defined up to a walk were made from a first state on, and all returned true
-  pub record HasReported {S E : Type 0} (step : Steps S E) (first : S) (w : Walk)
+  -- the calls that are defined up to a walk were made from an origin on, and all returned true
+  pub record HasReported {S E : Type 0} (step : Steps S E) (first : Origin S) (w : Walk)
       (now : S) : Type 0 where
     pub walk : IsWalk w
-    pub reported : AreReported step settings first
+    pub reported : AreMadeFrom step settings first
         (turns_before settings meaning bytes w.next_unreported) all_true now

@@ -6,9 +6,10 @@ use Rattle.grep_matcher.specs.Lines.{lines}
 use Rattle.grep_matcher.specs.Matching.{Meaning}
 use Rattle.grep_lines.specs.Positions.{IsLine, IsLineStart}
 use Rattle.grep_definitions.specs.Settings.{Settings}
-use Rattle.grep_definitions.specs.SinkRuns.{Steps}
+use Rattle.grep_definitions.specs.Plans.{Steps}
 use Rattle.grep_walk.specs.declared.walk.Walk.{Walk}
 use Rattle.grep_walk.specs.Walks.{AreCounts, HasReported, recounted}
+use Rattle.grep_walk.specs.Origins.{Origin}
 
 -- a window shows bytes of the input, after those that are gone, and its lines are lines of the
 -- input
@@ -34,15 +35,15 @@ pub record IsInWindow (settings : Settings) (gone window input : List ℕ) (star
   pub kept : length (lines (byte_of settings.line_terminator) gone)
       + min settings.before_context (w.line - w.next_unreported) ≤ w.line
 
--- such a walk has made the calls of the lines before it, from a first state on
+-- such a walk has made the calls of the lines before it, from an origin on
 pub record HasWalked {S E : Type 0} (step : Steps S E) (settings : Settings) (meaning : Meaning)
-    (gone window input : List ℕ) (first : S) (start : ℕ) (w : Walk) (now : S) : Type 0 where
+    (gone window input : List ℕ) (first : Origin S) (start : ℕ) (w : Walk) (now : S) : Type 0 where
   pub inside : IsInWindow settings gone window input start w
   pub reported : HasReported settings meaning input step first w now
 
 -- a walk that may have skipped lines uncounted has made these calls: it has with its lines counted
 pub record HasSearched {S E : Type 0} (step : Steps S E) (settings : Settings) (meaning : Meaning)
-    (gone window input : List ℕ) (first : S) (start : ℕ) (w : Walk) (now : S) : Type 0 where
+    (gone window input : List ℕ) (first : Origin S) (start : ℕ) (w : Walk) (now : S) : Type 0 where
   pub line : ℕ
   pub through : ℕ
   pub counts : AreCounts settings w line through
@@ -51,7 +52,7 @@ pub record HasSearched {S E : Type 0} (step : Steps S E) (settings : Settings) (
 
 -- it has come to the end of the window, and passed all its lines
 pub record HasPassed {S E : Type 0} (step : Steps S E) (settings : Settings) (meaning : Meaning)
-    (gone window input : List ℕ) (first : S) (w : Walk) (now : S) : Type 0 where
+    (gone window input : List ℕ) (first : Origin S) (w : Walk) (now : S) : Type 0 where
   pub searched : HasSearched step settings meaning gone window input first (length window) w now
   pub all : searched.line ≡ length (lines (byte_of settings.line_terminator) gone)
       + length (lines (byte_of settings.line_terminator) window)

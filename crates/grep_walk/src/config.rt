@@ -26,7 +26,7 @@ pub struct Config {
     pub after_context: usize,
     /// How many lines are reported before a match.
     pub before_context: usize,
-    /// Whether every line is reported, up to the last that has a turn.
+    /// Whether every line is reported, up to the last that may be.
     pub passthru: bool,
     /// How many decoded bytes a search holds at most, if there is a limit.
     pub heap_limit: Option<usize>,
@@ -138,7 +138,7 @@ impl Config {
         }
     }
 
-    /// Whether a search reads after `begin`: some line may have a turn, or a binary byte is looked
+    /// Whether a search reads after `begin`: some line may be reported, or a binary byte is looked
     /// for.
     pub fn reads_lines(&self) -> bool
         ensures { result ≡ reads_lines self.now }

@@ -1,5 +1,5 @@
 //! A walk over the lines of some bytes: how far it has come, which line comes next, what it decides
-//! of that, and whether more lines have a turn.
+//! of that, and whether later lines may be reported.
 ghost use Rattle.std.specs.Prelude.{◌≡◌, ◌≤◌, ◌<◌, ◌+◌, ◌^◌, ◌&&◌, ℕ, not, true, false, length};
 ghost use Rattle.std.specs.Prelude.{IfOk, IfErr, IfSome, IfNone, MatchBool, None};
 ghost use Rattle.grep_matcher.specs.Terminators.{byte_of};
@@ -133,7 +133,7 @@ impl Config {
         self.line_number || self.after_context > 0 || self.before_context > 0
     }
 
-    /// Whether no line has a turn.
+    /// Whether no line may be reported.
     pub fn reports_nothing(&self) -> bool
         ensures { result ≡ (not self.now.passthru
             && is_at 0 self.now.max_matches) }
@@ -144,7 +144,7 @@ impl Config {
         }
     }
 
-    /// Whether no later line has a turn, by whether the last line was chosen.
+    /// Whether no later line may be reported, by whether the last line was chosen.
     pub fn is_over(&self, walk: &Walk, chosen: bool) -> bool
         ensures { result ≡ is_over self.now walk.now chosen }
     {

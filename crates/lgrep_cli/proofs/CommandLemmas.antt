@@ -438,16 +438,6 @@ marked-end all before later rest argument mid literal options result split marke
     ∙ ap (λ xs. option_map (over options) (operands_of (texts xs))) (next ∙ ap (λ xs. literal.now ∷ xs) (sym same)))
     ends
 
-pub marked-usage : (all before : List (String Global)) (argument : String Global) (mid after : Iter (String Global))
-    (options : Options) → before ≡ argument ∷ mid.rest.now → string_bytes argument ≡ codes "--"
-    → IsRead all before options
-    → IsNext mid None after → IsUsage all (Err Usage)
-marked-usage all before argument mid after options split marked reading ended =
-    let none = map-none settled (request_of (texts all))
-    (marked-asked all before mid.rest.now argument options split marked reading
-    ∙ ap (λ xs. option_map (over options) (operands_of (texts xs))) (empty mid.rest.now ended.0)) in
-    (λ _. none, λ _. refl)
-
 -- the literal and the path are the last arguments
 either : (b : Bool) (x y : Option Request) (request : Request) → (if b then x else y) ≡ Some request
     → (x ≡ Some request) ⊎ (y ≡ Some request)

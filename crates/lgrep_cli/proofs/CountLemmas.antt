@@ -12,14 +12,12 @@ use Rattle.grep_searcher.specs.declared.SearchError.TheVariants.{Io}
 use Rattle.grep_searcher.specs.declared.BinaryDetection.TheVariants.{None as no_detection}
 use Rattle.grep_searcher.specs.CountLaws.{NumbersChangeNoBytes, NumbersChangeNoCount}
 use Rattle.grep_searcher.specs.CountSinks.{IsCountStep, RunsCountAll}
-use Rattle.grep_searcher.specs.DecodedInputs.{IsInput}
-use Rattle.grep_searcher.specs.ReaderSearches.{Taken, IsUnread}
-use Rattle.grep_searcher.specs.Refusals.{refusal_of}
+use Rattle.grep_searcher.specs.Asking.{search_plan}
+use Rattle.grep_searcher.specs.Parties.{refusal_of}
+use Rattle.grep_searcher.specs.Plans.{Planned, IsRun}
+use Rattle.grep_searcher.specs.Readings.{IsInput, Taken, IsUnread}
 use Rattle.grep_searcher.specs.SearchLaws.{is_match, match_calls}
-use Rattle.grep_searcher.specs.SearchTurns.{search_turns}
 use Rattle.grep_searcher.specs.Settings.{SearcherState}
-use Rattle.grep_searcher.specs.SinkCalls.{Turn}
-use Rattle.grep_searcher.specs.SinkRuns.{IsRun}
 use Rattle.lgrep_cli.specs.OptionSettings.{searched_settings, settings_of_options}
 use Rattle.lgrep_cli.specs.ProgramRuns.{searcher_of, meaning_of, calls_of, calls_over, Input, IsPrinted}
 use Rattle.lgrep_cli.specs.ProgramRuns.{IsFailure, of_reader, of_write}
@@ -29,12 +27,12 @@ use Rattle.lgrep_cli.specs.declared.options.Options.{Options}
 use Rattle.lgrep_cli.proofs.OutputLemmas.{Writes-none}
 
 -- some call reports a match exactly if their count isn't 0
-found-count : (calls : List Turn) → nat_lt 0 (match_count calls) ≡ has_match calls
+found-count : (calls : List Planned) → nat_lt 0 (match_count calls) ≡ has_match calls
 found-count [] = refl
-found-count (turn ∷ later) = go (is_match turn.call) (found-count later)
+found-count (planned ∷ later) = go (is_match planned.call) (found-count later)
   where
     go : (b : Bool) → nat_lt 0 (match_count later) ≡ has_match later
-        → nat_lt 0 (min (length (if b then turn.call ∷ match_calls later else match_calls later)) (2 ^ 64 - 1))
+        → nat_lt 0 (min (length (if b then planned.call ∷ match_calls later else match_calls later)) (2 ^ 64 - 1))
         ≡ (b || has_match later)
     go true before = lt-ltb 0 _ (omega arith)
     go false before = before
@@ -64,28 +62,27 @@ module _ {R W : Type 0} (remaining : R → Option (List ℕ)) (read_step : R →
       pub is : (bytes : List ℕ) → Input options taken bytes → n ≡ match_count (calls_of options bytes)
 
     pub counted : (state : SearcherState) (literal : List ℕ) (n : ℕ) (taken : Taken remaining read_step reader reader')
-        (end : List ℕ → ℕ) (start : ℕ)
+        (start : ℕ)
         → NumbersChangeNoCount → NumbersChangeNoBytes → RunsCountAll (SearchError Global)
         → state ≡ searcher_of options → literal_meaning literal ≡ meaning_of options → start ≡ 0
         → ((bytes : List ℕ) → IsInput state.settings taken.ended taken.pieces bytes
         → IsRun {E = SearchError Global} IsCountStep state.settings start
-        (search_turns state.settings (literal_meaning literal) bytes)
-        (end bytes) None (Ok tt) n)
+        (search_plan state.settings (literal_meaning literal) bytes) (Ok tt) n)
         → IsCounted n
-    counted state literal n taken end start no_count no_bytes count same_state same_meaning none run = record {
+    counted state literal n taken start no_count no_bytes count same_state same_meaning none run = record {
       taken = taken;
       is = λ bytes input.
           let seen : IsInput state.settings taken.ended taken.pieces bytes =
           subst (λ (s : SearcherState). IsInput s.settings taken.ended taken.pieces bytes) (sym same_state)
           (input.0, input.1, input.2 ∙ sym (no_bytes (settings_of_options options) (not options.count) _)) in
-          count state.settings (search_turns state.settings (literal_meaning literal) bytes) (end bytes) None n
+          count state.settings (search_plan state.settings (literal_meaning literal) bytes) n
           (subst (λ m. IsRun {E = SearchError Global} IsCountStep state.settings m
-          (search_turns state.settings (literal_meaning literal) bytes) (end bytes) None (Ok tt) n) none
+          (search_plan state.settings (literal_meaning literal) bytes) (Ok tt) n) none
           (run bytes seen))
           ∙ ap (λ (s : SearcherState). min (length (match_calls
-          (search_turns s.settings (literal_meaning literal) bytes))) (2 ^ 64 - 1))
+          (search_plan s.settings (literal_meaning literal) bytes).calls)) (2 ^ 64 - 1))
           same_state
-          ∙ ap (λ m. min (length (match_calls (search_turns (searched_settings options) m bytes))) (2 ^ 64 - 1))
+          ∙ ap (λ m. min (length (match_calls (search_plan (searched_settings options) m bytes).calls)) (2 ^ 64 - 1))
           same_meaning
           ∙ ap (λ m. min m (2 ^ 64 - 1)) (no_count (settings_of_options options) (not options.count)
           (meaning_of options)
@@ -115,20 +112,20 @@ module _ {R W : Type 0} (remaining : R → Option (List ℕ)) (read_step : R →
         (subst (λ m. Writes write_step old (decimal m ++ 10 ∷ []) (Err error) new) (count.is bytes input) written)))
 
     -- or the input wasn't read to its end, and nothing is written
-    pub count-unread : (state : SearcherState) (literal : List ℕ) (seen : Option (List ℕ)) (e : SearchError Global)
+    pub count-unread : (state : SearcherState) (literal : List ℕ) (begun : Bool) (seen : List ℕ) (e : SearchError Global)
         (error : Error)
         (old new : W) (flushed : Result (Unit {0}) Error) → state ≡ searcher_of options → literal_meaning literal
         ≡ meaning_of options
-        → IsUnread remaining read_step state (literal_meaning literal) reader seen error reader' → e ≡ Io error
+        → IsUnread remaining read_step state (literal_meaning literal) reader begun seen error reader' → e ≡ Io error
         → write_step old (flushes flushed) new → IsFailure remaining read_step write_step options reader old e reader'
         new
-    count-unread state literal seen e error old new flushed same_state same_meaning unread is last =
+    count-unread state literal begun seen e error old new flushed same_state same_meaning unread is last =
         subst (λ x. IsFailure remaining read_step write_step options reader old x reader' new) (sym is)
-        (of_reader seen flushed
-        (subst (λ m. IsUnread remaining read_step (searcher_of options) m reader seen error reader') same_meaning
-        (subst (λ s. IsUnread remaining read_step s (literal_meaning literal) reader seen error reader') same_state
+        (of_reader begun seen flushed
+        (subst (λ m. IsUnread remaining read_step (searcher_of options) m reader begun seen error reader') same_meaning
+        (subst (λ s. IsUnread remaining read_step s (literal_meaning literal) reader begun seen error reader') same_state
         unread))
-        (counted-text (text (calls_over options seen)) [] old (Ok tt) old (Writes-none write_step old)) last)
+        (counted-text (text (calls_over options begun seen)) [] old (Ok tt) old (Writes-none write_step old)) last)
 
     -- what was written of a count, by what was returned
     abbrev pub IsWritten : ℕ → Result Bool (SearchError Global) → W → W → Type 0

@@ -6,14 +6,13 @@ use Rattle.std.proofs.lemmas.List.Elements.{All-nil, All-cons, All-head, All-tai
 use Rattle.grep_matcher.specs.Terminators.{byte_of}
 use Rattle.grep_matcher.specs.Lines.{lines, onto_first}
 use Rattle.grep_matcher.specs.Matching.{Meaning}
-use Rattle.grep_searcher.specs.Below.{joined_from}
-use Rattle.grep_searcher.specs.LineSearch
-use Rattle.grep_searcher.specs.Modes.{is_declared}
+use Rattle.grep_searcher.specs.Asking.{is_declared, search_plan}
+use Rattle.grep_searcher.specs.Reports.{joined_from, line, line_count}
 use Rattle.grep_searcher.specs.SearchLaws.{MatchesAreMatchedLines, is_match, is_matched, match_calls, match_of}
 use Rattle.grep_searcher.specs.SearchLaws.{matched_lines}
-use Rattle.grep_searcher.specs.SearchTurns.{search_turns}
+use Rattle.grep_searcher.specs.SelectedLines.{line_end}
 use Rattle.grep_searcher.specs.Settings.{Settings}
-use Rattle.grep_searcher.specs.SinkCalls.{Call, Turn, begins, matches, context, breaks, binary_data, finishes}
+use Rattle.grep_searcher.specs.Plans.{Call, Planned, begins, matches, context, breaks, binary_data, finishes}
 use Rattle.lgrep_cli.specs.Printers.{IsOneLine, IsMade}
 
 -- the bytes have one line, which is all of them
@@ -64,23 +63,23 @@ inside false b c d false f is = is
 module _ (settings : Settings) (meaning : Meaning) (bytes : List ℕ) (feeds : byte_of settings.line_terminator ≡ 10)
   where
     matched-inside : (i : ℕ) → is_matched settings meaning bytes i ≡ true
-        → i < LineSearch.line_count settings meaning bytes
-    matched-inside i is = ltb-true i (LineSearch.line_count settings meaning bytes)
-        (inside (nat_lt i (LineSearch.line_count settings meaning bytes)) _ _ _ _ _ is)
+        → i < line_count settings bytes
+    matched-inside i is = ltb-true i (line_count settings bytes)
+        (inside (nat_lt i (line_count settings bytes)) _ _ _ _ _ is)
 
-    matched-alone : All IsOneLine (map (match_of settings meaning bytes) (matched_lines settings meaning bytes))
-    matched-alone = All-map IsOneLine (match_of settings meaning bytes) (matched_lines settings meaning bytes)
-        (passing (λ i. IsOneLine (match_of settings meaning bytes i)) (is_matched settings meaning bytes)
-        (λ i is. subst (λ t. IsAlone t (LineSearch.line settings meaning bytes i)) feeds
+    matched-alone : All IsOneLine (map (match_of settings bytes) (matched_lines settings meaning bytes))
+    matched-alone = All-map IsOneLine (match_of settings bytes) (matched_lines settings meaning bytes)
+        (passing (λ i. IsOneLine (match_of settings bytes i)) (is_matched settings meaning bytes)
+        (λ i is. subst (λ t. IsAlone t (line settings bytes i)) feeds
         (lines-alone (byte_of settings.line_terminator) bytes i [] (matched-inside i is)))
-        0 (LineSearch.turn_count settings meaning bytes))
+        0 (line_end settings meaning bytes))
 
 -- if each match of some calls is one line, each of the calls is so
-calls-alone : (turns : List Turn) → All IsOneLine (match_calls turns) → All (λ turn. IsOneLine turn.call) turns
-calls-alone [] all = All-nil (λ turn. IsOneLine turn.call)
-calls-alone (turn ∷ later) all =
-    let parts = go turn.call all in
-    All-cons (λ turn. IsOneLine turn.call) turn later parts.0 (calls-alone later parts.1)
+calls-alone : (calls : List Planned) → All IsOneLine (match_calls calls) → All (λ planned. IsOneLine planned.call) calls
+calls-alone [] all = All-nil (λ planned. IsOneLine planned.call)
+calls-alone (planned ∷ later) all =
+    let parts = go planned.call all in
+    All-cons (λ planned. IsOneLine planned.call) planned later parts.0 (calls-alone later parts.1)
   where
     go : (call : Call) → All IsOneLine (if is_match call then call ∷ match_calls later else match_calls later)
         → IsOneLine call × All IsOneLine (match_calls later)
@@ -96,10 +95,10 @@ calls-alone (turn ∷ later) all =
 
 -- the calls are as a search makes them
 pub calls-made : MatchesAreMatchedLines → (settings : Settings) (meaning : Meaning) (bytes : List ℕ)
-    → byte_of settings.line_terminator ≡ 10 → All (λ turn. IsMade settings turn.call)
-    (search_turns settings meaning bytes)
+    → byte_of settings.line_terminator ≡ 10 → All (λ planned. IsMade settings planned.call)
+    (search_plan settings meaning bytes).calls
 calls-made law settings meaning bytes feeds k d within by_line =
-    calls-alone (search_turns settings meaning bytes)
+    calls-alone (search_plan settings meaning bytes).calls
     (subst (All IsOneLine)
     (sym (law settings meaning bytes
     (ap (λ b. b && not (is_declared meaning.terminator settings.line_terminator)

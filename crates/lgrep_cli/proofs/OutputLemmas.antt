@@ -106,15 +106,6 @@ module _ {W : Type 0} (write_step : W → OutputCall → W → Type 0) where
     pub split : buffer ≡ bytes ++ left
     pub written : WritesAll write_step old bytes now
 
-  pub writing-none : (writer : W) (buffer : List ℕ) → IsWriting writer writer buffer buffer
-  writing-none writer buffer = record { bytes = []; split = refl; written = Writes-none writer }
-
-  -- all of it is written
-  pub writing-whole : (old new : W) (buffer : List ℕ) → IsWriting old new buffer []
-      → WritesAll write_step old buffer new
-  writing-whole old new buffer writing = subst (λ xs. WritesAll write_step old xs new)
-      (sym (writing.split ∙ append-nil writing.bytes)) writing.written
-
   -- up to the last try of a write
   abbrev tried : (old mid last : W) (xs : List ℕ) → WritesAll write_step old xs mid → WritesAll write_step mid [] last
       → WritesAll write_step old xs last

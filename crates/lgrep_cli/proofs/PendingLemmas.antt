@@ -14,17 +14,9 @@ both pending xs kept ys bytes split = sym (append_assoc pending xs ys)
     ∙ (ap (λ zs. zs ++ ys) split ∙ append_assoc bytes kept ys)
 
 module _ {W : Type 0} (write_step : W → OutputCall → W → Type 0) where
-  -- nothing is written
-  pub Puts-kept : (writer : W) (pending text : List ℕ) → PutsAll write_step writer pending text writer (pending ++ text)
-  Puts-kept writer pending text = record { bytes = []; written = Writes-none write_step writer; split = refl }
 
   pub Puts-none : (writer : W) (pending : List ℕ) → PutsAll write_step writer pending [] writer pending
   Puts-none writer pending = record { bytes = []; written = Writes-none write_step writer; split = append-nil pending }
-
-  -- what was pending is written, and the text is pending then
-  pub Puts-after : (old new : W) (pending text : List ℕ) → Writes write_step old pending (Ok tt) new
-      → PutsAll write_step old pending text new text
-  Puts-after old new pending text first = record { bytes = pending; written = first; split = refl }
 
   -- what was pending is written, and then the text
   pub Puts-through : (old mid new : W) (pending text : List ℕ) (result : Result (Unit {0}) Error)

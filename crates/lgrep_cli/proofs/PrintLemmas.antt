@@ -55,14 +55,6 @@ module _ {W : Type 0} (write_step : W → OutputCall → W → Type 0) where
       (Err error) printing.put
       (Puts-cut write_step now new kept (numbered number 58 line) (match_text (next_number number) later) error put))
 
-  -- no line is left
-  pub printing-whole : (old new : W) (pending last : List ℕ) (first number : Option ℕ) (all : List (List ℕ))
-      → IsPrinting old new pending last first all number []
-      → PutsAll write_step old pending (match_text first all) new last
-  printing-whole old new pending last first number all printing =
-      subst (λ text. PutsAll write_step old pending text new last) (sym (printing.whole ∙ append-nil printing.text))
-      printing.put
-
   -- a line that isn't written up to its line feed
   pub ended-cut : (old new : W) (line : List ℕ) (error : Error) → Writes write_step old line (Err error) new
       → Writes write_step old (ended line) (Err error) new

@@ -1,5 +1,5 @@
 -- What a search of a reader with a printer has put, and what is written in the end.
-use Rattle.std.proofs.Common.{◌≡◌, ℕ, List, [], ◌++◌, refl, sym, ap, ◌∙◌, subst}
+use Rattle.std.proofs.Common.{◌≡◌, ℕ, List, [], ◌++◌, inl, inr, length, refl, sym, ap, ◌∙◌, subst}
 use Rattle.std.proofs.lemmas.List.{append-nil}
 use Rattle.std.specs.Prelude.{Bool, true, false, ◌||◌, if◌then◌else◌, Option, Some, None, Result, Ok, Err, IfErr, OnOk}
 use Rattle.std.specs.Prelude.{string_bytes, All}
@@ -7,7 +7,6 @@ use Rattle.std.specs.Global.{Global}
 use Rattle.std.specs.Io.KnownBytes.{Appends, Consumes, IsAtEnd}
 use Rattle.std.specs.List.{concat}
 use Rattle.std.specs.declared.io.Error.{Error}
-use Rattle.grep_decode.specs.DecoderStates.{Calls}
 use Rattle.grep_decode.specs.Source.{ReadResult}
 use Rattle.grep_matcher.specs.Literals.{literal_meaning}
 use Rattle.grep_searcher.specs.declared.ConfigError.{ConfigError}
@@ -15,12 +14,15 @@ use Rattle.grep_searcher.specs.declared.SearchError.{SearchError}
 use Rattle.grep_searcher.specs.declared.SearchError.TheVariants.{Io}
 use Rattle.grep_searcher.specs.SearchErrors.{IsOutOfMemory}
 use Rattle.grep_searcher.specs.Settings.{Settings, SearcherState}
-use Rattle.grep_searcher.specs.DecodedInputs.{searched_bytes, IsInput}
-use Rattle.grep_searcher.specs.ReaderSearches.{Taken, IsReaderFault, IsReaderRun, IsReaderSearched, IsUnread}
-use Rattle.grep_searcher.specs.ReaderSearches.{of_search, of_reading}
-use Rattle.grep_searcher.specs.Searches.{ErrorMakers, MatcherFacts, HasReportedIn}
+use Rattle.grep_searcher.specs.Asking.{search_plan}
+use Rattle.grep_searcher.specs.BinaryBytes.{nowhere}
+use Rattle.grep_searcher.specs.BinaryPlans.{BinaryPoint, calls_with}
+use Rattle.grep_searcher.specs.Parties.{ErrorMakers, MatcherFacts}
+use Rattle.grep_searcher.specs.PlannedSearches.{EachPoint, GoesOnWith, IsReaderSearch, IsReaderSearched, IsRead}
+use Rattle.grep_searcher.specs.Plans.{AreMade, all_true}
+use Rattle.grep_searcher.specs.Readings
+use Rattle.grep_searcher.specs.Readings.{searched_bytes, IsInput, IsUnread, Reads, Taken}
 use Rattle.grep_searcher.specs.SearchLaws.{MatchesAreMatchedLines}
-use Rattle.grep_searcher.specs.SearchTurns.{search_calls}
 use Rattle.lgrep_cli.specs.OptionSettings.{numbered_unless, settings_of_options}
 use Rattle.lgrep_cli.specs.Printers.{Prints, IsMade}
 use Rattle.lgrep_cli.specs.ProgramRuns.{searcher_of, meaning_of, calls_of, calls_over, whole_text, partial_text, Input}
@@ -35,7 +37,7 @@ use Rattle.lgrep_cli.specs.declared.printer.Printer.{Printer}
 use Rattle.lgrep_cli.proofs.OneLineLemmas.{calls-made}
 use Rattle.lgrep_cli.proofs.OutputLemmas.{Appends-more, written-appends}
 use Rattle.lgrep_cli.proofs.PendingLemmas.{Puts-written}
-use Rattle.lgrep_cli.proofs.PrinterLemmas.{ArePut, IsCut, put-none, reported-put, run-put, fault-put}
+use Rattle.lgrep_cli.proofs.PrinterLemmas.{ArePut, IsCut, put-none, reported-put, search-put}
 
 -- an input with nothing after the pieces that came
 abbrev bytes_of : Settings → List (List ℕ) → List ℕ
@@ -86,7 +88,7 @@ module _ {R W : Type 0} (remaining : R → Option (List ℕ)) (read_step : R →
       go taken.ended taken.pieces taken.calls (remaining reader') refl
       (subst (λ left. Consumes left (remaining reader') (concat taken.pieces)) all taken.takes)
     where
-      go : (ended : Bool) (pieces : List (List ℕ)) → Calls remaining read_step false ended reader pieces reader'
+      go : (ended : Bool) (pieces : List (List ℕ)) → Reads remaining read_step ended reader pieces reader'
           → (left : Option (List ℕ)) → remaining reader' ≡ left → Consumes (Some input) left (concat pieces)
           → IsInput settings ended pieces (searched_bytes settings input)
       go ended pieces calls None is takes = absurd takes
@@ -139,7 +141,7 @@ module _ {R W : Type 0} (remaining : R → Option (List ℕ)) (read_step : R →
     (write_step : W → OutputCall → W → Type 0) (law : MatchesAreMatchedLines) (options : Options)
     (uncounts : options.count ≡ false) (reader reader' : R) (old new : Printer W) (empty : old.pending.now ≡ []) where
   -- the calls are as a search makes them
-  made : (bytes : List ℕ) → All (λ turn. IsMade (settings_of_options options) turn.call) (calls_of options bytes)
+  made : (bytes : List ℕ) → All (λ planned. IsMade (settings_of_options options) planned.call) (calls_of options bytes)
   made bytes = calls-made law (settings_of_options options) (meaning_of options) bytes refl
 
   -- a run ends in an error, with the writer in this state
@@ -205,36 +207,36 @@ module _ {R W : Type 0} (remaining : R → Option (List ℕ)) (read_step : R →
       }
 
   -- the calls were made over the lines that were seen, and the input wasn't read to its end
-  module _ (seen : Option (List ℕ)) (error : Error)
-      (unread : IsUnread remaining read_step (numbering options false) (meaning_of options) reader seen error reader')
-      (put : ArePut write_step (settings_of_options options) old (calls_over options seen) new) where
-    its_unread : IsUnread remaining read_step (searcher_of options) (meaning_of options) reader seen error reader'
-    its_unread = subst (λ b. IsUnread remaining read_step (numbering options b) (meaning_of options) reader seen error
+  module _ (begun : Bool) (seen : List ℕ) (error : Error)
+      (unread : IsUnread remaining read_step (numbering options false) (meaning_of options) reader begun seen error reader')
+      (put : ArePut write_step (settings_of_options options) old (calls_over options begun seen) new) where
+    its_unread : IsUnread remaining read_step (searcher_of options) (meaning_of options) reader begun seen error reader'
+    its_unread = subst (λ b. IsUnread remaining read_step (numbering options b) (meaning_of options) reader begun seen error
         reader')
         (sym uncounts) unread
 
     its_text : (result : Result (Unit {0}) Error) (writer : W)
         → Writes write_step new.writer.now new.pending.now result writer
-        → Writes write_step old.writer.now (partial_text options (calls_over options seen)) result writer
-    its_text result writer rest = uncounted write_step options [] (text (calls_over options seen)) old.writer.now result
+        → Writes write_step old.writer.now (partial_text options (calls_over options begun seen)) result writer
+    its_text result writer rest = uncounted write_step options [] (text (calls_over options begun seen)) old.writer.now result
         writer uncounts
-        (then_written (text (calls_over options seen)) put.put result writer rest)
+        (then_written (text (calls_over options begun seen)) put.put result writer rest)
 
     its_end : (e : SearchError Global) → e ≡ Io error → (result : Result (Unit {0}) Error) (writer : W)
         → Writes write_step new.writer.now new.pending.now result writer → EndsUnread e result writer
     its_end e io (Ok u) writer rest = λ flushed last flush. subst (λ x. Fails x last) (sym io)
-        (of_reader seen flushed its_unread (its_text (Ok u) writer rest) flush)
-    its_end e io (Err failed) writer rest = of_reader_and_write seen error its_unread
+        (of_reader begun seen flushed its_unread (its_text (Ok u) writer rest) flush)
+    its_end e io (Err failed) writer rest = of_reader_and_write begun seen error its_unread
         (its_text (Err failed) writer rest)
 
-  unread : (seen : Option (List ℕ)) (error : Error) (e : SearchError Global) → e ≡ Io error → old.has_failed ≡ false
-      → IsUnread remaining read_step (numbering options false) (meaning_of options) reader seen error reader'
-      → ArePut write_step (settings_of_options options) old (calls_over options seen) new → IsSearched (Err e)
-  unread seen error e io none fails put = record {
+  unread : (begun : Bool) (seen : List ℕ) (error : Error) (e : SearchError Global) → e ≡ Io error → old.has_failed ≡ false
+      → IsUnread remaining read_step (numbering options false) (meaning_of options) reader begun seen error reader'
+      → ArePut write_step (settings_of_options options) old (calls_over options begun seen) new → IsSearched (Err e)
+  unread begun seen error e io none fails put = record {
     same_writer = put.same_writer;
     printed = tt;
     of_writer = λ failed. absurd (not-both new.has_failed failed (put.has_failed ∙ none));
-    of_reading = λ ok. its_end seen error fails put e io;
+    of_reading = λ ok. its_end begun seen error fails put e io;
   }
 
   module _ {F : Type 0} (is_message : Option (List ℕ) → SearchError Global → Type 0)
@@ -252,15 +254,18 @@ module _ {R W : Type 0} (remaining : R → Option (List ℕ)) (read_step : R →
       text_of = text_of;
     }
 
-    -- the calls over the lines that were seen, or none
-    reported : (seen : Option (List ℕ)) → HasReportedIn (Prints write_step) errors
-        (facts (string_bytes options.literal))
-        (search_calls (settings_of_options options) (meaning_of options)) (settings_of_options options) seen old new
-        → ArePut write_step (settings_of_options options) old (calls_over options seen) new
-    reported None same = subst (ArePut write_step (settings_of_options options) old []) (sym same)
-        (put-none write_step (settings_of_options options) old)
-    reported (Some seen) run =
-        reported-put write_step (settings_of_options options) (calls_of options seen) (made seen) old _ new run
+    -- the calls over the lines that were seen: no binary byte is looked for
+    reported : (ended : Bool) (pieces : List (List ℕ)) (seen : List ℕ)
+        → GoesOnWith (Prints write_step) errors (facts (string_bytes options.literal)) (settings_of_options options)
+        (λ calls point. (bytes : List ℕ) → IsInput (settings_of_options options) ended pieces bytes
+        → point ≡ None) (calls_of options seen) old new
+        → ArePut write_step (settings_of_options options) old (calls_of options seen) new
+    reported ended pieces seen (point, at, goes_on, made_all) =
+        reported-put write_step (settings_of_options options) (calls_of options seen) (made seen) old all_true new
+        (subst (λ (p : Option BinaryPoint). AreMade (Prints write_step) (settings_of_options options) old
+        (calls_with p (calls_of options seen)) all_true new)
+        (at (bytes_of (settings_of_options options) pieces)
+        (nothing-more (settings_of_options options) ended pieces)) made_all)
 
     -- the calls of a whole search
     run : (taken : Taken remaining read_step reader reader')
@@ -299,21 +304,43 @@ module _ {R W : Type 0} (remaining : R → Option (List ℕ)) (read_step : R →
         → IsReaderSearched remaining read_step (Prints write_step) errors (facts (string_bytes options.literal))
         (numbering options false) reader old result reader' new
         → IsSearched result
-    searched (Ok u) none ok (is_valid, search) =
-        let whole : IsReaderRun remaining read_step (Prints write_step) errors (facts (string_bytes options.literal))
-        (settings_of_options options) reader old reader' new = search (λ _. tt) in
-        run whole.taken (λ bytes input. run-put write_step (settings_of_options options) (calls_of options bytes)
-        (made bytes) _ None old
-        (Ok tt) new (whole.run bytes input)) none
+    searched (Ok u) none ok search =
+        let whole : IsReaderSearch remaining read_step (Prints write_step) errors (facts (string_bytes options.literal))
+        (numbering options false) nowhere reader old (Ok u) reader' new = search (λ _. tt) in
+        run whole.taken (λ bytes input. search-put write_step (settings_of_options options) errors
+        (facts (string_bytes options.literal)) bytes (made bytes) (λ _ _ h. h) (length whole.seen)
+        (λ plan outcome. Unit {0}) old (Ok u) new
+        (whole.each bytes input)) none
     searched (Err e) none ok search = go (search (λ _. tt))
       where
-        go : IsReaderFault remaining read_step (Prints write_step) errors (facts (string_bytes options.literal))
-            (numbering options false)
-            reader old e reader' new → IsSearched (Err e)
-        go (of_search taken seen ended fault all) =
-            cut e taken (λ bytes input. fault-put write_step (settings_of_options options) errors
-            (facts (string_bytes options.literal)) bytes (made bytes) (λ _ _ h. h) old e new (all bytes input).1)
-        go (of_reading seen error fails io run) = unread seen error e io ok fails (reported seen run)
+        go : IsRead remaining read_step (Prints write_step) errors (facts (string_bytes options.literal))
+            (numbering options false) nowhere
+            reader old (Err e) reader' new → IsSearched (Err e)
+        go (inl whole) =
+            cut e whole.taken (λ bytes input. search-put write_step (settings_of_options options) errors
+            (facts (string_bytes options.literal)) bytes (made bytes) (λ _ _ h. h) (length whole.seen)
+            (λ plan outcome. Unit {0}) old (Err e) new
+            (whole.each bytes input))
+        go (inr short) = by short.begun refl
+          where
+            by : (begun : Bool) → short.begun ≡ begun → IsSearched (Err e)
+            by true is =
+                unread true short.seen short.error e short.made ok (
+                  short.mid,
+                  short.taken,
+                  subst (λ b. Readings.IsCut remaining read_step (numbering options false)
+                      (meaning_of options) reader short.mid reader' short.taken short.seen b short.error) is short.cause,
+                )
+                (reported short.taken.ended short.taken.pieces short.seen (short.calls is))
+            by false is =
+                unread false short.seen short.error e short.made ok (
+                  short.mid,
+                  short.taken,
+                  subst (λ b. Readings.IsCut remaining read_step (numbering options false)
+                      (meaning_of options) reader short.mid reader' short.taken short.seen b short.error) is short.cause,
+                )
+                (subst (ArePut write_step (settings_of_options options) old []) (sym (short.none is))
+                (put-none write_step (settings_of_options options) old))
 
     -- the same, if the searcher and the matcher are known to be these
     pub reader-searched : (state : SearcherState) (literal : List ℕ) (result : Result (Unit {0}) (SearchError Global))

@@ -107,7 +107,7 @@ texts arguments = map string_bytes arguments
 abbrev pub operands : List ℕ → Option (List ℕ) → List (List ℕ)
 operands literal path = literal ∷ option_to_list path
 
--- the same of some options
+-- the operands that some options were read with
 abbrev pub operands_in : Options → List (List ℕ)
 operands_in options = operands (string_bytes options.literal) (option_map string_bytes options.path)
 

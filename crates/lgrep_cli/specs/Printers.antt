@@ -6,8 +6,8 @@ use Rattle.grep_matcher.specs.Lines.{lines}
 use Rattle.grep_searcher.specs.declared.SearchError.{SearchError}
 use Rattle.grep_searcher.specs.declared.SearchError.TheVariants.{Io}
 use Rattle.grep_searcher.specs.Settings.{Settings}
-use Rattle.grep_searcher.specs.SinkCalls.{Call, begins, matches, context, breaks, binary_data}
-use Rattle.grep_searcher.specs.SinkCalls.{finishes}
+use Rattle.grep_searcher.specs.Plans.{Call, begins, matches, context, breaks, binary_data}
+use Rattle.grep_searcher.specs.Plans.{finishes}
 use Rattle.grep_searcher.specs.SearchLaws.{is_match}
 use Rattle.lgrep_cli.specs.Texts.{call_text}
 use Rattle.lgrep_cli.specs.Outputs.{OutputCall}

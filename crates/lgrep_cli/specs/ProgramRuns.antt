@@ -10,14 +10,13 @@ use Rattle.std.specs.declared.io.ErrorKind.TheVariants.{OutOfMemory}
 use Rattle.grep_decode.specs.Reading.{Reader}
 use Rattle.grep_decode.specs.Source.{ReadResult}
 use Rattle.grep_matcher.specs.Literals.{literal_meaning}
-use Rattle.grep_matcher.specs.Matching.{Meaning}
+use Rattle.grep_matcher.specs.Meanings.{Meaning}
 use Rattle.grep_searcher.specs.declared.SearchError.{SearchError}
 use Rattle.grep_searcher.specs.declared.SearchError.TheVariants.{Io}
-use Rattle.grep_searcher.specs.DecodedInputs.{IsInput, searched_bytes}
-use Rattle.grep_searcher.specs.SinkCalls.{Turn}
+use Rattle.grep_searcher.specs.Asking.{search_plan}
+use Rattle.grep_searcher.specs.Plans.{Planned}
+use Rattle.grep_searcher.specs.Readings.{IsInput, Taken, IsUnread, searched_bytes}
 use Rattle.grep_searcher.specs.Settings.{SearcherState}
-use Rattle.grep_searcher.specs.ReaderSearches.{Taken, IsUnread}
-use Rattle.grep_searcher.specs.SearchTurns.{search_turns}
 use Rattle.lgrep_cli.specs.CommandLine.{AskFor}
 use Rattle.lgrep_cli.specs.OptionSettings.{searched_settings, settings_of_options}
 use Rattle.lgrep_cli.specs.Texts.{count_text, has_match, text}
@@ -41,22 +40,23 @@ abbrev pub opened : {F : Type 0} → F → Reader F
 opened file = record { inner = file; last = None }
 
 -- the calls that are defined for some input, of the literal under the options' settings
-abbrev pub calls_of : Options → List ℕ → List Turn
-calls_of options bytes = search_turns (settings_of_options options) (meaning_of options) bytes
+abbrev pub calls_of : Options → List ℕ → List Planned
+calls_of options bytes =
+    (search_plan (settings_of_options options) (meaning_of options) bytes).calls
 
 -- those that were made when no more of an input was read: the calls over the lines that were seen,
 -- or none
-abbrev pub calls_over : Options → Option (List ℕ) → List Turn
-calls_over options None = []
-calls_over options (Some seen) = calls_of options seen
+abbrev pub calls_over : Options → Bool → List ℕ → List Planned
+calls_over options false seen = []
+calls_over options true seen = calls_of options seen
 
 -- the text that is written for all calls of a search: how many report a match if the options ask
 -- for the count, else what is reported
-abbrev pub whole_text : Options → List Turn → List ℕ
+abbrev pub whole_text : Options → List Planned → List ℕ
 whole_text options calls = if options.count then count_text calls else text calls
 
 -- the text that is written for the calls that were made, if the search then fails: no count
-abbrev pub partial_text : Options → List Turn → List ℕ
+abbrev pub partial_text : Options → List Planned → List ℕ
 partial_text options calls = if options.count then [] else text calls
 
 -- the decoded bytes of an input that begins with what was taken of a reader, and ends there if the
@@ -104,22 +104,22 @@ module _ {R W : Type 0} (remaining : R → Option (List ℕ)) (read_step : R →
     -- by this error the input wasn't read to its end: the text of the calls over the lines that
     -- were seen is written, which is none in a search across lines and if matches are counted, and
     -- then the writer is flushed, whatever that returns
-    of_reader : {error : Error} {reader' : R} {unflushed writer' : W} (seen : Option (List ℕ))
+    of_reader : {error : Error} {reader' : R} {unflushed writer' : W} (begun : Bool) (seen : List ℕ)
         (flushed : Result (Unit {0}) Error)
         → IsUnread remaining read_step (searcher_of options) (meaning_of options)
-        reader seen error reader'
-        → Writes write_step writer (partial_text options (calls_over options seen)) (Ok tt)
+        reader begun seen error reader'
+        → Writes write_step writer (partial_text options (calls_over options begun seen)) (Ok tt)
         unflushed
         → write_step unflushed (flushes flushed) writer'
         → IsFailure options reader writer (Io error) reader' writer'
     -- by an error of reading the input wasn't read to its end either, and then the writer failed
     -- with this error: the text of the calls over the lines that were seen is written as far as
     -- some first bytes
-    of_reader_and_write : {error : Error} {reader' : R} {writer' : W} (seen : Option (List ℕ))
+    of_reader_and_write : {error : Error} {reader' : R} {writer' : W} (begun : Bool) (seen : List ℕ)
         (read_error : Error)
         → IsUnread remaining read_step (searcher_of options) (meaning_of options)
-        reader seen read_error reader'
-        → Writes write_step writer (partial_text options (calls_over options seen)) (Err error)
+        reader begun seen read_error reader'
+        → Writes write_step writer (partial_text options (calls_over options begun seen)) (Err error)
         writer'
         → IsFailure options reader writer (Io error) reader' writer'
     -- the writer failed with this error. Whatever follows what was taken of the reader, the text of
@@ -146,7 +146,7 @@ module _ {R W : Type 0} (remaining : R → Option (List ℕ)) (read_step : R →
     -- the calls reports a match
     pub printed : IfOk result (λ found.
         IsPrintedAndFlushed options reader writer found reader' writer')
-    -- the same of the whole input, if the reader says which bytes remain
+    -- so is the text of the whole input, if the reader says which bytes remain
     pub whole : IfOk result (λ found.
         IsPrintedWhole contents options (remaining reader) writer found writer')
     -- a run that fails does so for one of these reasons

@@ -2,9 +2,9 @@
 use Rattle.std.specs.Prelude.{ℕ, ◌+◌, ◌-◌, ◌^◌, min, Bool, false, ◌||◌, ◌==◌, if◌then◌else◌, List}
 use Rattle.std.specs.Prelude.{[], ◌∷◌, ◌++◌, length, slice_index, decimal, Option, Some, None}
 use Rattle.grep_matcher.specs.Lines.{lines}
+use Rattle.grep_searcher.specs.Plans.{Call, begins, matches, context, breaks, binary_data}
+use Rattle.grep_searcher.specs.Plans.{finishes, Planned}
 use Rattle.grep_searcher.specs.SearchLaws.{is_match, match_calls}
-use Rattle.grep_searcher.specs.SinkCalls.{Call, Turn, begins, matches, context, breaks, binary_data}
-use Rattle.grep_searcher.specs.SinkCalls.{finishes}
 
 -- a line with a line feed at its end, which is added if there is none
 abbrev pub ended : List ℕ → List ℕ
@@ -36,19 +36,19 @@ call_text (binary_data offset) = []
 call_text (finishes count binary) = []
 
 -- the text of some calls, in order
-abbrev pub text : List Turn → List ℕ
+abbrev pub text : List Planned → List ℕ
 text [] = []
-text (turn ∷ later) = call_text turn.call ++ text later
+text (planned ∷ later) = call_text planned.call ++ text later
 
 -- whether some call reports a match
-abbrev pub has_match : List Turn → Bool
+abbrev pub has_match : List Planned → Bool
 has_match [] = false
-has_match (turn ∷ later) = is_match turn.call || has_match later
+has_match (planned ∷ later) = is_match planned.call || has_match later
 
 -- how many calls report a match, up to the greatest number of 64 bits
-abbrev pub match_count : List Turn → ℕ
+abbrev pub match_count : List Planned → ℕ
 match_count calls = min (length (match_calls calls)) (2 ^ 64 - 1)
 
 -- that number, and a line feed
-abbrev pub count_text : List Turn → List ℕ
+abbrev pub count_text : List Planned → List ℕ
 count_text calls = decimal (match_count calls) ++ 10 ∷ []

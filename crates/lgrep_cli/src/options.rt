@@ -32,8 +32,9 @@ pub struct Options {
     /// How many lines are selected at most, and across lines, unless `invert` is set, how many
     /// matches count; `None` is no limit.
     pub max: Option<u64>,
-    /// Whether only the number of match reports is written. By line that is how many lines are
-    /// selected; across lines, unless `invert` is set, a run of lines that matches touch is one.
+    /// Whether only the number of matches that are reported is written. By line each line that is
+    /// reported as one counts; across lines, unless `invert` is set, a run of lines that matches
+    /// touch is one.
     pub count: bool,
     /// The text that lines are searched for. The empty text is in each line.
     pub literal: String,

@@ -6,11 +6,10 @@ use Rattle.std.proofs.lemmas.List.{append-nil}
 use Rattle.std.specs.Prelude.{Option, None, Some, map, slice_get}
 use Rattle.std.specs.List.{concat, fold}
 use Rattle.std.specs.Option.{option_map, option_and_then}
-use Rattle.grep_searcher.specs.LineSearch.{line, start}
-use Rattle.grep_searcher.specs.Matching.{Meaning}
-use Rattle.grep_searcher.specs.SearchLaws.{match_of}
+use Rattle.grep_searcher.specs.Plans.{Call, Planned}
+use Rattle.grep_searcher.specs.Reports.{line, start}
+use Rattle.grep_searcher.specs.SearchLaws.{calls_of, match_of}
 use Rattle.grep_searcher.specs.Settings.{Settings}
-use Rattle.grep_searcher.specs.SinkCalls.{Call, Turn}
 use Rattle.grep_searcher.specs.SinkFolds.{fold_while}
 use Rattle.uses.specs.declared.count.MatchCount.{MatchCount}
 use Rattle.uses.specs.MatchSinks.{counted, kept, joined, marked, position_of, report_of, reported}
@@ -32,37 +31,37 @@ pub fold_while-kept : (calls : List Call)
 fold_while-kept [] = refl
 fold_while-kept (call ∷ later) = refl
 
-pub position_of-match : (settings : Settings) (meaning : Meaning) (bytes : List ℕ) → settings.line_number ≡ true
+pub position_of-match : (settings : Settings) (bytes : List ℕ) → settings.line_number ≡ true
     → (found : Option ℕ)
-    → option_and_then position_of (option_map (match_of settings meaning bytes) found)
-    ≡ option_map (λ i. (i + 1, start settings meaning bytes i)) found
-position_of-match settings meaning bytes numbered None = refl
-position_of-match settings meaning bytes numbered (Some i) = rw numbered refl
+    → option_and_then position_of (option_map (match_of settings bytes) found)
+    ≡ option_map (λ i. (i + 1, start settings bytes i)) found
+position_of-match settings bytes numbered None = refl
+position_of-match settings bytes numbered (Some i) = rw numbered refl
 
 -- the lines of some matches, joined
-pub fold_while-joined : (settings : Settings) (meaning : Meaning) (bytes text : List ℕ) (selected : List ℕ)
-    → fold_while (λ _ _. true) joined text (map (match_of settings meaning bytes) selected)
-    ≡ text ++ concat (map (line settings meaning bytes) selected)
-fold_while-joined settings meaning bytes text [] = sym (append-nil text)
-fold_while-joined settings meaning bytes text (i ∷ later) =
-    fold_while-joined settings meaning bytes (text ++ line settings meaning bytes i) later
-    ∙ append_assoc text (line settings meaning bytes i) (concat (map (line settings meaning bytes) later))
+pub fold_while-joined : (settings : Settings) (bytes text : List ℕ) (selected : List ℕ)
+    → fold_while (λ _ _. true) joined text (map (match_of settings bytes) selected)
+    ≡ text ++ concat (map (line settings bytes) selected)
+fold_while-joined settings bytes text [] = sym (append-nil text)
+fold_while-joined settings bytes text (i ∷ later) =
+    fold_while-joined settings bytes (text ++ line settings bytes i) later
+    ∙ append_assoc text (line settings bytes i) (concat (map (line settings bytes) later))
 
-pub fold_while-matched : (settings : Settings) (meaning : Meaning) (bytes text : List ℕ) (calls : List Call)
+pub fold_while-matched : (settings : Settings) (bytes text : List ℕ) (calls : List Call)
     (listed : List ℕ)
-    → text ≡ [] → calls ≡ map (match_of settings meaning bytes) listed
-    → fold_while (λ _ _. true) joined text calls ≡ concat (map (line settings meaning bytes) listed)
-fold_while-matched settings meaning bytes text calls listed empty is =
-    rw (empty, is) (fold_while-joined settings meaning bytes [] listed)
+    → text ≡ [] → calls ≡ map (match_of settings bytes) listed
+    → fold_while (λ _ _. true) joined text calls ≡ concat (map (line settings bytes) listed)
+fold_while-matched settings bytes text calls listed empty is =
+    rw (empty, is) (fold_while-joined settings bytes [] listed)
 
 -- what a report has of some calls
-pub fold-reported : (text : List ℕ) (turns : List Turn) → fold reported text (map (λ turn. turn.call) turns) ≡ text
-    ++ report_of turns
+pub fold-reported : (text : List ℕ) (calls : List Planned) → fold reported text (calls_of calls) ≡ text
+    ++ report_of calls
 fold-reported text [] = sym (append-nil text)
-fold-reported text (turn ∷ later) = fold-reported (reported text turn.call) later
-    ∙ append_assoc text (marked turn.call) (report_of later)
+fold-reported text (call ∷ later) = fold-reported (reported text call.call) later
+    ∙ append_assoc text (marked call.call) (report_of later)
 
 -- what a report has of a whole run, of which `finish` adds nothing
-pub reported-run : (old : List ℕ) (turns : List Turn) → old ≡ []
-    → fold reported old (map (λ turn. turn.call) turns) ++ [] ≡ report_of turns
-reported-run old turns empty = rw (empty, fold-reported [] turns) (append-nil (report_of turns))
+pub reported-run : (old : List ℕ) (calls : List Planned) → old ≡ []
+    → fold reported old (calls_of calls) ++ [] ≡ report_of calls
+reported-run old calls empty = rw (empty, fold-reported [] calls) (append-nil (report_of calls))

@@ -4,8 +4,9 @@ use Rattle.std.specs.Prelude.{Some, None}
 use Rattle.std.specs.List.{concat}
 use Rattle.grep_searcher.specs.Settings.{Settings, SearcherState}
 use Rattle.grep_searcher.specs.BuiltSettings.{default_settings}
-use Rattle.grep_searcher.specs.SinkCalls.{Call, Turn, begins, matches, context, breaks, binary_data}
-use Rattle.grep_searcher.specs.SinkCalls.{finishes}
+use Rattle.grep_searcher.specs.Plans.{Call, begins, matches, context, breaks, binary_data}
+use Rattle.grep_searcher.specs.Plans.{finishes, Planned}
+use Rattle.grep_searcher.specs.SearchLaws.{calls_of}
 use Rattle.uses.specs.declared.count.MatchCount.{MatchCount}
 use Rattle.uses.specs.declared.first.FirstMatch.{FirstMatch}
 
@@ -60,5 +61,5 @@ abbrev pub reported : List ℕ → Call → List ℕ
 reported text call = text ++ marked call
 
 -- the whole report
-abbrev pub report_of : List Turn → List ℕ
-report_of turns = concat (map (λ turn. marked turn.call) turns)
+abbrev pub report_of : List Planned → List ℕ
+report_of calls = concat (map marked (calls_of calls))

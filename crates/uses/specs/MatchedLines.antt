@@ -3,29 +3,29 @@
 use Rattle.std.specs.Prelude.{ℕ, ◌+◌, List, map, Option}
 use Rattle.std.specs.List.{concat}
 use Rattle.std.specs.Option.{option_map}
-use Rattle.grep_searcher.specs.Below.{count_below, first_below}
-use Rattle.grep_searcher.specs.LineSearch.{is_selected, line_count, turn_count, line, start}
-use Rattle.grep_searcher.specs.Matching.{Meaning}
+use Rattle.grep_searcher.specs.Meanings.{Meaning}
+use Rattle.grep_searcher.specs.Reports.{count_below, first_below, line_count, line, start}
 use Rattle.grep_searcher.specs.SearchLaws.{is_matched, matched_lines}
+use Rattle.grep_searcher.specs.SelectedLines.{is_selected, line_end}
 use Rattle.grep_searcher.specs.Settings.{Settings}
 
 -- how many lines are matched
 abbrev pub matched_count : Settings → Meaning → List ℕ → ℕ
 matched_count settings meaning bytes =
-    count_below (is_matched settings meaning bytes) (turn_count settings meaning bytes)
+    count_below (is_matched settings meaning bytes) (line_end settings meaning bytes)
 
 -- the number of the first selected line, counted from 1, and its offset
 abbrev pub first_selected : Settings → Meaning → List ℕ → Option (ℕ × ℕ)
 first_selected settings meaning bytes =
-    option_map (λ i. (i + 1, start settings meaning bytes i))
-    (first_below (is_selected settings meaning bytes) (line_count settings meaning bytes))
+    option_map (λ i. (i + 1, start settings bytes i))
+    (first_below (is_selected settings meaning bytes) (line_count settings bytes))
 
 -- the bytes of the matched lines, joined
 abbrev pub matched_bytes : Settings → Meaning → List ℕ → List ℕ
 matched_bytes settings meaning bytes =
-    concat (map (line settings meaning bytes) (matched_lines settings meaning bytes))
+    concat (map (line settings bytes) (matched_lines settings meaning bytes))
 
 -- the number and the text of each matched line, in order
 abbrev pub numbered_lines_of : Settings → Meaning → List ℕ → List (ℕ × List ℕ)
 numbered_lines_of settings meaning bytes =
-    map (λ i. (i + 1, line settings meaning bytes i)) (matched_lines settings meaning bytes)
+    map (λ i. (i + 1, line settings bytes i)) (matched_lines settings meaning bytes)

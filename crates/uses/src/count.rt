@@ -1,10 +1,9 @@
 //! How many lines match.
 ghost use Rattle.std.specs.Prelude.{◌≡◌, ◌-◌, ◌^◌, None, true, false, min, IfOk, IfErr, IsOk};
-ghost use Rattle.grep_searcher.specs.DecodedInputs.{searched_bytes, is_searched_unchanged};
-ghost use Rattle.grep_searcher.specs.Matching.{IsInfallible};
-ghost use Rattle.grep_searcher.specs.Modes.{is_across};
-ghost use Rattle.grep_searcher.specs.Questions.{IsLawfulFor};
-ghost use Rattle.grep_searcher.specs.Refusals.{refusal_of};
+ghost use Rattle.grep_searcher.specs.Readings.{searched_bytes, is_searched_unchanged};
+ghost use Rattle.grep_searcher.specs.Meanings.{IsInfallible};
+ghost use Rattle.grep_searcher.specs.Asking.{is_across, IsLawfulFor};
+ghost use Rattle.grep_searcher.specs.Parties.{refusal_of};
 ghost use Rattle.uses.specs.DecodingErrors.{IsDecodingError};
 ghost use Rattle.uses.specs.MatchedLines.{matched_count};
 

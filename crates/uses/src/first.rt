@@ -1,12 +1,10 @@
 //! The first match of a reader.
-ghost use Rattle.std.specs.Prelude.{◌≡◌, ℕ, true, false, Option, None, List, IfOk, IfErr};
+ghost use Rattle.std.specs.Prelude.{◌≡◌, ℕ, Bool, true, false, None, List, IfOk, IfErr};
 ghost use Rattle.std.specs.declared.io.Error.{Error};
-ghost use Rattle.grep_searcher.specs.DecodedInputs.{IsInput};
-ghost use Rattle.grep_searcher.specs.Matching.{IsInfallible};
-ghost use Rattle.grep_searcher.specs.Modes.{is_across};
-ghost use Rattle.grep_searcher.specs.Questions.{IsLawfulFor};
-ghost use Rattle.grep_searcher.specs.ReaderSearches.{Taken, IsUnread};
-ghost use Rattle.grep_searcher.specs.Refusals.{refusal_of};
+ghost use Rattle.grep_searcher.specs.Readings.{IsInput, Taken, IsUnread};
+ghost use Rattle.grep_searcher.specs.Meanings.{IsInfallible};
+ghost use Rattle.grep_searcher.specs.Asking.{is_across, IsLawfulFor};
+ghost use Rattle.grep_searcher.specs.Parties.{refusal_of};
 ghost use Rattle.uses.specs.MatchedLines.{first_selected};
 
 use grep_searcher::laws::{first_match_is_first, reader_searches_run, runs_fold_matches};
@@ -46,9 +44,9 @@ pub fn first_match<M: Matcher + Drop, R: Source>(
     ensures error { IsInfallible (M.fails matcher)
         → IsLawfulFor searcher.old.settings (M.meaning matcher) (M.is_lawful matcher)
         → refusal_of searcher.old.settings (M.meaning matcher) ≡ None
-        → IfErr result (λ e. (seen : Option (List ℕ)) × (error : Error)
+        → IfErr result (λ e. (begun : Bool) × (seen : List ℕ) × (error : Error)
         × IsUnread R.remaining R.step searcher.old (M.meaning matcher)
-        reader.old seen error reader.new
+        reader.old begun seen error reader.new
         × (e ≡ SearchError.Io error)) }
 {
     let mut first = FirstMatch { position: None };

@@ -1,8 +1,7 @@
 //! The numbers and the texts of all matches, by a closure.
 ghost use Rattle.std.specs.Prelude.{◌≡◌, ◌++◌, ◌∷◌, [], true, false, IfOk};
-ghost use Rattle.grep_searcher.specs.DecodedInputs.{searched_bytes};
-ghost use Rattle.grep_searcher.specs.Modes.{is_across};
-ghost use Rattle.grep_searcher.specs.Questions.{IsLawfulFor};
+ghost use Rattle.grep_searcher.specs.Readings.{searched_bytes};
+ghost use Rattle.grep_searcher.specs.Asking.{is_across, IsLawfulFor};
 ghost use Rattle.uses.specs.NumberedTexts.{texts_of};
 ghost use Rattle.uses.specs.MatchedLines.{numbered_lines_of};
 

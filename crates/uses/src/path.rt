@@ -2,11 +2,10 @@
 ghost use Rattle.std.specs.Prelude.{◌≡◌, ◌-◌, ◌^◌, ℕ, List, Some, None, true, false, min, IfOk};
 ghost use Rattle.std.specs.Prelude.{IfErr};
 ghost use Rattle.std.specs.declared.io.Error.{Error};
-ghost use Rattle.grep_searcher.specs.DecodedInputs.{searched_bytes};
-ghost use Rattle.grep_searcher.specs.Matching.{IsInfallible};
-ghost use Rattle.grep_searcher.specs.Modes.{is_across};
-ghost use Rattle.grep_searcher.specs.Questions.{IsLawfulFor};
-ghost use Rattle.grep_searcher.specs.Refusals.{refusal_of};
+ghost use Rattle.grep_searcher.specs.Readings.{searched_bytes};
+ghost use Rattle.grep_searcher.specs.Meanings.{IsInfallible};
+ghost use Rattle.grep_searcher.specs.Asking.{is_across, IsLawfulFor};
+ghost use Rattle.grep_searcher.specs.Parties.{refusal_of};
 ghost use Rattle.uses.specs.MatchedLines.{matched_count};
 
 use crate::count::MatchCount;

@@ -1,9 +1,9 @@
 //! A whole search with a sink of its own: the example of the README.
 ghost use Rattle.std.specs.Prelude.{◌≡◌, ◌⊎◌, IfOk, IfErr};
-ghost use Rattle.grep_searcher.specs.DecodedInputs.{searched_bytes};
-ghost use Rattle.grep_searcher.specs.LineSearch.{turns};
+ghost use Rattle.grep_searcher.specs.Readings.{searched_bytes};
 ghost use Rattle.grep_searcher.specs.Literals.{literal_meaning};
 ghost use Rattle.grep_searcher.specs.SearchErrors.{IsOutOfMemory};
+ghost use Rattle.grep_searcher.specs.SearchLaws.{line_plan};
 ghost use Rattle.uses.specs.DecodingErrors.{IsDecodingError};
 ghost use Rattle.uses.specs.MatchSinks.{one_before, reporter, report_of};
 
@@ -22,8 +22,8 @@ use std::marker::Model;
 /// than 2^64 - 1 decoded bytes.
 pub fn in_context(alloc: Global, log: &[u8], literal: &[u8]) -> Result<Vec<u8>, SearchError>
     ensures report { IfOk result (λ text.
-        text.items ≡ report_of (turns one_before (literal_meaning literal.now)
-        (searched_bytes one_before log.now))) }
+        text.items ≡ report_of (line_plan one_before (literal_meaning literal.now)
+        (searched_bytes one_before log.now)).calls) }
     ensures error { IfErr result (λ e.
         IsOutOfMemory e ⊎ ((e ≡ SearchError.Config ConfigError.Memory)
         ⊎ IsDecodingError reporter (literal_meaning literal.now) log.now e)) }

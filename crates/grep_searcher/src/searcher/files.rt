@@ -1,14 +1,14 @@
 //! Searches of files.
-ghost use Rattle.std.specs.Prelude.{◌≡◌, true, ℕ, List, Option, None, IfErr, OnOk};
+ghost use Rattle.std.specs.Prelude.{◌≡◌, true, ℕ, Bool, List, None, IfErr, OnOk};
 ghost use Rattle.std.specs.declared.io.Error.{Error};
-ghost use Rattle.grep_definitions.specs.CallOrder.{IsReadingError, RunsInOrder};
-ghost use Rattle.grep_definitions.specs.FileSearches.{IsFileRead, IsFileSearched, IsPathSearched};
-ghost use Rattle.grep_definitions.specs.Questions.{IsLawfulFor};
-ghost use Rattle.grep_definitions.specs.ReaderSearches.{IsUnread};
-ghost use Rattle.grep_definitions.specs.Refusals.{refusal_of};
-ghost use Rattle.grep_definitions.specs.Searches.{errors_by, facts_by};
-ghost use Rattle.grep_definitions.specs.SinkRuns.{NeverFails};
-ghost use Rattle.grep_matcher.specs.Matching.{IsInfallible};
+ghost use Rattle.grep_definitions.specs.Asking.{IsLawfulFor};
+ghost use Rattle.grep_definitions.specs.FileSearches.{IsFileRead, IsFileSearched, IsPathInOrder};
+ghost use Rattle.grep_definitions.specs.FileSearches.{IsPathSearched};
+ghost use Rattle.grep_definitions.specs.Parties.{errors_by, facts_by, refusal_of};
+ghost use Rattle.grep_definitions.specs.PlannedSearches.{IsInOrder};
+ghost use Rattle.grep_definitions.specs.Plans.{NeverFails};
+ghost use Rattle.grep_definitions.specs.Readings.{IsReadingError, IsUnread};
+ghost use Rattle.grep_matcher.specs.Meanings.{IsInfallible};
 
 use crate::searcher::Searcher;
 use crate::sink::Sink;
@@ -49,16 +49,17 @@ impl<A: Allocator + Copy> Searcher<A> {
             (facts_by M.meaning M.fails M.is_lawful M.Error.output matcher)
             self.old file.old sink.old result file.new sink.new }
         ensures in_order { refusal_of self.old.settings (M.meaning matcher) ≡ None
-            → RunsInOrder S.step self.old.settings
+            → IsInOrder S.step
             (errors_by S.Error.is_message S.Error.is_io S.Error.is_config)
-            (facts_by M.meaning M.fails M.is_lawful M.Error.output matcher)
-            (IsReadingError F.remaining (IsFileRead F.remaining) file.old file.new) sink.old result sink.new }
+            (facts_by M.meaning M.fails M.is_lawful M.Error.output matcher) self.old.settings
+            (IsReadingError F.remaining (IsFileRead F.remaining) file.old file.new)
+            sink.old result sink.new }
         ensures succeeds { NeverFails S.step S.may_call → IsInfallible (M.fails matcher)
             → IsLawfulFor self.old.settings (M.meaning matcher) (M.is_lawful matcher)
             → refusal_of self.old.settings (M.meaning matcher) ≡ None
-            → IfErr result (λ e. (seen : Option (List ℕ)) × (error : Error)
+            → IfErr result (λ e. (begun : Bool) × (seen : List ℕ) × (error : Error)
             × IsUnread F.remaining (IsFileRead F.remaining) self.old (M.meaning matcher)
-            file.old seen error file.new × S.Error.is_io error e) }
+            file.old begun seen error file.new × S.Error.is_io error e) }
         ensures may_call { S.may_call sink.new }
     {
         self.search_reader(matcher, &mut Opened { file }, sink)
@@ -89,10 +90,10 @@ impl<A: Allocator + Copy> Searcher<A> {
             (facts_by M.meaning M.fails M.is_lawful M.Error.output matcher)
             self.old sink.old result sink.new }
         ensures in_order { refusal_of self.old.settings (M.meaning matcher) ≡ None
-            → RunsInOrder S.step self.old.settings
+            → IsPathInOrder R.File.remaining S.step
             (errors_by S.Error.is_message S.Error.is_io S.Error.is_config)
             (facts_by M.meaning M.fails M.is_lawful M.Error.output matcher)
-            (λ _. Unit {0}) sink.old result sink.new }
+            self.old.settings sink.old result sink.new }
         ensures succeeds { NeverFails S.step S.may_call → IsInfallible (M.fails matcher)
             → IsLawfulFor self.old.settings (M.meaning matcher) (M.is_lawful matcher)
             → refusal_of self.old.settings (M.meaning matcher) ≡ None

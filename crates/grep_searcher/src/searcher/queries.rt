@@ -1,6 +1,6 @@
 //! What a searcher was configured with.
 ghost use Rattle.std.specs.Prelude.{◌≡◌, true};
-ghost use Rattle.grep_definitions.specs.Modes.{is_across};
+ghost use Rattle.grep_definitions.specs.Asking.{is_across};
 
 use crate::searcher::Searcher;
 use grep_matcher::{LineTerminator, Matcher};
@@ -64,7 +64,7 @@ impl<A: Allocator + Copy> Searcher<A> {
         self.config.before_context
     }
 
-    /// Whether every line is reported, up to the last that has a turn.
+    /// Whether every line is reported, up to the last that may be.
     pub fn passthru(&self) -> bool
         ensures value { result ≡ self.now.settings.passthru }
         ensures bare { self.now.settings.passthru ≡ true

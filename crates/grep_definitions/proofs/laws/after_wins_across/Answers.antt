@@ -1,5 +1,5 @@
-use Rattle.grep_definitions.proofs.AcrossLemmas.{turns_at-follows}
+use Rattle.grep_definitions.proofs.PlannedLawLemmas.{after-wins_across}
 use Rattle.grep_definitions.proofs.laws.after_wins_across.Goals as goal
 
 pub returns : goal.returns
-returns c = λ k meaning bytes i j has misses hit less close. turns_at-follows k meaning bytes i j misses hit less close
+returns c = after-wins_across

@@ -1,6 +1,5 @@
-use Rattle.grep_definitions.specs.LineSearch.{turn_count}
-use Rattle.grep_definitions.proofs.SearchLawLemmas.{matches-few}
+use Rattle.grep_definitions.proofs.PlannedLawLemmas.{at_most-limit}
 use Rattle.grep_definitions.proofs.laws.at_most_limit.Goals as goal
 
 pub returns : goal.returns
-returns c = λ k meaning bytes limit is. matches-few k meaning bytes limit (turn_count k meaning bytes) is
+returns c = at_most-limit

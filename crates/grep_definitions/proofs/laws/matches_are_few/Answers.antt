@@ -2,7 +2,7 @@ use Rattle.std.proofs.Common.{length, ap, arith}
 use Rattle.grep_matcher.specs.Terminators.{byte_of}
 use Rattle.grep_definitions.specs.LineSearch.{turn_count}
 use Rattle.grep_definitions.specs.SearchLaws.{is_matched, match_calls}
-use Rattle.grep_definitions.proofs.ModeLemmas.{turns-by_line}
+use Rattle.grep_definitions.proofs.ModeLemmas.{plan-by_line}
 use Rattle.grep_definitions.proofs.MatchCallLemmas.{length-match_calls, count_below-few}
 use Rattle.grep_definitions.proofs.SearchLawLemmas.{turn_count-le}
 use Rattle.grep_definitions.proofs.laws.matches_are_few.Goals as goal
@@ -11,7 +11,7 @@ pub returns : goal.returns
 returns c = λ k meaning bytes by_line.
     omega (
       arith,
-      ap (λ turns. length (match_calls turns)) (turns-by_line k meaning bytes by_line),
+      ap (λ plan. length (match_calls plan.calls)) (plan-by_line k meaning bytes by_line),
       length-match_calls c.lines_are_numbered.ensures k meaning bytes,
       count_below-few (is_matched k meaning bytes) (turn_count k meaning bytes),
       turn_count-le k meaning bytes,

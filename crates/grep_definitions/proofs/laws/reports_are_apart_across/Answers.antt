@@ -1,5 +1,5 @@
-use Rattle.grep_definitions.proofs.UnitLemmas.{edges-turns}
+use Rattle.grep_definitions.proofs.PlannedLawLemmas.{reports-apart}
 use Rattle.grep_definitions.proofs.laws.reports_are_apart_across.Goals as goal
 
 pub returns : goal.returns
-returns c = edges-turns
+returns c = reports-apart

@@ -1,5 +1,5 @@
-use Rattle.grep_definitions.proofs.UnitLemmas.{bytes-turns}
+use Rattle.grep_definitions.proofs.PlannedLawLemmas.{selected-reported}
 use Rattle.grep_definitions.proofs.laws.selected_are_reported_across.Goals as goal
 
 pub returns : goal.returns
-returns c = bytes-turns
+returns c = selected-reported

@@ -1,5 +1,5 @@
-use Rattle.grep_definitions.proofs.KnownReaderLemmas.{known_readers-run}
+use Rattle.grep_definitions.proofs.SinkFoldLemmas.{known_readers-run}
 use Rattle.grep_searcher.proofs.laws.known_readers_run.Goals as goal
 
 pub returns : goal.returns
-returns g c = λ matcher. known_readers-run _ _ g.S.Sink.step _ _
+returns g c = λ matcher. known_readers-run g.S.Sink.step _ _ _ _

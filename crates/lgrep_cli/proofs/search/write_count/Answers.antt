@@ -12,10 +12,10 @@ returns-in-Ok-clause-printed g c =
     (rw c.in-Ok.is at c.search_reader.ensures.searched) in
     let count = counted g.R.Source.remaining g.R.Source.step g.W.Output.step c.args.options.now c.requires
     c.args.reader.now
-    c.search_reader.new.reader c.in_ok-searcher.searcher c.in_ok-matcher.matcher c.search_reader.new.sink run.taken _ _
+    c.search_reader.new.reader c.in_ok-searcher.searcher c.in_ok-matcher.matcher c.search_reader.new.sink run.0.taken _
     c.numbers_change_no_count.ensures.count c.numbers_change_no_count.ensures.bytes c.runs_count_matches.ensures.all
     c.in_ok-searcher.ensures.settings (ap literal_meaning c.in_ok-matcher.ensures.literal) c.new-matches.ensures
-    run.run in
+    run.1 in
     written-printed g.R.Source.remaining g.R.Source.step g.W.Output.step c.args.options.now c.requires c.args.reader.now
     c.search_reader.new.reader c.search_reader.new.sink c.write_matches.result c.args.writer.now
     c.write_matches.new.writer count
@@ -28,10 +28,10 @@ returns-in-Ok-clause-failed g c =
     (rw c.in-Ok.is at c.search_reader.ensures.searched) in
     let count = counted g.R.Source.remaining g.R.Source.step g.W.Output.step c.args.options.now c.requires
     c.args.reader.now
-    c.search_reader.new.reader c.in_ok-searcher.searcher c.in_ok-matcher.matcher c.search_reader.new.sink run.taken _ _
+    c.search_reader.new.reader c.in_ok-searcher.searcher c.in_ok-matcher.matcher c.search_reader.new.sink run.0.taken _
     c.numbers_change_no_count.ensures.count c.numbers_change_no_count.ensures.bytes c.runs_count_matches.ensures.all
     c.in_ok-searcher.ensures.settings (ap literal_meaning c.in_ok-matcher.ensures.literal) c.new-matches.ensures
-    run.run in
+    run.1 in
     written-failed g.R.Source.remaining g.R.Source.step g.W.Output.step c.args.options.now c.requires c.args.reader.now
     c.search_reader.new.reader c.search_reader.new.sink c.write_matches.result c.args.writer.now
     c.write_matches.new.writer count
@@ -42,9 +42,10 @@ returns-clause-failed g c =
     let fault = (rw c.in-Err.is at c.search_reader.ensures.succeeds) (λ _ _ _ _ _ _ h. h) (λ _ _ h. h) (λ _. tt)
     (allowed c.args.options.now c.in_ok-searcher.searcher c.in_ok-matcher.matcher c.in_ok-searcher.ensures.settings) in
     count-unread g.R.Source.remaining g.R.Source.step g.W.Output.step c.args.options.now c.requires c.args.reader.now
-    c.search_reader.new.reader c.in_ok-searcher.searcher c.in_ok-matcher.matcher fault.0 c.in-Err.error fault.1
+    c.search_reader.new.reader c.in_ok-searcher.searcher c.in_ok-matcher.matcher fault.0 fault.1 c.in-Err.error
+    fault.2
     c.args.writer.now c.flush.new.self c.flush.result c.in_ok-searcher.ensures.settings
-    (ap literal_meaning c.in_ok-matcher.ensures.literal) fault.2 fault.3 c.flush.ensures
+    (ap literal_meaning c.in_ok-matcher.ensures.literal) fault.3 fault.4 c.flush.ensures
 
 pub returns-in_err-searcher-clause-failed : goal.returns-in_err-searcher-clause-failed
 returns-in_err-searcher-clause-failed g c =

@@ -1,7 +1,8 @@
-use Rattle.std.proofs.Common.{true, ◌∙◌}
+use Rattle.std.proofs.lemmas.Result.{err_from_is_err_and}
+use Rattle.std.proofs.Common.{inl, inr, true, ◌∙◌}
 use Rattle.grep_searcher.specs.SearchLaws.{match_calls, matched_lines}
-use Rattle.grep_searcher.specs.SearchTurns.{search_turns}
-use Rattle.grep_searcher.specs.DecodedInputs.{searched_bytes}
+use Rattle.grep_searcher.specs.Asking.{search_plan}
+use Rattle.grep_searcher.specs.Readings.{searched_bytes}
 use Rattle.uses.specs.MatchSinks.{joined}
 use Rattle.uses.proofs.FoldLemmas.{fold_while-matched}
 use Rattle.uses.proofs.collect.matching_lines.Goals as goal
@@ -11,10 +12,27 @@ returns-clause-lines g c = λ lawful by_line none.
     let settings = c.args.searcher.now.settings in
     let meaning = g.M.Matcher.meaning c.args.matcher in
     let bytes = searched_bytes settings c.args.bytes.now in
-    let folded = c.runs_fold_matches.ensures (λ _ _. true) joined (λ _ _ _ _ _ h. h) _ _ _ _ _ _
+    let folded = c.runs_fold_matches.ensures (λ _ _. true) joined (λ _ _ _ _ _ h. h) _ _ _ _
     (c.searches_run.ensures c.args.matcher c.args.searcher.now c.args.bytes.now _ _ none lawful
     c.in_ok-search_slice.ensures.searched) in
     c.into_text.ensures ∙ folded
-    ∙ fold_while-matched settings meaning bytes _ (match_calls (search_turns settings meaning bytes))
+    ∙ fold_while-matched settings bytes _ (match_calls (search_plan settings meaning bytes).calls)
     (matched_lines settings meaning bytes) c.new.ensures.items
     (c.matches_are_matched_lines.ensures settings meaning bytes by_line)
+
+pub returns-in_err-search_slice-clause-error : goal.returns-in_err-search_slice-clause-error
+returns-in_err-search_slice-clause-error g c = λ infallible lawful allowed none.
+    let failed = c.searches_fail.ensures c.args.matcher c.args.searcher.now c.args.bytes.now _
+    c.in_err-search_slice.field-0.0 c.search_slice.new.sink none infallible lawful allowed
+    c.in_err-search_slice.ensures.searched in
+    let error = err_from_is_err_and c.from_residual.result c.from_residual.ensures.1 in
+    rw (error.1, error.2) (elim failed [
+      | inl failing ↦ inl failing.2
+      | inr (changed, rest, cut) ↦ inr (
+        cut.begun,
+        cut.seen,
+        cut.error,
+        (changed, rest, (cut.mid, cut.taken, cut.cause)),
+        cut.made,
+      )
+    ])

@@ -1,7 +1,8 @@
+use Rattle.std.proofs.lemmas.Result.{err_from_is_err_and}
 use Rattle.std.proofs.Common.{◌≡◌, ◌-◌, ◌^◌, min, true, ap, arith, subst, ◌∙◌}
-use Rattle.grep_searcher.specs.SearchTurns.{search_turns}
+use Rattle.grep_searcher.specs.Asking.{search_plan}
 use Rattle.grep_searcher.specs.SearchLaws.{match_calls}
-use Rattle.grep_searcher.specs.DecodedInputs.{searched_bytes}
+use Rattle.grep_searcher.specs.Readings.{searched_bytes}
 use Rattle.uses.specs.MatchSinks.{counted}
 use Rattle.uses.specs.MatchedLines.{matched_count}
 use Rattle.uses.proofs.FoldLemmas.{fold_while-counted_all}
@@ -12,11 +13,11 @@ returns-clause-decoded g c = λ lawful by_line none.
     let settings = c.args.searcher.now.settings in
     let meaning = g.M.Matcher.meaning c.args.matcher in
     let bytes = searched_bytes settings c.args.bytes.now in
-    let folded = c.runs_fold_matches.ensures (λ _ _. true) counted (λ _ _ _ _ _ h. h) _ _ _ _ _ _
+    let folded = c.runs_fold_matches.ensures (λ _ _. true) counted (λ _ _ _ _ _ h. h) _ _ _ _
     (c.searches_run.ensures c.args.matcher c.args.searcher.now c.args.bytes.now _ _ none lawful
     c.in_ok-search_slice.ensures.searched) in
     ap (λ sink. sink.count) folded
-    ∙ fold_while-counted_all (match_calls (search_turns settings meaning bytes))
+    ∙ fold_while-counted_all (match_calls (search_plan settings meaning bytes).calls)
     ∙ ap (λ n. min n (2 ^ 64 - 1)) (c.matches_are_counted.ensures settings meaning bytes by_line)
 
 pub returns-clause-count : goal.returns-clause-count
@@ -33,3 +34,8 @@ returns-clause-count g c = λ lawful by_line none unchanged.
       c.matches_are_counted.ensures settings meaning input by_line,
       c.matches_are_few.ensures settings meaning input by_line,
     )
+
+pub returns-in_err-search_slice-clause-error : goal.returns-in_err-search_slice-clause-error
+returns-in_err-search_slice-clause-error g c = λ infallible lawful allowed.
+    let error = err_from_is_err_and c.from_residual.result c.from_residual.ensures.1 in
+    rw (error.1, error.2) (c.in_err-search_slice.ensures.succeeds (λ _ _ _ _ _ _ h. h) infallible lawful allowed)

@@ -10,10 +10,10 @@ returns-clause-first g c = λ lawful by_line none.
     let meaning = g.M.Matcher.meaning c.args.matcher in
     let run = c.reader_searches_run.ensures c.args.matcher c.args.searcher.now c.args.reader.now _ _ _ none lawful
     c.in_ok-search_reader.ensures.searched in (
-      run.taken,
+      run.0.taken,
       λ bytes input. ap (λ sink. sink.position)
-          (c.runs_fold_matches.ensures (λ _ _. false) kept (λ _ _ _ _ _ h. h) _ _ _ _ _ _ (run.run bytes input))
+          (c.runs_fold_matches.ensures (λ _ _. false) kept (λ _ _ _ _ _ h. h) _ _ _ _ (run.1 bytes input))
           ∙ fold_while-kept _
           ∙ ap (option_and_then position_of) (c.first_match_is_first.ensures settings meaning bytes by_line)
-          ∙ position_of-match settings meaning bytes c.requires _,
+          ∙ position_of-match settings bytes c.requires _,
     )

@@ -1,5 +1,5 @@
-use Rattle.std.proofs.Common.{rules, arith, ap}
-use Rattle.grep_searcher.specs.DecodedInputs.{searched_bytes}
+use Rattle.std.proofs.Common.{rules, arith, ap, refl}
+use Rattle.grep_searcher.specs.Readings.{searched_bytes}
 use Rattle.uses.specs.NumberedTexts.{texts_of}
 use Rattle.uses.proofs.numbered.numbered_lines.Goals as goal
 
@@ -8,8 +8,8 @@ returns-clause-lines g c = λ lawful by_line none.
     let settings = c.args.searcher.now.settings in
     let meaning = g.M.Matcher.meaning c.args.matcher in
     let kept = c.closures_keep_calls.ensures (λ f. f.0.ghost_name) (λ f. texts_of f.0.now.items)
-    (λ old number text b new h. search rules) settings meaning (searched_bytes settings c.args.bytes.now) by_line _ _ _
-    _
+    (λ old number text b new h. search rules) settings meaning (searched_bytes settings c.args.bytes.now) by_line _ refl
+    _ _
     (c.searches_run.ensures c.args.matcher c.args.searcher.now c.args.bytes.now _ _ none lawful
     c.in_ok-search_slice.ensures.searched) in
     let empty = ap texts_of c.new-lines.ensures.items in

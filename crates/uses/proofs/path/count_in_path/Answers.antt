@@ -1,7 +1,7 @@
 use Rattle.std.proofs.Common.{◌-◌, ◌^◌, min, true, ap, ◌∙◌, inl, inr}
-use Rattle.grep_searcher.specs.SearchTurns.{search_turns}
+use Rattle.grep_searcher.specs.Asking.{search_plan}
 use Rattle.grep_searcher.specs.SearchLaws.{match_calls}
-use Rattle.grep_searcher.specs.DecodedInputs.{searched_bytes}
+use Rattle.grep_searcher.specs.Readings.{searched_bytes}
 use Rattle.uses.specs.MatchSinks.{counted}
 use Rattle.uses.proofs.FoldLemmas.{fold_while-counted_all}
 use Rattle.uses.proofs.path.count_in_path.Goals as goal
@@ -18,9 +18,8 @@ returns-clause-count g c = λ lawful by_line none.
             let bytes = searched_bytes settings input in
             let run = c.known_files_run.ensures c.args.matcher c.args.searcher.now opened.0 input _ opened.1 _ none all
             lawful opened.2 in
-            ap (λ sink. sink.count) (c.runs_fold_matches.ensures (λ _ _. true) counted (λ _ _ _ _ _ h. h) _ _ _ _ _ _
-            run)
-            ∙ fold_while-counted_all (match_calls (search_turns settings meaning bytes))
+            ap (λ sink. sink.count) (c.runs_fold_matches.ensures (λ _ _. true) counted (λ _ _ _ _ _ h. h) _ _ _ _ run)
+            ∙ fold_while-counted_all (match_calls (search_plan settings meaning bytes).calls)
             ∙ ap (λ n. min n (2 ^ 64 - 1)) (c.matches_are_counted.ensures settings meaning bytes by_line),
       )
     ]

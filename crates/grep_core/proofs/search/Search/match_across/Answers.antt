@@ -1,6 +1,6 @@
 use Rattle.std.proofs.Common.{rules, ◌≡◌, false, true}
 use Rattle.std.proofs.lemmas.Result.{err_from_is_err_and}
-use Rattle.grep_definitions.specs.SinkRuns.{stopped}
+use Rattle.grep_definitions.specs.Plans.{stopped, counted}
 use Rattle.grep_walk.proofs.AcrossEndLemmas as ends
 use Rattle.grep_definitions.specs.Searches.{errors_by, facts_by}
 use Rattle.grep_definitions.proofs.CallOrderLemmas as order
@@ -15,7 +15,7 @@ returns-in_err-begin-clause-fault g c =
 pub returns-then-not-branch-clause-reported : goal.returns-then-not-branch-clause-reported
 returns-then-not-branch-clause-reported g c =
     let unbegun : c.in_ok-begin.field-0 ≡ false = search rules in (
-      stopped 0,
+      stopped (counted 0),
       ends.counted-unbegun c.args.self.now.config (g.M.Matcher.meaning c.args.matcher.now) c.args.bytes.now
           g.C.Calls.step
           c.args.sink.now _ (rw unbegun at c.in_ok-begin.ensures.step),

@@ -1,12 +1,13 @@
 use Rattle.std.proofs.Common.{rules, ◌≡◌, ◌∙◌, [], arith, sym, true, false}
 use Rattle.std.proofs.lemmas.Result.{err_from_is_err_and}
 use Rattle.grep_matcher.specs.Terminators.{byte_of}
-use Rattle.grep_definitions.specs.SinkRuns.{all_true, stopped}
+use Rattle.grep_definitions.specs.Plans.{all_true, stopped, counted}
 use Rattle.grep_walk.proofs.WalkLemmas as walks
 use Rattle.grep_walk.proofs.WindowLemmas.{own-window}
 use Rattle.grep_walk.proofs.WindowSearchLemmas as search
 use Rattle.grep_definitions.specs.Searches.{errors_by, facts_by}
 use Rattle.grep_definitions.proofs.CallOrderLemmas as order
+use Rattle.grep_walk.specs.Origins.{fresh}
 use Rattle.grep_core.proofs.search.Search.match_by_line.Goals as goal
 
 pub returns-in_err-begin-clause-fault : goal.returns-in_err-begin-clause-fault
@@ -19,10 +20,10 @@ returns-in_err-begin-clause-fault g c =
 pub returns-then-not-branch-clause-reported : goal.returns-then-not-branch-clause-reported
 returns-then-not-branch-clause-reported g c = λ lawful.
     let unbegun : c.in_ok-begin.field-0 ≡ false = search rules in (
-      stopped 0,
-      walks.counted-unbegun c.args.self.now.config (g.M.Matcher.meaning c.args.matcher.now) c.args.bytes.now
-          g.C.Calls.step
-          c.args.sink.now _ (rw unbegun at c.in_ok-begin.ensures.step),
+      stopped (counted 0),
+      walks.counted-fresh g.C.Calls.step c.args.self.now.config c.args.sink.now _ _ _ _ _
+          (walks.counted-unbegun c.args.self.now.config (g.M.Matcher.meaning c.args.matcher.now) c.args.bytes.now
+          g.C.Calls.step c.args.sink.now _ (rw unbegun at c.in_ok-begin.ensures.step)),
     )
 
 pub returns-then-reports_nothing-clause-reported : goal.returns-then-reports_nothing-clause-reported
@@ -30,8 +31,11 @@ returns-then-reports_nothing-clause-reported g c = λ lawful.
     let idle = c.reports_nothing.ensures in
     let goes : c.in_ok-begin.field-0 ≡ true = search rules in (
       all_true,
-      walks.counted-idle c.args.self.now.config (g.M.Matcher.meaning c.args.matcher.now) c.args.bytes.now g.C.Calls.step
-          c.args.sink.now _ (sym idle ∙ c.if-reports_nothing.true) (rw goes at c.in_ok-begin.ensures.step),
+      walks.counted-fresh g.C.Calls.step c.args.self.now.config c.args.sink.now _ _ _ _ _
+          (walks.counted-idle c.args.self.now.config (g.M.Matcher.meaning c.args.matcher.now) c.args.bytes.now
+          g.C.Calls.step (fresh c.args.sink.now) _ (sym idle ∙ c.if-reports_nothing.true)
+          (walks.reported-begin c.args.self.now.config (g.M.Matcher.meaning c.args.matcher.now) c.args.bytes.now
+          g.C.Calls.step c.args.sink.now _ (rw goes at c.in_ok-begin.ensures.step))),
     )
 
 pub returns-in_err-search_window-clause-fault : goal.returns-in_err-search_window-clause-fault
@@ -41,11 +45,13 @@ returns-in_err-search_window-clause-fault g c =
     let idle = c.reports_nothing.ensures in
     let goes : c.in_ok-begin.field-0 ≡ true = search rules in
     let begun = rw goes at c.in_ok-begin.ensures.step in
-    rw (p.1, p.2) (λ lawful. c.in_err-search_window.ensures.fault lawful [] c.args.bytes.now c.args.sink.now
+    rw (p.1, p.2) (λ lawful. walks.fault-by_line g.C.Calls.step _ _ c.args.self.now.config c.args.bytes.now
+    c.args.sink.now _ _
+    (c.in_err-search_window.ensures.fault lawful [] c.args.bytes.now (fresh c.args.sink.now)
     (search.searched-start g.C.Calls.step c.args.self.now.config (g.M.Matcher.meaning c.args.matcher.now)
     c.args.bytes.now c.args.bytes.now
     c.args.sink.now c.begin.new.sink (own-window (byte_of c.args.self.now.config.line_terminator) c.args.bytes.now)
-    (sym idle ∙ c.if-reports_nothing.false) begun))
+    (sym idle ∙ c.if-reports_nothing.false) begun)))
 
 pub returns-clause-reported : goal.returns-clause-reported
 returns-clause-reported g c = λ lawful.
@@ -56,7 +62,7 @@ returns-clause-reported g c = λ lawful.
     c.args.bytes.now
     c.args.bytes.now c.args.sink.now c.begin.new.sink (own-window (byte_of c.args.self.now.config.line_terminator)
     c.args.bytes.now) (sym idle ∙ c.if-reports_nothing.false) begun in
-    search.counted-either g.C.Calls.step
+    let counted = search.counted-either g.C.Calls.step
     (record {
       is_message = g.C.Error.SinkError.is_message;
       is_io = g.C.Error.SinkError.is_io;
@@ -69,12 +75,15 @@ returns-clause-reported g c = λ lawful.
       is_lawful = g.M.Matcher.is_lawful c.args.matcher.now;
       text_of = g.M.Error.Display.output;
     })
-    c.args.self.now.config [] c.args.bytes.now c.args.bytes.now c.args.sink.now
+    c.args.self.now.config [] c.args.bytes.now c.args.bytes.now (fresh c.args.sink.now)
     c.in_ok-search_window.field-0 c.search_window.new.walk c.search_window.new.sink
-    (λ on. c.in_ok-search_window.ensures.goes_on lawful on [] c.args.bytes.now c.args.sink.now start)
+    (λ on. c.in_ok-search_window.ensures.goes_on lawful on [] c.args.bytes.now (fresh c.args.sink.now) start)
     (λ off.
     let ends = c.in_ok-search_window.ensures.ends lawful off in
-    (ends.0, ends.1 [] c.args.bytes.now c.args.sink.now start)) (omega arith)
+    (ends.0, ends.1 [] c.args.bytes.now (fresh c.args.sink.now) start)) (omega arith) in (
+      counted.0,
+      walks.counted-fresh g.C.Calls.step c.args.self.now.config c.args.sink.now _ _ _ _ _ counted.1,
+    )
 
 pub returns-in_err-begin-clause-in_order : goal.returns-in_err-begin-clause-in_order
 returns-in_err-begin-clause-in_order g c =

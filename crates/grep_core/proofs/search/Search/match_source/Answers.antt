@@ -1,12 +1,12 @@
-use Rattle.std.proofs.Common.{◌∙◌, sym, true, false, refl, subst, Ok, Err}
+use Rattle.std.proofs.Common.{arith}
+use Rattle.std.proofs.Common.{◌∙◌, sym, false, inl, refl}
 use Rattle.grep_definitions.specs.BinaryBytes.{is_detecting}
-use Rattle.grep_definitions.specs.SinkCalls.{begins}
-use Rattle.grep_definitions.specs.ReaderSearches.{IsStreamSearched, reports_nothing}
+use Rattle.grep_definitions.specs.ReaderSearches.{reports_nothing}
 use Rattle.std.proofs.lemmas.Result.{err_from_is_err_and}
 use Rattle.grep_definitions.specs.Searches.{ErrorMakers, MatcherFacts, errors_by, facts_by}
 use Rattle.grep_core.proofs.StreamBeginLemmas as streams
 use Rattle.grep_core.proofs.StreamBeginLemmas.{idle-unread}
-use Rattle.grep_definitions.specs.CallOrder.{IsOrderedFault, IsReadingError}
+use Rattle.grep_definitions.specs.CallOrder.{IsReadingError}
 use Rattle.grep_definitions.proofs.CallOrderLemmas as order
 use Rattle.grep_core.proofs.search.Search.match_source.Goals as goal
 
@@ -25,15 +25,16 @@ returns-in_err-begin-clause-fault g c =
     }
     in
     let p = err_from_is_err_and c.from_residual.result c.from_residual.ensures.1 in
-    rw (p.1, p.2) (λ lawful has_buffers. streams.fault-begin g.R.Source.remaining g.R.Source.step g.C.Calls.step errors
-    facts
-    (record { settings = c.args.self.now.config; has_buffers = has_buffers }) c.args.reader.now c.args.sink.now _ _
-    c.in_err-begin.ensures.step)
+    rw (p.1, p.2) (λ lawful has_buffers. inl (streams.fault-begin g.R.Source.remaining g.R.Source.step g.C.Calls.step
+    errors facts
+    (record { settings = c.args.self.now.config; has_buffers = has_buffers }) c.requires.by_line c.args.reader.now
+    c.args.sink.now _ _ c.in_err-begin.ensures.step))
 
 pub returns-then-not-branch-clause-counted : goal.returns-then-not-branch-clause-counted
 returns-then-not-branch-clause-counted g c = λ lawful.
     rw c.new.ensures (streams.counted-unbegun g.R.Source.remaining g.R.Source.step g.C.Calls.step c.args.self.now.config
-    (g.M.Matcher.meaning c.args.matcher.now) c.lines_join.ensures c.lines_append.ensures c.args.reader.now
+    (g.M.Matcher.meaning c.args.matcher.now) c.requires.by_line c.lines_join.ensures c.lines_append.ensures
+    c.args.reader.now
     c.args.sink.now c.begin.new.sink
     (rw c.if-not-branch.true at c.in_ok-begin.ensures.step))
 
@@ -50,7 +51,8 @@ returns-then-not-reads_lines-clause-counted g c = λ lawful.
     let reads = c.reads_lines.ensures in
     rw c.new-then-not-reads_lines.ensures (streams.counted-idle g.R.Source.remaining g.R.Source.step g.C.Calls.step
     c.args.self.now.config
-    (g.M.Matcher.meaning c.args.matcher.now) c.lines_join.ensures c.lines_append.ensures c.args.reader.now
+    (g.M.Matcher.meaning c.args.matcher.now) c.requires.by_line c.lines_join.ensures c.lines_append.ensures
+    c.args.reader.now
     c.args.sink.now c.begin.new.sink
     (idle-unread (reports_nothing c.args.self.now.config) (is_detecting c.args.self.now.config.binary_detection)
     (sym reads ∙ c.if-not-reads_lines.true)) (rw c.if-not-branch.false at c.in_ok-begin.ensures.step))
@@ -59,37 +61,17 @@ pub returns-in-Err-clause-succeeds : goal.returns-in-Err-clause-succeeds
 returns-in-Err-clause-succeeds g c = λ never infallible lawful.
     let begun = rw c.if-not-branch.false at c.in_ok-begin.ensures.step in
     c.in-Err.ensures.succeeds never infallible lawful c.args.sink.now
-    (subst (λ s. g.C.Calls.step c.args.sink.now c.args.self.now.config begins (Ok true) s)
-    (sym c.new-noted.ensures.sink) begun)
+    begun
 
 pub returns-in-Err-clause-fault : goal.returns-in-Err-clause-fault
-returns-in-Err-clause-fault g c = λ lawful has_buffers.
-    let maker = g.C.Error.SinkError in
-    let matcher = g.M.Matcher in
-    let errors : ErrorMakers g.row.C-Error.Denot =
-    record { is_message = maker.is_message; is_io = maker.is_io; is_config = maker.is_config } in
-    let facts : MatcherFacts g.row.M-Error.Denot =
-    record {
-      meaning = matcher.meaning c.args.matcher.now;
-      fails = matcher.fails c.args.matcher.now;
-      is_lawful = matcher.is_lawful c.args.matcher.now;
-      text_of = g.M.Error.Display.output;
-    }
-    in
-    let begun = rw c.if-not-branch.false at c.in_ok-begin.ensures.step in
-    subst (λ s. IsStreamSearched g.R.Source.remaining g.R.Source.step g.C.Calls.step errors facts
-    (record { settings = c.args.self.now.config; has_buffers = has_buffers }) c.args.reader.now c.args.sink.now
-    (Err c.in-Err.error)
-    c.read_by_line.new.reader s) (sym (c.in-Err.sink-in-Err-1-own.given.1
-    (sym (c.in-Err.ensures.same_sink ∙ c.new-noted.ensures.same_sink))))
-    (c.in-Err.ensures.fault lawful c.args.sink.now
-    (subst (λ s. g.C.Calls.step c.args.sink.now c.args.self.now.config begins (Ok true) s)
-    (sym c.new-noted.ensures.sink) begun) has_buffers)
+returns-in-Err-clause-fault g c = λ lawful.
+    c.in-Err.ensures.fault lawful c.args.sink.now (rw c.if-not-branch.false at c.in_ok-begin.ensures.step)
 
 pub returns-in_err-begin-clause-broken : goal.returns-in_err-begin-clause-broken
 returns-in_err-begin-clause-broken g c =
     let p = err_from_is_err_and c.from_residual.result c.from_residual.ensures.1 in
-    rw (p.1, p.2) (order.order-failed g.C.Calls.step c.args.self.now.config _ _ _ c.args.sink.now _ _
+    rw (p.1, p.2) (order.order-failed g.C.Calls.step c.args.self.now.config _ _ _ {told = 0} (omega arith)
+    c.args.sink.now _ _
     (order.failed-begin g.C.Calls.step c.args.self.now.config _ _ c.args.sink.now _ _ c.in_err-begin.ensures.step))
 
 pub returns-then-not-branch-clause-in_order : goal.returns-then-not-branch-clause-in_order
@@ -99,17 +81,9 @@ returns-then-not-branch-clause-in_order g c =
 
 pub returns-in-Err-clause-broken : goal.returns-in-Err-clause-broken
 returns-in-Err-clause-broken g c =
-    let errors = errors_by g.C.Error.SinkError.is_message g.C.Error.SinkError.is_io g.C.Error.SinkError.is_config in
-    let facts = facts_by g.M.Matcher.meaning g.M.Matcher.fails g.M.Matcher.is_lawful g.M.Error.Display.output
-    c.args.matcher.now in
-    let begun = rw c.if-not-branch.false at c.in_ok-begin.ensures.step in
-    subst (λ s. IsOrderedFault g.C.Calls.step c.args.self.now.config errors facts
-    (IsReadingError g.R.Source.remaining g.R.Source.step c.args.reader.now c.read_by_line.new.reader) c.args.sink.now
-    c.in-Err.error s)
-    (sym (c.in-Err.sink-in-Err-1-own.given.1 (sym (c.in-Err.ensures.same_sink ∙ c.new-noted.ensures.same_sink))))
-    (order.order-read g.C.Calls.step c.args.self.now.config errors facts
+    order.order-read g.C.Calls.step c.args.self.now.config
+    (errors_by g.C.Error.SinkError.is_message g.C.Error.SinkError.is_io g.C.Error.SinkError.is_config)
+    (facts_by g.M.Matcher.meaning g.M.Matcher.fails g.M.Matcher.is_lawful g.M.Error.Display.output c.args.matcher.now)
     (IsReadingError g.R.Source.remaining g.R.Source.step c.args.reader.now c.read_by_line.new.reader)
-    c.args.sink.now _ c.in-Err.error _
-    (subst (λ s. g.C.Calls.step c.args.sink.now c.args.self.now.config begins (Ok true) s)
-    (sym c.new-noted.ensures.sink) begun)
-    c.in-Err.ensures.in_order)
+    c.args.sink.now _ c.in-Err.error _ (rw c.if-not-branch.false at c.in_ok-begin.ensures.step)
+    c.in-Err.ensures.in_order

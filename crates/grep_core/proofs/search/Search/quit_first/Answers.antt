@@ -1,8 +1,7 @@
 use Rattle.std.proofs.Common.{refl, inl, inr, Err, sym, subst}
 use Rattle.std.proofs.lemmas.Result.{err_from_is_err_and}
-use Rattle.grep_definitions.specs.SinkCalls.{begins, binary_data}
-use Rattle.grep_definitions.specs.SinkRuns.{all_true, stopped, failed}
-use Rattle.grep_core.proofs.QuittingLemmas.{run-called}
+use Rattle.grep_definitions.specs.Plans.{begins, binary_data, stopped, failed, counted}
+use Rattle.grep_core.proofs.UntilLemmas.{first-quit}
 use Rattle.grep_core.proofs.search.Search.quit_first.Goals as goal
 
 pub returns-in_err-begin-clause-quits : goal.returns-in_err-begin-clause-quits
@@ -11,21 +10,21 @@ returns-in_err-begin-clause-quits g c =
     record {
       outcome = failed p.0;
       mid = c.begin.new.sink;
-      reported = inr (inr (
+      made = inr (inr (
         p.0,
         refl,
         subst (λ e. g.C.Calls.step c.args.sink.now c.args.self.now.config begins (Err e) c.begin.new.sink)
             (sym p.2) c.in_err-begin.ensures.step,
       ));
-      ended = (p.1, refl);
+      finished = (p.1, refl);
     }
 
 pub returns-then-not-branch-clause-quits : goal.returns-then-not-branch-clause-quits
 returns-then-not-branch-clause-quits g c = record {
-  outcome = stopped 0;
+  outcome = stopped (counted 0);
   mid = c.begin.new.sink;
-  reported = inr (inl (refl, rw c.if-not-branch.true at c.in_ok-begin.ensures.step));
-  ended = rw c.new.ensures at c.finish.ensures.step;
+  made = inr (inl (refl, rw c.if-not-branch.true at c.in_ok-begin.ensures.step));
+  finished = rw c.new.ensures at c.finish.ensures.step;
 }
 
 pub returns-in_err-binary_data-clause-quits : goal.returns-in_err-binary_data-clause-quits
@@ -33,29 +32,24 @@ returns-in_err-binary_data-clause-quits g c =
     let p = err_from_is_err_and c.from_residual-in_err-binary_data.result
     c.from_residual-in_err-binary_data.ensures.1 in
     record {
-      outcome = all_true;
-      mid = c.begin.new.sink;
-      reported = inl (c.begin.new.sink, (rw c.if-not-branch.false at c.in_ok-begin.ensures.step), (refl, refl));
-      ended = record {
-        outcome = failed p.0;
-        mid = c.binary_data.new.sink;
-        reported = inr (inr (
+      outcome = failed p.0;
+      mid = c.binary_data.new.sink;
+      made = inl (
+        c.begin.new.sink,
+        (rw c.if-not-branch.false at c.in_ok-begin.ensures.step),
+        inr (inr (
           p.0,
           refl,
           subst (λ e. g.C.Calls.step c.begin.new.sink c.args.self.now.config (binary_data c.args.offset)
               (Err e) c.binary_data.new.sink) (sym p.2) c.in_err-binary_data.ensures.step,
-        ));
-        finished = (p.1, refl);
-      };
+        )),
+      );
+      finished = (p.1, refl);
     }
 
 pub returns-clause-quits : goal.returns-clause-quits
-returns-clause-quits g c = record {
-  outcome = all_true;
-  mid = c.begin.new.sink;
-  reported = inl (c.begin.new.sink, (rw c.if-not-branch.false at c.in_ok-begin.ensures.step), (refl, refl));
-  ended = run-called g.C.Calls.step c.args.self.now.config c.args.offset 0 c.begin.new.sink c.binary_data.new.sink
-      c.finish-2.new.sink
-      c.in_ok-binary_data.field-0 c.finish-2.result c.in_ok-binary_data.ensures.step
-      (rw c.new-2.ensures at c.finish-2.ensures.step);
-}
+returns-clause-quits g c =
+    first-quit g.C.Calls.step c.args.self.now.config c.args.offset c.args.sink.now c.begin.new.sink
+    c.binary_data.new.sink c.finish-2.new.sink c.in_ok-binary_data.field-0 c.finish-2.result
+    (rw c.if-not-branch.false at c.in_ok-begin.ensures.step) c.in_ok-binary_data.ensures.step
+    (rw c.new-2.ensures at c.finish-2.ensures.step)

@@ -3,12 +3,10 @@ use Rattle.grep_decode.specs.DecoderStates.{Decodes}
 use Rattle.grep_matcher.specs.Terminators.{byte_of}
 use Rattle.grep_definitions.specs.BinaryBytes.{is_detecting}
 use Rattle.grep_definitions.specs.CallOrder.{HasCalled}
-use Rattle.grep_definitions.specs.SinkRuns.{all_true}
-use Rattle.grep_core.proofs.OrderLemmas.{DetectsNoted}
+use Rattle.grep_definitions.specs.Plans.{all_true, begins}
+use Rattle.grep_core.proofs.OrderLemmas.{DetectsNoted, told_once}
 use Rattle.grep_definitions.specs.Questions.{IsLawfulFor}
-use Rattle.grep_definitions.specs.SinkCalls.{begins}
-use Rattle.grep_core.specs.NotedCalls.{HasNoted, Notes}
-use Rattle.grep_core.specs.Rolls.{IsRolling}
+use Rattle.grep_core.specs.Rolls.{IsReadingOn}
 use Rattle.grep_core.specs.SearchBuffers.{IsFitting, detection_of}
 use Rattle.grep_walk.specs.Walks.{IsOrdered}
 use Rattle.grep_core.proofs.search.Search.read_by_line.Given as goal
@@ -19,24 +17,20 @@ invariant-fills g l = record {
   at : l.walk.offset ≡ l.lines.offset + length l.lines.shown;
   below : l.walk.offset < 2 ^ 64;
   ordered : IsOrdered l.walk;
-  may_call : g.C.Calls.may_call l.sink.sink.now;
-  called : HasNoted l.sink;
+  may_call : g.C.Calls.may_call l.sink;
   decoded : (given : List ℕ) × Decodes g.R.Source.remaining g.R.Source.step l.fn.decoder l.fn.reader given l.decoder
       l.reader;
   detects : l.lines.detection ≡ detection_of l.self.config.binary_detection;
   clear : is_detecting l.self.config.binary_detection ≡ false → l.lines.binary ≡ None;
-  noted_detects : DetectsNoted g.C.Calls.step l.self.config l.sink;
-  calls : HasCalled g.C.Calls.step l.self.config l.fn.sink.sink.now all_true l.sink.sink.now;
-  same_sink : l.sink.sink.ghost_name ≡ l.fn.sink.sink.ghost_name;
+  noted_detects : DetectsNoted g.C.Calls.step l.self.config (record { sink = l.sink; binary = l.binary });
+  calls : HasCalled g.C.Calls.step l.self.config (told_once l.binary) l.fn.sink all_true l.sink;
   noted : IsLawfulFor l.self.config (g.M.Matcher.meaning l.matcher) (g.M.Matcher.is_lawful l.matcher)
-      → l.sink.binary ≡ l.lines.binary;
+      → l.binary ≡ l.lines.binary;
   rolling : IsLawfulFor l.self.config (g.M.Matcher.meaning l.matcher) (g.M.Matcher.is_lawful l.matcher)
-      → (first : g.row.C-Sink.Denot) → g.C.Calls.step first l.self.config begins (Ok true) l.fn.sink.sink.now
-      → IsRolling (Notes g.C.Calls.step) l.self.config (g.M.Matcher.meaning l.matcher) g.R.Source.remaining
-      g.R.Source.step
-      l.fn.decoder l.fn.reader
-      (record { sink = record l.fn.sink.sink { now = first }; binary = l.sink.binary; has_called = false })
-      l.lines l.decoder l.reader l.walk l.sink;
+      → (first : g.row.C-Sink.Denot) → g.C.Calls.step first l.self.config begins (Ok true) l.fn.sink
+      → IsReadingOn g.C.Calls.step l.self.config (g.M.Matcher.meaning l.matcher) g.R.Source.remaining g.R.Source.step
+      l.fn.decoder l.fn.reader first l.lines l.decoder l.reader l.walk
+      (record { sink = l.sink; binary = l.binary });
 }
 
 abbrev pub decreases-fills : goal.decreases-fills

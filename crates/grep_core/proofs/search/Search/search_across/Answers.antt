@@ -4,7 +4,7 @@ use Rattle.std.proofs.lemmas.Result.{err_from_is_err_and}
 use Rattle.grep_matcher.specs.Terminators.{byte_of}
 use Rattle.grep_lines.specs.Positions.{slice, IsLineStart}
 use Rattle.grep_definitions.specs.Settings.{Settings}
-use Rattle.grep_definitions.specs.SinkRuns.{all_true, failed, stopped}
+use Rattle.grep_definitions.specs.Plans.{all_true, failed, stopped, counted}
 use Rattle.grep_walk.specs.Walks.{line_end}
 use Rattle.grep_walk.proofs.AcrossEndLemmas as ends
 use Rattle.grep_walk.proofs.AcrossStepLemmas as steps
@@ -138,12 +138,12 @@ returns-then-not-branch-clause-reported g c = λ first begun.
     ahead chosen c.end_across-end.ensures.low c.end_across-end.ensures.within
     (c.lines.start == c.next_chosen-next.result) refl unit line in
     let stop = line_end c.lines.walk (slice c.args.bytes.now c.lines.start c.end_across-end.result) in (
-      stopped stop,
+      stopped (counted stop),
       ends.counted-stopped k meaning c.args.bytes.now g.C.Calls.step first _ stop c.end_across-end.result _
           turned.across
           (sym turned.end_is)
           (ends.reported-next k meaning c.args.bytes.now g.C.Calls.step first c.lines.walk _ _ c.lines.sink turned.front
-          (c.lines.invariant.reported first begun) (stopped stop) _
+          (c.lines.invariant.reported first begun) (stopped (counted stop)) _
           (reported [] c.args.bytes.now
           (λ _. turns.in-window k meaning c.args.bytes.now c.lines.walk c.lines.start c.lines.invariant.same
           c.lines.invariant.walk))),
@@ -225,10 +225,10 @@ returns-then-not-branch-clause-in_order g c =
     let stops : c.in_ok-sink_line.field-0 ≡ false = search rules in
     let here = rw stops at c.in_ok-sink_line.ensures.called in
     record {
-      outcome = stopped c.end_across-end.result;
+      outcome = stopped (counted c.end_across-end.result);
       ends = refl;
       called = called-then g.C.Calls.step c.args.self.now.config c.args.sink.now c.lines.sink
-          (stopped c.end_across-end.result)
+          (stopped (counted c.end_across-end.result))
           c.sink_line.new.sink c.lines.invariant.called (here c.end_across-end.result);
     }
 

@@ -1,8 +1,7 @@
 use Rattle.std.proofs.Common.{◌≡◌, ◌≤◌, ◌-◌, true, length}
 use Rattle.std.specs.Prelude.{Ok}
 use Rattle.grep_definitions.specs.CallOrder.{HasCalled}
-use Rattle.grep_definitions.specs.SinkCalls.{begins}
-use Rattle.grep_definitions.specs.SinkRuns.{AreReported, all_true}
+use Rattle.grep_definitions.specs.Plans.{begins, AreMade, all_true}
 use Rattle.grep_walk.specs.AcrossWalks.{IsAcross, IsReady, turns_before}
 use Rattle.grep_walk.specs.Walks.{IsOrdered}
 use Rattle.grep_core.proofs.search.Search.search_across.Given as goal
@@ -15,9 +14,9 @@ invariant-lines g l = record {
   ready : IsReady l.self.config (g.M.Matcher.meaning l.matcher) l.bytes l.start l.walk l.unit l.blocks;
   walk : IsAcross l.self.config (g.M.Matcher.meaning l.matcher) l.bytes l.walk;
   reported : (first : g.row.C-Sink.Denot) → g.C.Calls.step first l.self.config begins (Ok true) l.fn.sink
-      → AreReported g.C.Calls.step l.self.config first
+      → AreMade g.C.Calls.step l.self.config first
       (turns_before l.self.config (g.M.Matcher.meaning l.matcher) l.bytes l.walk.next_unreported) all_true l.sink;
-  called : HasCalled g.C.Calls.step l.self.config l.fn.sink all_true l.sink;
+  called : HasCalled g.C.Calls.step l.self.config 0 l.fn.sink all_true l.sink;
   may_call : g.C.Calls.may_call l.sink;
 }
 

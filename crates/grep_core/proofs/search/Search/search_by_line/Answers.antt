@@ -1,3 +1,4 @@
+use Rattle.std.proofs.Common.{arith}
 use Rattle.std.proofs.lemmas.Result.{err_from_is_err_and}
 use Rattle.grep_definitions.specs.Searches.{ErrorMakers, MatcherFacts}
 use Rattle.grep_core.proofs.StreamFinishLemmas.{stream-finished}
@@ -21,8 +22,12 @@ returns-clause-searched g c =
     in
     λ lawful has_buffers.
     stream-finished g.C.Calls.step errors facts g.R.Source.remaining g.R.Source.step c.args.self.now.config has_buffers
-    c.args.reader.now c.args.sink.now c.in_ok-finish.finish.byte_count c.match_source.new.reader
-    c.in_ok-finish.finish.binary_byte_offset c.match_source.new.sink c.finish.result c.finish.new.sink
+    c.requires.by_line c.args.reader.now c.args.sink.now c.match_source.new.reader
+    (record {
+      count = c.in_ok-finish.finish.byte_count;
+      binary = c.in_ok-finish.finish.binary_byte_offset;
+    })
+    c.match_source.new.sink c.finish.result c.finish.new.sink
     c.in_ok-finish.ensures.begun
     (c.in_ok-finish.ensures.counted lawful) c.finish.ensures.step
 
@@ -36,6 +41,12 @@ returns-clause-in_order g c =
     order-finished g.C.Calls.step c.args.self.now.config
     (errors_by g.C.Error.SinkError.is_message g.C.Error.SinkError.is_io g.C.Error.SinkError.is_config)
     (facts_by g.M.Matcher.meaning g.M.Matcher.fails g.M.Matcher.is_lawful g.M.Error.Display.output c.args.matcher.now) _
+    (omega arith)
     c.args.sink.now c.match_source.new.sink c.in_ok-finish.finish.byte_count c.in_ok-finish.finish.binary_byte_offset
     c.finish.result
     c.finish.new.sink c.in_ok-finish.ensures.noted c.in_ok-finish.ensures.in_order c.finish.ensures.step
+
+pub returns-in_err-finish-clause-succeeds : goal.returns-in_err-finish-clause-succeeds
+returns-in_err-finish-clause-succeeds g c =
+    let p = err_from_is_err_and c.from_residual.result c.from_residual.ensures.1 in
+    rw (p.1, p.2) c.in_err-finish.ensures.succeeds

@@ -1,3 +1,4 @@
+use Rattle.std.proofs.Common.{arith}
 use Rattle.std.proofs.Common.{ℕ, Bool, List, true, None, length, ◌∙◌, subst, sym, refl, inl, ap, Err}
 use Rattle.std.proofs.lemmas.Bool.{true≢false}
 use Rattle.std.proofs.lemmas.Result.{err_from_is_err_and}
@@ -12,7 +13,7 @@ use Rattle.grep_core.specs.InputSearches.{IsAcrossSearched}
 use Rattle.grep_core.proofs.ContentsSearchLemmas as whole
 use Rattle.grep_core.proofs.LookLemmas.{look-detects, look-plain, look-quit}
 use Rattle.grep_core.proofs.search.Search.search_contents.Given.{Over}
-use Rattle.grep_definitions.specs.CallOrder.{of_reading}
+use Rattle.grep_definitions.specs.PlannedSearches.{read_in_order}
 use Rattle.grep_definitions.proofs.CallOrderLemmas as order
 use Rattle.grep_core.proofs.OrderLemmas.{failed-read, reading-error}
 use Rattle.grep_core.proofs.search.Search.search_contents.Goals as goal
@@ -136,7 +137,7 @@ search_until-requires-clause-detecting g c =
 
 pub returns-in-Err-clause-in_order : goal.returns-in-Err-clause-in_order
 returns-in-Err-clause-in_order g c =
-    of_reading c.io_error.result
+    read_in_order c.io_error.result
     (reading-error g.R.Source.remaining g.R.Source.step c.args.reader.now c.read_contents.new.reader c.in-Err.error
     c.io_error.result
     (λ e is.
@@ -154,7 +155,7 @@ returns-in-Err-clause-in_order g c =
 
 pub returns-in-Some-clause-in_order : goal.returns-in-Some-clause-in_order
 returns-in-Some-clause-in_order g c =
-    order.order-each g.C.Calls.step c.args.self.now.config (errors-of g) (facts-of g c.args.matcher.now) (λ _. ⊥) _
+    order.in_order-each g.C.Calls.step c.args.self.now.config (errors-of g) (facts-of g c.args.matcher.now) (λ _. ⊥) _
     (λ error never. absurd never)
     c.args.sink.now
     c.search_until.result c.search_until.new.sink c.search_until.ensures.in_order
@@ -163,12 +164,13 @@ pub returns-in_err-count-clause-in_order : goal.returns-in_err-count-clause-in_o
 returns-in_err-count-clause-in_order g c =
     let p = err_from_is_err_and c.from_residual.result c.from_residual.ensures.1 in
     rw (p.1, p.2) (order.order-failed g.C.Calls.step c.args.self.now.config (errors-of g)
-    (facts-of g c.args.matcher.now) _
+    (facts-of g c.args.matcher.now) _ (omega arith)
     c.args.sink.now _ _ c.in_err-count.ensures.in_order)
 
 pub returns-clause-in_order : goal.returns-clause-in_order
 returns-clause-in_order g c =
     order.order-finished g.C.Calls.step c.args.self.now.config (errors-of g) (facts-of g c.args.matcher.now) _
+    (omega arith)
     c.args.sink.now
     c.match_across.new.sink c.in_ok-count.count None c.finish.result c.finish.new.sink (λ none. refl)
     c.in_ok-count.ensures.in_order

@@ -1,3 +1,4 @@
+use Rattle.std.proofs.Common.{arith}
 use Rattle.std.proofs.Common.{◌∙◌, refl, sym, subst}
 use Rattle.std.proofs.lemmas.Bool.{false≢true}
 use Rattle.std.proofs.lemmas.Result.{err_from_is_err_and}
@@ -67,7 +68,8 @@ returns-in_err-count-clause-in_order g c =
     let step = g.C.Calls.step in
     let may_call = g.C.Calls.may_call in
     let k = c.args.self.now.config in
-    rw (error.1, error.2) (order.order-failed step k (errors-of g) (facts-of g c.args.matcher.now) (λ _. ⊥)
+    rw (error.1, error.2) (order.order-failed step k (errors-of g) (facts-of g c.args.matcher.now) (λ _. ⊥) (omega
+    arith)
     c.args.sink.now.sink.now _ _
     (order.passed-begun-failed step (Quits step may_call) k (λ q. q.sink.now)
     (passed.FoundNone step k may_call c.requires.detecting)
@@ -83,7 +85,8 @@ returns-clause-in_order g c =
     let may_call = g.C.Calls.may_call in
     let k = c.args.self.now.config in
     let finish = rw c.new.ensures at c.finish.ensures.step in
-    order.order-finished step k (errors-of g) (facts-of g c.args.matcher.now) (λ _. ⊥) c.args.sink.now.sink.now
+    order.order-finished step k (errors-of g) (facts-of g c.args.matcher.now) (λ _. ⊥) (omega arith)
+    c.args.sink.now.sink.now
     c.match_bytes.new.sink.sink.now
     (count_to c.match_bytes.new.sink.found c.in_ok-count.count) c.match_bytes.new.sink.found c.finish.result
     c.finish.new.sink.sink.now

@@ -1,8 +1,9 @@
-use Rattle.std.proofs.Common.{Bool, true, false, sym, ◌∙◌}
+use Rattle.std.proofs.Common.{Bool, true, sym, ◌∙◌}
 use Rattle.grep_definitions.specs.Searches.{ErrorMakers, MatcherFacts}
 use Rattle.grep_definitions.specs.Settings.{SearcherState, Settings}
+use Rattle.grep_definitions.proofs.PlannedUnreadLemmas.{unread-planned}
 use Rattle.grep_core.proofs.ResultLemmas.{if_err-each}
-use Rattle.grep_core.proofs.ModeLemmas.{source-across, source-by_line, unread-in}
+use Rattle.grep_core.proofs.ModeLemmas.{read-across, read-by_line}
 use Rattle.grep_core.proofs.search.Search.search_reader.Given.{Over}
 use Rattle.grep_core.proofs.search.Search.search_reader.Goals as goal
 
@@ -27,7 +28,7 @@ state-of settings has_buffers = record { settings = settings; has_buffers = has_
 pub returns-then-is_across-clause-searched : goal.returns-then-is_across-clause-searched
 returns-then-is_across-clause-searched g c = λ lawful has_buffers.
     let mode = (sym c.is_across.ensures ∙ c.if-is_across.true) in
-    source-across g.R.Source.remaining g.R.Source.step (state-of c.args.self.now.config has_buffers) g.C.Calls.step
+    read-across g.R.Source.remaining g.R.Source.step (state-of c.args.self.now.config has_buffers) g.C.Calls.step
     (errors-of g)
     (facts-of g c.args.matcher.now) c.args.reader.now c.args.sink.now c.search_contents.result
     c.search_contents.new.reader
@@ -37,35 +38,27 @@ pub returns-then-is_across-clause-succeeds : goal.returns-then-is_across-clause-
 returns-then-is_across-clause-succeeds g c = λ never infallible lawful.
     let mode = (sym c.is_across.ensures ∙ c.if-is_across.true) in
     if_err-each _ _ c.search_contents.result
-    (λ e unread has_buffers. let why = unread has_buffers in (
-      why.0,
-      why.1,
-      unread-in g.R.Source.remaining g.R.Source.step (state-of c.args.self.now.config has_buffers)
-          (g.M.Matcher.meaning c.args.matcher.now) true
-          mode c.args.reader.now why.0 why.1 c.search_contents.new.reader why.2,
-      why.3,
-    ))
+    (λ e unread has_buffers.
+    let why = unread has_buffers in
+    let planned = unread-planned g.R.Source.remaining g.R.Source.step (state-of c.args.self.now.config has_buffers)
+    (g.M.Matcher.meaning c.args.matcher.now) c.args.reader.now why.1 true mode why.0 c.search_contents.new.reader why.2
+    in
+    (planned.0, planned.1, why.1, planned.2, why.3))
     (c.search_contents.ensures.succeeds never infallible)
 
 pub returns-clause-searched : goal.returns-clause-searched
 returns-clause-searched g c = λ lawful has_buffers.
     let mode = (sym c.is_across.ensures ∙ c.if-is_across.false) in
-    source-by_line g.R.Source.remaining g.R.Source.step (state-of c.args.self.now.config has_buffers) g.C.Calls.step
+    read-by_line g.R.Source.remaining g.R.Source.step (state-of c.args.self.now.config has_buffers) g.C.Calls.step
     (errors-of g)
     (facts-of g c.args.matcher.now) c.args.reader.now c.args.sink.now c.search_by_line.result
     c.search_by_line.new.reader
     c.search_by_line.new.sink mode (c.search_by_line.ensures.searched lawful has_buffers)
 
-pub returns-clause-succeeds : goal.returns-clause-succeeds
-returns-clause-succeeds g c = λ never infallible lawful.
-    let mode = (sym c.is_across.ensures ∙ c.if-is_across.false) in
-    if_err-each _ _ c.search_by_line.result
-    (λ e unread has_buffers. let why = unread has_buffers in (
-      why.0,
-      why.1,
-      unread-in g.R.Source.remaining g.R.Source.step (state-of c.args.self.now.config has_buffers)
-          (g.M.Matcher.meaning c.args.matcher.now) false
-          mode c.args.reader.now why.0 why.1 c.search_by_line.new.reader why.2,
-      why.3,
-    ))
-    (c.search_by_line.ensures.succeeds never infallible lawful)
+pub returns-then-is_across-clause-in_order : goal.returns-then-is_across-clause-in_order
+returns-then-is_across-clause-in_order g c =
+    c.search_contents.ensures.in_order
+
+pub returns-clause-in_order : goal.returns-clause-in_order
+returns-clause-in_order g c =
+    c.search_by_line.ensures.in_order

@@ -4,7 +4,7 @@ use Rattle.grep_definitions.specs.SearchTurns.{calls_if}
 use Rattle.grep_core.specs.InputSearches.{IsSearchedUntil}
 use Rattle.grep_core.proofs.UntilLemmas.{first-found, quit-searched}
 use Rattle.grep_core.proofs.search.Search.search_until.Given.{Over}
-use Rattle.grep_definitions.specs.CallOrder.{RunsInOrder}
+use Rattle.grep_definitions.specs.PlannedSearches.{IsInOrder}
 use Rattle.grep_core.proofs.OrderLemmas.{quit-in-order}
 use Rattle.grep_core.proofs.search.Search.search_until.Goals as goal
 
@@ -48,12 +48,12 @@ returns-in-None-clause-searched g c = λ lawful.
 pub returns-in-Some-clause-in_order : goal.returns-in-Some-clause-in_order
 returns-in-Some-clause-in_order g c =
     quit-in-order g.C.Calls.step c.args.self.now.config g.C.Calls.may_call c.requires.detecting (errors-of g)
-    (facts-of g c.args.matcher.now) (λ _. ⊥) _ c.args.sink.now c.quit_first.result c.quit_first.new.sink
+    (facts-of g c.args.matcher.now) _ c.args.sink.now c.quit_first.result c.quit_first.new.sink
     c.quit_first.ensures.quits
 
 pub returns-in-None-clause-in_order : goal.returns-in-None-clause-in_order
 returns-in-None-clause-in_order g c =
-    subst (λ s. RunsInOrder g.C.Calls.step c.args.self.now.config (errors-of g) (facts-of g c.args.matcher.now) (λ _. ⊥)
+    subst (λ s. IsInOrder g.C.Calls.step (errors-of g) (facts-of g c.args.matcher.now) c.args.self.now.config (λ _. ⊥)
     c.args.sink.now c.search_quitting.result s)
     (sym (c.sink-1.given.1 (sym (c.search_quitting.ensures.same_sink ∙ c.new-quitting.ensures.same_sink))))
     (rw c.new-quitting.ensures.sink at c.search_quitting.ensures.in_order)

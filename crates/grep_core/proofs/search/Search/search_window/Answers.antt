@@ -6,7 +6,7 @@ use Rattle.grep_lines.specs.Positions.{slice, IsLineStart}
 use Rattle.grep_matcher.specs.Lines.{lines}
 use Rattle.grep_definitions.specs.Searches.{ErrorMakers, MatcherFacts}
 use Rattle.grep_definitions.specs.Settings.{Settings}
-use Rattle.grep_definitions.specs.SinkRuns.{all_true, failed, stopped}
+use Rattle.grep_definitions.specs.Plans.{all_true, failed, stopped, counted}
 use Rattle.grep_walk.specs.Walks.{chooses, trails, is_over, line_end, after_line}
 use Rattle.grep_walk.proofs.SkipLemmas as skips
 use Rattle.grep_walk.proofs.WindowSearchLemmas as search
@@ -133,8 +133,8 @@ returns-then-not-branch-clause-ends g c = λ lawful ends.
     let decided = c.in-Ok-judge.ensures.decided in
     let stops : c.in_ok-sink_line.field-0 ≡ false = search rules in
     let reported = rw stops at c.in_ok-sink_line.ensures.reported in (
-      stopped (line_end c.skip_unmatched-start.new.walk
-          (slice c.args.window.now c.skip_unmatched-start.result c.in-Some.end)),
+      stopped (counted (line_end c.skip_unmatched-start.new.walk
+          (slice c.args.window.now c.skip_unmatched-start.result c.in-Some.end))),
       λ gone input first so_far.
           let bare = c.requires.configured.bare in
           let now = c.lines.invariant.searched lawful gone input first so_far in
@@ -274,8 +274,8 @@ returns-then-not-branch-clause-in_order g c =
     let stops : c.in_ok-sink_line.field-0 ≡ false = search rules in
     let here = rw stops at c.in_ok-sink_line.ensures.called in
     record {
-      outcome = stopped (c.skip_unmatched-start.new.walk.offset + length
-          (slice c.args.window.now c.skip_unmatched-start.result c.in-Some.end));
+      outcome = stopped (counted (c.skip_unmatched-start.new.walk.offset + length
+          (slice c.args.window.now c.skip_unmatched-start.result c.in-Some.end)));
       ends = refl;
       called = called-then g.C.Calls.step c.args.self.now.config c.args.sink.now c.lines.sink (stopped _)
           c.sink_line.new.sink

@@ -1,8 +1,9 @@
 use Rattle.std.proofs.Common.{◌≡◌, ◌≤◌, ◌+◌, ◌-◌, ℕ, List, length}
 use Rattle.grep_definitions.specs.CallOrder.{HasCalled}
-use Rattle.grep_definitions.specs.SinkRuns.{all_true}
+use Rattle.grep_definitions.specs.Plans.{all_true}
 use Rattle.grep_definitions.specs.Questions.{IsLawfulFor}
 use Rattle.grep_walk.specs.LookAheads.{IsBounded, IsKnown}
+use Rattle.grep_walk.specs.Origins.{Origin}
 use Rattle.grep_walk.specs.Walks.{IsOrdered}
 use Rattle.grep_walk.specs.Windows.{HasSearched}
 use Rattle.grep_core.proofs.search.Search.search_window.Given as goal
@@ -15,17 +16,17 @@ invariant-lines g l = record {
   ordered : IsOrdered l.walk;
   bounded : IsBounded l.window l.ahead;
   known : IsLawfulFor l.self.config (g.M.Matcher.meaning l.matcher) (g.M.Matcher.is_lawful l.matcher)
-      → (gone input : List ℕ) (first : g.row.C-Sink.Denot)
+      → (gone input : List ℕ) (first : Origin g.row.C-Sink.Denot)
       → HasSearched g.C.Calls.step l.self.config (g.M.Matcher.meaning l.matcher) gone l.window input first l.fn.start
       l.fn.walk l.fn.sink
       → IsKnown l.self.config (g.M.Matcher.meaning l.matcher) l.window l.start l.ahead;
   searched : IsLawfulFor l.self.config (g.M.Matcher.meaning l.matcher) (g.M.Matcher.is_lawful l.matcher)
-      → (gone input : List ℕ) (first : g.row.C-Sink.Denot)
+      → (gone input : List ℕ) (first : Origin g.row.C-Sink.Denot)
       → HasSearched g.C.Calls.step l.self.config (g.M.Matcher.meaning l.matcher) gone l.window input first l.fn.start
       l.fn.walk l.fn.sink
       → HasSearched g.C.Calls.step l.self.config (g.M.Matcher.meaning l.matcher) gone l.window input first l.start
       l.walk l.sink;
-  called : HasCalled g.C.Calls.step l.self.config l.fn.sink all_true l.sink;
+  called : HasCalled g.C.Calls.step l.self.config 0 l.fn.sink all_true l.sink;
   may_call : g.C.Calls.may_call l.sink;
 }
 

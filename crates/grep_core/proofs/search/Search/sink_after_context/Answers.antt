@@ -16,4 +16,4 @@ pub returns-in_default-clause-called : goal.returns-in_default-clause-called
 returns-in_default-clause-called g c = λ stop.
     called-one g.C.Calls.step c.args.self.now.config _ stop c.args.sink.now c.sink_context.result
     c.sink_context.new.sink
-    c.sink_context.ensures.step refl
+    c.sink_context.ensures.step refl refl

@@ -1,10 +1,9 @@
 use Rattle.std.proofs.Common.{rules, ◌≡◌, ◌-◌, true, false}
 use Rattle.std.proofs.lemmas.Bool.{le-leb}
 use Rattle.grep_report.specs.declared.sink_context.SinkContextKind.TheVariants.{Before}
-use Rattle.grep_definitions.specs.SinkCalls.{context}
+use Rattle.grep_definitions.specs.Plans.{context, stopped, counted}
 use Rattle.grep_definitions.specs.LineTurns.{number_of, is_gap}
-use Rattle.grep_definitions.specs.SinkRuns.{stopped}
-use Rattle.grep_definitions.proofs.SinkRunLemmas.{AreReported-broken, AreReported-unbroken}
+use Rattle.grep_definitions.proofs.SinkRunLemmas.{AreMade-broken, AreMade-unbroken}
 use Rattle.grep_core.proofs.search.Search.sink_before_line.Goals as goal
 
 pub returns-then-not-branch-clause-reported : goal.returns-then-not-branch-clause-reported
@@ -14,11 +13,11 @@ returns-then-not-branch-clause-reported g c =
     let near = le-leb (w.line - c.args.index) c.args.self.now.config.before_context c.requires.near in
     let stops : c.in_ok-sink_break.field-0 ≡ false = search rules in
     let reported = rw (stops, gap) at c.in_ok-sink_break.ensures.reported in
-    rw near (λ end. AreReported-unbroken g.C.Calls.step c.args.self.now.config
+    rw near (λ end. AreMade-unbroken g.C.Calls.step c.args.self.now.config
     (is_gap c.args.self.now.config w.next_unreported
     c.args.index w.line)
     (context Before (number_of c.args.self.now.config c.args.index) c.args.offset c.args.line.now) end c.args.sink.now
-    (stopped end) c.sink_break.new.sink (λ x. cc) (reported end))
+    (stopped (counted end)) c.sink_break.new.sink (λ x. cc) (reported end))
 
 pub returns-clause-reported : goal.returns-clause-reported
 returns-clause-reported g c =
@@ -27,7 +26,7 @@ returns-clause-reported g c =
     let near = le-leb (w.line - c.args.index) c.args.self.now.config.before_context c.requires.near in
     let goes : c.in_ok-sink_break.field-0 ≡ true = search rules in
     let reported = rw (goes, gap) at c.in_ok-sink_break.ensures.reported in
-    rw near (λ end. AreReported-broken g.C.Calls.step c.args.self.now.config
+    rw near (λ end. AreMade-broken g.C.Calls.step c.args.self.now.config
     (is_gap c.args.self.now.config w.next_unreported
     c.args.index w.line)
     (context Before (number_of c.args.self.now.config c.args.index) c.args.offset c.args.line.now) end c.args.sink.now

@@ -1,7 +1,7 @@
 use Rattle.std.proofs.Common.{rules, arith, ◌≡◌, ◌-◌, subst, drop, length-take, length-drop, true, false}
 use Rattle.std.proofs.lemmas.Result.{err_from_is_err_and}
 use Rattle.grep_definitions.specs.LineTurns.{number_of, pending_turns}
-use Rattle.grep_definitions.specs.SinkRuns.{AreReported, all_true, stopped, failed}
+use Rattle.grep_definitions.specs.Plans.{AreMade, all_true, stopped, failed, counted}
 use Rattle.grep_walk.proofs.BeforeContextLemmas as before
 use Rattle.grep_walk.proofs.WindowLemmas as windows
 use Rattle.grep_lines.specs.Positions.{slice}
@@ -35,7 +35,7 @@ returns-then-not-branch-clause-reported g c =
     c.sink_before_line.new.sink
     c.args.index c.loop-at.at c.loop-at.position c.in-Some.next c.loop-at.offset (c.loop-at.invariant.at gone from) line
     c.loop-at.invariant.same c.loop-at.invariant.low (c.loop-at.invariant.reported gone input inside from end)
-    (stopped end) (here end) c.loop-at-test.true (λ x. cc)
+    (stopped (counted end)) (here end) c.loop-at-test.true (λ x. cc)
 
 pub returns-in_default-clause-reported : goal.returns-in_default-clause-reported
 returns-in_default-clause-reported g c = λ gone input inside from end.
@@ -50,7 +50,7 @@ pub returns-clause-reported : goal.returns-clause-reported
 returns-clause-reported g c = λ gone input inside from end.
     let w = c.args.walk.now in
     let all : c.loop-at.at ≡ w.line = omega (arith, c.loop-at.invariant.below, c.loop-at-test.false) in
-    subst (λ m. AreReported g.C.Calls.step c.args.self.now.config c.args.sink.now
+    subst (λ m. AreMade g.C.Calls.step c.args.self.now.config c.args.sink.now
     (pending_turns c.args.self.now.config input w.next_unreported w.line end c.args.index (m - c.args.index)) all_true
     c.loop-at.sink) all
     (c.loop-at.invariant.reported gone input inside from end)
@@ -107,9 +107,9 @@ pub returns-then-not-branch-clause-called : goal.returns-then-not-branch-clause-
 returns-then-not-branch-clause-called g c = λ end.
     let stops : c.in_ok-sink_before_line.field-0 ≡ false = search rules in
     let here = rw stops at c.in_ok-sink_before_line.ensures.reported in
-    called-then g.C.Calls.step c.args.self.now.config c.args.sink.now c.loop-at.sink (stopped end)
+    called-then g.C.Calls.step c.args.self.now.config c.args.sink.now c.loop-at.sink (stopped (counted end))
     c.sink_before_line.new.sink c.loop-at.invariant.called (called-before g.C.Calls.step c.args.self.now.config
     c.args.walk.now.next_unreported c.loop-at.at c.args.walk.now.line (number_of c.args.self.now.config c.loop-at.at)
     c.loop-at.offset
-    end (slice c.args.window.now c.loop-at.position c.in-Some.next) c.loop-at.sink (stopped end)
+    end (slice c.args.window.now c.loop-at.position c.in-Some.next) c.loop-at.sink (stopped (counted end))
     c.sink_before_line.new.sink (here end))

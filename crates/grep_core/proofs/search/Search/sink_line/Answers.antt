@@ -2,8 +2,9 @@ use Rattle.std.proofs.Common.{rules, ◌≡◌, ◌-◌, true, false, refl}
 use Rattle.std.proofs.lemmas.Result.{err_from_is_err_and}
 use Rattle.grep_lines.specs.Positions.{slice}
 use Rattle.grep_definitions.specs.LineTurns.{pending_turns, match_turns}
-use Rattle.grep_definitions.specs.SinkRuns.{failed, stopped, outcome_of}
-use Rattle.grep_definitions.proofs.SinkRunLemmas.{AreReported-append, AreReported-ended}
+use Rattle.grep_definitions.specs.Plans.{failed, stopped, counted}
+use Rattle.grep_definitions.specs.SinkRuns.{outcome_of}
+use Rattle.grep_definitions.proofs.SinkRunLemmas.{AreMade-append, AreMade-ended}
 use Rattle.grep_walk.specs.Walks.{chooses, line_end}
 use Rattle.grep_definitions.proofs.CallOrderLemmas.{called-match, called-one, called-then}
 use Rattle.grep_core.proofs.search.Search.sink_line.Goals as goal
@@ -15,7 +16,7 @@ returns-in_err-sink_before_context-clause-reported g c =
     let here = slice c.args.window.now c.args.start c.args.end in
     let stop = line_end w here in
     let p = err_from_is_err_and c.from_residual.result c.from_residual.ensures.1 in
-    rw (p.1, p.2, chosen) (λ gone input inside. AreReported-ended g.C.Calls.step c.args.self.now.config
+    rw (p.1, p.2, chosen) (λ gone input inside. AreMade-ended g.C.Calls.step c.args.self.now.config
     (pending_turns c.args.self.now.config input w.next_unreported w.line stop w.next_unreported
     (w.line - w.next_unreported))
     (match_turns c.args.self.now.config w.next_unreported w.line w.offset stop here) c.args.sink.now
@@ -30,10 +31,11 @@ returns-then-not-branch-clause-reported g c =
     let stop = line_end w here in
     let stops : c.in_ok-sink_before_context.field-0 ≡ false = search rules in
     let reported = rw stops at c.in_ok-sink_before_context.ensures.reported in
-    rw chosen (λ gone input inside. AreReported-ended g.C.Calls.step c.args.self.now.config
+    rw chosen (λ gone input inside. AreMade-ended g.C.Calls.step c.args.self.now.config
     (pending_turns c.args.self.now.config input w.next_unreported w.line stop w.next_unreported
     (w.line - w.next_unreported))
-    (match_turns c.args.self.now.config w.next_unreported w.line w.offset stop here) c.args.sink.now (stopped stop)
+    (match_turns c.args.self.now.config w.next_unreported w.line w.offset stop here) c.args.sink.now (stopped (counted
+    stop))
     c.sink_before_context.new.sink (λ e. cc) (reported gone input inside stop))
 
 pub returns-then-is_chosen-clause-reported : goal.returns-then-is_chosen-clause-reported
@@ -44,7 +46,7 @@ returns-then-is_chosen-clause-reported g c =
     let stop = line_end w here in
     let goes : c.in_ok-sink_before_context.field-0 ≡ true = search rules in
     let reported = rw goes at c.in_ok-sink_before_context.ensures.reported in
-    rw chosen (λ gone input inside. AreReported-append g.C.Calls.step c.args.self.now.config
+    rw chosen (λ gone input inside. AreMade-append g.C.Calls.step c.args.self.now.config
     (pending_turns c.args.self.now.config input w.next_unreported w.line stop w.next_unreported
     (w.line - w.next_unreported))
     (match_turns c.args.self.now.config w.next_unreported w.line w.offset stop here) c.args.sink.now
@@ -72,4 +74,4 @@ returns-then-is_chosen-clause-called g c = λ stop.
 pub returns-then-self-clause-called : goal.returns-then-self-clause-called
 returns-then-self-clause-called g c = λ stop.
     called-one g.C.Calls.step c.args.self.now.config _ stop c.args.sink.now c.sink_context.result
-    c.sink_context.new.sink c.sink_context.ensures.step refl
+    c.sink_context.new.sink c.sink_context.ensures.step refl refl

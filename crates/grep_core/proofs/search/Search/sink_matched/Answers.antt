@@ -1,10 +1,9 @@
 use Rattle.std.proofs.Common.{rules, ◌≡◌, ◌&&◌, true, false}
 use Rattle.std.specs.Prelude.{nat_lt}
 use Rattle.grep_lines.specs.Positions.{slice}
-use Rattle.grep_definitions.specs.SinkCalls.{matches}
+use Rattle.grep_definitions.specs.Plans.{matches, stopped, counted}
 use Rattle.grep_definitions.specs.LineTurns.{number_of, is_gap}
-use Rattle.grep_definitions.specs.SinkRuns.{stopped}
-use Rattle.grep_definitions.proofs.SinkRunLemmas.{AreReported-broken, AreReported-unbroken}
+use Rattle.grep_definitions.proofs.SinkRunLemmas.{AreMade-broken, AreMade-unbroken}
 use Rattle.grep_core.proofs.search.Search.sink_matched.Goals as goal
 
 pub returns-then-not-branch-clause-reported : goal.returns-then-not-branch-clause-reported
@@ -13,10 +12,10 @@ returns-then-not-branch-clause-reported g c =
     let gap = c.is_gap_before_match-is_gap.ensures in
     let stops : c.in_ok-sink_break.field-0 ≡ false = search rules in
     let reported = rw (stops, gap) at c.in_ok-sink_break.ensures.reported in
-    λ stop. AreReported-unbroken g.C.Calls.step c.args.self.now.config
+    λ stop. AreMade-unbroken g.C.Calls.step c.args.self.now.config
     (nat_lt 0 c.args.self.now.config.after_context && is_gap c.args.self.now.config w.next_unreported w.line w.line)
     (matches (number_of c.args.self.now.config w.line) w.offset (slice c.args.window.now c.args.start c.args.end)) stop
-    c.args.sink.now (stopped stop) c.sink_break.new.sink (λ x. cc) (reported stop)
+    c.args.sink.now (stopped (counted stop)) c.sink_break.new.sink (λ x. cc) (reported stop)
 
 pub returns-clause-reported : goal.returns-clause-reported
 returns-clause-reported g c =
@@ -26,7 +25,7 @@ returns-clause-reported g c =
     let reported = rw (goes, gap) at c.in_ok-sink_break.ensures.reported in
     let number = c.number-number.ensures in
     let step = rw (c.new-found.ensures, number) at c.matched.ensures.step in
-    λ stop. AreReported-broken g.C.Calls.step c.args.self.now.config
+    λ stop. AreMade-broken g.C.Calls.step c.args.self.now.config
     (nat_lt 0 c.args.self.now.config.after_context && is_gap c.args.self.now.config w.next_unreported w.line w.line)
     (matches (number_of c.args.self.now.config w.line) w.offset (slice c.args.window.now c.args.start c.args.end)) stop
     c.args.sink.now c.sink_break.new.sink c.matched.result c.matched.new.sink (reported stop) step

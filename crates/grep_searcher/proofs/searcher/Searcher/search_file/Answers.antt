@@ -1,9 +1,9 @@
-use Rattle.std.specs.Prelude.{Result, Ok, Err, IfErr}
 use Rattle.grep_definitions.specs.FileSearches.{IsFileRead}
 use Rattle.grep_definitions.proofs.ReaderViewLemmas.{IsReaderSearched-seen, IsReadingError-seen, IsUnread-seen}
 use Rattle.grep_searcher.specs.declared.searcher.files.Opened.{Opened}
-use Rattle.grep_definitions.specs.Searches.{errors_by, facts_by}
-use Rattle.grep_definitions.proofs.CallOrderLemmas.{order-each}
+use Rattle.grep_definitions.specs.Parties.{errors_by, facts_by}
+use Rattle.grep_definitions.proofs.CallOrderLemmas.{in_order-each}
+use Rattle.grep_searcher.proofs.SourceSearchLemmas.{if_err-each}
 use Rattle.grep_searcher.proofs.searcher.Searcher.search_file.Goals as goal
 
 pub returns-clause-in_order : goal.returns-clause-in_order
@@ -11,7 +11,7 @@ returns-clause-in_order g c = λ allowed.
     let errors = errors_by g.S.Error.SinkError.is_message g.S.Error.SinkError.is_io g.S.Error.SinkError.is_config in
     let facts = facts_by g.M.Matcher.meaning g.M.Matcher.fails g.M.Matcher.is_lawful g.M.Error.Display.output
     c.args.matcher in
-    order-each g.S.Sink.step c.args.self.now.settings errors facts _ _
+    in_order-each g.S.Sink.step c.args.self.now.settings errors facts _ _
     (IsReadingError-seen (λ (reader : Opened g.row.F.Denot). reader.file.now) (λ reader. reader.file.ghost_name)
     g.F.Read.remaining _ (IsFileRead g.F.Read.remaining) (λ s result t read. read)
     c.args.self.now _ c.search_reader.new.reader c.file-1.given.0 c.file-1.given.1)
@@ -37,18 +37,14 @@ returns-clause-searched g c =
 
 pub returns-clause-succeeds : goal.returns-clause-succeeds
 returns-clause-succeeds g c = λ never_fails infallible lawful allowed.
-    err-seen c.search_reader.result (λ e unread. (
+    if_err-each _ _ c.search_reader.result (λ e unread. (
       unread.0,
       unread.1,
+      unread.2,
       IsUnread-seen (λ (reader : Opened g.row.F.Denot). reader.file.now) (λ reader. reader.file.ghost_name)
           g.F.Read.remaining _ (IsFileRead g.F.Read.remaining) (λ s result t read. read)
           c.args.self.now _ c.search_reader.new.reader c.file-1.given.0 c.file-1.given.1
           (g.M.Matcher.meaning c.args.matcher)
-          unread.0 unread.1 unread.2,
-      unread.3,
+          unread.0 unread.1 unread.2 unread.3,
+      unread.4,
     )) (c.search_reader.ensures.succeeds never_fails infallible lawful allowed)
-  where
-    err-seen : {T E : Type 0} {P Q : E → Type 0} (result : Result T E) → ((e : E) → P e → Q e) → IfErr result P
-        → IfErr result Q
-    err-seen (Ok u) seen unread = tt
-    err-seen (Err e) seen unread = seen e unread

@@ -1,0 +1,36 @@
+-- What a search of a slice does: it is searched as it is, or as a reader that has its bytes.
+use Rattle.std.specs.Prelude.{◌≡◌, ◌++◌, ℕ, Bool, true, false, List, Some, Result, Ok, Err}
+use Rattle.std.specs.declared.io.Error.{Error}
+use Rattle.grep_decode.specs.Source.{ReadResult}
+use Rattle.grep_matcher.specs.Meanings.{Meaning}
+use Rattle.grep_definitions.specs.Parties.{ErrorMakers, MatcherFacts}
+use Rattle.grep_definitions.specs.PlannedSearches.{IsReaderSearched, IsSliceSearch, IsUnlessRefused}
+use Rattle.grep_definitions.specs.Plans.{Steps}
+use Rattle.grep_definitions.specs.Readings.{is_searched_unchanged, IsUnread}
+use Rattle.grep_definitions.specs.Settings.{SearcherState}
+
+-- a read of a slice gives bytes from its front, and none fails
+abbrev pub IsSliceRead : List ℕ → ReadResult → List ℕ → Type 0
+IsSliceRead old (Ok bytes) new = old ≡ bytes ++ new
+IsSliceRead old (Err e) new = ⊥
+
+module _ {S E F : Type 0} (step : Steps S E) (errors : ErrorMakers E) (matcher : MatcherFacts F)
+    (state : SearcherState) (input : List ℕ) where
+  -- by whether it is searched as it is: if it isn't, it is read, and some of it may be left
+  abbrev pub IsSliceSearchedIf : Bool → S → Result (Unit {0}) E → S → Type 0
+  IsSliceSearchedIf true old result new =
+      IsUnlessRefused errors matcher state.settings old result new (Unit {0})
+      (IsSliceSearch step errors matcher state.settings input old result new)
+  IsSliceSearchedIf false old result new =
+      (rest : List ℕ) × IsReaderSearched (λ all. Some all) IsSliceRead step errors matcher state
+      input old result rest new
+
+  -- what a search of a slice promises
+  abbrev pub IsSliceSearched : S → Result (Unit {0}) E → S → Type 0
+  IsSliceSearched = IsSliceSearchedIf (is_searched_unchanged state.settings input)
+
+-- why a slice wasn't searched to its end: it has to be decoded, and wasn't to its end
+abbrev pub IsUndecoded : SearcherState → Meaning → List ℕ → Bool → List ℕ → Error → Type 0
+IsUndecoded state meaning input begun seen error =
+    (is_searched_unchanged state.settings input ≡ false) × (rest : List ℕ)
+    × IsUnread (λ all. Some all) IsSliceRead state meaning input begun seen error rest

@@ -1,0 +1,142 @@
+//! Searches of readers.
+ghost use Rattle.std.specs.Prelude.{◌≡◌, ℕ, Bool, true, false, List, None, IfErr, OnOk};
+ghost use Rattle.std.specs.declared.io.Error.{Error};
+ghost use Rattle.grep_matcher.specs.Meanings.{IsInfallible};
+ghost use Rattle.grep_definitions.specs.Asking.{IsLawfulFor};
+ghost use Rattle.grep_definitions.specs.BinaryBytes.{look_of};
+ghost use Rattle.grep_definitions.specs.Parties.{errors_by, facts_by, refusal_of};
+ghost use Rattle.grep_definitions.specs.PlannedSearches.{IsInOrder, IsRead, IsReaderSearched};
+ghost use Rattle.grep_definitions.specs.Plans.{NeverFails};
+ghost use Rattle.grep_definitions.specs.Readings.{IsReadingError, IsUnread};
+ghost use Rattle.grep_definitions.specs.Reports.{is_at};
+
+use crate::searcher::Searcher;
+use crate::searcher::sink_calls::SinkCalls;
+use crate::sink::Sink;
+use grep_decode::Source;
+use grep_matcher::Matcher;
+use grep_report::SinkError;
+use std::alloc::Allocator;
+
+impl<A: Allocator + Copy> Searcher<A> {
+    /// Searches the decoded bytes of a reader, line by line as they come, in bounded memory, and
+    /// reports to the sink what it finds, as `search_slice` does. The caller ensures that the sink
+    /// may be called.
+    ///
+    /// By line `begin` comes before any read. The reader is read no further than the search needs:
+    /// a false, the limit or a stop ends it without another read (at a limit of 0 it may be read
+    /// once under binary detection), and so does an unterminated last line. A buffer shows whole
+    /// lines; between two reads it keeps at most as many of them as are reported before a match. It
+    /// has 65,536 bytes at first, or the heap limit if that is lower, and grows to the heap limit.
+    ///
+    /// A search that is refused reads nothing and makes no call. An error of reading comes after
+    /// the reports of the lines before it, and nothing follows. It is made of
+    /// - the reader's error, unchanged; an interrupted read isn't tried again;
+    /// - one of kind `Other`, if the heap limit is reached: a line that is longer than the limit, or as long and
+    ///   unterminated, or with the lines that are kept before it as long as the limit;
+    /// - one of kind `InvalidData`, if the decoded bytes are more than 2^64 - 1;
+    /// - one of kind `OutOfMemory`, if the buffer has to grow and can't, which it never does under a heap limit of
+    ///   at most 65,536; or if the searcher has no buffers, as a clone that was made in a sink, and there is no
+    ///   memory for them: then the sink had no call.
+    ///
+    /// Under binary detection a search by line calls `binary_data` with the offset of the first
+    /// binary byte once the buffer has it, before the lines that were read with it are searched.
+    /// `BinaryDetection::Quit` ends the search there, and so does a false;
+    /// `BinaryDetection::Convert` goes on, and each binary byte is searched as the line
+    /// terminator's byte. `finish` has that offset then. A byte that ends lines isn't converted,
+    /// nor reported as binary.
+    ///
+    /// A search across lines (`multi_line_with_matcher`) first reads the reader to its end, and
+    /// keeps all decoded bytes in memory. If an error of reading comes then, the sink has no call:
+    /// the reader's error; one of kind `Other`, once as many decoded bytes have come as the heap
+    /// limit; or one of kind `OutOfMemory`. Binary detection is that of a slice that is searched as
+    /// it is.
+    ///
+    /// The settings stay as they were, and a searcher that has its buffers has them afterwards,
+    /// whatever comes.
+    pub fn search_reader<M: Matcher, R: Source, S: Sink>(
+        &mut self,
+        matcher: M,
+        reader: &mut R,
+        sink: &mut S,
+    ) -> Result<(), S::Error>
+    where
+        M: Drop,
+        S::Error: SinkError<A>,
+        requires { S.may_call sink.old }
+        ensures settings { self.new.settings ≡ self.old.settings }
+        ensures buffers { self.old.has_buffers ≡ true → self.new.has_buffers ≡ true }
+        ensures gets { OnOk result (self.new.has_buffers ≡ true) }
+        ensures searched { IsReaderSearched R.remaining R.step S.step
+            (errors_by S.Error.is_message S.Error.is_io S.Error.is_config)
+            (facts_by M.meaning M.fails M.is_lawful M.Error.output matcher)
+            self.old reader.old sink.old result reader.new sink.new }
+        ensures in_order { refusal_of self.old.settings (M.meaning matcher) ≡ None
+            → IsInOrder S.step
+            (errors_by S.Error.is_message S.Error.is_io S.Error.is_config)
+            (facts_by M.meaning M.fails M.is_lawful M.Error.output matcher) self.old.settings
+            (IsReadingError R.remaining R.step reader.old reader.new) sink.old result sink.new }
+        ensures succeeds { NeverFails S.step S.may_call → IsInfallible (M.fails matcher)
+            → IsLawfulFor self.old.settings (M.meaning matcher) (M.is_lawful matcher)
+            → refusal_of self.old.settings (M.meaning matcher) ≡ None
+            → IfErr result (λ e. (begun : Bool) × (seen : List ℕ) × (error : Error)
+            × IsUnread R.remaining R.step self.old
+            (M.meaning matcher) reader.old begun seen error reader.new
+            × S.Error.is_io error e) }
+        ensures may_call { S.may_call sink.new }
+    {
+        if let Some(refusal) = self.config.refusal(&matcher) {
+            return Err(S::Error::error_config(self.alloc, refusal));
+        }
+        self.search_source(&matcher, reader, sink)
+    }
+
+    // A search of a reader that isn't refused. The buffers are taken out, so that the searcher that
+    // a sink is lent has none, and put back whatever comes.
+    pub(crate) fn search_source<M: Matcher, R: Source, S: Sink>(
+        &mut self,
+        matcher: &M,
+        reader: &mut R,
+        sink: &mut S,
+    ) -> Result<(), S::Error>
+    where
+        S::Error: SinkError<A>,
+        requires allowed { is_at 0 self.old.settings.heap_limit ≡ false }
+        requires may_call { S.may_call sink.old }
+        ensures settings { self.new.settings ≡ self.old.settings }
+        ensures buffers { self.old.has_buffers ≡ true → self.new.has_buffers ≡ true }
+        ensures gets { OnOk result (self.new.has_buffers ≡ true) }
+        ensures searched { IsLawfulFor self.old.settings (M.meaning matcher.now)
+            (M.is_lawful matcher.now)
+            → IsRead R.remaining R.step S.step
+            (errors_by S.Error.is_message S.Error.is_io S.Error.is_config)
+            (facts_by M.meaning M.fails M.is_lawful M.Error.output matcher.now)
+            self.old (look_of self.old.settings (M.meaning matcher.now) false)
+            reader.old sink.old result reader.new sink.new }
+        ensures in_order { IsInOrder S.step
+            (errors_by S.Error.is_message S.Error.is_io S.Error.is_config)
+            (facts_by M.meaning M.fails M.is_lawful M.Error.output matcher.now) self.old.settings
+            (IsReadingError R.remaining R.step reader.old reader.new) sink.old result sink.new }
+        ensures succeeds { NeverFails S.step S.may_call → IsInfallible (M.fails matcher.now)
+            → IsLawfulFor self.old.settings (M.meaning matcher.now) (M.is_lawful matcher.now)
+            → IfErr result (λ e. (begun : Bool) × (seen : List ℕ) × (error : Error)
+            × IsUnread R.remaining R.step self.old
+            (M.meaning matcher.now) reader.old begun seen error reader.new
+            × S.Error.is_io error e) }
+        ensures may_call { S.may_call sink.new }
+    {
+        let mut buffers = match self.take_buffers() {
+            Ok(buffers) => buffers,
+            Err(error) => return Err(S::Error::error_io(self.alloc, error)),
+        };
+        let search = self.search();
+        let result = search.search_reader::<M, R, SinkCalls<S>>(
+            matcher,
+            &mut buffers,
+            reader,
+            sink,
+        );
+        self.put_back(buffers);
+        result
+    }
+}
