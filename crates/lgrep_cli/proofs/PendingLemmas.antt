@@ -14,7 +14,6 @@ both pending xs kept ys bytes split = sym (append_assoc pending xs ys)
     ∙ (ap (λ zs. zs ++ ys) split ∙ append_assoc bytes kept ys)
 
 module _ {W : Type 0} (write_step : W → OutputCall → W → Type 0) where
-
   pub Puts-none : (writer : W) (pending : List ℕ) → PutsAll write_step writer pending [] writer pending
   Puts-none writer pending = record { bytes = []; written = Writes-none write_step writer; split = append-nil pending }
 
