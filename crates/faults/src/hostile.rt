@@ -21,11 +21,11 @@ struct Erratic<M> {
 impl<M: Matcher> Matcher for Erratic<M> {
     type Error = M::Error;
 
-    ghost meaning = { λ m. M.meaning m.matcher };
-
-    ghost fails = { λ m. M.fails m.matcher };
-
-    ghost is_lawful = { λ _ _. ⊥ };
+    ghost facts = { λ m. record {
+      meaning = (M.facts m.matcher).meaning;
+      fails = (M.facts m.matcher).fails;
+      is_lawful = λ _. ⊥;
+    } };
 
     fn find(&self, haystack: &[u8]) -> Result<Option<Match>, M::Error> {
         self.matcher.find(haystack)

@@ -1,9 +1,8 @@
 -- A search of a reader across lines, for which all of it was read first.
 use Rattle.grep_definitions.specs.Plans.{planned, Planned, begins, finishes, Steps, Outcome, AreMade, IsFinished, IsRun}
 use Rattle.grep_definitions.specs.Plans.{finish_result, counted}
-use Rattle.std.proofs.Common.{◌≡◌, ℕ, ◌<◌, Bool, true, false, List, [], ◌∷◌, ◌++◌, length, Option, None, Result}
-use Rattle.std.proofs.Common.{Ok, Err}
-use Rattle.std.proofs.Common.{refl, sym, ◌∙◌, ap, subst, arith, ⊎_elim, inl, inr, append-nil, length-append, ◌≤◌}
+use Rattle.std.proofs.Common.{◌≡◌, ℕ, ◌<◌, Bool, true, false, List, [], ◌∷◌, ◌++◌, length, Option, None, Result, Ok}
+use Rattle.std.proofs.Common.{Err, refl, sym, ◌∙◌, ap, subst, arith, ⊎_elim, inl, inr, append-nil, length-append, ◌≤◌}
 use Rattle.std.proofs.lemmas.Bool.{false≢true}
 use Rattle.std.proofs.lemmas.List.Elements.{All-weaker}
 use Rattle.std.specs.declared.io.Error.{Error}
@@ -14,19 +13,18 @@ use Rattle.grep_line_buffer.specs.Fills.{IfRead, UnlessRead}
 use Rattle.grep_line_buffer.specs.declared.fill_error.FillError.{FillError}
 use Rattle.grep_line_buffer.specs.declared.fill_error.FillError.TheVariants.{Read, HeapLimit, Offset, Memory}
 use Rattle.grep_lines.specs.LineLaws.{LinesJoin}
-use Rattle.grep_matcher.specs.Lines.{lines}
-use Rattle.grep_matcher.specs.Matching.{Meaning}
-use Rattle.grep_matcher.specs.Terminators.{byte_of}
+use Rattle.grep_matcher.specs.Lines.{lines, byte_of}
+use Rattle.grep_matcher.specs.Meanings.{Meaning, MatcherFacts}
 use Rattle.grep_report.specs.declared.binary_detection.BinaryDetection.{BinaryDetection}
 use Rattle.grep_report.specs.declared.binary_detection.BinaryDetection.TheVariants.{None as no_detection, Quit, Convert}
 use Rattle.grep_definitions.specs.BinaryBytes.{look_at, view_of}
-use Rattle.grep_definitions.specs.DecodedInputs.{IsInput}
-use Rattle.grep_definitions.specs.InputFronts.{IsFront, IsTooLong}
-use Rattle.grep_definitions.specs.ReaderSearches.{Taken, IsContentsSearched, IsUnreadIn, IsReaderFaultIn}
-use Rattle.grep_definitions.specs.ReaderSearches.{of_contents, of_failed_read, of_reading, of_search}
-use Rattle.grep_definitions.specs.ReadingFaults.{CutsContents, IsBelowLimit, of_full, of_no_memory}
+use Rattle.grep_definitions.specs.Inputs.{IsInput, IsFront, IsTooLong, Taken, CutsContents, IsBelowLimit, of_full}
+use Rattle.grep_definitions.specs.Inputs.{of_no_memory}
+use Rattle.grep_definitions.specs.ReaderRuns.{IsContentsSearched, IsUnreadIn, IsReaderFaultIn, of_contents}
+use Rattle.grep_definitions.specs.ReaderRuns.{of_failed_read, of_reading, of_search}
 use Rattle.grep_definitions.specs.SearchTurns.{SearchCalls, calls_across}
-use Rattle.grep_definitions.specs.Searches.{ErrorMakers, MatcherFacts, IsFaultIn, IsQuitFault, IsRunUntil, of_sink}
+use Rattle.grep_report.specs.ErrorMakers.{ErrorMakers}
+use Rattle.grep_definitions.specs.ContentsSearches.{IsFaultIn, IsQuitFault, IsRunUntil, of_sink}
 use Rattle.grep_definitions.specs.Settings.{Settings, SearcherState}
 use Rattle.grep_definitions.proofs.LineLengthLemmas.{lines-within}
 use Rattle.grep_core.specs.InputSearches.{IsAcrossSearched, IsSearchedUntil, IsSourceSearchedIn}
@@ -88,7 +86,7 @@ module _ {R : Type 0} (remaining : R → Option (List ℕ)) (read_step : R → R
 
   -- all of it was read
   module _ (join : LinesJoin) (done : IsDone d) (below : IsBelow k.heap_limit (length given))
-      {S E F : Type 0} (step : Steps S E) (errors : ErrorMakers E) (matcher : MatcherFacts F) (has_buffers : Bool)
+      {S E F : Type 0} (step : Steps S E) (errors : ErrorMakers F E) (matcher : MatcherFacts F) (has_buffers : Bool)
       (old : S) where
     abbrev calls : SearchCalls
     calls = calls_across k matcher.meaning
@@ -236,7 +234,7 @@ module _ {R : Type 0} (remaining : R → Option (List ℕ)) (read_step : R → R
     (d' : DecoderState) (reader' : R) (reads : Decodes remaining read_step d reader given d' reader')
     (none : (d : DecoderState) (more : List ℕ) → IsDone d → still_to_give d more ≡ [])
     (join : LinesJoin) (done : IsDone d') (below : IsBelow k.heap_limit (length given))
-    {S E F : Type 0} (step : Steps S E) (errors : ErrorMakers E) (matcher : MatcherFacts F) (has_buffers : Bool)
+    {S E F : Type 0} (step : Steps S E) (errors : ErrorMakers F E) (matcher : MatcherFacts F) (has_buffers : Bool)
     (old : S) where
   from-start : Decodes remaining read_step (started capacity k.encoding k.bom_sniffing) reader given d' reader'
   from-start = subst (λ from. Decodes remaining read_step from reader given d' reader') start reads
@@ -272,7 +270,7 @@ module _ {R : Type 0} (remaining : R → Option (List ℕ)) (read_step : R → R
 -- all wasn't read: the sink had no call, wherever the search looks for a byte
 pub across-unread : {R : Type 0} (remaining : R → Option (List ℕ)) (read_step : R → ReadResult → R → Type 0)
     {S E F : Type 0}
-    (step : Steps S E) (errors : ErrorMakers E) (matcher : MatcherFacts F) (d : BinaryDetection) (state : SearcherState)
+    (step : Steps S E) (errors : ErrorMakers F E) (matcher : MatcherFacts F) (d : BinaryDetection) (state : SearcherState)
     (reader : R)
     (old : S) (error : Error) (e : E) (reader' : R)
     → ((view : List ℕ → List ℕ) → IsUnreadIn remaining read_step true view state matcher.meaning reader None error

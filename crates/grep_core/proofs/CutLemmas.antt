@@ -1,10 +1,9 @@
 -- A search of a stream between two fills, after `binary_data` or without it.
 use Rattle.grep_definitions.specs.Plans.{planned, AreMade, Planned, begins, binary_data, Steps, all_true, Outcome}
 use Rattle.grep_definitions.specs.Plans.{failed}
-use Rattle.std.proofs.Common.{◌≡◌, ℕ, ◌+◌, ◌-◌, ◌<◌, ◌≤◌, Bool, true, false, List, [], ◌++◌, ◌∷◌, length, take, Option, Some}
-use Rattle.std.proofs.Common.{None}
-use Rattle.std.proofs.Common.{Ok, Err, inl, inr, refl, sym, ◌∙◌, ap, subst, arith, append_assoc, length-append, is_some}
-use Rattle.std.proofs.Common.{append-nil, ⊎_elim}
+use Rattle.std.proofs.Common.{◌≡◌, ℕ, ◌+◌, ◌-◌, ◌<◌, ◌≤◌, Bool, true, false, List, [], ◌++◌, ◌∷◌, length, take, Option}
+use Rattle.std.proofs.Common.{Some, None, Ok, Err, inl, inr, refl, sym, ◌∙◌, ap, subst, arith, append_assoc}
+use Rattle.std.proofs.Common.{length-append, is_some, append-nil, ⊎_elim}
 use Rattle.std.proofs.lemmas.Bool.{cases_lt, false≢true}
 use Rattle.std.specs.Prelude.{◌&&◌, All}
 use Rattle.std.specs.declared.io.Error.{Error}
@@ -15,23 +14,18 @@ use Rattle.grep_line_buffer.specs.BufferStates.{BufferState, held, is_cut, IsFil
 use Rattle.grep_line_buffer.specs.Detections.{detected, found_in, is_quit}
 use Rattle.grep_line_buffer.specs.Fills.{Fills}
 use Rattle.grep_lines.specs.LineLaws.{LinesJoin, LinesAppend}
-use Rattle.grep_matcher.specs.Lines.{lines}
-use Rattle.grep_matcher.specs.Matching.{Meaning}
-use Rattle.grep_matcher.specs.Terminators.{byte_of}
-use Rattle.grep_definitions.specs.BinaryBytes.{binary_of, on_stream, view_of}
-use Rattle.grep_definitions.specs.Below.{joined_from}
-use Rattle.grep_definitions.specs.BinaryPlans
-use Rattle.grep_definitions.specs.BinaryPlans.{IsCutAt, quits}
-use Rattle.grep_definitions.specs.DecodedInputs.{IsInput}
-use Rattle.grep_definitions.specs.InputFronts.{IsClosed, IsFront}
+use Rattle.grep_matcher.specs.Lines.{lines, byte_of}
+use Rattle.grep_matcher.specs.Meanings.{Meaning, MatcherFacts}
+use Rattle.grep_definitions.specs.BinaryBytes.{binary_of, on_stream, view_of, quits}
+use Rattle.grep_definitions.specs.Reports.{joined_from}
+use Rattle.grep_definitions.specs.BinaryBytes
+use Rattle.grep_definitions.specs.Searches.{IsCutAt, IsCutSearch, IsReaderSearch}
+use Rattle.grep_definitions.specs.Inputs.{IsInput, IsClosed, IsFront, IsCut, reports_nothing, Taken}
 use Rattle.grep_definitions.specs.LineSearch
 use Rattle.grep_definitions.specs.LineWalks.{IsNear, IsOpen}
 use Rattle.grep_definitions.specs.LineSearch.{turns, turns_before}
-use Rattle.grep_definitions.specs.Modes.{is_across}
-use Rattle.grep_definitions.specs.PlannedSearches.{IsCutSearch, IsReaderSearch}
-use Rattle.grep_definitions.specs.Readings.{IsCut}
-use Rattle.grep_definitions.specs.ReaderSearches.{reports_nothing, Taken}
-use Rattle.grep_definitions.specs.Searches.{ErrorMakers, MatcherFacts}
+use Rattle.grep_definitions.specs.Asking.{is_across}
+use Rattle.grep_report.specs.ErrorMakers.{ErrorMakers}
 use Rattle.grep_definitions.specs.Settings.{Settings}
 use Rattle.grep_definitions.proofs.FirstTurnLemmas.{turns-seen}
 use Rattle.grep_definitions.proofs.LimitLemmas.{turn_above, turn_all}
@@ -39,8 +33,8 @@ use Rattle.grep_definitions.proofs.SearchLawLemmas.{turn_count-le}
 use Rattle.grep_walk.specs.declared.walk.Walk.{Walk}
 use Rattle.grep_core.specs.HeldViews.{HoldsGiven}
 use Rattle.grep_core.specs.BinaryCalls.{FailsAtBinary, PassesBinary, Noted}
-use Rattle.grep_core.specs.Rolls.{HasEnded, HasSeen, HasTold, IsCountedFor}
-use Rattle.grep_core.specs.Rolls.{IsBetween, IsReadingOn, IsReady, IsRolling, IsStreamCounted, IsTold, start_in}
+use Rattle.grep_core.specs.Rolls.{HasEnded, HasSeen, HasTold, IsCountedFor, IsBetween, IsReadingOn, IsReady, IsRolling}
+use Rattle.grep_core.specs.Rolls.{IsStreamCounted, IsTold, start_in}
 use Rattle.grep_core.specs.SearchBuffers.{IsFitting, detection_of}
 use Rattle.grep_core.proofs.HeldLemmas as holding
 use Rattle.grep_core.proofs.HeldLemmas.{FillsContinue}
@@ -173,7 +167,7 @@ module _ {R : Type 0} (remaining : R → Option (List ℕ)) (read_step : R → R
         ∙ unfound)
 
     -- what was seen when the input wasn't searched to its end
-    pub cut-short : sink.binary ≡ old.binary → {F : Type 0} (errors : ErrorMakers E) (facts : MatcherFacts F)
+    pub cut-short : sink.binary ≡ old.binary → {F : Type 0} (errors : ErrorMakers F E) (facts : MatcherFacts F)
         (has_buffers : Bool) (r' : R) (e : E) (io : Error) (mid : R) (taken : Taken remaining read_step reader mid)
         → ((bytes : List ℕ) → IsInput k taken.ended taken.pieces bytes
         → (later : List ℕ) × (bytes ≡ so_far.given ++ later))
@@ -349,12 +343,12 @@ module _ {R : Type 0} (remaining : R → Option (List ℕ)) (read_step : R → R
           -- or the search ends there
           module _ (settled : IsSettled d'.mode) (passing : d'.mode ≡ Passing → (length d'.ready ≤ 3) × (d'.held ≡ []))
               (outcome : Outcome E) (last : S)
-              (called : AreMade step k sink.sink (BinaryPlans.told (quitting.point remaining read_step join append
+              (called : AreMade step k sink.sink (BinaryBytes.told (quitting.point remaining read_step join append
               step k meaning by_line built reader first r'
               (taken-so_far so_far.gone raw old new d' r' held_now.1 so_far.detects ends_at same) seen offset cut-input
               sink.sink (plain-so_far unknown)) ∷ []) outcome last)
               (ends : outcome ≡ all_true → quits k.binary_detection ≡ true) where
-            cut-failed : {F : Type 0} (errors : ErrorMakers E) (facts : MatcherFacts F) (has_buffers : Bool) (e : E)
+            cut-failed : {F : Type 0} (errors : ErrorMakers F E) (facts : MatcherFacts F) (has_buffers : Bool) (e : E)
                 → outcome ≡ failed e
                 → IsReaderSearch remaining read_step step errors (record facts { meaning = meaning })
                 (record { settings = k; has_buffers = has_buffers }) on_stream reader first (Err e) r' last
@@ -402,7 +396,7 @@ module _ {R : Type 0} (remaining : R → Option (List ℕ)) (read_step : R → R
 
         -- `binary_data` failed
         pub fault-cut : IsSettled d'.mode → (d'.mode ≡ Passing → (length d'.ready ≤ 3) × (d'.held ≡ []))
-            → {F : Type 0} (errors : ErrorMakers E) (facts : MatcherFacts F) (has_buffers : Bool) (e : E)
+            → {F : Type 0} (errors : ErrorMakers F E) (facts : MatcherFacts F) (has_buffers : Bool) (e : E)
             (sink' : Noted S)
             → FailsAtBinary step k new.binary sink e sink'
             → IsReaderSearch remaining read_step step errors (record facts { meaning = meaning })
@@ -649,7 +643,7 @@ module _ {R : Type 0} (remaining : R → Option (List ℕ)) (read_step : R → R
             filled room within none done w' last ended settled passing))
 
         -- or it ended in an error
-        pub fault-shown : {F : Type 0} (errors : ErrorMakers E) (facts : MatcherFacts F) (has_buffers : Bool) (e : E)
+        pub fault-shown : {F : Type 0} (errors : ErrorMakers F E) (facts : MatcherFacts F) (has_buffers : Bool) (e : E)
             (last : S)
             → ((gone : List ℕ) (start : Origin S) → IsReady step k meaning gone new.shown (start_in new w)
             start w sink'.sink

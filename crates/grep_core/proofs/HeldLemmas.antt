@@ -1,13 +1,13 @@
 -- What a line buffer holds of the bytes that a decoder gave, after one more fill, and in the view of an input.
-use Rattle.std.proofs.Common.{◌≡◌, ℕ, ◌+◌, ◌≤◌, true, false, List, ◌++◌, length, Option, None, Some}
-use Rattle.std.proofs.Common.{sym, ◌∙◌, ap, arith, append_assoc, length-append}
+use Rattle.std.proofs.Common.{◌≡◌, ℕ, ◌+◌, ◌≤◌, true, false, List, ◌++◌, length, Option, None, Some, sym, ◌∙◌, ap}
+use Rattle.std.proofs.Common.{arith, append_assoc, length-append}
 use Rattle.grep_decode.specs.DecoderStates.{DecoderState, Decodes}
 use Rattle.grep_decode.specs.Source.{ReadResult}
 use Rattle.grep_line_buffer.specs.BufferStates.{BufferState, held, is_cut, IsSameBuffer}
 use Rattle.grep_line_buffer.specs.Detections.{detected, found_in, is_quit}
 use Rattle.grep_line_buffer.specs.Fills.{Fills}
 use Rattle.grep_line_buffer.proofs.DetectionLemmas.{length-detected, uncut-none}
-use Rattle.grep_matcher.specs.Terminators.{byte_of}
+use Rattle.grep_matcher.specs.Lines.{byte_of}
 use Rattle.grep_definitions.specs.BinaryBytes.{before_quit, view_of}
 use Rattle.grep_definitions.specs.Settings.{Settings}
 use Rattle.grep_core.specs.HeldViews.{HoldsGiven}

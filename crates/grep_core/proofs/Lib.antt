@@ -3,7 +3,7 @@ pub mod CutLemmas
 pub mod FirstPositionLemmas
 pub mod HeldLemmas
 pub mod LookLemmas
-pub mod ModeLemmas
+pub mod ReaderModeLemmas
 pub mod NotedLemmas
 pub mod OrderLemmas
 pub mod QuitPlanLemmas

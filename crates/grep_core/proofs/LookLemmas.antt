@@ -4,13 +4,13 @@ use Rattle.std.proofs.Common.{length}
 use Rattle.std.proofs.lemmas.Option.{none-some, same_Some}
 use Rattle.grep_core.specs.InputSearches.{IsBytesSearched, IsSearchedUntil}
 use Rattle.grep_definitions.specs.BinaryBytes.{in_contents, is_detecting, look_at, nowhere}
-use Rattle.grep_definitions.specs.Asking.{search_plan}
-use Rattle.grep_definitions.specs.BinaryPlans.{IsPoint}
-use Rattle.grep_definitions.specs.Modes.{is_across}
-use Rattle.grep_definitions.specs.PlannedSearches.{IsSearchOf, IsSliceSearch, ran}
+use Rattle.grep_definitions.specs.Asking.{search_plan, is_across}
+use Rattle.grep_definitions.specs.Searches.{IsPoint, IsSearchOf, ran}
+use Rattle.grep_definitions.specs.SliceSearches.{IsSliceSearch}
 use Rattle.grep_definitions.specs.Plans.{IsRun, Steps}
 use Rattle.grep_definitions.specs.SearchTurns.{calls_if, search_turns, search_byte_count}
-use Rattle.grep_definitions.specs.Searches.{ErrorMakers, MatcherFacts}
+use Rattle.grep_report.specs.ErrorMakers.{ErrorMakers}
+use Rattle.grep_matcher.specs.Meanings.{MatcherFacts}
 use Rattle.grep_definitions.specs.Settings.{Settings}
 use Rattle.grep_definitions.specs.SinkRuns.{plan_of}
 use Rattle.grep_definitions.proofs.PlanLemmas.{plans-turns}
@@ -38,7 +38,7 @@ look-detects (Quit c) b is = refl
 look-detects (Convert c) b is = absurd (none-some b is)
 
 -- a search of whole contents up to a byte is what is defined of one that looks for it, in the mode that it runs in
-module _ {S E F : Type 0} (step : Steps S E) (errors : ErrorMakers E) (matcher : MatcherFacts F) (k : Settings)
+module _ {S E F : Type 0} (step : Steps S E) (errors : ErrorMakers F E) (matcher : MatcherFacts F) (k : Settings)
     (bytes : List ℕ)
     (old : S) where
   along : (result : Result (Unit {0}) E) {new : S}

@@ -7,7 +7,7 @@ use Rattle.grep_line_buffer.specs.Detections.{first_of, is_quit}
 use Rattle.grep_report.specs.BinaryDetections.{quit_byte_of}
 use Rattle.grep_report.specs.declared.binary_detection.BinaryDetection.{BinaryDetection}
 use Rattle.grep_report.specs.declared.binary_detection.BinaryDetection.TheVariants.{None as no_detection, Quit, Convert}
-use Rattle.grep_definitions.specs.BinaryPlans.{quits}
+use Rattle.grep_definitions.specs.BinaryBytes.{quits}
 use Rattle.grep_definitions.specs.Settings.{Settings}
 use Rattle.grep_definitions.specs.Plans.{Steps}
 use Rattle.grep_core.specs.BinaryCalls.{Noted, PassesBinary}

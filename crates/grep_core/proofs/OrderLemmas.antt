@@ -1,7 +1,7 @@
 -- Calls in order of a sink that passes them on: one to which the first binary byte is noted, and one that looks for a
 -- byte in each report.
 use Rattle.std.proofs.Common.{◌≡◌, ℕ, Bool, true, false, Option, Some, None, length, List, [], refl, sym, ap, subst}
-use Rattle.std.proofs.Common.{◌∙◌, inl, inr, ◌+◌, ◌∷◌}
+use Rattle.std.proofs.Common.{◌∙◌, inl, inr, ◌+◌, ◌∷◌, ◌≤◌, arith}
 use Rattle.std.specs.Prelude.{Result, Ok, Err, ◌&&◌, is_none}
 use Rattle.std.specs.Option.{option_map}
 use Rattle.std.proofs.lemmas.Option.{none-some}
@@ -10,16 +10,15 @@ use Rattle.std.proofs.lemmas.List.Elements.{All-nil, All-cons}
 use Rattle.std.specs.declared.io.Error.{Error}
 use Rattle.grep_decode.specs.DecoderStates.{Calls, DecoderState, Decodes}
 use Rattle.grep_decode.specs.Source.{ReadResult}
-use Rattle.grep_definitions.specs.BinaryBytes.{is_detecting, position_of}
-use Rattle.grep_definitions.specs.CallOrder.{HasCalled, HasCalledTo, HasFailedRead, IsReadingError}
-use Rattle.grep_definitions.specs.BinaryPlans.{told}
-use Rattle.grep_definitions.specs.Searches.{ErrorMakers, MatcherFacts}
+use Rattle.grep_definitions.specs.BinaryBytes.{is_detecting, position_of, told}
+use Rattle.grep_definitions.specs.CallOrder.{HasCalled, HasCalledTo}
+use Rattle.grep_definitions.specs.Inputs.{HasFailedRead, IsReadingError}
+use Rattle.grep_report.specs.ErrorMakers.{ErrorMakers}
+use Rattle.grep_matcher.specs.Meanings.{MatcherFacts}
 use Rattle.grep_definitions.specs.Settings.{Settings}
-use Rattle.grep_definitions.specs.Plans.{Call, begins, matches, context, breaks, binary_data, finishes, Steps}
-use Rattle.grep_definitions.specs.Plans.{all_true, stopped, failed, IsRun, Planned, counted, planned}
+use Rattle.grep_definitions.specs.Plans.{Call, begins, matches, context, breaks, binary_data, finishes, Steps, all_true}
+use Rattle.grep_definitions.specs.Plans.{stopped, failed, IsRun, Planned, counted, planned, is_binary_data}
 use Rattle.grep_definitions.specs.SinkRuns.{outcome_of}
-use Rattle.grep_definitions.specs.Plans.{is_binary_data}
-use Rattle.std.proofs.Common.{◌≤◌, arith}
 use Rattle.grep_definitions.proofs.CallOrderLemmas as order
 use Rattle.grep_core.specs.declared.quitting.Quitting.{Quitting}
 use Rattle.grep_core.specs.BinaryCalls.{FailsAtBinary, Noted, PassesBinary}
@@ -33,7 +32,7 @@ use Rattle.grep_report.specs.declared.binary_detection.BinaryDetection.TheVarian
 use Rattle.grep_line_buffer.specs.declared.fill_error.FillError.{FillError}
 use Rattle.grep_line_buffer.specs.declared.fill_error.FillError.TheVariants.{Read, HeapLimit, Offset, Memory}
 use Rattle.grep_core.specs.QuittingSinks.{IsLookedAt, IsMadeAfter, Quits, count_to, ended, watch_of, first_quit}
-use Rattle.grep_definitions.specs.PlannedSearches.{IsInOrder, ran_in_order, comes_between}
+use Rattle.grep_definitions.specs.Searches.{IsInOrder, ran_in_order, comes_between}
 
 -- a buffer that looks for no byte finds none
 pub undetected : (d : BinaryDetection) (detection : Detection) (binary : Option ℕ) (f : ℕ → ℕ) (t : ℕ) (given : List ℕ)
@@ -274,7 +273,7 @@ module _ {S E : Type 0} (step : Steps S E) (k : Settings) where
     quits-begun old result new none (name, byte, (same, unbroken, made)) = (same ∙ none, made)
 
     -- a search that ends at a byte before its first line
-    pub quit-in-order : {F : Type 0} (errors : ErrorMakers E) (matcher : MatcherFacts F) {IsOfReading : Error → Type 0}
+    pub quit-in-order : {F : Type 0} (errors : ErrorMakers F E) (matcher : MatcherFacts F) {IsOfReading : Error → Type 0}
         (offset : ℕ) (old : S) (result : Result (Unit {0}) E) (new : S) → IsRun step k old (first_quit offset) result
         new
         → IsInOrder step errors matcher k IsOfReading old result new

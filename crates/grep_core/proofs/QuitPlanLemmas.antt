@@ -1,28 +1,26 @@
 -- A search of a stream that ends at `binary_data`, against its plan.
-use Rattle.std.proofs.Common.{◌≡◌, ◌≤◌, ℕ, ◌+◌, Bool, true, false, inl, inr, List, [], ◌∷◌, ◌++◌, Option, Some}
-use Rattle.std.proofs.Common.{refl, sym, ap, subst, ◌∙◌, length, take, Err}
+use Rattle.std.proofs.Common.{◌≡◌, ◌≤◌, ℕ, ◌+◌, Bool, true, false, inl, inr, List, [], ◌∷◌, ◌++◌, Option, Some, refl}
+use Rattle.std.proofs.Common.{sym, ap, subst, ◌∙◌, length, take, Err}
 use Rattle.std.proofs.lemmas.List.{append-nil}
 use Rattle.std.proofs.lemmas.Option.{none-some}
 use Rattle.std.specs.List.{concat}
 use Rattle.grep_decode.specs.Source.{ReadResult}
 use Rattle.grep_lines.specs.LineLaws.{LinesJoin, LinesAppend}
-use Rattle.grep_matcher.specs.Matching.{Meaning}
+use Rattle.grep_matcher.specs.Meanings.{Meaning, MatcherFacts}
 use Rattle.grep_report.specs.declared.binary_detection.BinaryDetection.{BinaryDetection}
-use Rattle.grep_definitions.specs.Asking.{search_plan}
-use Rattle.grep_definitions.specs.BinaryBytes.{on_stream, view_of}
-use Rattle.grep_definitions.specs.BinaryPlans.{BinaryPoint, IsCutAt, IsStreamPoint, plan_with, quits, told}
-use Rattle.grep_definitions.specs.DecodedInputs.{IsInput, passes_unchanged, searched_bytes}
+use Rattle.grep_definitions.specs.Asking.{search_plan, is_across}
+use Rattle.grep_definitions.specs.BinaryBytes.{on_stream, view_of, BinaryPoint, plan_with, quits, told}
+use Rattle.grep_definitions.specs.Searches.{IsCutAt, IsStreamPoint, IsReaderSearch, ran}
+use Rattle.grep_definitions.specs.Inputs.{IsInput, searched_bytes, Taken}
+use Rattle.grep_definitions.specs.DecodedInputs.{passes_unchanged}
 use Rattle.grep_definitions.specs.LineSearch
-use Rattle.grep_definitions.specs.Modes.{is_across}
-use Rattle.grep_definitions.specs.Parties.{ErrorMakers, MatcherFacts}
-use Rattle.grep_definitions.specs.PlannedSearches.{IsReaderSearch, ran}
-use Rattle.grep_definitions.specs.Plans.{AreMade, Finish, Planned, Plan, IsRun, Steps, Outcome, all_true}
-use Rattle.grep_definitions.specs.Plans.{stopped, failed}
-use Rattle.grep_definitions.specs.ReaderSearches.{Taken}
+use Rattle.grep_report.specs.ErrorMakers.{ErrorMakers}
+use Rattle.grep_definitions.specs.Plans.{AreMade, Finish, Planned, Plan, IsRun, Steps, Outcome, all_true, stopped}
+use Rattle.grep_definitions.specs.Plans.{failed}
 use Rattle.grep_definitions.specs.Settings.{Settings}
 use Rattle.grep_definitions.proofs.BoolLemmas.{clash}
 use Rattle.grep_definitions.proofs.FirstTurnLemmas.{turns-begin}
-use Rattle.grep_definitions.proofs.ModeLemmas.{plan-by_line}
+use Rattle.grep_definitions.proofs.SearchModeLemmas.{plan-by_line}
 use Rattle.grep_definitions.proofs.PlannedStreamLemmas.{stream-point, told-made}
 use Rattle.grep_core.specs.Rolls.{IsEnding, IsStreamCounted}
 
@@ -89,7 +87,7 @@ module _ {R : Type 0} (remaining : R → Option (List ℕ)) (read_step : R → R
         outcome last made-front called ends
 
     -- in an error of `binary_data`
-    pub failed-there : {F : Type 0} (errors : ErrorMakers E) (facts : MatcherFacts F) (has_buffers : Bool) (e : E)
+    pub failed-there : {F : Type 0} (errors : ErrorMakers F E) (facts : MatcherFacts F) (has_buffers : Bool) (e : E)
         → outcome ≡ failed e
         → IsReaderSearch remaining read_step step errors (record facts { meaning = meaning })
         (record { settings = k; has_buffers = has_buffers }) on_stream reader old (Err e) reader' last

@@ -1,14 +1,13 @@
 -- A search by a sink that looks for a byte in each report: the calls that it makes of the sink that it has.
 use Rattle.std.proofs.Common.{◌≡◌, ◌⊎◌, ℕ, zero, suc, ◌+◌, ◌-◌, ◌<◌, Bool, true, false, List, [], ◌∷◌, ◌++◌, take}
-use Rattle.std.proofs.Common.{if◌then◌else◌, ◌==◌, Result, Ok, Err}
-use Rattle.std.proofs.Common.{Option, None, Some, refl, sym, ap, ◌∙◌, arith, inl, inr, subst}
+use Rattle.std.proofs.Common.{if◌then◌else◌, ◌==◌, Result, Ok, Err, Option, None, Some, refl, sym, ap, ◌∙◌, arith, inl}
+use Rattle.std.proofs.Common.{inr, subst}
 use Rattle.std.specs.Prelude.{is_some}
 use Rattle.std.specs.List.{position}
 use Rattle.std.proofs.lemmas.Bool.{true≢false, false≢true}
-use Rattle.grep_definitions.specs.BinaryBytes.{position_of}
+use Rattle.grep_definitions.specs.BinaryBytes.{position_of, call_at, holds_byte, offset_at, plan_with, point_at}
+use Rattle.grep_definitions.specs.BinaryBytes.{point_unless, told, with_offset}
 use Rattle.grep_report.specs.declared.binary_detection.BinaryDetection.TheVariants.{Quit}
-use Rattle.grep_definitions.specs.BinaryPlans.{call_at, holds_byte, offset_at, plan_with, point_at, point_unless, told}
-use Rattle.grep_definitions.specs.BinaryPlans.{with_offset}
 use Rattle.grep_definitions.specs.Settings.{Settings}
 use Rattle.grep_definitions.specs.Plans.{Call, Planned, begins, matches, context, breaks, binary_data, finishes}
 use Rattle.grep_definitions.specs.Plans.{is_break, reported_bytes, reported_from, Steps, Outcome, all_true, stopped}

@@ -1,24 +1,30 @@
 -- What a decoder gave, against the bytes that are searched.
-use Rattle.std.proofs.Common.{◌≡◌, ◌⊎◌, ℕ, ◌+◌, ◌<◌, ◌≤◌, Bool, true, false, List, [], ◌++◌, length, Option, Some}
-use Rattle.std.proofs.Common.{None, inl, inr, ⊎_elim, refl, sym, subst, ◌∙◌, ap, arith, append-nil}
+use Rattle.std.proofs.Common.{◌≡◌, ◌≢◌, ◌⊎◌, ℕ, ◌+◌, ◌<◌, ◌≤◌, Bool, true, false, List, [], ◌++◌, length, Option, Some, None}
+use Rattle.std.proofs.Common.{inl, inr, ⊎_elim, refl, sym, subst, ◌∙◌, ap, arith, append-nil}
 use Rattle.std.proofs.lemmas.Bool.{false≢true}
 use Rattle.std.specs.List.{concat}
+use Rattle.std.proofs.Math.Bool.{and-false}
+use Rattle.std.specs.Prelude.{All}
 use Rattle.grep_decode.specs.declared.label.Label.{Label}
 use Rattle.grep_decode.specs.declared.label.Label.TheVariants.{Utf8, Utf16Le, Utf16Be}
 use Rattle.grep_decode.specs.declared.mode.Mode.{Mode}
 use Rattle.grep_decode.specs.declared.mode.Mode.TheVariants.{Fresh, Passing, Decoding}
 use Rattle.grep_decode.specs.Decoded.{by_label, decoded, found_mark}
-use Rattle.grep_decode.specs.DecoderStates.{DecoderState, Decodes, IsDone, IsSettled, LooksForMark, decode_by}
-use Rattle.grep_decode.specs.DecoderStates.{mode_after, mode_of}
-use Rattle.grep_decode.specs.DecoderStates.{IsWaiting, started, still_to_give, unread}
+use Rattle.grep_decode.specs.DecoderStates.{DecoderState, Decodes, HasReadNothing, IsDone, IsSettled}
+use Rattle.grep_decode.specs.DecoderStates.{LooksForMark, decode_by}
+use Rattle.grep_decode.specs.DecoderStates.{mode_after, mode_of, IsWaiting, started, still_to_give, unread}
 use Rattle.grep_decode.specs.Source.{ReadResult}
-use Rattle.grep_matcher.specs.Terminators.{byte_of}
-use Rattle.grep_definitions.specs.BinaryBytes.{view_of}
-use Rattle.grep_definitions.specs.DecodedInputs.{AreWaiting, IsDecodedSoFar, IsInput, encoding_after, encoding_of}
-use Rattle.grep_definitions.specs.DecodedInputs.{looks_for_mark, passes_after, passes_unchanged, searched_bytes}
-use Rattle.grep_definitions.specs.ReaderSearches.{Taken}
+use Rattle.grep_line_buffer.specs.BufferStates.{BufferState, empty_buffer, is_cut}
+use Rattle.grep_line_buffer.specs.Detections.{detected, found_in, is_quit}
+use Rattle.grep_line_buffer.specs.Fills.{HasWaitedForLine}
+use Rattle.grep_matcher.specs.Lines.{byte_of}
+use Rattle.grep_definitions.specs.BinaryBytes.{before_quit, view_of}
+use Rattle.grep_definitions.specs.Inputs.{AreWaiting, IsInput, encoding_after, encoding_of, looks_for_mark}
+use Rattle.grep_definitions.specs.Inputs.{IsReadForLine, searched_bytes, Taken}
+use Rattle.grep_definitions.specs.DecodedInputs.{IsDecodedSoFar, passes_after, passes_unchanged}
 use Rattle.grep_definitions.specs.Settings.{Settings}
-use Rattle.grep_core.proofs.StreamViewLemmas.{view-none}
+use Rattle.grep_core.specs.SearchBuffers.{IsFitting, detection_of}
+use Rattle.grep_core.proofs.StreamViewLemmas.{before-held, view-held, view-length, view-none}
 
 -- nothing is to come after the end
 unread-nothing : (ended : Bool) → unread ended [] ≡ []
@@ -206,3 +212,72 @@ module _ {R : Type 0} (remaining : R → Option (List ℕ)) (step : R → ReadRe
       where
         few : IsSettled d.mode ⊎ LooksForMark d.mode × (length d.held ≤ 2)
         few = waits-few d.mode d.held waits
+
+-- what the first fill of a buffer had read before the reader's last call
+module _ {R : Type 0} (remaining : R → Option (List ℕ)) (step : R → ReadResult → R → Type 0) (k : Settings)
+    (capacity : ℕ)
+    (none : (d : DecoderState) (more : List ℕ) → IsDone d → still_to_give d more ≡ [])
+    (more : (d d1 d2 : DecoderState) (r r1 r2 : R) (given later : List ℕ) → Decodes remaining step d r given d1 r1
+    → Decodes remaining step d1 r1 later d2 r2 → Decodes remaining step d r (given ++ later) d2 r2)
+    (buffer : BufferState) (fitting : IsFitting k.heap_limit (byte_of k.line_terminator) buffer)
+    (empty : buffer
+    ≡ empty_buffer buffer.size buffer.limit buffer.terminator (detection_of k.binary_detection))
+    (decoder : DecoderState) (begun : decoder ≡ started capacity k.encoding k.bom_sniffing) (reader : R) where
+  abbrev t : ℕ
+  t = byte_of k.line_terminator
+
+  for-line : (reader' : R) → HasWaitedForLine remaining step buffer decoder reader reader'
+      → IsReadForLine remaining step k reader reader'
+  for-line reader' waited =
+      let last = waited.last in
+      let given = waited.given in
+      let bd = k.binary_detection in
+      let detects : buffer.detection ≡ detection_of bd = ap (λ b. b.detection) empty in
+      let reads : Decodes remaining step (started capacity k.encoding k.bom_sniffing) reader given last.waiting
+      last.mid =
+      subst (λ xs. Decodes remaining step (started capacity k.encoding k.bom_sniffing) reader xs last.waiting last.mid)
+      (append-nil given)
+      (subst (λ d. Decodes remaining step d reader (given ++ []) last.waiting last.mid) begun
+      (more decoder waited.waiting last.waiting reader waited.mid last.mid given [] waited.decodes last.decodes)) in
+      let decoded = decoded-so_far remaining step k capacity reader given last.waiting last.mid reads none last.unended
+      last.empty last.waits in
+      let uncut : is_quit (detection_of bd) ≡ true → found_in (detection_of bd) t given ≡ None =
+      λ quits. ap (λ c. found_in (detection_of bd) c given) (sym fitting.terminator)
+      ∙ (ap (λ x. found_in x buffer.terminator given) (sym detects)
+      ∙ waited.uncut (ap is_quit detects ∙ quits)) in
+      let held : detected (detection_of bd) t given ≡ view_of k given = view-held bd t given uncut in
+      let shown : detected buffer.detection buffer.terminator given ≡ view_of k given =
+      ap (λ x. detected x buffer.terminator given) detects
+      ∙ (ap (λ c. detected (detection_of bd) c given) fitting.terminator ∙ held) in
+      record {
+        mid = last.mid;
+        before = taken remaining step k capacity reader given last.waiting last.mid reads;
+        unended = last.unended;
+        piece = last.piece;
+        last = last.called;
+        came = given;
+        so_far = record { none = decoded.none; all = decoded.all };
+        open_line = record {
+          rest = view_of k given;
+          whole = refl;
+          unended = subst (All (λ b. b ≢ t)) shown
+              (subst (λ c. All (λ b. b ≢ c) (detected buffer.detection buffer.terminator given)) fitting.terminator
+              waited.unended);
+          room = λ limit is. omega (arith, waited.room limit (fitting.limit ∙ is), view-length bd t given);
+          unquit = ap (before_quit bd) (sym held) ∙ (before-held bd t given ∙ held);
+        };
+      }
+
+  pub read-once : (lines : BufferState) (d : DecoderState) (r r' : R)
+      → (lines ≡ buffer) × (d ≡ decoder) × (r ≡ reader)
+      → (lines.has_ended ≡ false → is_cut lines ≡ false → HasReadNothing d
+      → HasWaitedForLine remaining step lines d r r')
+      → IsReadForLine remaining step k reader r'
+  read-once lines d r r' same filled = for-line r'
+      (subst (λ s. HasWaitedForLine remaining step buffer decoder s r') same.2
+      (subst (λ s. HasWaitedForLine remaining step buffer s r r') same.1
+      (subst (λ s. HasWaitedForLine remaining step s d r r') same.0
+      (filled (ap (λ b. b.has_ended) same.0 ∙ ap (λ b. b.has_ended) empty)
+      (ap is_cut same.0 ∙ (ap is_cut empty ∙ and-false (is_quit (detection_of k.binary_detection))))
+      (subst HasReadNothing (sym (same.1 ∙ begun))
+      (record { fresh = λ settled. settled; held = refl; unended = refl }))))))

@@ -1,24 +1,21 @@
 -- A search of a reader, fill by fill, against the calls that are defined for every input that begins with what was
 -- read.
 use Rattle.std.proofs.Common.{◌≡◌, ◌≢◌, ℕ, ◌+◌, ◌-◌, ◌<◌, ◌≤◌, ◌⊎◌, ◌&&◌, ◌==◌, Bool, true, false, List, [], ◌++◌}
-use Rattle.std.proofs.Common.{length, take, drop, get_or}
-use Rattle.std.proofs.Common.{Some, inl, inr, refl, sym, ◌∙◌, ap, subst, arith, append-nil}
+use Rattle.std.proofs.Common.{length, take, drop, get_or, Some, inl, inr, refl, sym, ◌∙◌, ap, subst, arith, append-nil}
 use Rattle.std.proofs.Common.{append_assoc, length-append, length-drop}
 use Rattle.std.proofs.lemmas.List.{drop_at, get_or-append-add, get_or_append_left, length-take-le, take-append-drop}
 use Rattle.std.proofs.lemmas.List.Elements.{All-append, All-get_or}
 use Rattle.std.proofs.lemmas.Bool.{false≢true}
 use Rattle.std.specs.Prelude.{All, slice_index}
-use Rattle.grep_matcher.specs.Lines.{lines}
-use Rattle.grep_matcher.specs.Matching.{Meaning}
-use Rattle.grep_matcher.specs.Terminators.{byte_of}
+use Rattle.grep_matcher.specs.Lines.{lines, byte_of}
+use Rattle.grep_matcher.specs.Meanings.{Meaning}
 use Rattle.grep_lines.specs.LineLaws.{LinesJoin, LinesAppend}
 use Rattle.grep_lines.specs.Positions.{IsLineStart}
 use Rattle.grep_line_buffer.specs.BufferStates.{BufferState, held, is_cut, EndsAtEnd, EndsAtLine, IsFilled, Lacks}
 use Rattle.grep_definitions.specs.BinaryBytes.{is_detecting}
-use Rattle.grep_definitions.specs.InputFronts.{GoesOnAfter, IsClosed, IsTooLong}
+use Rattle.grep_definitions.specs.Inputs.{GoesOnAfter, IsClosed, IsTooLong, reports_nothing}
 use Rattle.grep_definitions.specs.LineSearch
 use Rattle.grep_definitions.specs.LineWalks.{IsOpen}
-use Rattle.grep_definitions.specs.ReaderSearches.{reports_nothing}
 use Rattle.grep_definitions.specs.Settings.{Settings}
 use Rattle.grep_definitions.specs.Plans.{Steps, Outcome, all_true}
 use Rattle.grep_definitions.proofs.BoolLemmas.{clash}

@@ -1,7 +1,6 @@
 -- A search of a reader, fill by fill, against what the reader gives.
-use Rattle.std.proofs.Common.{◌≡◌, ℕ, ◌<◌, ◌≤◌, Bool, true, false, List, [], ◌++◌, length, take, drop}
-use Rattle.std.proofs.Common.{Option, Some, None, Ok, refl, sym, ◌∙◌, ap, subst, arith}
-use Rattle.std.proofs.Common.{append-nil, append_assoc, length-append}
+use Rattle.std.proofs.Common.{◌≡◌, ℕ, ◌<◌, ◌≤◌, Bool, true, false, List, [], ◌++◌, length, take, drop, Option, Some}
+use Rattle.std.proofs.Common.{None, Ok, refl, sym, ◌∙◌, ap, subst, arith, append-nil, append_assoc, length-append}
 use Rattle.std.proofs.lemmas.Bool.{false≢true}
 use Rattle.std.specs.List.{position}
 use Rattle.std.specs.Prelude.{not, ◌||◌, if◌then◌else◌, is_some, ◌==◌, ◌&&◌}
@@ -16,15 +15,12 @@ use Rattle.grep_line_buffer.specs.Detections.{detected, found_in, is_quit}
 use Rattle.grep_line_buffer.specs.Fills.{Fills}
 use Rattle.grep_core.specs.HeldViews.{HoldsGiven}
 use Rattle.grep_lines.specs.LineLaws.{LinesJoin, LinesAppend, LinesAreNumbered, LinesAreFew}
-use Rattle.grep_matcher.specs.Lines.{lines}
-use Rattle.grep_matcher.specs.Matching.{Meaning}
-use Rattle.grep_matcher.specs.Terminators.{byte_of}
+use Rattle.grep_matcher.specs.Lines.{lines, byte_of}
+use Rattle.grep_matcher.specs.Meanings.{Meaning, MatcherFacts}
 use Rattle.grep_definitions.specs.BinaryBytes.{binary_of, is_detecting, view_of}
-use Rattle.grep_definitions.specs.DecodedInputs.{IsInput}
-use Rattle.grep_definitions.specs.InputFronts.{IsClosed, IsFront}
+use Rattle.grep_definitions.specs.Inputs.{IsInput, IsClosed, IsFront, Taken, reports_nothing, reads_lines}
 use Rattle.grep_definitions.specs.LineSearch
-use Rattle.grep_definitions.specs.ReaderSearches.{Taken, reports_nothing, reads_lines}
-use Rattle.grep_definitions.specs.Searches.{ErrorMakers, MatcherFacts}
+use Rattle.grep_report.specs.ErrorMakers.{ErrorMakers}
 use Rattle.grep_definitions.specs.Settings.{Settings}
 use Rattle.grep_definitions.specs.Plans.{begins, Steps}
 use Rattle.grep_walk.specs.declared.walk.Walk.{Walk}
@@ -254,7 +250,7 @@ module _ {R : Type 0} (remaining : R → Option (List ℕ)) (read_step : R → R
       }
 
       -- a fault within what is shown
-      pub faulted : {F : Type 0} (errors : ErrorMakers E) (matcher : MatcherFacts F) (e : E) (now' : S)
+      pub faulted : {F : Type 0} (errors : ErrorMakers F E) (matcher : MatcherFacts F) (e : E) (now' : S)
           → ((gone : List ℕ) (first : Origin S) → IsReady step k meaning gone new.shown (start_in new w) first w now
           → (after : List ℕ) → (0 < length after → IsClosed t new.shown)
           → IsWalkFault step errors matcher k (gone ++ (new.shown ++ after)) first e now')
@@ -355,7 +351,7 @@ module _ {R : Type 0} (remaining : R → Option (List ℕ)) (read_step : R → R
       abbrev done_then : new.has_ended ≡ true → IsDone d'
       done_then ended = done (λ was whole. absurd (false≢true (sym so_far.between.unended ∙ was))) ended uncut
 
-      pub faulted-filled : {F : Type 0} (errors : ErrorMakers E) (matcher : MatcherFacts F) (e : E) (now' : S)
+      pub faulted-filled : {F : Type 0} (errors : ErrorMakers F E) (matcher : MatcherFacts F) (e : E) (now' : S)
           → ((gone : List ℕ) (first : Origin S) → IsReady step k meaning gone new.shown (start_in new w) first w now
           → (after : List ℕ) → (0 < length after → IsClosed t new.shown)
           → IsWalkFault step errors matcher k (gone ++ (new.shown ++ after)) first e now')

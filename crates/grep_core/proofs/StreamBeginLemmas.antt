@@ -1,29 +1,27 @@
 -- A search that is read line by line, and ends before it reads.
-use Rattle.std.proofs.Common.{◌≡◌, ℕ, Bool, true, false, List, [], Option, None, Ok, Err, inr}
-use Rattle.std.proofs.Common.{ap, refl, sym, subst, arith}
+use Rattle.std.proofs.Common.{◌≡◌, ℕ, Bool, true, false, List, [], Option, None, Ok, Err, inr, ap, refl, sym, subst}
+use Rattle.std.proofs.Common.{arith}
 use Rattle.std.proofs.KnownBytes.{Consumes-nil}
 use Rattle.std.proofs.lemmas.Bool.{false≢true}
 use Rattle.std.specs.Prelude.{if◌then◌else◌, ◌==◌, ◌||◌, not}
 use Rattle.grep_decode.specs.Source.{ReadResult}
 use Rattle.grep_lines.specs.LineLaws.{LinesJoin, LinesAppend}
-use Rattle.grep_matcher.specs.Matching.{Meaning}
-use Rattle.grep_matcher.specs.Terminators.{byte_of}
+use Rattle.grep_matcher.specs.Meanings.{Meaning, MatcherFacts}
+use Rattle.grep_matcher.specs.Lines.{byte_of}
 use Rattle.grep_report.specs.declared.binary_detection.BinaryDetection.{BinaryDetection}
 use Rattle.grep_report.specs.declared.binary_detection.BinaryDetection.TheVariants.{None as no_detection, Quit, Convert}
-use Rattle.grep_definitions.specs.Asking.{search_plan}
+use Rattle.grep_definitions.specs.Asking.{search_plan, is_across}
 use Rattle.grep_definitions.specs.BinaryBytes.{binary_position, on_stream, position_of, view_of}
-use Rattle.grep_definitions.specs.InputFronts.{IsFront}
+use Rattle.grep_definitions.specs.Inputs.{IsFront, Taken, reports_nothing}
 use Rattle.grep_definitions.specs.LineSearch.{byte_count, turns}
-use Rattle.grep_definitions.specs.Modes.{is_across}
-use Rattle.grep_definitions.specs.PlannedSearches.{IsReaderSearch, ran}
+use Rattle.grep_definitions.specs.Searches.{IsReaderSearch, ran}
 use Rattle.grep_definitions.specs.Plans.{AreMade, IsRun, Plan, begins, Steps, Outcome, all_true, stopped, failed}
 use Rattle.grep_definitions.specs.Plans.{counted}
-use Rattle.grep_definitions.specs.ReaderSearches.{Taken, reports_nothing}
-use Rattle.grep_definitions.specs.Searches.{ErrorMakers, MatcherFacts}
+use Rattle.grep_report.specs.ErrorMakers.{ErrorMakers}
 use Rattle.grep_definitions.specs.Settings.{Settings, SearcherState}
 use Rattle.grep_definitions.proofs.BoolLemmas.{clash}
 use Rattle.grep_definitions.proofs.SinkRunLemmas.{all-by, outcome_by, by-none}
-use Rattle.grep_definitions.proofs.ModeLemmas.{plan-by_line}
+use Rattle.grep_definitions.proofs.SearchModeLemmas.{plan-by_line}
 use Rattle.grep_core.proofs.ToldLemmas.{ending-along}
 use Rattle.grep_core.specs.Rolls.{IsCountedFor, IsMadeTo, IsStreamCounted}
 use Rattle.grep_walk.specs.Walks.{IsCount}
@@ -122,7 +120,7 @@ module _ {R : Type 0} (remaining : R → Option (List ℕ)) (read_step : R → R
         (walks.reported-begin k meaning bytes step old new goes))
 
   -- `begin` failed
-  pub fault-begin : {S E F : Type 0} (step : Steps S E) (errors : ErrorMakers E) (matcher : MatcherFacts F)
+  pub fault-begin : {S E F : Type 0} (step : Steps S E) (errors : ErrorMakers F E) (matcher : MatcherFacts F)
       (state : SearcherState) → is_across state.settings matcher.meaning ≡ false
       → (reader : R) (old : S) (e : E) (new : S) → step old state.settings begins (Err e) new
       → IsReaderSearch remaining read_step step errors matcher state on_stream reader old (Err e) reader new

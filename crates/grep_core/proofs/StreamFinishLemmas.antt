@@ -1,15 +1,14 @@
 -- The end of a search that is read line by line: `finish` after what was counted.
-use Rattle.std.proofs.Common.{◌≡◌, ◌≤◌, ℕ, ◌+◌, Bool, false, List, Option, Result, Ok, Err}
-use Rattle.std.proofs.Common.{sym, ap, subst, ◌∙◌, length, inl}
+use Rattle.std.proofs.Common.{◌≡◌, ◌≤◌, ℕ, ◌+◌, Bool, false, List, Option, Result, Ok, Err, sym, ap, subst, ◌∙◌, length}
+use Rattle.std.proofs.Common.{inl}
 use Rattle.std.specs.List.{concat}
 use Rattle.std.specs.Prelude.{OnOk}
 use Rattle.grep_decode.specs.Source.{ReadResult}
-use Rattle.grep_definitions.specs.Asking.{search_plan, selection_in}
-use Rattle.grep_definitions.specs.BinaryBytes.{on_stream, view_of}
-use Rattle.grep_definitions.specs.BinaryPlans.{plan_with}
-use Rattle.grep_definitions.specs.Modes.{is_across}
-use Rattle.grep_definitions.specs.Parties.{ErrorMakers, MatcherFacts}
-use Rattle.grep_definitions.specs.PlannedSearches.{IsRead, IsReaderSearch, ran}
+use Rattle.grep_definitions.specs.Asking.{search_plan, selection_in, is_across}
+use Rattle.grep_definitions.specs.BinaryBytes.{on_stream, view_of, plan_with}
+use Rattle.grep_report.specs.ErrorMakers.{ErrorMakers}
+use Rattle.grep_matcher.specs.Meanings.{MatcherFacts}
+use Rattle.grep_definitions.specs.Searches.{IsRead, IsReaderSearch, ran}
 use Rattle.grep_definitions.specs.Plans.{Steps, Finish, Plan, Outcome, all_true, stopped, failed, finish_after}
 use Rattle.grep_definitions.specs.Plans.{finishes, finish_result, IsFinished, IsRun}
 use Rattle.grep_definitions.specs.Reports.{line_count}
@@ -25,7 +24,7 @@ after-is all_true whole finish is = sym is
 after-is (stopped if_false) whole finish is = sym is
 after-is (failed e) whole finish never = absurd never
 
-module _ {S E F : Type 0} (step : Steps S E) (errors : ErrorMakers E) (matcher : MatcherFacts F)
+module _ {S E F : Type 0} (step : Steps S E) (errors : ErrorMakers F E) (matcher : MatcherFacts F)
     {R : Type 0} (remaining : R → Option (List ℕ)) (read_step : R → ReadResult → R → Type 0) (k : Settings)
     (has_buffers : Bool) (by_line : is_across k matcher.meaning ≡ false)
     (reader : R) (old : S) (reader' : R) (finish : Finish) (last : S) where
@@ -86,6 +85,7 @@ module _ {S E F : Type 0} (step : Steps S E) (errors : ErrorMakers E) (matcher :
                 first = begun.first;
                 begin = begun.begin;
                 unread = begun.unread;
+                once = begun.once;
                 ahead = λ limit limited passes.
                     subst (λ (f : Finish). length (concat counted.taken.pieces) ≤ f.count + limit + 3)
                     (sym (after-is counted.outcome plan.finish finish counted.over_seen.ending))

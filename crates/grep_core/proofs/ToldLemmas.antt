@@ -1,27 +1,25 @@
 -- `binary_data` in the midst of a search, against the plan of the search.
-use Rattle.std.proofs.Common.{◌≡◌, ℕ, Bool, true, false, inl, List, ◌∷◌, ◌++◌, Option, Some, None}
-use Rattle.std.proofs.Common.{refl, sym, ap, subst, ◌∙◌, arith, length, map, take, drop, length-append, Err}
+use Rattle.std.proofs.Common.{◌≡◌, ℕ, Bool, true, false, inl, List, ◌∷◌, ◌++◌, Option, Some, None, refl, sym, ap, subst}
+use Rattle.std.proofs.Common.{◌∙◌, arith, length, map, take, drop, length-append, Err}
 use Rattle.std.proofs.Math.Seq.{take-append_seam, drop-append_seam}
 use Rattle.grep_decode.specs.Source.{ReadResult}
-use Rattle.grep_matcher.specs.Matching.{Meaning}
+use Rattle.grep_matcher.specs.Meanings.{Meaning, MatcherFacts}
 use Rattle.grep_report.specs.declared.binary_detection.BinaryDetection.{BinaryDetection}
-use Rattle.grep_definitions.specs.Asking.{IsAskedWith, IsQuestionIn, search_plan}
-use Rattle.grep_definitions.specs.BinaryBytes.{on_stream, binary_of, view_of}
-use Rattle.grep_definitions.specs.BinaryPlans.{BinaryPoint, IsPoint, IsCutAt, quits, plan_with, calls_with, told}
-use Rattle.grep_definitions.specs.BinaryPlans.{with_offset, after_told}
-use Rattle.grep_definitions.specs.DecodedInputs.{IsInput}
+use Rattle.grep_definitions.specs.Asking.{IsAskedWith, IsQuestionIn, search_plan, is_across}
+use Rattle.grep_definitions.specs.BinaryBytes.{on_stream, binary_of, view_of, BinaryPoint, quits, plan_with, calls_with}
+use Rattle.grep_definitions.specs.BinaryBytes.{told, with_offset, after_told}
+use Rattle.grep_definitions.specs.Searches.{IsPoint, IsCutAt, EachPoint, GoesOnWith, IsReaderSearch, IsSearchOf, Points}
+use Rattle.grep_definitions.specs.Searches.{ran, asked}
+use Rattle.grep_definitions.specs.Inputs.{IsInput}
 use Rattle.grep_definitions.specs.LineSearch
-use Rattle.grep_definitions.specs.Modes.{is_across}
-use Rattle.grep_definitions.specs.Parties.{ErrorMakers, MatcherFacts}
-use Rattle.grep_definitions.specs.PlannedSearches.{EachPoint, GoesOnWith, IsReaderSearch, IsSearchOf, Points, ran, asked}
-use Rattle.grep_definitions.specs.Plans.{Planned, Plan, AreMade, Steps, Outcome, all_true}
-use Rattle.grep_definitions.specs.Plans.{stopped, failed, counted}
+use Rattle.grep_report.specs.ErrorMakers.{ErrorMakers}
+use Rattle.grep_definitions.specs.Plans.{Planned, Plan, AreMade, Steps, Outcome, all_true, stopped, failed, counted}
 use Rattle.grep_definitions.specs.Questions.{IsAskedByLine}
 use Rattle.grep_definitions.specs.Reports.{through, start}
 use Rattle.grep_definitions.specs.Settings.{Settings, SearcherState}
 use Rattle.grep_definitions.proofs.BoolLemmas.{clash}
 use Rattle.grep_definitions.proofs.SinkRunLemmas.{all-by, AreMade-append, outcome_by, made-binary, by-none, by-some}
-use Rattle.grep_definitions.proofs.ModeLemmas.{plan-by_line}
+use Rattle.grep_definitions.proofs.SearchModeLemmas.{plan-by_line}
 use Rattle.grep_core.specs.Rolls.{HasCounted, HasFailed, HasSeen, IsCountedFor, IsTold, IsEnding, IsMadeTo}
 use Rattle.grep_core.specs.Rolls.{IsStreamCounted}
 use Rattle.grep_walk.specs.WalkFaults.{IsWalkFault, at_call, at_question}
@@ -241,7 +239,7 @@ module _ {R : Type 0} (remaining : R → Option (List ℕ)) (read_step : R → R
 
 -- such a walk, by what is known of the matcher
 module _ {R : Type 0} (remaining : R → Option (List ℕ)) (read_step : R → ReadResult → R → Type 0)
-    {S E F : Type 0} (step : Steps S E) (errors : ErrorMakers E) (matcher : MatcherFacts F) (k : Settings)
+    {S E F : Type 0} (step : Steps S E) (errors : ErrorMakers F E) (matcher : MatcherFacts F) (k : Settings)
     (has_buffers : Bool) (by_line : is_across k matcher.meaning ≡ false) (reader : R) (old : S) (given : List ℕ)
     (at : ℕ) (found : Option ℕ) (start : Origin S) (begun : IsTold step k matcher.meaning given at old found start)
   where

@@ -1,23 +1,23 @@
 -- A search of a stream without detection looks for no binary byte.
-use Rattle.std.proofs.Common.{◌≡◌, ℕ, inl, inr, List, Option, Some, None, Result, Ok, Err, length}
-use Rattle.std.proofs.Common.{◌≤◌, refl, sym, ap, subst, ◌∙◌}
+use Rattle.std.proofs.Common.{◌≡◌, ℕ, inl, inr, List, Option, Some, None, Result, Ok, Err, length, ◌≤◌, refl, sym, ap}
+use Rattle.std.proofs.Common.{subst, ◌∙◌}
 use Rattle.std.proofs.lemmas.Option.{none-some}
 use Rattle.grep_decode.specs.Source.{ReadResult}
-use Rattle.grep_matcher.specs.Terminators.{byte_of}
+use Rattle.grep_matcher.specs.Lines.{byte_of}
 use Rattle.grep_report.specs.declared.binary_detection.BinaryDetection.TheVariants.{None as no_detection}
 use Rattle.grep_definitions.specs.Asking.{search_plan, selection_in, is_across}
-use Rattle.grep_definitions.specs.BinaryBytes.{on_stream, nowhere, binary_position, stream_view, view_of}
-use Rattle.grep_definitions.specs.BinaryPlans.{BinaryPoint, IsPoint}
-use Rattle.grep_definitions.specs.InputFronts.{IsFront}
-use Rattle.grep_definitions.specs.Parties.{ErrorMakers, MatcherFacts}
-use Rattle.grep_definitions.specs.PlannedSearches.{Points, IsSearchOf, IsReaderSearch, IsCutSearch, IsRead}
-use Rattle.grep_definitions.specs.PlannedSearches.{ran, asked}
+use Rattle.grep_definitions.specs.BinaryBytes.{on_stream, nowhere, binary_position, stream_view, view_of, BinaryPoint}
+use Rattle.grep_definitions.specs.Searches.{IsPoint, Points, IsSearchOf, IsReaderSearch, IsCutSearch, IsRead, ran}
+use Rattle.grep_definitions.specs.Searches.{asked}
+use Rattle.grep_definitions.specs.Inputs.{IsFront}
+use Rattle.grep_report.specs.ErrorMakers.{ErrorMakers}
+use Rattle.grep_matcher.specs.Meanings.{MatcherFacts}
 use Rattle.grep_definitions.specs.Plans.{Steps, Planned, Plan, Outcome}
 use Rattle.grep_definitions.specs.Reports.{line_count}
 use Rattle.grep_definitions.specs.Settings.{Settings, SearcherState}
 
 module _ {R : Type 0} (remaining : R → Option (List ℕ)) (read_step : R → ReadResult → R → Type 0)
-    {S E F : Type 0} (step : Steps S E) (errors : ErrorMakers E) (matcher : MatcherFacts F) (state : SearcherState)
+    {S E F : Type 0} (step : Steps S E) (errors : ErrorMakers F E) (matcher : MatcherFacts F) (state : SearcherState)
     (none : state.settings.binary_detection ≡ no_detection) where
   abbrev k : Settings
   k = state.settings
@@ -68,6 +68,7 @@ module _ {R : Type 0} (remaining : R → Option (List ℕ)) (read_step : R → R
                 first = far.first;
                 begin = far.begin;
                 unread = far.unread;
+                once = far.once;
                 ahead = far.ahead;
               }),
         )) search.over_seen;

@@ -1,7 +1,6 @@
 -- Why a reader's input wasn't searched to its end: a fill of the line buffer failed.
-use Rattle.std.proofs.Common.{◌≡◌, ◌≢◌, ℕ, ◌+◌, ◌<◌, ◌≤◌, Bool, false, true, List, [], ◌++◌, length}
-use Rattle.std.proofs.Common.{Option, Some, None, Err, inl, inr, refl, sym, ◌∙◌, ap, subst, arith, ⊎_elim}
-use Rattle.std.proofs.Common.{append_assoc, length-append}
+use Rattle.std.proofs.Common.{◌≡◌, ◌≢◌, ℕ, ◌+◌, ◌<◌, ◌≤◌, Bool, false, true, List, [], ◌++◌, length, Option, Some, None}
+use Rattle.std.proofs.Common.{Err, inl, inr, refl, sym, ◌∙◌, ap, subst, arith, ⊎_elim, append_assoc, length-append}
 use Rattle.std.proofs.lemmas.Bool.{cases_lt, false≢true}
 use Rattle.std.proofs.lemmas.List.{append_cancel_left}
 use Rattle.std.proofs.lemmas.List.Elements.{All-append}
@@ -16,16 +15,14 @@ use Rattle.grep_line_buffer.specs.BufferStates.{IsWithin}
 use Rattle.grep_line_buffer.specs.Detections.{detected}
 use Rattle.grep_line_buffer.specs.Fills.{FailsToFill, FillFails, Fills, IfRead, UnlessRead}
 use Rattle.grep_lines.specs.LineLaws.{LinesJoin, LinesAppend}
-use Rattle.grep_matcher.specs.Matching.{Meaning}
-use Rattle.grep_matcher.specs.Terminators.{byte_of}
-use Rattle.grep_definitions.specs.Below.{is_at}
+use Rattle.grep_matcher.specs.Meanings.{Meaning}
+use Rattle.grep_matcher.specs.Lines.{byte_of}
+use Rattle.grep_definitions.specs.Reports.{is_at}
 use Rattle.grep_definitions.specs.BinaryBytes.{before_quit, view_of}
-use Rattle.grep_definitions.specs.InputFronts.{GoesOnAfter, IsCrowded}
-use Rattle.grep_definitions.specs.DecodedInputs.{IsInput}
-use Rattle.grep_definitions.specs.Modes.{is_across}
-use Rattle.grep_definitions.specs.Readings
-use Rattle.grep_definitions.specs.Readings.{IsCut, Taken}
-use Rattle.grep_definitions.specs.ReadingFaults.{CutsShort, of_limit, of_memory, of_offset}
+use Rattle.grep_definitions.specs.Inputs.{GoesOnAfter, IsCrowded, IsInput, IsCut, Taken, CutsShort, of_limit, of_memory}
+use Rattle.grep_definitions.specs.Inputs.{of_offset}
+use Rattle.grep_definitions.specs.Asking.{is_across}
+use Rattle.grep_definitions.specs.Inputs
 use Rattle.grep_definitions.specs.Settings.{Settings}
 use Rattle.grep_definitions.specs.Plans.{Steps}
 use Rattle.grep_walk.specs.declared.walk.Walk.{Walk}
@@ -176,7 +173,7 @@ module _ {R : Type 0} (remaining : R → Option (List ℕ)) (read_step : R → R
             → (reads : Decodes remaining read_step (started capacity k.encoding k.bom_sniffing) reader raw d' reader')
             → IsShortBy reader' (reading.taken remaining read_step k capacity reader raw d' reader' reads) io
         short-cut error io made fails other reads =
-            Readings.of_lines (by_line, unquit-seen, goes-on-there reader' reads) refl
+            Inputs.of_lines (by_line, unquit-seen, goes-on-there reader' reads) refl
             (λ bytes input.
             let before = reading.front-is remaining read_step k capacity reader raw d' reader' reads none
             (λ xs. before_quit k.binary_detection (view_of k xs)) (gone ++ held new) befores bytes input in
@@ -191,7 +188,7 @@ module _ {R : Type 0} (remaining : R → Option (List ℕ)) (read_step : R → R
         short-read error mid shows reads no_line room unended failed ready waits =
             let decoded = reading.decoded-so_far remaining read_step k capacity reader raw d' mid reads none unended
             ready waits in
-            Readings.of_reader (by_line, unquit-seen, goes-on-there mid reads) (unended, failed) raw
+            Inputs.of_reader (by_line, unquit-seen, goes-on-there mid reads) (unended, failed) raw
             (record { none = decoded.none; all = decoded.all })
             (record {
               rest = old.rest ++ given;

@@ -6,16 +6,15 @@ use Rattle.std.proofs.lemmas.Bool.{false≢true, le-leb}
 use Rattle.std.proofs.lemmas.List.{take_min}
 use Rattle.std.proofs.Math.Nat.{min_comm}
 use Rattle.memchr.specs.Find.{IsFirstByte, is_byte}
-use Rattle.grep_matcher.specs.Matching.{Meaning}
+use Rattle.grep_matcher.specs.Meanings.{Meaning, MatcherFacts}
 use Rattle.grep_definitions.specs.AcrossLines
-use Rattle.grep_definitions.specs.BinaryBytes.{position_of}
+use Rattle.grep_definitions.specs.BinaryBytes.{position_of, first_look, plan_with, point_unless, with_offset}
 use Rattle.grep_definitions.specs.LineSearch
-use Rattle.grep_definitions.specs.LineSearch.{Kind, matched, in_context}
-use Rattle.grep_definitions.specs.Below.{joined_from}
+use Rattle.grep_definitions.specs.Reports.{Kind, matched, in_context, joined_from}
 use Rattle.grep_report.specs.declared.binary_detection.BinaryDetection.TheVariants.{Quit}
-use Rattle.grep_definitions.specs.BinaryPlans.{first_look, plan_with, point_unless, with_offset}
-use Rattle.grep_definitions.specs.Searches.{ErrorMakers, MatcherFacts, IsFaultIn, IsQuitFault, IsRunUntil}
-use Rattle.grep_definitions.specs.Searches.{of_sink, of_matcher, of_quit_sink, of_quit_matcher}
+use Rattle.grep_report.specs.ErrorMakers.{ErrorMakers}
+use Rattle.grep_definitions.specs.ContentsSearches.{IsFaultIn, IsQuitFault, IsRunUntil, of_sink, of_matcher}
+use Rattle.grep_definitions.specs.ContentsSearches.{of_quit_sink, of_quit_matcher}
 use Rattle.grep_definitions.specs.SearchTurns.{calls_if}
 use Rattle.grep_definitions.specs.Settings.{Settings}
 use Rattle.grep_definitions.specs.Plans.{Call, Planned, begins, matches, context, breaks, binary_data, finishes}
@@ -252,7 +251,7 @@ first-quit step k offset old first mid new false result begun called finish = re
 }
 
 -- a search that ended before its first line
-pub quit-searched : {S E F : Type 0} (step : Steps S E) (errors : ErrorMakers E) (matcher : MatcherFacts F)
+pub quit-searched : {S E F : Type 0} (step : Steps S E) (errors : ErrorMakers F E) (matcher : MatcherFacts F)
     (k : Settings) (b : ℕ)
     (bytes : List ℕ) (across : Bool) (offset : ℕ) → position_of b (take first_look bytes) ≡ Some offset → (old : S)
     (result : Result (Unit {0}) E) (new : S)
@@ -272,7 +271,7 @@ quit-searched step errors matcher k b bytes across offset is old result new run 
     go across (Ok u) run = run
     go across (Err e) run = of_quit_sink run
 
-module _ {S E F : Type 0} (step : Steps S E) (may_call : S → Type 0) (errors : ErrorMakers E) (matcher : MatcherFacts F)
+module _ {S E F : Type 0} (step : Steps S E) (may_call : S → Type 0) (errors : ErrorMakers F E) (matcher : MatcherFacts F)
     (k : Settings)
     (b : ℕ) (bytes : List ℕ) (none : position_of b (take first_look bytes) ≡ None) (old : Quitting S)
     (is : old.byte ≡ b)
@@ -295,7 +294,7 @@ module _ {S E F : Type 0} (step : Steps S E) (may_call : S → Type 0) (errors :
   fault-made : (across : Bool) (haystack : List ℕ) (error : F) (made later : List Planned) (e : E) (new : Quitting S)
       → made ≡ planned begins 0 ∷ later → AreJoined later
       → (calls_if k matcher.meaning across).IsAsked bytes haystack made → matcher.fails haystack error
-      → errors.is_message (matcher.text_of error) e → AreMade (Quits step may_call) k old made all_true new
+      → errors.is_message error e → AreMade (Quits step may_call) k old made all_true new
       → IsQuitFault step errors matcher (calls_if k matcher.meaning across) b k bytes old.sink.now e new.sink.now
   fault-made across haystack error made later e new begun joined asked fails message reported =
       let seen = watched step may_call k b made old all_true new is reported in
@@ -312,7 +311,7 @@ module _ {S E F : Type 0} (step : Steps S E) (may_call : S → Type 0) (errors :
       → (haystack : List ℕ) (error : F) (made : List Planned) (e : E) (new : Quitting S)
       → made ≡ filter (λ turn. nat_le turn.if_false.count offset) (planned begins 0 ∷ turns)
       → (calls_if k matcher.meaning across).IsAsked bytes haystack made → matcher.fails haystack error
-      → errors.is_message (matcher.text_of error) e → AreMade (Quits step may_call) k old made all_true new
+      → errors.is_message error e → AreMade (Quits step may_call) k old made all_true new
       → IsQuitFault step errors matcher (calls_if k matcher.meaning across) b k bytes old.sink.now e new.sink.now
   through across turns paired lines offset haystack error made e new before asked fails message reported =
       let later : List Planned = filter (λ turn. nat_le turn.if_false.count offset) turns in

@@ -3,15 +3,15 @@
 use Rattle.std.specs.Prelude.{ℕ, List, Option, Result, Ok, Err}
 use Rattle.grep_decode.specs.Source.{ReadResult}
 use Rattle.grep_definitions.specs.BinaryBytes.{Look, nowhere, in_contents, on_stream}
-use Rattle.grep_definitions.specs.ReaderSearches.{IsContentsSearched, IsReaderFaultIn}
-use Rattle.grep_definitions.specs.ReaderSearches.{IsReaderRunIn}
+use Rattle.grep_definitions.specs.ReaderRuns.{IsContentsSearched, IsReaderFaultIn, IsReaderRunIn}
 use Rattle.grep_definitions.specs.SearchTurns.{SearchCalls, calls_across, search_calls}
 use Rattle.grep_definitions.specs.Settings.{Settings, SearcherState}
-use Rattle.grep_definitions.specs.Searches.{ErrorMakers, MatcherFacts, IsQuitFault, IsRunUntil}
-use Rattle.grep_definitions.specs.Searches.{IsSearchedAlong}
+use Rattle.grep_report.specs.ErrorMakers.{ErrorMakers}
+use Rattle.grep_matcher.specs.Meanings.{MatcherFacts}
+use Rattle.grep_definitions.specs.ContentsSearches.{IsQuitFault, IsRunUntil, IsSearchedAlong}
 use Rattle.grep_definitions.specs.Plans.{Steps}
 
-module _ {S E F : Type 0} (step : Steps S E) (errors : ErrorMakers E)
+module _ {S E F : Type 0} (step : Steps S E) (errors : ErrorMakers F E)
     (matcher : MatcherFacts F) where
   -- whole contents: along the calls for them, or it ends in a fault; or up to a byte
   abbrev pub IsBytesSearched : Look → Settings → List ℕ → S → Result (Unit {0}) E → S → Type 0
@@ -44,7 +44,7 @@ module _ {S E F : Type 0} (step : Steps S E) (errors : ErrorMakers E)
       IsReaderFaultIn remaining read_step step errors matcher calls state reader old e reader' new
 
 module _ {R : Type 0} (remaining : R → Option (List ℕ)) (read_step : R → ReadResult → R → Type 0)
-    {S E F : Type 0} (step : Steps S E) (errors : ErrorMakers E) (matcher : MatcherFacts F) where
+    {S E F : Type 0} (step : Steps S E) (errors : ErrorMakers F E) (matcher : MatcherFacts F) where
   -- a search of a reader across lines
   abbrev pub IsAcrossSearched : Look → SearcherState → R → S → Result (Unit {0}) E → R → S → Type 0
   IsAcrossSearched nowhere state reader old result reader' new =

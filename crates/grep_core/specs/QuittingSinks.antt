@@ -3,12 +3,11 @@
 -- does.
 use Rattle.std.specs.Prelude.{◌≡◌, ◌⊎◌, ℕ, ◌+◌, Bool, true, false, Option, None, Some, Result, Ok}
 use Rattle.std.specs.Prelude.{Err, [], ◌∷◌}
-use Rattle.grep_definitions.specs.BinaryBytes.{position_of}
+use Rattle.grep_definitions.specs.BinaryBytes.{position_of, told, with_offset}
 use Rattle.grep_definitions.specs.Settings.{Settings}
 use Rattle.grep_definitions.specs.Plans.{Call, begins, matches, context, breaks, binary_data}
 use Rattle.grep_definitions.specs.Plans.{finishes, Steps, Plan, counted, planned}
 use Rattle.grep_core.specs.declared.quitting.Quitting.{Quitting}
-use Rattle.grep_definitions.specs.BinaryPlans.{told, with_offset}
 
 -- the sink, whether a break is held back until the report after it is looked at, and the offset of
 -- the byte if a report held it

@@ -7,19 +7,19 @@ use Rattle.grep_decode.specs.DecoderStates.{DecoderState}
 use Rattle.grep_decode.specs.Source.{ReadResult}
 use Rattle.grep_line_buffer.specs.BufferStates.{BufferState, is_cut, Lacks}
 use Rattle.grep_core.specs.HeldViews.{HoldsGiven}
-use Rattle.grep_matcher.specs.Terminators.{byte_of}
-use Rattle.grep_matcher.specs.Lines.{lines}
-use Rattle.grep_matcher.specs.Matching.{Meaning}
+use Rattle.grep_matcher.specs.Lines.{byte_of, lines}
+use Rattle.grep_matcher.specs.Meanings.{Meaning, MatcherFacts}
 use Rattle.grep_definitions.specs.Asking.{search_plan}
 use Rattle.grep_definitions.specs.BinaryBytes.{binary_of, is_detecting, on_stream, view_of}
-use Rattle.grep_definitions.specs.BinaryPlans.{BinaryPoint, IsCutAt, IsPoint, plan_with, quits}
-use Rattle.grep_definitions.specs.DecodedInputs.{IsInput, passes_unchanged}
-use Rattle.grep_definitions.specs.InputFronts.{IsClosed, IsFront, IsTooLong}
+use Rattle.grep_definitions.specs.BinaryBytes.{BinaryPoint, plan_with, quits}
+use Rattle.grep_definitions.specs.Searches.{IsCutAt, IsPoint}
+use Rattle.grep_definitions.specs.Inputs.{IsInput, IsClosed, IsFront, IsTooLong, Taken}
+use Rattle.grep_definitions.specs.Inputs.{IsReadForLine, reports_nothing, reads_lines}
+use Rattle.grep_definitions.specs.DecodedInputs.{passes_unchanged}
 use Rattle.grep_definitions.specs.LineSearch.{turns, turn_count, byte_count}
 use Rattle.grep_definitions.specs.Plans.{AreMade, Finish, Plan, begins, binary_data, Steps, Outcome}
 use Rattle.grep_definitions.specs.Plans.{all_true, stopped, failed, planned}
-use Rattle.grep_definitions.specs.ReaderSearches.{Taken, reports_nothing, reads_lines}
-use Rattle.grep_definitions.specs.Searches.{ErrorMakers, MatcherFacts}
+use Rattle.grep_report.specs.ErrorMakers.{ErrorMakers}
 use Rattle.grep_definitions.specs.Settings.{Settings}
 use Rattle.grep_core.specs.BinaryCalls.{Noted}
 use Rattle.grep_walk.specs.declared.walk.Walk.{Walk}
@@ -163,7 +163,7 @@ module _ {S E : Type 0} (step : Steps S E) (settings : Settings) (meaning : Mean
           → length (concat input.taken.pieces) ≤ count + limit + 3
 
     -- or it ended in the sink's error or in the matcher's
-    pub record HasFailed {F : Type 0} (errors : ErrorMakers E) (matcher : MatcherFacts F)
+    pub record HasFailed {F : Type 0} (errors : ErrorMakers F E) (matcher : MatcherFacts F)
         (reader : R) (first : Origin S) (given : List ℕ) (found : Option ℕ) (low : ℕ) (e : E)
         (reader' : R) (new : S) : Type 0 where
       pub input : HasSeen reader given found low reader'
@@ -172,12 +172,14 @@ module _ {S E : Type 0} (step : Steps S E) (settings : Settings) (meaning : Mean
           → IsWalkFault step errors matcher settings (view_of settings bytes) first e new
 
     -- a search of a reader begins, and reads nothing unless `begin` returned true and it reads
-    -- lines
+    -- lines, and once if it may report nothing
     pub record HasBegun (reader : R) (old : S) (reader' : R) : Type 0 where
       pub begun : Bool
       pub first : S
       pub begin : step old settings begins (Ok begun) first
       pub unread : (begun && reads_lines settings) ≡ false → reader' ≡ reader
+      pub once : (begun && reads_lines settings) ≡ true → reports_nothing settings ≡ true
+          → IsReadForLine remaining read_step settings reader reader'
 
 -- `binary_data` was called in the midst of a search, which went on from the state after it
 module _ {S E : Type 0} (step : Steps S E) (settings : Settings) (meaning : Meaning) where

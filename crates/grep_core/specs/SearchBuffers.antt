@@ -13,7 +13,7 @@ use Rattle.grep_line_buffer.specs.declared.detection.Detection.TheVariants.{None
 use Rattle.grep_line_buffer.specs.declared.detection.Detection.TheVariants.{Quit as quits_at}
 use Rattle.grep_line_buffer.specs.declared.detection.Detection.TheVariants.{Convert as converts}
 use Rattle.grep_line_buffer.specs.BufferStates.{BufferState, IsWithin}
-use Rattle.grep_matcher.specs.Terminators.{byte_of}
+use Rattle.grep_matcher.specs.Lines.{byte_of}
 use Rattle.grep_report.specs.declared.binary_detection.BinaryDetection.{BinaryDetection}
 use Rattle.grep_report.specs.declared.binary_detection.BinaryDetection.TheVariants.{None as no_detection}
 use Rattle.grep_report.specs.declared.binary_detection.BinaryDetection.TheVariants.{Quit, Convert}

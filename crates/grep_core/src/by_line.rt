@@ -1,18 +1,19 @@
 //! The walk of a search by line: over all lines of a slice, or over those of a window, with the
 //! calls that they make.
-ghost use Rattle.std.specs.Prelude.{◌≡◌, ◌≤◌, ◌<◌, ◌+◌, ◌-◌, ◌^◌, ℕ, true, false, length};
-ghost use Rattle.std.specs.Prelude.{List, IfOk, IfErr, IsOk};
-ghost use Rattle.grep_matcher.specs.Matching.{IsInfallible};
+ghost use Rattle.std.specs.Prelude.{◌≡◌, ◌≤◌, ◌<◌, ◌+◌, ◌-◌, ◌^◌, ℕ, true, false, length, List};
+ghost use Rattle.std.specs.Prelude.{IfOk, IfErr, IsOk};
+ghost use Rattle.grep_matcher.specs.Meanings.{IsInfallible};
 ghost use Rattle.grep_definitions.specs.CallOrder.{BeginsInOrder, GoesOnInOrder};
 ghost use Rattle.grep_definitions.specs.LineSearch.{turns, byte_count};
-ghost use Rattle.grep_definitions.specs.Questions.{IsLawfulFor};
-ghost use Rattle.grep_definitions.specs.Searches.{IsLineFault, errors_by, facts_by};
+ghost use Rattle.grep_definitions.specs.Asking.{IsLawful};
+ghost use Rattle.grep_definitions.specs.ContentsSearches.{IsLineFault};
 ghost use Rattle.grep_definitions.specs.Plans.{Outcome, NeverFails};
 ghost use Rattle.grep_walk.specs.WalkFaults.{IsWalkFault};
 ghost use Rattle.grep_walk.specs.Walks.{Counted, IsOrdered, CountedFrom};
 ghost use Rattle.grep_walk.specs.Windows.{HasSearched, HasPassed};
 ghost use Rattle.grep_core.specs.Configured.{IsConfigured};
 ghost use Rattle.grep_walk.specs.Origins.{Origin};
+ghost use Rattle.grep_report.specs.ErrorMakers.{makers_of};
 
 use crate::calls::Calls;
 use crate::search::Search;
@@ -35,23 +36,21 @@ impl<'c, A: Allocator + Copy, T> Search<'c, A, T> {
         requires configured { IsConfigured (C.settings self.now.searcher.now) self.now.config }
         requires may_call { C.may_call sink.old }
         ensures reported { IfOk result (λ count.
-            IsLawfulFor self.now.config (M.meaning matcher.now) (M.is_lawful matcher.now)
+            IsLawful (M.facts matcher.now) self.now.config
             → (outcome : Outcome C.Error)
             × Counted C.step self.now.config sink.old
-            (turns self.now.config (M.meaning matcher.now) bytes.now)
-            (byte_count self.now.config (M.meaning matcher.now) bytes.now)
+            (turns self.now.config (M.facts matcher.now).meaning bytes.now)
+            (byte_count self.now.config (M.facts matcher.now).meaning bytes.now)
             count outcome sink.new) }
         ensures fault { IfErr result (λ e.
-            IsLawfulFor self.now.config (M.meaning matcher.now) (M.is_lawful matcher.now)
+            IsLawful (M.facts matcher.now) self.now.config
             → IsLineFault C.step
-            (errors_by C.Error.is_message C.Error.is_io C.Error.is_config)
-            (facts_by M.meaning M.fails M.is_lawful M.Error.output matcher.now)
+            (makers_of M.Error.output C.Error.makers) (M.facts matcher.now)
             self.now.config bytes.now sink.old e sink.new) }
-        ensures succeeds { NeverFails C.step C.may_call → IsInfallible (M.fails matcher.now)
+        ensures succeeds { NeverFails C.step C.may_call → IsInfallible (M.facts matcher.now).fails
             → IsOk result }
         ensures in_order { BeginsInOrder C.step self.now.config
-            (errors_by C.Error.is_message C.Error.is_io C.Error.is_config)
-            (facts_by M.meaning M.fails M.is_lawful M.Error.output matcher.now)
+            (makers_of M.Error.output C.Error.makers) (M.facts matcher.now)
             sink.old result sink.new }
         ensures may_call { C.may_call sink.new }
     {
@@ -93,36 +92,34 @@ impl<'c, A: Allocator + Copy, T> Search<'c, A, T> {
             walk.new.offset + start ≤ walk.old.offset + length window.now) }
         ensures ahead { IfOk result (λ goes_on. walk.old.offset ≤ walk.new.offset) }
         ensures goes_on { IfOk result (λ goes_on.
-            IsLawfulFor self.now.config (M.meaning matcher.now) (M.is_lawful matcher.now)
+            IsLawful (M.facts matcher.now) self.now.config
             → goes_on ≡ true → (gone input : List ℕ) (first : Origin C.Sink)
-            → HasSearched C.step self.now.config (M.meaning matcher.now) gone window.now input
+            → HasSearched C.step self.now.config (M.facts matcher.now).meaning gone window.now input
             first start walk.old sink.old
-            → HasPassed C.step self.now.config (M.meaning matcher.now) gone window.now input
+            → HasPassed C.step self.now.config (M.facts matcher.now).meaning gone window.now input
             first walk.new sink.new) }
         ensures ends { IfOk result (λ goes_on.
-            IsLawfulFor self.now.config (M.meaning matcher.now) (M.is_lawful matcher.now)
+            IsLawful (M.facts matcher.now) self.now.config
             → goes_on ≡ false → (outcome : Outcome C.Error)
             × ((gone input : List ℕ) (first : Origin C.Sink)
-            → HasSearched C.step self.now.config (M.meaning matcher.now) gone window.now input
+            → HasSearched C.step self.now.config (M.facts matcher.now).meaning gone window.now input
             first start walk.old sink.old
             → CountedFrom C.step self.now.config first
-            (turns self.now.config (M.meaning matcher.now) input)
-            (byte_count self.now.config (M.meaning matcher.now) input)
+            (turns self.now.config (M.facts matcher.now).meaning input)
+            (byte_count self.now.config (M.facts matcher.now).meaning input)
             walk.new.offset outcome sink.new)) }
         ensures fault { IfErr result (λ e.
-            IsLawfulFor self.now.config (M.meaning matcher.now) (M.is_lawful matcher.now)
+            IsLawful (M.facts matcher.now) self.now.config
             → (gone input : List ℕ) (first : Origin C.Sink)
-            → HasSearched C.step self.now.config (M.meaning matcher.now) gone window.now input
+            → HasSearched C.step self.now.config (M.facts matcher.now).meaning gone window.now input
             first start walk.old sink.old
             → IsWalkFault C.step
-            (errors_by C.Error.is_message C.Error.is_io C.Error.is_config)
-            (facts_by M.meaning M.fails M.is_lawful M.Error.output matcher.now)
+            (makers_of M.Error.output C.Error.makers) (M.facts matcher.now)
             self.now.config input first e sink.new) }
-        ensures succeeds { NeverFails C.step C.may_call → IsInfallible (M.fails matcher.now)
+        ensures succeeds { NeverFails C.step C.may_call → IsInfallible (M.facts matcher.now).fails
             → IsOk result }
         ensures in_order { GoesOnInOrder C.step self.now.config
-            (errors_by C.Error.is_message C.Error.is_io C.Error.is_config)
-            (facts_by M.meaning M.fails M.is_lawful M.Error.output matcher.now)
+            (makers_of M.Error.output C.Error.makers) (M.facts matcher.now)
             sink.old result walk.new.offset sink.new }
         ensures may_call { C.may_call sink.new }
     {

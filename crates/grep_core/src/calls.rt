@@ -1,6 +1,6 @@
 //! How a search calls a sink.
 ghost use Rattle.std.specs.Prelude.{◌≡◌, ◌+◌, ◌<◌, ◌^◌, Bool, Result, length, is_some};
-ghost use Rattle.grep_matcher.specs.Terminators.{byte_of};
+ghost use Rattle.grep_matcher.specs.Lines.{byte_of};
 ghost use Rattle.grep_core.specs.Configured.{IsConfigured};
 ghost use Rattle.grep_definitions.specs.Settings.{Settings};
 ghost use Rattle.grep_report.specs.SinkReports.{match_bytes};

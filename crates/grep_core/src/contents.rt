@@ -1,16 +1,16 @@
 //! The search of a reader across lines, for which all of it is read first.
 ghost use Rattle.std.specs.Prelude.{◌≡◌, ℕ, Bool, List, Option, true, false, IfErr};
 ghost use Rattle.std.specs.declared.io.Error.{Error};
-ghost use Rattle.grep_matcher.specs.Matching.{IsInfallible};
+ghost use Rattle.grep_matcher.specs.Meanings.{IsInfallible};
 ghost use Rattle.grep_decode.specs.DecoderStates.{started};
 ghost use Rattle.grep_definitions.specs.BinaryBytes.{look_at, view_of};
-ghost use Rattle.grep_definitions.specs.CallOrder.{IsReadingError};
-ghost use Rattle.grep_definitions.specs.ReaderSearches.{IsUnreadIn};
-ghost use Rattle.grep_definitions.specs.Searches.{errors_by, facts_by};
+ghost use Rattle.grep_definitions.specs.Inputs.{IsReadingError};
+ghost use Rattle.grep_definitions.specs.ReaderRuns.{IsUnreadIn};
 ghost use Rattle.grep_definitions.specs.Plans.{NeverFails};
 ghost use Rattle.grep_core.specs.InputSearches.{IsAcrossSearched};
 ghost use Rattle.grep_core.specs.Configured.{IsConfigured};
-ghost use Rattle.grep_definitions.specs.PlannedSearches.{IsInOrder};
+ghost use Rattle.grep_definitions.specs.Searches.{IsInOrder};
+ghost use Rattle.grep_report.specs.ErrorMakers.{makers_of};
 
 use crate::calls::Calls;
 use crate::read_by_line::io_error;
@@ -41,21 +41,19 @@ impl<'c, A: Allocator + Copy, T> Search<'c, A, T> {
         requires configured { IsConfigured (C.settings self.now.searcher.now) self.now.config }
         requires may_call { C.may_call sink.old }
         ensures searched { (has_buffers : Bool) → IsAcrossSearched R.remaining R.step C.step
-            (errors_by C.Error.is_message C.Error.is_io C.Error.is_config)
-            (facts_by M.meaning M.fails M.is_lawful M.Error.output matcher.now)
+            (makers_of M.Error.output C.Error.makers) (M.facts matcher.now)
             (look_at self.now.config.binary_detection false)
             (record { settings = self.now.config; has_buffers = has_buffers })
             reader.old sink.old result reader.new sink.new }
         ensures in_order { IsInOrder C.step
-            (errors_by C.Error.is_message C.Error.is_io C.Error.is_config)
-            (facts_by M.meaning M.fails M.is_lawful M.Error.output matcher.now) self.now.config
+            (makers_of M.Error.output C.Error.makers) (M.facts matcher.now) self.now.config
             (IsReadingError R.remaining R.step reader.old reader.new) sink.old result sink.new }
-        ensures succeeds { NeverFails C.step C.may_call → IsInfallible (M.fails matcher.now)
+        ensures succeeds { NeverFails C.step C.may_call → IsInfallible (M.facts matcher.now).fails
             → IfErr result (λ e. (has_buffers : Bool) → (seen : Option (List ℕ)) × (error : Error)
             × IsUnreadIn R.remaining R.step true (view_of self.now.config)
             (record { settings = self.now.config; has_buffers = has_buffers })
-            (M.meaning matcher.now)
-            reader.old seen error reader.new × C.Error.is_io error e) }
+            (M.facts matcher.now).meaning
+            reader.old seen error reader.new × C.Error.makers.is_io error e) }
         ensures may_call { C.may_call sink.new }
     {
         reads_continue::<R>();

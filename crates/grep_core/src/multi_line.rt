@@ -1,13 +1,13 @@
 //! The walk of a search across lines, from one unit of lines that matches touch to the next.
-ghost use Rattle.std.specs.Prelude.{◌<◌, ◌+◌, ◌-◌, ◌&&◌, ◌==◌, true};
-ghost use Rattle.std.specs.Prelude.{Ok, IfOk, IfErr, IsOk};
-ghost use Rattle.grep_matcher.specs.Matching.{IsInfallible};
+ghost use Rattle.std.specs.Prelude.{◌<◌, ◌+◌, ◌-◌, ◌&&◌, ◌==◌, true, Ok, IfOk, IfErr, IsOk};
+ghost use Rattle.grep_matcher.specs.Meanings.{IsInfallible};
 ghost use Rattle.grep_definitions.specs.CallOrder.{BeginsInOrder, EndsInOrder};
-ghost use Rattle.grep_definitions.specs.Searches.{IsFaultIn, errors_by, facts_by};
+ghost use Rattle.grep_definitions.specs.ContentsSearches.{IsFaultIn};
 ghost use Rattle.grep_definitions.specs.SearchTurns.{calls_across};
 ghost use Rattle.grep_definitions.specs.Plans.{begins, Outcome, NeverFails};
 ghost use Rattle.grep_walk.specs.Walks.{Counted};
 ghost use Rattle.grep_core.specs.Configured.{IsConfigured};
+ghost use Rattle.grep_report.specs.ErrorMakers.{makers_of};
 
 use crate::calls::Calls;
 use crate::search::Search;
@@ -30,19 +30,17 @@ impl<'c, A: Allocator + Copy, T> Search<'c, A, T> {
         requires may_call { C.may_call sink.old }
         ensures reported { IfOk result (λ count. (outcome : Outcome C.Error)
             × Counted C.step self.now.config sink.old
-            ((calls_across self.now.config (M.meaning matcher.now)).turns bytes.now)
-            ((calls_across self.now.config (M.meaning matcher.now)).byte_count bytes.now)
+            ((calls_across self.now.config (M.facts matcher.now).meaning).turns bytes.now)
+            ((calls_across self.now.config (M.facts matcher.now).meaning).byte_count bytes.now)
             count outcome sink.new) }
         ensures fault { IfErr result (λ e. IsFaultIn C.step
-            (errors_by C.Error.is_message C.Error.is_io C.Error.is_config)
-            (facts_by M.meaning M.fails M.is_lawful M.Error.output matcher.now)
-            (calls_across self.now.config (M.meaning matcher.now))
+            (makers_of M.Error.output C.Error.makers) (M.facts matcher.now)
+            (calls_across self.now.config (M.facts matcher.now).meaning)
             self.now.config bytes.now sink.old e sink.new) }
-        ensures succeeds { NeverFails C.step C.may_call → IsInfallible (M.fails matcher.now)
+        ensures succeeds { NeverFails C.step C.may_call → IsInfallible (M.facts matcher.now).fails
             → IsOk result }
         ensures in_order { BeginsInOrder C.step self.now.config
-            (errors_by C.Error.is_message C.Error.is_io C.Error.is_config)
-            (facts_by M.meaning M.fails M.is_lawful M.Error.output matcher.now)
+            (makers_of M.Error.output C.Error.makers) (M.facts matcher.now)
             sink.old result sink.new }
         ensures may_call { C.may_call sink.new }
     {
@@ -66,21 +64,19 @@ impl<'c, A: Allocator + Copy, T> Search<'c, A, T> {
         ensures reported { IfOk result (λ count. (first : C.Sink)
             → C.step first self.now.config begins (Ok true) sink.old
             → (outcome : Outcome C.Error) × Counted C.step self.now.config first
-            ((calls_across self.now.config (M.meaning matcher.now)).turns bytes.now)
-            ((calls_across self.now.config (M.meaning matcher.now)).byte_count bytes.now)
+            ((calls_across self.now.config (M.facts matcher.now).meaning).turns bytes.now)
+            ((calls_across self.now.config (M.facts matcher.now).meaning).byte_count bytes.now)
             count outcome sink.new) }
         ensures fault { IfErr result (λ e. (first : C.Sink)
             → C.step first self.now.config begins (Ok true) sink.old
             → IsFaultIn C.step
-            (errors_by C.Error.is_message C.Error.is_io C.Error.is_config)
-            (facts_by M.meaning M.fails M.is_lawful M.Error.output matcher.now)
-            (calls_across self.now.config (M.meaning matcher.now))
+            (makers_of M.Error.output C.Error.makers) (M.facts matcher.now)
+            (calls_across self.now.config (M.facts matcher.now).meaning)
             self.now.config bytes.now first e sink.new) }
-        ensures succeeds { NeverFails C.step C.may_call → IsInfallible (M.fails matcher.now)
+        ensures succeeds { NeverFails C.step C.may_call → IsInfallible (M.facts matcher.now).fails
             → IsOk result }
         ensures in_order { EndsInOrder C.step self.now.config
-            (errors_by C.Error.is_message C.Error.is_io C.Error.is_config)
-            (facts_by M.meaning M.fails M.is_lawful M.Error.output matcher.now)
+            (makers_of M.Error.output C.Error.makers) (M.facts matcher.now)
             sink.old result sink.new }
         ensures may_call { C.may_call sink.new }
     {

@@ -1,23 +1,19 @@
 //! The search of a reader, fill by fill of a line buffer. It follows grep-searcher's module
 //! `searcher::glue`.
 ghost use Rattle.std.specs.Prelude.{◌^◌, ◌≡◌, ◌≤◌, ◌<◌, ◌+◌, ◌++◌, ℕ, Bool, List, Option, Ok, true};
-ghost use Rattle.std.specs.Prelude.{false, length};
-ghost use Rattle.std.specs.Prelude.{IfOk, IfErr, IsOk, OnErr, OnOk, Err, None};
+ghost use Rattle.std.specs.Prelude.{false, length, IfOk, IfErr, IsOk, OnErr, OnOk, Err, None};
 ghost use Rattle.std.specs.declared.io.Error.{Error};
-ghost use Rattle.grep_matcher.specs.Terminators.{byte_of};
-ghost use Rattle.grep_matcher.specs.Matching.{IsInfallible};
+ghost use Rattle.grep_matcher.specs.Lines.{byte_of};
+ghost use Rattle.grep_matcher.specs.Meanings.{IsInfallible};
 ghost use Rattle.grep_decode.specs.DecoderStates.{started};
 ghost use Rattle.grep_line_buffer.specs.BufferStates.{empty_buffer, held};
-ghost use Rattle.grep_definitions.specs.Below.{is_at};
+ghost use Rattle.grep_definitions.specs.Reports.{is_at};
 ghost use Rattle.grep_definitions.specs.BinaryBytes.{is_detecting, look_of, on_stream};
-ghost use Rattle.grep_definitions.specs.CallOrder.{GoesOnInOrder, HasBegunTo, IsReadingError};
-ghost use Rattle.grep_definitions.specs.CallOrder.{ReadsInOrder};
-ghost use Rattle.grep_definitions.specs.InputFronts.{IsClosed};
-ghost use Rattle.grep_definitions.specs.Modes.{is_across};
-ghost use Rattle.grep_definitions.specs.PlannedSearches.{IsInOrder, IsRead};
-ghost use Rattle.grep_definitions.specs.Readings.{IsUnread, reads_lines};
-ghost use Rattle.grep_definitions.specs.Questions.{IsLawfulFor};
-ghost use Rattle.grep_definitions.specs.Searches.{errors_by, facts_by};
+ghost use Rattle.grep_definitions.specs.CallOrder.{GoesOnInOrder, HasBegunTo, ReadsInOrder};
+ghost use Rattle.grep_definitions.specs.Inputs.{IsReadingError, IsClosed, IsReadForLine, IsUnread};
+ghost use Rattle.grep_definitions.specs.Inputs.{reads_lines, reports_nothing};
+ghost use Rattle.grep_definitions.specs.Asking.{is_across, IsLawful};
+ghost use Rattle.grep_definitions.specs.Searches.{IsInOrder, IsRead};
 ghost use Rattle.grep_definitions.specs.Plans.{begins, NeverFails};
 ghost use Rattle.grep_core.specs.BinaryCalls.{FailsAtBinary, PassesBinary};
 ghost use Rattle.grep_core.specs.Rolls.{IsReady, HasBegun, HasMovedOn, HasEnded, IsStreamCounted};
@@ -27,6 +23,7 @@ ghost use Rattle.grep_walk.specs.WalkFaults.{IsWalkFault};
 ghost use Rattle.grep_walk.specs.Walks.{IsOrdered};
 ghost use Rattle.grep_core.specs.Configured.{IsConfigured};
 ghost use Rattle.grep_walk.specs.Origins.{Origin};
+ghost use Rattle.grep_report.specs.ErrorMakers.{makers_of};
 
 use crate::buffers::Buffers;
 use crate::calls::Calls;
@@ -63,25 +60,22 @@ impl<'c, A: Allocator + Copy, T> Search<'c, A, T> {
         requires configured { IsConfigured (C.settings self.now.searcher.now) self.now.config }
         requires may_call { C.may_call sink.old }
         ensures fitting { AreFitting self.now.config buffers.new }
-        ensures searched { IsLawfulFor self.now.config (M.meaning matcher.now)
-            (M.is_lawful matcher.now)
+        ensures searched { IsLawful (M.facts matcher.now) self.now.config
             → (has_buffers : Bool) → IsRead R.remaining R.step C.step
-            (errors_by C.Error.is_message C.Error.is_io C.Error.is_config)
-            (facts_by M.meaning M.fails M.is_lawful M.Error.output matcher.now)
+            (makers_of M.Error.output C.Error.makers) (M.facts matcher.now)
             (record { settings = self.now.config; has_buffers = has_buffers })
-            (look_of self.now.config (M.meaning matcher.now) false)
+            (look_of self.now.config (M.facts matcher.now).meaning false)
             reader.old sink.old result reader.new sink.new }
         ensures in_order { IsInOrder C.step
-            (errors_by C.Error.is_message C.Error.is_io C.Error.is_config)
-            (facts_by M.meaning M.fails M.is_lawful M.Error.output matcher.now) self.now.config
+            (makers_of M.Error.output C.Error.makers) (M.facts matcher.now) self.now.config
             (IsReadingError R.remaining R.step reader.old reader.new) sink.old result sink.new }
-        ensures succeeds { NeverFails C.step C.may_call → IsInfallible (M.fails matcher.now)
-            → IsLawfulFor self.now.config (M.meaning matcher.now) (M.is_lawful matcher.now)
+        ensures succeeds { NeverFails C.step C.may_call → IsInfallible (M.facts matcher.now).fails
+            → IsLawful (M.facts matcher.now) self.now.config
             → IfErr result (λ e. (has_buffers : Bool) → (begun : Bool) × (seen : List ℕ)
             × (error : Error) × IsUnread R.remaining R.step
             (record { settings = self.now.config; has_buffers = has_buffers })
-            (M.meaning matcher.now) reader.old begun seen error reader.new
-            × C.Error.is_io error e) }
+            (M.facts matcher.now).meaning reader.old begun seen error reader.new
+            × C.Error.makers.is_io error e) }
         ensures may_call { C.may_call sink.new }
     {
         if self.config.is_across(matcher) {
@@ -109,27 +103,24 @@ impl<'c, A: Allocator + Copy, T> Search<'c, A, T> {
         requires allowed { is_at 0 self.now.config.heap_limit ≡ false }
         requires fitting { AreFitting self.now.config buffers.old }
         requires configured { IsConfigured (C.settings self.now.searcher.now) self.now.config }
-        requires by_line { is_across self.now.config (M.meaning matcher.now) ≡ false }
+        requires by_line { is_across self.now.config (M.facts matcher.now).meaning ≡ false }
         requires may_call { C.may_call sink.old }
         ensures fitting { AreFitting self.now.config buffers.new }
-        ensures searched { IsLawfulFor self.now.config (M.meaning matcher.now)
-            (M.is_lawful matcher.now)
+        ensures searched { IsLawful (M.facts matcher.now) self.now.config
             → (has_buffers : Bool) → IsRead R.remaining R.step C.step
-            (errors_by C.Error.is_message C.Error.is_io C.Error.is_config)
-            (facts_by M.meaning M.fails M.is_lawful M.Error.output matcher.now)
+            (makers_of M.Error.output C.Error.makers) (M.facts matcher.now)
             (record { settings = self.now.config; has_buffers = has_buffers })
             on_stream reader.old sink.old result reader.new sink.new }
         ensures in_order { IsInOrder C.step
-            (errors_by C.Error.is_message C.Error.is_io C.Error.is_config)
-            (facts_by M.meaning M.fails M.is_lawful M.Error.output matcher.now) self.now.config
+            (makers_of M.Error.output C.Error.makers) (M.facts matcher.now) self.now.config
             (IsReadingError R.remaining R.step reader.old reader.new) sink.old result sink.new }
-        ensures succeeds { NeverFails C.step C.may_call → IsInfallible (M.fails matcher.now)
-            → IsLawfulFor self.now.config (M.meaning matcher.now) (M.is_lawful matcher.now)
+        ensures succeeds { NeverFails C.step C.may_call → IsInfallible (M.facts matcher.now).fails
+            → IsLawful (M.facts matcher.now) self.now.config
             → IfErr result (λ e. (has_buffers : Bool) → (begun : Bool) × (seen : List ℕ)
             × (error : Error) × IsUnread R.remaining R.step
             (record { settings = self.now.config; has_buffers = has_buffers })
-            (M.meaning matcher.now) reader.old begun seen error reader.new
-            × C.Error.is_io error e) }
+            (M.facts matcher.now).meaning reader.old begun seen error reader.new
+            × C.Error.makers.is_io error e) }
         ensures may_call { C.may_call sink.new }
     {
         let finish = self.match_source::<M, R, C>(matcher, buffers, reader, sink)?;
@@ -149,23 +140,22 @@ impl<'c, A: Allocator + Copy, T> Search<'c, A, T> {
         requires allowed { is_at 0 self.now.config.heap_limit ≡ false }
         requires fitting { AreFitting self.now.config buffers.old }
         requires configured { IsConfigured (C.settings self.now.searcher.now) self.now.config }
-        requires by_line { is_across self.now.config (M.meaning matcher.now) ≡ false }
+        requires by_line { is_across self.now.config (M.facts matcher.now).meaning ≡ false }
         requires may_call { C.may_call sink.old }
         ensures fitting { AreFitting self.now.config buffers.new }
         ensures begun { IfOk result
-            (λ finish. HasBegun C.step self.now.config (M.meaning matcher.now)
+            (λ finish. HasBegun C.step self.now.config (M.facts matcher.now).meaning
             R.remaining R.step reader.old sink.old reader.new) }
         ensures counted { IfOk result (λ finish.
-            IsLawfulFor self.now.config (M.meaning matcher.now) (M.is_lawful matcher.now)
-            → IsStreamCounted C.step self.now.config (M.meaning matcher.now)
+            IsLawful (M.facts matcher.now) self.now.config
+            → IsStreamCounted C.step self.now.config (M.facts matcher.now).meaning
             R.remaining R.step reader.old sink.old
             (record { count = finish.byte_count; binary = finish.binary_byte_offset })
             reader.new sink.new) }
         ensures fault { IfErr result (λ e.
-            IsLawfulFor self.now.config (M.meaning matcher.now) (M.is_lawful matcher.now)
+            IsLawful (M.facts matcher.now) self.now.config
             → (has_buffers : Bool) → IsRead R.remaining R.step C.step
-            (errors_by C.Error.is_message C.Error.is_io C.Error.is_config)
-            (facts_by M.meaning M.fails M.is_lawful M.Error.output matcher.now)
+            (makers_of M.Error.output C.Error.makers) (M.facts matcher.now)
             (record { settings = self.now.config; has_buffers = has_buffers })
             on_stream reader.old sink.old (Err e) reader.new sink.new) }
         ensures in_order { IfOk result (λ finish.
@@ -174,16 +164,15 @@ impl<'c, A: Allocator + Copy, T> Search<'c, A, T> {
             is_detecting self.now.config.binary_detection ≡ false
             → finish.binary_byte_offset ≡ None) }
         ensures broken { IfErr result (λ e. IsInOrder C.step
-            (errors_by C.Error.is_message C.Error.is_io C.Error.is_config)
-            (facts_by M.meaning M.fails M.is_lawful M.Error.output matcher.now) self.now.config
+            (makers_of M.Error.output C.Error.makers) (M.facts matcher.now) self.now.config
             (IsReadingError R.remaining R.step reader.old reader.new) sink.old (Err e) sink.new) }
-        ensures succeeds { NeverFails C.step C.may_call → IsInfallible (M.fails matcher.now)
-            → IsLawfulFor self.now.config (M.meaning matcher.now) (M.is_lawful matcher.now)
+        ensures succeeds { NeverFails C.step C.may_call → IsInfallible (M.facts matcher.now).fails
+            → IsLawful (M.facts matcher.now) self.now.config
             → IfErr result (λ e. (has_buffers : Bool) → (begun : Bool) × (seen : List ℕ)
             × (error : Error) × IsUnread R.remaining R.step
             (record { settings = self.now.config; has_buffers = has_buffers })
-            (M.meaning matcher.now) reader.old begun seen error reader.new
-            × C.Error.is_io error e) }
+            (M.facts matcher.now).meaning reader.old begun seen error reader.new
+            × C.Error.makers.is_io error e) }
         ensures may_call { C.may_call sink.new }
     {
         lines_join();
@@ -233,39 +222,39 @@ impl<'c, A: Allocator + Copy, T> Search<'c, A, T> {
         requires configured { IsConfigured (C.settings self.now.searcher.now) self.now.config }
         requires may_call { C.may_call sink.old }
         requires binary { binary.old ≡ None }
-        requires by_line { is_across self.now.config (M.meaning matcher.now) ≡ false }
+        requires by_line { is_across self.now.config (M.facts matcher.now).meaning ≡ false }
         ensures fitting { IsFitting self.now.config.heap_limit
             (byte_of self.now.config.line_terminator) lines.new }
         ensures counted { IfOk result (λ count.
-            IsLawfulFor self.now.config (M.meaning matcher.now) (M.is_lawful matcher.now)
+            IsLawful (M.facts matcher.now) self.now.config
             → (first : C.Sink)
             → C.step first self.now.config begins (Ok true) sink.old
-            → IsStreamCounted C.step self.now.config (M.meaning matcher.now) R.remaining R.step
+            → IsStreamCounted C.step self.now.config (M.facts matcher.now).meaning R.remaining R.step
             reader.old first (record { count = count; binary = binary.new }) reader.new sink.new) }
+        ensures once { OnOk result (reports_nothing self.now.config ≡ true
+            → IsReadForLine R.remaining R.step self.now.config reader.old reader.new) }
         ensures fault { IfErr result (λ e.
-            IsLawfulFor self.now.config (M.meaning matcher.now) (M.is_lawful matcher.now)
+            IsLawful (M.facts matcher.now) self.now.config
             → (first : C.Sink)
             → C.step first self.now.config begins (Ok true) sink.old
             → (has_buffers : Bool) → IsRead R.remaining R.step C.step
-            (errors_by C.Error.is_message C.Error.is_io C.Error.is_config)
-            (facts_by M.meaning M.fails M.is_lawful M.Error.output matcher.now)
+            (makers_of M.Error.output C.Error.makers) (M.facts matcher.now)
             (record { settings = self.now.config; has_buffers = has_buffers })
             on_stream reader.old first (Err e) reader.new sink.new) }
         ensures in_order { ReadsInOrder C.step self.now.config
-            (errors_by C.Error.is_message C.Error.is_io C.Error.is_config)
-            (facts_by M.meaning M.fails M.is_lawful M.Error.output matcher.now)
+            (makers_of M.Error.output C.Error.makers) (M.facts matcher.now)
             (IsReadingError R.remaining R.step reader.old reader.new) sink.old result sink.new }
         ensures noted { OnOk result (is_detecting self.now.config.binary_detection ≡ false
             → binary.new ≡ None) }
-        ensures succeeds { NeverFails C.step C.may_call → IsInfallible (M.fails matcher.now)
-            → IsLawfulFor self.now.config (M.meaning matcher.now) (M.is_lawful matcher.now)
+        ensures succeeds { NeverFails C.step C.may_call → IsInfallible (M.facts matcher.now).fails
+            → IsLawful (M.facts matcher.now) self.now.config
             → IfErr result (λ e. (first : C.Sink)
             → C.step first self.now.config begins (Ok true) sink.old
             → (has_buffers : Bool) → (begun : Bool) × (seen : List ℕ)
             × (error : Error) × IsUnread R.remaining R.step
             (record { settings = self.now.config; has_buffers = has_buffers })
-            (M.meaning matcher.now) reader.old begun seen error reader.new
-            × C.Error.is_io error e) }
+            (M.facts matcher.now).meaning reader.old begun seen error reader.new
+            × C.Error.makers.is_io error e) }
         ensures may_call { C.may_call sink.new }
     {
         reads_continue::<R>();
@@ -347,35 +336,33 @@ impl<'c, A: Allocator + Copy, T> Search<'c, A, T> {
         ensures ahead { IfOk result
             (λ goes_on. goes_on ≡ true → walk.old.offset < walk.new.offset) }
         ensures goes_on { IfOk result (λ goes_on.
-            IsLawfulFor self.now.config (M.meaning matcher.now) (M.is_lawful matcher.now)
-            → goes_on ≡ true → HasMovedOn C.step self.now.config (M.meaning matcher.now)
+            IsLawful (M.facts matcher.now) self.now.config
+            → goes_on ≡ true → HasMovedOn C.step self.now.config (M.facts matcher.now).meaning
             lines.old walk.old sink.old lines.new walk.new sink.new) }
         ensures same { IfOk result (λ goes_on. goes_on ≡ false → lines.new ≡ lines.old) }
         ensures ends { IfOk result (λ goes_on.
-            IsLawfulFor self.now.config (M.meaning matcher.now) (M.is_lawful matcher.now)
-            → goes_on ≡ false → HasEnded C.step self.now.config (M.meaning matcher.now)
+            IsLawful (M.facts matcher.now) self.now.config
+            → goes_on ≡ false → HasEnded C.step self.now.config (M.facts matcher.now).meaning
             lines.old walk.old sink.old walk.new sink.new) }
         ensures fault { IfErr result (λ e.
-            IsLawfulFor self.now.config (M.meaning matcher.now) (M.is_lawful matcher.now)
+            IsLawful (M.facts matcher.now) self.now.config
             → (gone : List ℕ) (first : Origin C.Sink)
-            → IsReady C.step self.now.config (M.meaning matcher.now) gone lines.old.shown
+            → IsReady C.step self.now.config (M.facts matcher.now).meaning gone lines.old.shown
             (start_in lines.old walk.old) first walk.old sink.old
             → (after : List ℕ)
             → (0 < length after → IsClosed
             (byte_of self.now.config.line_terminator) lines.old.shown)
             → IsWalkFault C.step
-            (errors_by C.Error.is_message C.Error.is_io C.Error.is_config)
-            (facts_by M.meaning M.fails M.is_lawful M.Error.output matcher.now)
+            (makers_of M.Error.output C.Error.makers) (M.facts matcher.now)
             self.now.config (gone ++ (lines.old.shown ++ after)) first e sink.new) }
         ensures kept { OnErr result (lines.new ≡ lines.old) }
         ensures room { length (held lines.old) ≤ lines.old.size }
-        ensures succeeds { NeverFails C.step C.may_call → IsInfallible (M.fails matcher.now)
+        ensures succeeds { NeverFails C.step C.may_call → IsInfallible (M.facts matcher.now).fails
             → IsOk result }
         ensures binary { OnOk result (lines.new.binary ≡ lines.old.binary) }
         ensures detection { OnOk result (lines.new.detection ≡ lines.old.detection) }
         ensures in_order { GoesOnInOrder C.step self.now.config
-            (errors_by C.Error.is_message C.Error.is_io C.Error.is_config)
-            (facts_by M.meaning M.fails M.is_lawful M.Error.output matcher.now)
+            (makers_of M.Error.output C.Error.makers) (M.facts matcher.now)
             sink.old result walk.new.offset sink.new }
         ensures may_call { C.may_call sink.new }
     {

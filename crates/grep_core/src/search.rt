@@ -1,16 +1,18 @@
 //! What a search runs with, and the search of bytes as they are.
 ghost use Rattle.std.specs.Prelude.{◌≡◌, false, IfOk, IfErr, IsOk};
 ghost use Rattle.grep_core.specs.Configured.{IsConfigured};
-ghost use Rattle.grep_matcher.specs.Matching.{IsInfallible};
-ghost use Rattle.grep_matcher.specs.Terminators.{byte_of};
+ghost use Rattle.grep_matcher.specs.Meanings.{IsInfallible};
+ghost use Rattle.grep_matcher.specs.Lines.{byte_of};
 ghost use Rattle.grep_report.specs.BinaryDetections.{quit_byte_of};
 ghost use Rattle.grep_definitions.specs.CallOrder.{BeginsInOrder};
-ghost use Rattle.grep_definitions.specs.PlannedSearches.{IsInOrder, IsSliceSearch};
-ghost use Rattle.grep_definitions.specs.Questions.{IsLawfulFor};
+ghost use Rattle.grep_definitions.specs.Searches.{IsInOrder};
+ghost use Rattle.grep_definitions.specs.SliceSearches.{IsSliceSearch};
+ghost use Rattle.grep_definitions.specs.Asking.{IsLawful};
 ghost use Rattle.grep_definitions.specs.SearchTurns.{calls_if};
-ghost use Rattle.grep_definitions.specs.Searches.{IsFaultIn, errors_by, facts_by};
+ghost use Rattle.grep_definitions.specs.ContentsSearches.{IsFaultIn};
 ghost use Rattle.grep_definitions.specs.Plans.{NeverFails, Outcome};
 ghost use Rattle.grep_walk.specs.Walks.{Counted};
+ghost use Rattle.grep_report.specs.ErrorMakers.{makers_of};
 
 use crate::calls::Calls;
 use grep_matcher::Matcher;
@@ -46,17 +48,14 @@ impl<'c, A: Allocator + Copy, T> Search<'c, A, T> {
         C::Error: SinkError<A>,
         requires configured { IsConfigured (C.settings self.now.searcher.now) self.now.config }
         requires may_call { C.may_call sink.old }
-        ensures searched { IsLawfulFor self.now.config (M.meaning matcher.now)
-            (M.is_lawful matcher.now)
+        ensures searched { IsLawful (M.facts matcher.now) self.now.config
             → IsSliceSearch C.step
-            (errors_by C.Error.is_message C.Error.is_io C.Error.is_config)
-            (facts_by M.meaning M.fails M.is_lawful M.Error.output matcher.now)
+            (makers_of M.Error.output C.Error.makers) (M.facts matcher.now)
             self.now.config bytes.now sink.old result sink.new }
         ensures in_order { IsInOrder C.step
-            (errors_by C.Error.is_message C.Error.is_io C.Error.is_config)
-            (facts_by M.meaning M.fails M.is_lawful M.Error.output matcher.now)
+            (makers_of M.Error.output C.Error.makers) (M.facts matcher.now)
             self.now.config (λ _. ⊥) sink.old result sink.new }
-        ensures succeeds { NeverFails C.step C.may_call → IsInfallible (M.fails matcher.now)
+        ensures succeeds { NeverFails C.step C.may_call → IsInfallible (M.facts matcher.now).fails
             → IsOk result }
         ensures may_call { C.may_call sink.new }
     {
@@ -81,26 +80,22 @@ impl<'c, A: Allocator + Copy, T> Search<'c, A, T> {
         requires configured { IsConfigured (C.settings self.now.searcher.now) self.now.config }
         requires may_call { C.may_call sink.old }
         ensures reported { IfOk result (λ count.
-            (is_across ≡ false → IsLawfulFor self.now.config (M.meaning matcher.now)
-            (M.is_lawful matcher.now))
+            (is_across ≡ false → IsLawful (M.facts matcher.now) self.now.config)
             → (outcome : Outcome C.Error)
             × Counted C.step self.now.config sink.old
-            ((calls_if self.now.config (M.meaning matcher.now) is_across).turns bytes.now)
-            ((calls_if self.now.config (M.meaning matcher.now) is_across).byte_count bytes.now)
+            ((calls_if self.now.config (M.facts matcher.now).meaning is_across).turns bytes.now)
+            ((calls_if self.now.config (M.facts matcher.now).meaning is_across).byte_count bytes.now)
             count outcome sink.new) }
         ensures fault { IfErr result (λ e.
-            (is_across ≡ false → IsLawfulFor self.now.config (M.meaning matcher.now)
-            (M.is_lawful matcher.now))
+            (is_across ≡ false → IsLawful (M.facts matcher.now) self.now.config)
             → IsFaultIn C.step
-            (errors_by C.Error.is_message C.Error.is_io C.Error.is_config)
-            (facts_by M.meaning M.fails M.is_lawful M.Error.output matcher.now)
-            (calls_if self.now.config (M.meaning matcher.now) is_across)
+            (makers_of M.Error.output C.Error.makers) (M.facts matcher.now)
+            (calls_if self.now.config (M.facts matcher.now).meaning is_across)
             self.now.config bytes.now sink.old e sink.new) }
-        ensures succeeds { NeverFails C.step C.may_call → IsInfallible (M.fails matcher.now)
+        ensures succeeds { NeverFails C.step C.may_call → IsInfallible (M.facts matcher.now).fails
             → IsOk result }
         ensures in_order { BeginsInOrder C.step self.now.config
-            (errors_by C.Error.is_message C.Error.is_io C.Error.is_config)
-            (facts_by M.meaning M.fails M.is_lawful M.Error.output matcher.now)
+            (makers_of M.Error.output C.Error.makers) (M.facts matcher.now)
             sink.old result sink.new }
         ensures may_call { C.may_call sink.new }
     {

@@ -1,13 +1,11 @@
 //! What a walk reports of a line: the lines before a match, the match, a line after one, or any
 //! line under `passthru`.
-ghost use Rattle.std.specs.Prelude.{◌≡◌, ◌≤◌, ◌<◌, ◌+◌, ◌-◌, ◌^◌, ℕ, true, List, length};
-ghost use Rattle.std.specs.Prelude.{IsOk};
-ghost use Rattle.grep_lines.specs.Positions.{slice};
+ghost use Rattle.std.specs.Prelude.{◌≡◌, ◌≤◌, ◌<◌, ◌+◌, ◌-◌, ◌^◌, ℕ, true, List, length, IsOk};
+ghost use Rattle.std.specs.Prelude.{slice_range};
 ghost use Rattle.grep_definitions.specs.CallOrder.{HasCalled};
 ghost use Rattle.grep_definitions.specs.Plans.{context, AreMade, NeverFails};
-ghost use Rattle.grep_definitions.specs.LineTurns.{number_of, is_gap, break_turns};
-ghost use Rattle.grep_definitions.specs.LineTurns.{after_turns, before_turns, pending_turns};
-ghost use Rattle.grep_definitions.specs.LineTurns.{match_turns};
+ghost use Rattle.grep_definitions.specs.LineTurns.{number_of, is_gap, break_turns, after_turns};
+ghost use Rattle.grep_definitions.specs.LineTurns.{before_turns, pending_turns, match_turns};
 ghost use Rattle.grep_definitions.specs.SinkRuns.{outcome_of};
 ghost use Rattle.grep_walk.specs.Walks.{chooses, counts_lines, trails, line_turns, line_end};
 ghost use Rattle.grep_walk.specs.Windows.{IsInWindow, IsLineIn};
@@ -47,9 +45,9 @@ impl<'c, A: Allocator + Copy, T> Search<'c, A, T> {
             → (counts_lines self.now.config ≡ true
             → IsInWindow self.now.config gone window.now input start walk.now)
             → AreMade C.step self.now.config sink.old
-            (line_turns self.now.config input walk.now (slice window.now start end)
+            (line_turns self.now.config input walk.now (slice_range window.now start end)
             (chooses verdict) (trails verdict))
-            (outcome_of (line_end walk.now (slice window.now start end)) result) sink.new }
+            (outcome_of (line_end walk.now (slice_range window.now start end)) result) sink.new }
         ensures succeeds { NeverFails C.step C.may_call → IsOk result }
         ensures called { (stop : ℕ) → HasCalled C.step self.now.config 0 sink.old
             (outcome_of stop result) sink.new }
@@ -84,13 +82,13 @@ impl<'c, A: Allocator + Copy, T> Search<'c, A, T> {
     ) -> Result<bool, C::Error>
         requires ordered { start ≤ end }
         requires within { end ≤ length window.now }
-        requires fits { walk.now.offset + length (slice window.now start end) < 2 ^ 64 }
+        requires fits { walk.now.offset + length (slice_range window.now start end) < 2 ^ 64 }
         requires number { walk.now.line + 1 < 2 ^ 64 }
         requires configured { IsConfigured (C.settings self.now.searcher.now) self.now.config }
         requires may_call { C.may_call sink.old }
         ensures reported { (stop : ℕ) → AreMade C.step self.now.config sink.old
             (after_turns self.now.config (trails verdict) walk.now.next_unreported walk.now.line
-            walk.now.offset stop (slice window.now start end))
+            walk.now.offset stop (slice_range window.now start end))
             (outcome_of stop result) sink.new }
         ensures succeeds { NeverFails C.step C.may_call → IsOk result }
         ensures called { (stop : ℕ) → HasCalled C.step self.now.config 0 sink.old
@@ -238,14 +236,14 @@ impl<'c, A: Allocator + Copy, T> Search<'c, A, T> {
     ) -> Result<bool, C::Error>
         requires ordered { start ≤ end }
         requires within { end ≤ length window.now }
-        requires fits { walk.now.offset + length (slice window.now start end) < 2 ^ 64 }
+        requires fits { walk.now.offset + length (slice_range window.now start end) < 2 ^ 64 }
         requires number { walk.now.line + 1 < 2 ^ 64 }
         requires configured { IsConfigured (C.settings self.now.searcher.now) self.now.config }
         requires may_call { C.may_call sink.old }
         ensures reported { (stop : ℕ) → AreMade C.step self.now.config sink.old
             (match_turns self.now.config walk.now.next_unreported walk.now.line walk.now.offset
             stop
-            (slice window.now start end))
+            (slice_range window.now start end))
             (outcome_of stop result) sink.new }
         ensures succeeds { NeverFails C.step C.may_call → IsOk result }
         ensures may_call { C.may_call sink.new }

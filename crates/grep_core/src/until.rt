@@ -1,16 +1,15 @@
 //! The search of whole contents that ends at a binary byte.
 ghost use Rattle.std.specs.Prelude.{◌≡◌, true, false, None, IsOk, take};
-ghost use Rattle.grep_matcher.specs.Matching.{IsInfallible};
-ghost use Rattle.grep_definitions.specs.BinaryBytes.{is_detecting, position_of};
-ghost use Rattle.grep_definitions.specs.Questions.{IsLawfulFor};
-ghost use Rattle.grep_definitions.specs.BinaryPlans.{first_look};
+ghost use Rattle.grep_matcher.specs.Meanings.{IsInfallible};
+ghost use Rattle.grep_definitions.specs.BinaryBytes.{is_detecting, position_of, first_look};
+ghost use Rattle.grep_definitions.specs.Asking.{IsLawful};
 ghost use Rattle.grep_definitions.specs.SearchTurns.{calls_if};
-ghost use Rattle.grep_definitions.specs.Searches.{errors_by, facts_by};
 ghost use Rattle.grep_definitions.specs.Plans.{NeverFails, IsRun};
 ghost use Rattle.grep_core.specs.InputSearches.{IsSearchedUntil};
 ghost use Rattle.grep_core.specs.Configured.{IsConfigured};
-ghost use Rattle.grep_definitions.specs.PlannedSearches.{IsInOrder};
+ghost use Rattle.grep_definitions.specs.Searches.{IsInOrder};
 ghost use Rattle.grep_core.specs.QuittingSinks.{first_quit};
+ghost use Rattle.grep_report.specs.ErrorMakers.{makers_of};
 
 use crate::calls::Calls;
 use crate::quitting::{Quitting, QuittingCalls};
@@ -40,17 +39,15 @@ impl<'c, A: Allocator + Copy, T> Search<'c, A, T> {
         requires configured { IsConfigured (C.settings self.now.searcher.now) self.now.config }
         requires may_call { C.may_call sink.old }
         ensures searched { (is_across ≡ false
-            → IsLawfulFor self.now.config (M.meaning matcher.now) (M.is_lawful matcher.now))
+            → IsLawful (M.facts matcher.now) self.now.config)
             → IsSearchedUntil C.step
-            (errors_by C.Error.is_message C.Error.is_io C.Error.is_config)
-            (facts_by M.meaning M.fails M.is_lawful M.Error.output matcher.now)
-            (calls_if self.now.config (M.meaning matcher.now) is_across)
+            (makers_of M.Error.output C.Error.makers) (M.facts matcher.now)
+            (calls_if self.now.config (M.facts matcher.now).meaning is_across)
             byte self.now.config bytes.now sink.old result sink.new }
         ensures in_order { IsInOrder C.step
-            (errors_by C.Error.is_message C.Error.is_io C.Error.is_config)
-            (facts_by M.meaning M.fails M.is_lawful M.Error.output matcher.now) self.now.config
+            (makers_of M.Error.output C.Error.makers) (M.facts matcher.now) self.now.config
             (λ _. ⊥) sink.old result sink.new }
-        ensures succeeds { NeverFails C.step C.may_call → IsInfallible (M.fails matcher.now)
+        ensures succeeds { NeverFails C.step C.may_call → IsInfallible (M.facts matcher.now).fails
             → IsOk result }
         ensures may_call { C.may_call sink.new }
     {
@@ -97,17 +94,15 @@ impl<'c, A: Allocator + Copy, T> Search<'c, A, T> {
         requires configured { IsConfigured (C.settings self.now.searcher.now) self.now.config }
         requires may_call { C.may_call sink.old.sink.now }
         ensures searched { (is_across ≡ false
-            → IsLawfulFor self.now.config (M.meaning matcher.now) (M.is_lawful matcher.now))
+            → IsLawful (M.facts matcher.now) self.now.config)
             → IsSearchedUntil C.step
-            (errors_by C.Error.is_message C.Error.is_io C.Error.is_config)
-            (facts_by M.meaning M.fails M.is_lawful M.Error.output matcher.now)
-            (calls_if self.now.config (M.meaning matcher.now) is_across)
+            (makers_of M.Error.output C.Error.makers) (M.facts matcher.now)
+            (calls_if self.now.config (M.facts matcher.now).meaning is_across)
             sink.old.byte self.now.config bytes.now sink.old.sink.now result sink.new.sink.now }
         ensures in_order { IsInOrder C.step
-            (errors_by C.Error.is_message C.Error.is_io C.Error.is_config)
-            (facts_by M.meaning M.fails M.is_lawful M.Error.output matcher.now) self.now.config
+            (makers_of M.Error.output C.Error.makers) (M.facts matcher.now) self.now.config
             (λ _. ⊥) sink.old.sink.now result sink.new.sink.now }
-        ensures succeeds { NeverFails C.step C.may_call → IsInfallible (M.fails matcher.now)
+        ensures succeeds { NeverFails C.step C.may_call → IsInfallible (M.facts matcher.now).fails
             → IsOk result }
         ensures same_sink { sink.new.sink.ghost_name ≡ sink.old.sink.ghost_name }
         ensures may_call { C.may_call sink.new.sink.now }

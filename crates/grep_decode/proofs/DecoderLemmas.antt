@@ -1,8 +1,8 @@
 -- What reads of a decoder do, one after the other.
 use Rattle.std.proofs.Common.{◌≡◌, ℕ, suc, ◌-◌, ◌<◌, ◌≤◌, ◌==◌, Bool, true, false, List, [], ◌∷◌, ◌++◌, Option, Some}
-use Rattle.std.proofs.Common.{None, Result, Ok, Err, IfSome, IfOk, IfErr, OnErr, take, ◌+◌, refl, sym, subst, ap, ◌∙◌}
+use Rattle.std.proofs.Common.{None, Result, Ok, Err, IfSome, IfOk, IfErr, OnErr, OnOk, take, ◌+◌, refl, sym, subst, ap, ◌∙◌}
 use Rattle.std.proofs.Common.{append-nil, append_assoc, arith, length, length-append, length-take, min, ◌⊎◌, ⊎_elim}
-use Rattle.std.proofs.Common.{inl, inr}
+use Rattle.std.proofs.Common.{inl, inr, is_some, ◌||◌}
 use Rattle.std.proofs.lemmas.Bool.{false≢true}
 use Rattle.std.proofs.lemmas.Bool.Decides.{nat_tests}
 use Rattle.std.proofs.lemmas.List.Folds.{concat-append}
@@ -16,13 +16,13 @@ use Rattle.grep_decode.specs.declared.label.Label.{Label}
 use Rattle.grep_decode.specs.declared.label.Label.TheVariants.{Utf8, Utf16Le, Utf16Be}
 use Rattle.grep_decode.specs.declared.mode.Mode.{Mode}
 use Rattle.grep_decode.specs.declared.mode.Mode.TheVariants.{Fresh, Passing, Decoding}
-use Rattle.grep_decode.specs.Decoded.{decoded, units_of, has_odd_byte, scalars_of, utf16_text}
+use Rattle.grep_decode.specs.Decoded.{decoded, found_mark, units_of, has_odd_byte, scalars_of, utf16_text}
 use Rattle.grep_decode.specs.UndecodedBytes.{UndecodedBytes, Grows, holding}
 use Rattle.grep_decode.specs.Source.{ReadResult, Pulls, FailsWith}
 use Rattle.grep_decode.specs.DecoderStates.{DecoderState, Calls, Decodes, FailsToDecode, FitsMode, IsDecoded, IsDone}
 use Rattle.grep_decode.specs.DecoderStates.{IsSettled, LooksForMark, TakesAtMost, decode_by, mode_after, still_to_give}
-use Rattle.grep_decode.specs.DecoderStates.{next_mode, started, unread, yet}
-use Rattle.grep_decode.proofs.RunLemmas.{Calls-none, Calls-append, Calls-ended, Calls-nothing, FailsWith-after}
+use Rattle.grep_decode.specs.DecoderStates.{HasWaited, IsWaiting, next_mode, started, unread, yet}
+use Rattle.grep_decode.proofs.SourceRunLemmas.{Calls-none, Calls-append, Calls-ended, Calls-nothing, FailsWith-after}
 
 -- at most so many calls are left, until the reader has ended
 abbrev pub calls_left : Bool → ℕ → ℕ
@@ -392,6 +392,33 @@ module _ {R : Type 0} (remaining : R → Option (List ℕ)) (step : R → ReadRe
     failed = later.failed;
   }
 
+  -- reads that gave nothing, and others
+  pub waited-then : (d d1 : DecoderState) (r r1 r2 : R) → Decodes remaining step d r [] d1 r1
+      → HasWaited remaining step d1 r1 r2 → HasWaited remaining step d r r2
+  waited-then d d1 r r1 r2 first waited = record {
+    waiting = waited.waiting;
+    mid = waited.mid;
+    decodes = Decodes-append d d1 waited.waiting r r1 waited.mid [] [] first waited.decodes;
+    unended = waited.unended;
+    empty = waited.empty;
+    waits = waited.waits;
+    piece = waited.piece;
+    called = waited.called;
+  }
+
+  pub waited-some : (d d1 : DecoderState) (r r1 r2 : R) → Decodes remaining step d r [] d1 r1
+      → HasWaited remaining step d r r1 → (r2 ≡ r1) ⊎ HasWaited remaining step d1 r1 r2
+      → HasWaited remaining step d r r2
+  waited-some d d1 r r1 r2 first waited (inl kept) = subst (HasWaited remaining step d r) (sym kept) waited
+  waited-some d d1 r r1 r2 first waited (inr last) = waited-then d d1 r r1 r2 first last
+
+  pub waited-after : (d d1 : DecoderState) (r r1 r2 : R) → Decodes remaining step d r [] d1 r1
+      → (r1 ≡ r) ⊎ HasWaited remaining step d r r1 → (r2 ≡ r1) ⊎ HasWaited remaining step d1 r1 r2
+      → (r2 ≡ r) ⊎ HasWaited remaining step d r r2
+  waited-after d d1 r r1 r2 first (inl same) (inl kept) = inl (kept ∙ same)
+  waited-after d d1 r r1 r2 first (inr waited) later = inr (waited-some d d1 r r1 r2 first waited later)
+  waited-after d d1 r r1 r2 first before (inr waited) = inr (waited-then d d1 r r1 r2 first waited)
+
   Calls-pulls : (was is : Bool) (old new : R) (pieces : List (List ℕ)) → Calls remaining step was is old pieces new → is
       ≡ false
       → Pulls step old pieces new
@@ -533,6 +560,23 @@ module _ {R : Type 0} (remaining : R → Option (List ℕ)) (step : R → ReadRe
   result-fails d d1 d2 r r1 r2 (Ok n) first later = tt
   result-fails d d1 d2 r r1 r2 (Err e) first later = FailsToDecode-after remaining step d d1 d2 r r1 r2 e first later
 
+  pub result-waited : (d d1 : DecoderState) (r r1 r2 : R) (result : Result ℕ Error)
+      → Decodes remaining step d r [] d1 r1 → (r1 ≡ r) ⊎ HasWaited remaining step d r r1
+      → OnOk result ((r2 ≡ r1) ⊎ HasWaited remaining step d1 r1 r2)
+      → OnOk result ((r2 ≡ r) ⊎ HasWaited remaining step d r r2)
+  result-waited d d1 r r1 r2 (Ok n) first before later = waited-after remaining step d d1 r r1 r2 first before later
+  result-waited d d1 r r1 r2 (Err e) first before later = tt
+
+  pub result-begins : (d d1 : DecoderState) (r r1 r2 : R) (result : Result ℕ Error)
+      → Decodes remaining step d r [] d1 r1
+      → HasWaited remaining step d r r1 ⊎ OnOk result (HasWaited remaining step d1 r1 r2)
+      → OnOk result ((r2 ≡ r1) ⊎ HasWaited remaining step d1 r1 r2)
+      → OnOk result (HasWaited remaining step d r r2)
+  result-begins d d1 r r1 r2 (Ok n) first (inl waited) later = waited-some remaining step d d1 r r1 r2 first waited
+      later
+  result-begins d d1 r r1 r2 (Ok n) first (inr waited) later = waited-then remaining step d d1 r r1 r2 first waited
+  result-begins d d1 r r1 r2 (Err e) first before later = tt
+
   pub result-gives : (d d1 : DecoderState) (r r1 : R) (result : Result ℕ Error) (buffer : List ℕ)
       → IfOk result (λ n. Decodes remaining step d r (take n buffer) d1 r1)
       → IfOk result (λ n. Consumes (yet d (remaining r)) (yet d1 (remaining r1)) (take n buffer))
@@ -620,6 +664,42 @@ pub first-passes : (M : List ℕ → Type 0) (P Q : Type 0) (known : Option (Lis
     → IfSome known (λ input. M input → P → same ≡ take 3 input)
 first-passes M P Q None ready same turn is made = tt
 first-passes M P Q (Some input) ready same turn is made = λ m p. is ∙ made m (turn p)
+
+-- few bytes wait while a mark is looked for
+pub few-wait : (mode : Mode) (held : List ℕ) → LooksForMark mode → length held < 3 → IsWaiting mode held
+few-wait (Fresh label sniff) held looks few = (looks, few)
+few-wait Passing held looks few = absurd looks
+few-wait (Decoding label) held looks few = absurd looks
+
+-- whether a mark is looked for
+pub looks-or : (mode : Mode) → LooksForMark mode ⊎ (LooksForMark mode → ⊥)
+looks-or (Fresh label sniff) = true-or (sniff || is_some label)
+  where
+    true-or : (b : Bool) → (b ≡ true) ⊎ (b ≡ true → ⊥)
+    true-or true = inl refl
+    true-or false = inr (λ is. false≢true is)
+looks-or Passing = inr (λ looks. looks)
+looks-or (Decoding label) = inr (λ looks. looks)
+
+-- without a mark that is looked for the bytes pass
+pub mode-unlooked : (label : Option Label) (sniff : Bool) (input : List ℕ) → (LooksForMark (Fresh label sniff) → ⊥)
+    → (found_mark label sniff input ≡ None) × (mode_after (Fresh label sniff) input ≡ Passing)
+mode-unlooked None false input unlooked = (refl, refl)
+mode-unlooked None true input unlooked = absurd (unlooked refl)
+mode-unlooked (Some label) true input unlooked = absurd (unlooked refl)
+mode-unlooked (Some label) false input unlooked = absurd (unlooked refl)
+
+pub mode-settled : (mode : Mode) (input : List ℕ) → IsSettled mode → mode_after mode input ≡ mode
+mode-settled (Fresh label sniff) input settled = absurd settled
+mode-settled Passing input settled = refl
+mode-settled (Decoding label) input settled = refl
+
+-- a decoder that hasn't settled was started
+pub unsettled-fresh : (mode : Mode) → (IsSettled mode → ⊥) → (label : Option Label) × (sniff : Bool)
+    × (mode ≡ Fresh label sniff)
+unsettled-fresh (Fresh label sniff) fresh = (label, sniff, refl)
+unsettled-fresh Passing fresh = absurd (fresh tt)
+unsettled-fresh (Decoding label) fresh = absurd (fresh tt)
 
 -- only a decoder that has read nothing looks for a mark
 pub looks-fresh : (mode : Mode) → LooksForMark mode → (label : Option Label) × (sniff : Bool)

@@ -1,11 +1,11 @@
-pub mod BlockLemmas
-pub mod DecodedLemmas
+pub mod AsciiBlockLemmas
+pub mod DecodedTextLemmas
 pub mod DecoderLemmas
 pub mod EncodeLemmas
 pub mod LabelLemmas
 pub mod LossyLemmas
 pub mod MarkLemmas
 pub mod PieceLemmas
-pub mod RunLemmas
+pub mod SourceRunLemmas
 pub mod SpellsLemmas
-pub mod UnitLemmas
+pub mod Utf16Lemmas

@@ -1,18 +1,16 @@
 -- The mark of an input is found in its first bytes.
 use Rattle.std.proofs.Common.{◌≡◌, ◌⊎◌, ◌||◌, ℕ, ◌≤◌, Bool, true, false, cond, List, [], ◌++◌, length, take, drop}
-use Rattle.std.proofs.Common.{Option, None, Some}
-use Rattle.std.proofs.Common.{IfSome, is_some, refl, sym, ap, subst, ◌∙◌, inl, inr, append-nil, nat_eq, arith}
+use Rattle.std.proofs.Common.{Option, None, Some, IfSome, is_some, refl, sym, ap, subst, ◌∙◌, inl, inr, append-nil}
+use Rattle.std.proofs.Common.{nat_eq, arith}
 use Rattle.std.proofs.lemmas.List.{take-append-le, drop-append-le, take_all, take_at}
 use Rattle.std.specs.Cmp.Lexicographic.{pointwise}
 use Rattle.grep_decode.specs.declared.label.Label.{Label}
 use Rattle.grep_decode.specs.declared.label.Label.TheVariants.{Utf8, Utf16Le, Utf16Be}
 use Rattle.grep_decode.specs.declared.mode.Mode.{Mode}
 use Rattle.grep_decode.specs.declared.mode.Mode.TheVariants.{Fresh, Passing, Decoding}
-use Rattle.grep_decode.specs.Marks.{mark_of, mark_length, begins_with_mark, marked}
-use Rattle.grep_decode.specs.Decoded.{by_mark, decoded, found_mark}
-use Rattle.grep_decode.specs.DecoderStates.{DecoderState, HasNoMark, IsSettled, LooksForMark, decode_by, mode_after}
-use Rattle.grep_decode.specs.DecoderStates.{mode_of, next_mode}
-use Rattle.grep_decode.specs.DecoderStates.{still_to_give, unread, yet}
+use Rattle.grep_decode.specs.Decoded.{mark_of, begins_with_mark, marked, by_mark, decoded, found_mark}
+use Rattle.grep_decode.specs.DecoderStates.{mark_length, DecoderState, HasNoMark, IsSettled, LooksForMark, decode_by}
+use Rattle.grep_decode.specs.DecoderStates.{mode_after, mode_of, next_mode, still_to_give, unread, yet}
 use Rattle.grep_decode.specs.UndecodedBytes.{UndecodedBytes, holding}
 use Rattle.std.specs.Io.KnownBytes.{Consumes}
 

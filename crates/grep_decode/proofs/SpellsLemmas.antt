@@ -6,7 +6,7 @@ use Rattle.std.proofs.lemmas.Bool.{cases_Bool, false≢true}
 use Rattle.std.specs.Char.Utf16.{is_low_surrogate, is_high_surrogate, surrogate_pair_char}
 use Rattle.grep_decode.specs.Decoded.{replacement, is_surrogate, alone, scalars_of}
 use Rattle.grep_decode.specs.Spellings.{Spells, at_end, at_odd, plain, pair, low, high, waiting}
-use Rattle.grep_decode.proofs.UnitLemmas.{scalars_of-alone, scalars_of-high, scalars_of-pair}
+use Rattle.grep_decode.proofs.Utf16Lemmas.{scalars_of-alone, scalars_of-high, scalars_of-pair}
 
 -- what stands alone, by its test
 alone-is : (u : ℕ) (b : Bool) → is_surrogate u ≡ b → alone u ≡ cond b replacement u

@@ -1,15 +1,14 @@
 -- The decoded bytes of an input.
 use Rattle.std.specs.Prelude.{◌≡◌, ◌⊎◌, ℕ, ◌+◌, ◌*◌, Bool, true, false, ◌&&◌, ◌||◌, not, List, []}
-use Rattle.std.specs.Prelude.{◌∷◌}
-use Rattle.std.specs.Prelude.{drop, length, Option, None, Some, is_some, encode_utf8_all}
-use Rattle.std.specs.Prelude.{if◌then◌else◌}
-use Rattle.std.specs.Str.Lossy.{utf8_error_len, utf8_lossy, utf8_valid_len}
+use Rattle.std.specs.Prelude.{◌∷◌, drop, length, Option, None, Some, is_some, encode_utf8_all}
+use Rattle.std.specs.Prelude.{if◌then◌else◌, nat_eq}
 use Rattle.std.specs.Char.Utf16.{is_low_surrogate, is_high_surrogate, surrogate_pair_char}
+use Rattle.std.specs.List.{starts_with}
+use Rattle.std.specs.Str.Lossy.{utf8_error_len, utf8_lossy, utf8_valid_len}
 use Rattle.grep_decode.specs.declared.byte_order.ByteOrder.{ByteOrder}
 use Rattle.grep_decode.specs.declared.byte_order.ByteOrder.TheVariants.{Little, Big}
 use Rattle.grep_decode.specs.declared.label.Label.{Label}
 use Rattle.grep_decode.specs.declared.label.Label.TheVariants.{Utf8, Utf16Le, Utf16Be}
-use Rattle.grep_decode.specs.Marks.{mark_of, marked}
 
 -- ---- UTF-16
 
@@ -22,13 +21,12 @@ abbrev pub unit_of : ByteOrder → ℕ → ℕ → ℕ
 unit_of Little first second = second * 256 + first
 unit_of Big first second = first * 256 + second
 
--- the units of the bytes, without an odd last byte
+-- the units of the bytes, without an odd last byte, and whether there is one
 unfoldable pub units_of : ByteOrder → List ℕ → List ℕ
 units_of order [] = []
 units_of order (first ∷ []) = []
 units_of order (first ∷ second ∷ bytes) = unit_of order first second ∷ units_of order bytes
 
--- the last byte has no partner
 unfoldable pub has_odd_byte : List ℕ → Bool
 has_odd_byte [] = false
 has_odd_byte (first ∷ []) = true
@@ -60,6 +58,23 @@ scalars_of odd (unit ∷ next ∷ units) =
 unfoldable pub utf16_text : ByteOrder → List ℕ → List ℕ
 utf16_text order bytes = encode_utf8_all (scalars_of (has_odd_byte bytes) (units_of order bytes))
 
+-- ---- marks
+
+-- the mark of an encoding
+abbrev pub mark_of : Label → List ℕ
+mark_of Utf8 = 0xEF ∷ 0xBB ∷ 0xBF ∷ []
+mark_of Utf16Le = 0xFF ∷ 0xFE ∷ []
+mark_of Utf16Be = 0xFE ∷ 0xFF ∷ []
+
+abbrev pub begins_with_mark : Label → List ℕ → Bool
+begins_with_mark label input = starts_with nat_eq input (mark_of label)
+
+-- the encoding whose mark the input begins with
+abbrev pub marked : List ℕ → Option Label
+marked input = if begins_with_mark Utf8 input then Some Utf8
+    else (if begins_with_mark Utf16Le input then Some Utf16Le
+    else (if begins_with_mark Utf16Be input then Some Utf16Be else None))
+
 -- ---- the decoded bytes
 
 -- the text of an input in this encoding
@@ -76,8 +91,7 @@ by_label (Some label) input = text_of label input
 -- what is after the mark of an encoding: UTF-8 passes unchanged
 abbrev pub after_mark : Label → List ℕ → List ℕ
 after_mark Utf8 rest = rest
-after_mark Utf16Le rest = utf16_text Little rest
-after_mark Utf16Be rest = utf16_text Big rest
+after_mark label rest = text_of label rest
 
 -- a mark decides, and is dropped; without one the label decides
 abbrev pub by_mark : Option Label → Option Label → List ℕ → List ℕ
@@ -98,18 +112,16 @@ is_unchanged label sniff input = not (is_some label) && not (is_some (found_mark
 
 -- ---- bytes that wait for more
 
--- No character begins these bytes, and what is wrong there is that they end: more bytes could
--- complete one.
+-- no character begins these bytes, and what is wrong there is that they end
 abbrev pub IsUnfinishedUtf8 : List ℕ → Type 0
 IsUnfinishedUtf8 bytes = (utf8_valid_len bytes ≡ 0) × (utf8_error_len bytes ≡ None)
 
--- There is no whole unit, or only one, a leading surrogate. An odd byte may follow.
+-- there is no whole unit, or only one, a leading surrogate; an odd byte may follow
 abbrev pub IsUnfinishedUtf16 : ByteOrder → List ℕ → Type 0
 IsUnfinishedUtf16 order bytes = (units_of order bytes ≡ [])
     ⊎ ((unit : ℕ) × (units_of order bytes ≡ unit ∷ []) × (is_high_surrogate unit ≡ true))
 
--- There are no bytes, or they are the beginning of a character in this encoding that more bytes
--- could complete.
+-- there are no bytes, or they begin a character of this encoding that more bytes could complete
 abbrev pub IsUnfinished : Label → List ℕ → Type 0
 IsUnfinished Utf8 bytes = IsUnfinishedUtf8 bytes
 IsUnfinished Utf16Le bytes = IsUnfinishedUtf16 Little bytes

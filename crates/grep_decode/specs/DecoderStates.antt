@@ -9,7 +9,7 @@ use Rattle.grep_decode.specs.declared.mode.Mode.{Mode}
 use Rattle.grep_decode.specs.declared.mode.Mode.TheVariants.{Fresh, Passing, Decoding}
 use Rattle.grep_decode.specs.declared.label.Label.{Label}
 use Rattle.grep_decode.specs.declared.label.Label.TheVariants.{Utf8, Utf16Le, Utf16Be}
-use Rattle.grep_decode.specs.Decoded.{IsUnfinished, decoded, found_mark, text_of}
+use Rattle.grep_decode.specs.Decoded.{IsUnfinished, decoded, found_mark, mark_of, text_of}
 use Rattle.grep_decode.specs.Source.{ReadResult, Pulls}
 use Rattle.std.specs.declared.io.Error.{Error}
 
@@ -77,6 +77,12 @@ abbrev pub IsSettled : Mode → Type 0
 IsSettled (Fresh label sniff) = ⊥
 IsSettled Passing = Unit {0}
 IsSettled (Decoding label) = Unit {0}
+
+-- a decoder that was started and has read nothing
+pub record HasReadNothing (d : DecoderState) : Type 0 where
+  pub fresh : IsSettled d.mode → ⊥
+  pub held : d.held ≡ []
+  pub unended : d.has_ended ≡ false
 
 -- a mark is still to be looked for
 abbrev pub LooksForMark : Mode → Type 0
@@ -171,6 +177,18 @@ module _ {R : Type 0} (remaining : R → Option (List ℕ)) (step : R → ReadRe
     pub unended : new.has_ended ≡ false
     pub failed : step mid (Err error) reader'
 
+  -- Before the last call of the reader in a read of a decoder, calls had returned some pieces that
+  -- gave nothing: no byte was ready, and those that were held waited for more.
+  pub record HasWaited (old : DecoderState) (reader reader' : R) : Type 0 where
+    pub waiting : DecoderState
+    pub mid : R
+    pub decodes : Decodes old reader [] waiting mid
+    pub unended : waiting.has_ended ≡ false
+    pub empty : waiting.ready ≡ []
+    pub waits : IsWaiting waiting.mode waiting.held
+    pub piece : List ℕ
+    pub called : step mid (Ok piece) reader'
+
   -- All that a reader returned until it returned no bytes, decoded, is this.
   pub record IsDecoded
       (label : Option Label) (sniff : Bool) (reader : R) (given : List ℕ) (reader' : R)
@@ -181,3 +199,8 @@ module _ {R : Type 0} (remaining : R → Option (List ℕ)) (step : R → ReadRe
     pub ended : step mid (Ok []) reader'
     pub text : given ≡ decoded label sniff (concat pieces)
     pub whole : IfSome (remaining reader) (λ all. all ≡ concat pieces)
+
+-- the length of a mark, and 0 for none
+abbrev pub mark_length : Option Label → ℕ
+mark_length None = 0
+mark_length (Some label) = length (mark_of label)

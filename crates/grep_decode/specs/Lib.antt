@@ -1,8 +1,7 @@
-pub mod Blocks
+pub mod UnitBytes
 pub mod Decoded
 pub mod DecoderStates
 pub mod Labels
-pub mod Marks
 pub mod Reading
 pub mod Source
 pub mod Spellings

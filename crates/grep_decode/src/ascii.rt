@@ -1,7 +1,7 @@
 //! ASCII as UTF-16, by blocks.
 ghost use Rattle.std.specs.Prelude.{◌≡◌, ◌<◌, ◌++◌, ℕ, List, length, IsTrue};
 ghost use Rattle.grep_decode.specs.Decoded.{utf16_text};
-ghost use Rattle.grep_decode.specs.Blocks.{AreBelow, evens, odds};
+ghost use Rattle.grep_decode.specs.UnitBytes.{AreBelow, evens, odds};
 
 use crate::byte_order::ByteOrder;
 use std::simd::prelude::*;

@@ -6,12 +6,11 @@ ghost use Rattle.std.specs.Io.{ReadsAtMost};
 ghost use Rattle.std.specs.Io.KnownBytes.{Consumes, Keeps, IsAtEnd};
 ghost use Rattle.grep_decode.specs.Source.{FailsWith, read_result};
 ghost use Rattle.grep_decode.specs.DecoderStates.{DecoderState, Decodes, FailsToDecode, FitsMode};
-ghost use Rattle.grep_decode.specs.DecoderStates.{HasNoMark, IsDone, IsSettled, IsWaiting};
-ghost use Rattle.grep_decode.specs.DecoderStates.{LooksForMark};
-ghost use Rattle.grep_decode.specs.DecoderStates.{TakesAtMost, mode_of, next_mode, runs_ahead};
+ghost use Rattle.grep_decode.specs.DecoderStates.{HasNoMark, HasReadNothing, HasWaited, IsDone};
+ghost use Rattle.grep_decode.specs.DecoderStates.{IsSettled, IsWaiting, LooksForMark, TakesAtMost};
+ghost use Rattle.grep_decode.specs.DecoderStates.{mark_length, mode_of, next_mode, runs_ahead};
 ghost use Rattle.grep_decode.specs.DecoderStates.{started, still_to_give, yet};
-ghost use Rattle.grep_decode.specs.Decoded.{IsUnfinished, found_mark};
-ghost use Rattle.grep_decode.specs.Marks.{marked, mark_length};
+ghost use Rattle.grep_decode.specs.Decoded.{IsUnfinished, found_mark, marked};
 
 use crate::label::{Label, label_of_mark};
 use crate::mode::Mode;
@@ -108,6 +107,12 @@ impl<A: Allocator> Decoder<A> {
             → self.new.mode ≡ Mode.Passing
             → count ≡ min (length buffer.new) (min 3 (length input)))) }
 
+        // the reader is called at first, and again only as long as what came gives nothing
+        ensures begins { HasReadNothing self.old → 0 < length buffer.new
+            → OnOk result (HasWaited R.remaining R.step self.old reader.old reader.new) }
+        ensures last { OnOk result ((reader.new ≡ reader.old)
+            ⊎ HasWaited R.remaining R.step self.old reader.old reader.new) }
+
         // how far the decoder is ahead of what it gave, if the bytes pass unchanged
         ensures settled { OnOk result (0 < length buffer.new → IsSettled self.new.mode) }
         ensures stays { IsSettled self.old.mode → self.new.mode ≡ self.old.mode }
@@ -159,6 +164,10 @@ impl<A: Allocator> Decoder<A> {
         ensures ahead { IfOk result (λ count. self.new.mode ≡ Mode.Passing
             → TakesAtMost (R.remaining reader.old) (R.remaining reader.new)
             (count + runs_ahead self.old.mode)) }
+        ensures begins { HasReadNothing self.old → 0 < length buffer.new
+            → OnOk result (HasWaited R.remaining R.step self.old reader.old reader.new) }
+        ensures last { OnOk result ((reader.new ≡ reader.old)
+            ⊎ HasWaited R.remaining R.step self.old reader.old reader.new) }
         ensures empty { OnErr result (self.new.ready ≡ []) }
         ensures waits { OnErr result (IsWaiting self.new.mode self.new.held) }
     {
@@ -194,6 +203,11 @@ impl<A: Allocator> Decoder<A> {
             (count ≡ min (length self.old.ready) (length buffer.new)) × (reader.new ≡ reader.old)) }
         ensures ahead { IfOk result (λ count. self.new.mode ≡ Mode.Passing
             → TakesAtMost (R.remaining reader.old) (R.remaining reader.new) count) }
+        ensures begins { self.old.mode ≡ Mode.Passing → self.old.ready ≡ []
+            → self.old.has_ended ≡ false
+            → OnOk result (HasWaited R.remaining R.step self.old reader.old reader.new) }
+        ensures last { OnOk result ((reader.new ≡ reader.old)
+            ⊎ HasWaited R.remaining R.step self.old reader.old reader.new) }
         ensures empty { OnErr result (self.new.ready ≡ []) }
         ensures waits { OnErr result (IsWaiting self.new.mode self.new.held) }
     {
@@ -225,6 +239,10 @@ impl<A: Allocator> Decoder<A> {
             → R.step reader.old (read_result result buffer.new) reader.new }
         ensures ahead { IfOk result (λ count.
             TakesAtMost (R.remaining reader.old) (R.remaining reader.new) count) }
+        ensures begins { self.old.has_ended ≡ false
+            → OnOk result (HasWaited R.remaining R.step self.old reader.old reader.new) }
+        ensures last { OnOk result ((reader.new ≡ reader.old)
+            ⊎ HasWaited R.remaining R.step self.old reader.old reader.new) }
         ensures waits { OnErr result (self.new.held ≡ []) }
     {
         self.held.pass(reader, buffer)
@@ -249,6 +267,13 @@ impl<A: Allocator> Decoder<A> {
             → self.new.mode ≡ Mode.Passing → self.new.ready ≡ take 3 input)) }
         ensures failed { IfErr result (λ e.
             FailsToDecode R.remaining R.step self.old reader.old e self.new reader.new) }
+        ensures begins { self.old.held ≡ [] → self.old.has_ended ≡ false → LooksForMark self.old.mode
+            → OnOk result (HasWaited R.remaining R.step self.old reader.old reader.new) }
+        ensures unread { (LooksForMark self.old.mode → ⊥) → OnOk result
+            ((reader.new ≡ reader.old) × (self.new.mode ≡ Mode.Passing)
+            × (self.new.ready ≡ self.old.held) × (self.new.has_ended ≡ self.old.has_ended)) }
+        ensures last { OnOk result ((reader.new ≡ reader.old)
+            ⊎ HasWaited R.remaining R.step self.old reader.old reader.new) }
         ensures empty { OnErr result (self.new.ready ≡ []) }
         ensures waits { OnErr result (IsWaiting self.new.mode self.new.held) }
     {
@@ -304,6 +329,8 @@ impl<A: Allocator> Decoder<A> {
         ensures done { IfOk result (λ count. count ≡ 0 → IsDone self.new) }
         ensures failed { IfErr result (λ e.
             FailsToDecode R.remaining R.step self.old reader.old e self.new reader.new) }
+        ensures last { OnOk result ((reader.new ≡ reader.old)
+            ⊎ HasWaited R.remaining R.step self.old reader.old reader.new) }
         ensures empty { OnErr result (self.new.ready ≡ []) }
         ensures waits { OnErr result (IsUnfinished label self.new.held) }
     {

@@ -3,7 +3,7 @@ ghost use Rattle.std.specs.Prelude.{◌≡◌};
 ghost use Rattle.std.specs.List.{list_any};
 ghost use Rattle.std.specs.Str.{str_eq_ignore_ascii_case};
 ghost use Rattle.grep_decode.specs.Labels.{label_named};
-ghost use Rattle.grep_decode.specs.Marks.{marked};
+ghost use Rattle.grep_decode.specs.Decoded.{marked};
 
 /// An encoding that input can be said to have.
 #[derive(Clone, Copy, PartialEq, Eq, Debug)]

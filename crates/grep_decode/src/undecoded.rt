@@ -4,7 +4,7 @@ ghost use Rattle.std.specs.Prelude.{List, [], length, take, drop, Err, IsTrue, I
 ghost use Rattle.std.specs.Io.{ReadsAtMost};
 ghost use Rattle.std.specs.Io.KnownBytes.{Keeps};
 ghost use Rattle.grep_decode.specs.DecoderStates.{Decodes, FailsToDecode, IsDone, TakesAtMost};
-ghost use Rattle.grep_decode.specs.DecoderStates.{still_to_give};
+ghost use Rattle.grep_decode.specs.DecoderStates.{HasWaited, LooksForMark, still_to_give};
 ghost use Rattle.grep_decode.specs.Decoded.{IsUnfinished};
 ghost use Rattle.grep_decode.specs.Source.{read_result};
 ghost use Rattle.grep_decode.specs.UndecodedBytes.{UndecodedBytes, Grows, holding};
@@ -172,6 +172,11 @@ impl<A: Allocator> Undecoded<A> {
         ensures failed { (mode : Mode) → IfErr result (λ e.
             FailsToDecode R.remaining R.step (holding mode self.old) reader.old e
             (holding mode self.new) reader.new) }
+        ensures begins { length self.old.bytes < 3 → self.old.has_ended ≡ false
+            → (mode : Mode) → LooksForMark mode → OnOk result
+            (HasWaited R.remaining R.step (holding mode self.old) reader.old reader.new) }
+        ensures last { (mode : Mode) → LooksForMark mode → OnOk result ((reader.new ≡ reader.old)
+            ⊎ HasWaited R.remaining R.step (holding mode self.old) reader.old reader.new) }
         ensures missing { OnErr result (length self.new.bytes ≤ 2) }
     {
         while self.bytes().len() < LONGEST_MARK && !self.has_ended() {
@@ -204,6 +209,8 @@ impl<A: Allocator> Undecoded<A> {
         ensures failed { IfErr result (λ e. FailsToDecode R.remaining R.step
             (holding (Mode.Decoding label) self.old) reader.old
             e (holding (Mode.Decoding label) self.new) reader.new) }
+        ensures last { OnOk result ((reader.new ≡ reader.old) ⊎ HasWaited R.remaining R.step
+            (holding (Mode.Decoding label) self.old) reader.old reader.new) }
         ensures unfinished { OnErr result (IsUnfinished label self.new.bytes) }
     {
         loop {
@@ -234,6 +241,10 @@ impl<A: Allocator> Undecoded<A> {
             (holding Mode.Passing self.new) reader.new) }
         ensures beneath { self.old.has_ended ≡ false
             → R.step reader.old (read_result result output.new) reader.new }
+        ensures begins { self.old.has_ended ≡ false → OnOk result
+            (HasWaited R.remaining R.step (holding Mode.Passing self.old) reader.old reader.new) }
+        ensures last { OnOk result ((reader.new ≡ reader.old)
+            ⊎ HasWaited R.remaining R.step (holding Mode.Passing self.old) reader.old reader.new) }
         ensures ahead { IfOk result (λ count.
             TakesAtMost (R.remaining reader.old) (R.remaining reader.new) count) }
     {

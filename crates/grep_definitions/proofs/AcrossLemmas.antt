@@ -1,24 +1,23 @@
 -- What the calls across lines report.
-use Rattle.grep_definitions.specs.Plans.{planned}
-use Rattle.std.proofs.Common.{◌≡◌, ℕ, ◌+◌, ◌-◌, ◌<◌, ◌≤◌, Bool, true, false, not, ◌&&◌, List, [], ◌∷◌, length}
-use Rattle.std.proofs.Common.{refl, sym, ap, ◌∙◌, arith, ◌⊎◌, ⊎_elim, inl, inr, Option, Some, None, if◌then◌else◌}
+use Rattle.grep_definitions.specs.Plans.{planned, Planned, matches, context, breaks}
+use Rattle.std.proofs.Common.{◌≡◌, ℕ, ◌+◌, ◌-◌, ◌<◌, ◌≤◌, Bool, true, false, not, ◌&&◌, List, [], ◌∷◌, length, refl}
+use Rattle.std.proofs.Common.{sym, ap, ◌∙◌, arith, ◌⊎◌, ⊎_elim, inl, inr, Option, Some, None, if◌then◌else◌}
 use Rattle.std.proofs.Math.Bool.{and-false}
 use Rattle.std.proofs.lemmas.Bool.{cases_Bool, le-leb}
 use Rattle.std.proofs.lemmas.List.{length-take}
 use Rattle.std.specs.Prelude.{nat_lt}
 use Rattle.std.specs.List.{list_any}
-use Rattle.grep_matcher.specs.Terminators.{byte_of}
-use Rattle.grep_matcher.specs.Matching.{Meaning}
+use Rattle.grep_matcher.specs.Lines.{byte_of}
+use Rattle.grep_matcher.specs.Meanings.{Meaning}
 use Rattle.grep_lines.specs.Blocks.{block_start, block_end}
 use Rattle.grep_lines.proofs.LawLemmas.{AreLines-lines}
 use Rattle.grep_report.specs.declared.sink_context.SinkContextKind.TheVariants.{After}
 use Rattle.grep_definitions.specs.Settings.{Settings}
-use Rattle.grep_definitions.specs.Plans.{Planned, matches, context, breaks}
-use Rattle.grep_definitions.specs.Below.{count_below, is_below}
-use Rattle.grep_definitions.specs.LineSearch.{Kind, matched, in_context, line_count, line, number, start}
-use Rattle.grep_definitions.specs.SuccessiveMatches.{all_matches, matches_up_to}
+use Rattle.grep_definitions.specs.Reports.{count_below, is_below, Kind, matched, in_context}
+use Rattle.grep_definitions.specs.LineSearch.{line_count, line, number, start}
+use Rattle.grep_definitions.specs.SelectedLines.{all_matches, matches_up_to, touches, is_touched, is_free}
 use Rattle.grep_definitions.specs.AcrossLines
-use Rattle.grep_definitions.specs.AcrossLines.{touches, is_touched, is_free, is_selected, continues_unit, turns_at}
+use Rattle.grep_definitions.specs.AcrossLines.{is_selected, continues_unit, turns_at}
 use Rattle.grep_definitions.specs.SearchLaws.{AreInOrder, report_calls}
 use Rattle.grep_definitions.proofs.BoolLemmas.{both_true, and-both, or-cases, or-first, or-second}
 use Rattle.grep_definitions.proofs.BelowLemmas.{some_below-some, count_below-none, count_below-once, count_below-either}
@@ -27,8 +26,8 @@ use Rattle.grep_definitions.proofs.LineStartLemmas.{line_start-ascends, line_sta
 use Rattle.grep_definitions.proofs.ReportLemmas.{IsReported, in_order-joined, report_calls-broken}
 use Rattle.grep_definitions.proofs.TurnEndLemmas.{line_start-le}
 use Rattle.grep_definitions.proofs.UnitLemmas.{unit-lines}
-use Rattle.grep_definitions.proofs.SearchLawLemmas.{matches_in, matches-joined, kind-selected}
-use Rattle.grep_definitions.proofs.SearchLawLemmas.{count_below-weaker, count_below-limited}
+use Rattle.grep_definitions.proofs.SearchLawLemmas.{matches_in, matches-joined, kind-selected, count_below-weaker}
+use Rattle.grep_definitions.proofs.SearchLawLemmas.{count_below-limited}
 
 module _ (k : Settings) (meaning : Meaning) (bytes : List ℕ) where
   -- how many lines there are, where each starts, and its calls

@@ -1,21 +1,19 @@
 -- The calls of a search across lines, as a walk over units of selected lines and over the lines between them makes
 -- them.
-use Rattle.grep_definitions.specs.Plans.{planned}
+use Rattle.grep_definitions.specs.Plans.{planned, Planned, begins}
 use Rattle.std.proofs.Common.{◌≡◌, ℕ, suc, ◌+◌, ◌-◌, ◌<◌, ◌≤◌, Bool, true, false, not, ◌&&◌, ◌||◌, List, [], ◌∷◌, ◌++◌}
 use Rattle.std.proofs.Common.{refl, sym, ap, subst, ◌∙◌, arith, ⊎_elim, Some, None, if◌then◌else◌}
 use Rattle.std.proofs.Math.Bool.{and-false}
 use Rattle.std.proofs.lemmas.Bool.{lt-ltb, lt-leb, le-leb, cases_Bool, cases_lt}
 use Rattle.std.proofs.lemmas.List.{append-nil}
-use Rattle.std.specs.Prelude.{nat_lt, nat_le}
-use Rattle.grep_matcher.specs.Matching.{Meaning}
-use Rattle.grep_matcher.specs.Terminators.{byte_of}
-use Rattle.grep_lines.specs.Positions.{slice}
-use Rattle.grep_lines.proofs.WalkLemmas.{lines-numbered}
+use Rattle.std.specs.Prelude.{nat_lt, nat_le, slice_range}
+use Rattle.grep_matcher.specs.Meanings.{Meaning}
+use Rattle.grep_matcher.specs.Lines.{byte_of}
+use Rattle.grep_lines.proofs.LineStepLemmas.{lines-numbered}
 use Rattle.grep_report.specs.declared.sink_context.SinkContextKind.TheVariants.{Before, After, Other}
 use Rattle.grep_definitions.specs.Settings.{Settings}
-use Rattle.grep_definitions.specs.Plans.{Planned, begins}
-use Rattle.grep_definitions.specs.Below.{some_below, joined_from}
-use Rattle.grep_definitions.specs.LineSearch.{matched, in_context, line_count, line, start, number}
+use Rattle.grep_definitions.specs.Reports.{some_below, joined_from, matched, in_context}
+use Rattle.grep_definitions.specs.LineSearch.{line_count, line, start, number}
 use Rattle.grep_definitions.specs.LineTurns.{before_turns, pending_turns, match_turns, context_turns, is_gap, number_of}
 use Rattle.grep_definitions.specs.Selections.{IsNear, no_line}
 use Rattle.grep_definitions.specs.AcrossLines
@@ -40,7 +38,7 @@ module _ (k : Settings) (meaning : Meaning) (bytes : List ℕ) where
 
   -- the bytes of the lines from one up to another
   abbrev pub span : ℕ → ℕ → List ℕ
-  span i e = slice bytes (starts i) (starts e)
+  span i e = slice_range bytes (starts i) (starts e)
 
   abbrev pub Bare : Type 0
   Bare = k.passthru ≡ true → (k.after_context ≡ 0) × (k.before_context ≡ 0)

@@ -1,26 +1,24 @@
 -- What a search across lines under inversion reports, against a search by line that selects the same lines.
-use Rattle.grep_definitions.specs.Plans.{planned}
-use Rattle.std.proofs.Common.{◌≡◌, ℕ, ◌+◌, ◌-◌, ◌<◌, Bool, true, false, not, ◌&&◌, List, [], ◌∷◌}
-use Rattle.std.proofs.Common.{refl, sym, ap, ap₂, ◌∙◌, arith, Option, Some, None, if◌then◌else◌}
-use Rattle.std.specs.Prelude.{nat_lt, nat_le, is_some}
+use Rattle.grep_definitions.specs.SelectedLines
+use Rattle.grep_definitions.specs.Plans.{planned, begins, matches, context, breaks}
+use Rattle.std.proofs.Common.{◌≡◌, ℕ, ◌+◌, ◌-◌, ◌<◌, Bool, true, false, not, ◌&&◌, List, [], ◌∷◌, refl, sym, ap, ap₂}
+use Rattle.std.proofs.Common.{◌∙◌, arith, Option, Some, None, if◌then◌else◌}
+use Rattle.std.specs.Prelude.{nat_lt, nat_le, is_some, slice_range}
 use Rattle.std.specs.Option.{option_map, unwrap_or}
-use Rattle.grep_matcher.specs.Matching.{Meaning}
-use Rattle.grep_lines.specs.Positions.{slice}
+use Rattle.grep_matcher.specs.Meanings.{Meaning}
 use Rattle.grep_report.specs.declared.sink_context.SinkContextKind.TheVariants.{Before, After, Other}
 use Rattle.grep_definitions.specs.Settings.{Settings}
-use Rattle.grep_definitions.specs.Plans.{begins, matches, context, breaks}
-use Rattle.grep_definitions.specs.Below.{some_below, first_below, joined_from}
+use Rattle.grep_definitions.specs.Reports.{some_below, first_below, joined_from, Kind, matched, in_context}
 use Rattle.grep_definitions.specs.LineSearch
-use Rattle.grep_definitions.specs.LineSearch.{Kind, matched, in_context}
 use Rattle.grep_definitions.specs.AcrossLines
 use Rattle.grep_definitions.proofs.BelowLemmas.{joined_from-equal}
 use Rattle.grep_definitions.proofs.FirstLineLemmas.{some_below-same, first_below-same}
 use Rattle.grep_definitions.proofs.LineSliceLemmas.{line-report, slice-line}
 
 module _ (k : Settings) (meaning other : Meaning) (bytes : List ℕ) (inverted : k.invert_match ≡ true)
-    (same : (i : ℕ) → AcrossLines.is_selected k meaning bytes i ≡ LineSearch.is_selected k other bytes i)
+    (same : (i : ℕ) → AcrossLines.is_selected k meaning bytes i ≡ SelectedLines.is_selected k other bytes i)
     (whole : LineSearch.turn_count k other bytes ≡ LineSearch.line_count k other bytes)
-    (early : (i : ℕ) → LineSearch.is_trailing k other bytes i ≡ false) where
+    (early : (i : ℕ) → SelectedLines.is_trailing k other bytes i ≡ false) where
   abbrev n : ℕ
   n = LineSearch.line_count k meaning bytes
 
@@ -36,7 +34,7 @@ module _ (k : Settings) (meaning other : Meaning) (bytes : List ℕ) (inverted :
       ap (λ b. if not b then unwrap_or (first_below (λ j. nat_lt i j && not (selected j)) n) n else i + 1) inverted
 
   unit-line : (i : ℕ) → i < n → AcrossLines.unit k meaning bytes i ≡ LineSearch.line k other bytes i
-  unit-line i inside = ap (λ e. slice bytes (at i) (at e)) (unit_end-next i) ∙ slice-line k bytes i
+  unit-line i inside = ap (λ e. slice_range bytes (at i) (at e)) (unit_end-next i) ∙ slice-line k bytes i
 
   alone : (i : ℕ) → AcrossLines.continues_unit k meaning bytes i ≡ false
   alone i = ap (λ b. not b && nat_lt 0 i && selected (i - 1)) inverted
@@ -45,17 +43,17 @@ module _ (k : Settings) (meaning other : Meaning) (bytes : List ℕ) (inverted :
   follows : (i : ℕ) → AcrossLines.follows_selected k meaning bytes i ≡ LineSearch.follows_selected k other bytes i
   follows i =
       some_below-same (λ j. nat_le (i - j) k.after_context && selected j)
-      (λ j. nat_le (i - j) k.after_context && LineSearch.is_selected k other bytes j) i
+      (λ j. nat_le (i - j) k.after_context && SelectedLines.is_selected k other bytes j) i
       (λ j below. ap (λ b. nat_le (i - j) k.after_context && b) (same j))
 
   precedes : (i : ℕ) → AcrossLines.precedes_selected k meaning bytes i ≡ LineSearch.precedes_selected k other bytes i
   precedes i =
       some_below-same (λ j. nat_lt i j && nat_le (j - i) k.before_context && selected j)
-      (λ j. nat_lt i j && nat_le (j - i) k.before_context && LineSearch.is_selected k other bytes j) n
+      (λ j. nat_lt i j && nat_le (j - i) k.before_context && SelectedLines.is_selected k other bytes j) n
       (λ j below. ap (λ b. nat_lt i j && nat_le (j - i) k.before_context && b) (same j))
 
   kind : (i : ℕ) → AcrossLines.kind k meaning bytes i ≡ LineSearch.kind k other bytes i
-  kind i = rw (same i, follows i, precedes i) (ap (λ (b : Bool). if LineSearch.is_selected k other bytes i then Some
+  kind i = rw (same i, follows i, precedes i) (ap (λ (b : Bool). if SelectedLines.is_selected k other bytes i then Some
       matched
       else (if LineSearch.follows_selected k other bytes i then Some (if b then matched else in_context After)
       else (if LineSearch.precedes_selected k other bytes i then Some (in_context Before)
@@ -79,9 +77,9 @@ module _ (k : Settings) (meaning other : Meaning) (bytes : List ℕ) (inverted :
   through : (i : ℕ) → AcrossLines.lines_through_next k meaning bytes i ≡ LineSearch.lines_through_next k other bytes i
   through i =
       ap (λ found. unwrap_or (option_map (AcrossLines.unit_end k meaning bytes) found) (i + 1))
-      (first_below-same (λ j. nat_lt i j && selected j) (λ j. nat_lt i j && LineSearch.is_selected k other bytes j) n
+      (first_below-same (λ j. nat_lt i j && selected j) (λ j. nat_lt i j && SelectedLines.is_selected k other bytes j) n
       (λ j below. ap (λ b. nat_lt i j && b) (same j)))
-      ∙ go (first_below (λ j. nat_lt i j && LineSearch.is_selected k other bytes j) n)
+      ∙ go (first_below (λ j. nat_lt i j && SelectedLines.is_selected k other bytes j) n)
     where
       go : (found : Option ℕ) → unwrap_or (option_map (AcrossLines.unit_end k meaning bytes) found) (i + 1)
           ≡ unwrap_or (option_map (λ j. j + 1) found) (i + 1)

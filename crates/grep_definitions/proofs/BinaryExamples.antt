@@ -2,16 +2,15 @@
 -- them.
 use Rattle.std.proofs.Common.{◌≡◌, ℕ, true, false, List, [], ◌∷◌, ◌++◌, Some, None, inl, inr, refl, codes, arith}
 use Rattle.std.proofs.Common.{get_or}
-use Rattle.grep_matcher.specs.LineLists.{lines}
+use Rattle.grep_matcher.specs.Lines.{lines}
 use Rattle.grep_report.specs.declared.binary_detection.BinaryDetection.TheVariants.{Quit, Convert}
 use Rattle.grep_report.specs.declared.sink_context.SinkContextKind.TheVariants.{Before, After}
 use Rattle.grep_definitions.specs.Asking.{search_plan}
 use Rattle.grep_definitions.specs.BinaryBytes.{before_quit, binary_position, stream_view, look_of, nowhere, in_contents}
-use Rattle.grep_definitions.specs.BinaryBytes.{on_stream}
-use Rattle.grep_definitions.specs.BinaryPlans.{contents_point, point_unless, plan_with}
+use Rattle.grep_definitions.specs.BinaryBytes.{on_stream, contents_point, point_unless, plan_with}
 use Rattle.grep_definitions.specs.BuiltSettings.{default_settings}
 use Rattle.grep_definitions.specs.Plans.{binary_data, Finish, Planned, Plan}
-use Rattle.grep_definitions.specs.Readings.{IsTooLong}
+use Rattle.grep_definitions.specs.Inputs.{IsTooLong}
 use Rattle.grep_definitions.specs.Settings.{Settings}
 use Rattle.grep_definitions.proofs.WorkedExamples.{has_a, begun, match_call, context_call, break_call, plan_of}
 

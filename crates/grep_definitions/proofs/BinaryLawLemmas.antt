@@ -4,22 +4,19 @@ use Rattle.std.proofs.Common.{Option, None, Some, refl, sym, ap, subst, ◌∙�
 use Rattle.std.proofs.lemmas.List.{drop-take, take_all, take_at, take-take}
 use Rattle.std.proofs.lemmas.List.Elements.{All-nil, All-cons, All-take, All-drop}
 use Rattle.std.proofs.lemmas.Option.{none-some}
-use Rattle.std.specs.Prelude.{All, is_some}
+use Rattle.std.specs.Prelude.{All, is_some, slice_range}
 use Rattle.std.specs.List.{position}
 use Rattle.std.specs.Option.{option_map}
-use Rattle.grep_matcher.specs.Matching.{Meaning}
-use Rattle.grep_matcher.specs.Terminators.{byte_of}
+use Rattle.grep_matcher.specs.Meanings.{Meaning}
+use Rattle.grep_matcher.specs.Lines.{byte_of}
 use Rattle.grep_lines.specs.LineLaws.{LinesJoin}
-use Rattle.grep_lines.specs.Positions.{slice}
-use Rattle.grep_definitions.specs.BinaryBytes.{binary_position, position_of, stream_view}
-use Rattle.grep_definitions.specs.Reports.{calls_at, joined_from}
+use Rattle.grep_definitions.specs.BinaryBytes.{binary_position, position_of, stream_view, BinaryPoint, call_at}
+use Rattle.grep_definitions.specs.BinaryBytes.{contents_point, first_look, point_at, point_unless, holds_byte}
+use Rattle.grep_definitions.specs.Reports.{calls_at, joined_from, Kind, matched, in_context}
 use Rattle.grep_definitions.specs.LineSearch
-use Rattle.grep_definitions.specs.LineSearch.{Kind, matched, in_context}
 use Rattle.grep_definitions.specs.Settings.{Settings}
 use Rattle.grep_definitions.specs.Asking.{is_across, selection_in}
 use Rattle.grep_definitions.specs.BinaryLaws.{QuitReportsAreClear, CountedReportsAreClear, SeenLinesAreClear}
-use Rattle.grep_definitions.specs.BinaryPlans.{BinaryPoint, call_at, contents_point, first_look, point_at, point_unless}
-use Rattle.grep_definitions.specs.BinaryPlans.{holds_byte}
 use Rattle.grep_definitions.specs.Plans.{Planned, begins, is_break, planned}
 use Rattle.grep_definitions.proofs.LineReportLemmas.{reports-line}
 use Rattle.grep_definitions.proofs.LineStartLemmas.{line_start-within}
@@ -92,17 +89,17 @@ quit_reports-clear b settings meaning bytes =
     let later = joined_from (calls_at settings bytes lines) 0 lines.end in
     (clear-point b later bytes, clear-all b later bytes)
 
--- a slice of bytes that end before a test passes
+-- a slice_range of bytes that end before a test passes
 slice-clear : (p : ℕ → Bool) (bytes : List ℕ) (s e count : ℕ) → s ≤ e → e ≤ count → position p (take count bytes) ≡ None
-    → position p (slice bytes s e) ≡ None
+    → position p (slice_range bytes s e) ≡ None
 slice-clear p bytes s e count up low clear =
     let P : ℕ → Type 0 = λ x. p x ≡ false in
     let sum : s + (e - s) ≡ e = omega arith in
     let front = All-take P e (take count bytes) (none-passes p (take count bytes) clear) in
     let short : take e (take count bytes) ≡ take (s + (e - s)) bytes = take-take e count bytes low
     ∙ ap (λ n. take n bytes) (sym sum) in
-    let piece : drop s (take e (take count bytes)) ≡ slice bytes s e = ap (drop s) short ∙ drop-take s (e - s) bytes in
-    position-none p (slice bytes s e) (subst (All P) piece (All-drop P s (take e (take count bytes)) front))
+    let piece : drop s (take e (take count bytes)) ≡ slice_range bytes s e = ap (drop s) short ∙ drop-take s (e - s) bytes in
+    position-none p (slice_range bytes s e) (subst (All P) piece (All-drop P s (take e (take count bytes)) front))
 
 module _ (k : Settings) (meaning : Meaning) (bytes : List ℕ) where
   module _ (b count : ℕ) (clear : position_of b (take count bytes) ≡ None) where

@@ -12,7 +12,7 @@ use Rattle.std.specs.List.{concat}
 use Rattle.grep_matcher.specs.Lines.{lines, line_start}
 use Rattle.grep_lines.specs.Blocks.{lines_before, block_start, block_end}
 use Rattle.grep_lines.specs.Positions.{IsLineStart}
-use Rattle.grep_lines.proofs.WalkLemmas.{IsAt-start}
+use Rattle.grep_lines.proofs.LineStepLemmas.{IsAt-start}
 use Rattle.grep_definitions.proofs.TouchLemmas.{same-tests, rises, holder, block_start-line, block_end-line}
 use Rattle.grep_definitions.proofs.TouchLemmas.{block_end-empty}
 use Rattle.grep_definitions.proofs.TurnEndLemmas.{line_start-le}

@@ -1,18 +1,15 @@
 -- A break is directly followed by a report, and their turns end alike.
-use Rattle.grep_definitions.specs.Plans.{planned}
+use Rattle.grep_definitions.specs.Plans.{planned, Planned, breaks, is_break}
 use Rattle.std.proofs.Common.{◌≡◌, ℕ, zero, suc, ◌+◌, ◌-◌, Bool, true, false, not, ◌&&◌, List, [], ◌∷◌, ◌++◌, Option}
-use Rattle.std.proofs.Common.{Some, None}
-use Rattle.std.proofs.Common.{refl, ◌∙◌, ◌<◌, ◌≤◌, ap, arith, ⊎_elim, if◌then◌else◌}
+use Rattle.std.proofs.Common.{Some, None, refl, ◌∙◌, ◌<◌, ◌≤◌, ap, arith, ⊎_elim, if◌then◌else◌}
 use Rattle.std.proofs.lemmas.Bool.{cases_Bool, lt-ltb, ltb-true}
 use Rattle.std.specs.Prelude.{nat_le, nat_lt, filter, is_some}
-use Rattle.grep_matcher.specs.Matching.{Meaning}
+use Rattle.grep_matcher.specs.Meanings.{Meaning}
 use Rattle.grep_report.specs.declared.sink_context.SinkContextKind.TheVariants.{Before, After, Other}
 use Rattle.grep_definitions.specs.AcrossLines
-use Rattle.grep_definitions.specs.Below.{joined_from, some_below}
+use Rattle.grep_definitions.specs.Reports.{joined_from, some_below, Kind, matched, in_context}
 use Rattle.grep_definitions.specs.LineSearch
-use Rattle.grep_definitions.specs.LineSearch.{Kind, matched, in_context}
 use Rattle.grep_definitions.specs.Settings.{Settings}
-use Rattle.grep_definitions.specs.Plans.{Planned, breaks, is_break}
 use Rattle.grep_definitions.proofs.BoolLemmas.{clash, not_false}
 
 -- some calls begin with one that is no break, whose turn ends there

@@ -1,8 +1,7 @@
 -- Calls in order, put together.
 use Rattle.std.proofs.Common.{◌≡◌, ℕ, inl, inr, List, [], ◌∷◌, ◌++◌, Bool, true, false, refl, sym, subst, ap, ◌∙◌}
-use Rattle.std.proofs.Common.{Option, None, map}
+use Rattle.std.proofs.Common.{Option, None, map, arith, cond}
 use Rattle.std.specs.Prelude.{Result, Ok, Err, ◌+◌, ◌-◌, ◌≤◌, ◌&&◌, if◌then◌else◌, nat_le, nat_lt}
-use Rattle.std.proofs.Common.{arith, cond}
 use Rattle.std.proofs.lemmas.List.Sums.{sum_by-append, sum_by-cons}
 use Rattle.grep_report.specs.declared.sink_context.SinkContextKind.TheVariants.{Before}
 use Rattle.std.specs.declared.io.Error.{Error}
@@ -11,7 +10,8 @@ use Rattle.grep_definitions.specs.BinaryBytes.{is_detecting}
 use Rattle.grep_definitions.specs.CallOrder.{AreInner, after_begin, EndsAt, HasCalled, HasBegunWith, HasCalledTo}
 use Rattle.grep_definitions.specs.CallOrder.{HasBegunTo, HasFailedIn, of_call, of_question, BeginsInOrder, EndsInOrder}
 use Rattle.grep_definitions.specs.CallOrder.{GoesOnInOrder, ReadsInOrder, told_in}
-use Rattle.grep_definitions.specs.Searches.{ErrorMakers, MatcherFacts}
+use Rattle.grep_report.specs.ErrorMakers.{ErrorMakers}
+use Rattle.grep_matcher.specs.Meanings.{MatcherFacts}
 use Rattle.grep_definitions.specs.Settings.{Settings}
 use Rattle.grep_definitions.specs.Plans.{Call, Planned, begins, breaks, context, finishes, matches, Steps, Outcome}
 use Rattle.grep_definitions.specs.Plans.{all_true, stopped, failed, finish_result, AreMade, IsFinished, Finish}
@@ -19,8 +19,8 @@ use Rattle.grep_definitions.specs.Plans.{binary_data, counted, is_binary_data, p
 use Rattle.grep_definitions.specs.LineTurns.{before_turns, broken_turns, is_gap, match_turns, number_of, one_turn}
 use Rattle.grep_definitions.specs.SinkRuns.{outcome_of, with_binary}
 use Rattle.grep_definitions.proofs.SinkRunLemmas.{AreMade-append, AreMade-one, made-binary, outcome_with}
-use Rattle.grep_definitions.specs.PlannedSearches.{AreInOrder, HasBegun, IsInOrder, ran_in_order, asked_in_order}
-use Rattle.grep_definitions.specs.PlannedSearches.{read_in_order, comes_between}
+use Rattle.grep_definitions.specs.Searches.{AreInOrder, HasBegun, IsInOrder, ran_in_order, asked_in_order}
+use Rattle.grep_definitions.specs.Searches.{read_in_order, comes_between}
 
 -- a turn of a call between `begin` and `finish`
 abbrev pub IsInner : Settings → Planned → Type 0
@@ -252,7 +252,7 @@ module _ {S E : Type 0} (step : Steps S E) (k : Settings) where
   reported-keeps name each (turn ∷ later) old outcome new (inr (inr (e, is, made))) = each old turn.call (Err e) new
       made
 
-  module _ {F : Type 0} (errors : ErrorMakers E) (matcher : MatcherFacts F) where
+  module _ {F : Type 0} (errors : ErrorMakers F E) (matcher : MatcherFacts F) where
     -- `begin` and such calls are in order, if `finish` has an offset only if binary bytes are looked for
     in-order : (binary : Option ℕ) → (is_detecting k.binary_detection ≡ false → binary ≡ None) → (turns : List Planned)
         → AreInner k turns → told_in turns ≤ 1
@@ -459,7 +459,7 @@ module _ {S T E : Type 0} (step : Steps S E) (around : Steps T E) (k : Settings)
         subst (λ (f : Finish). HasCalledTo step k 1 (view old) (count_of new f.count) (view new)) ends to
     passed-ended old count (failed e) new ends called = absurd ends
 
-    module _ {F : Type 0} (errors : ErrorMakers E) (matcher : MatcherFacts F) where
+    module _ {F : Type 0} (errors : ErrorMakers F E) (matcher : MatcherFacts F) where
       -- with `begin`, which is passed on as it is
       module _ (begun : (old : T) (result : Result Bool E) (new : T) → Holds old → around old k begins result new
           → Holds new × step (view old) k begins result (view new))

@@ -1,18 +1,18 @@
 -- The calls of lines near matches, against the definitions.
-use Rattle.std.proofs.Common.{◌≡◌, ℕ, ◌+◌, ◌-◌, ◌<◌, ◌≤◌, Bool, true, false, not, ◌&&◌, ◌||◌, List, [], length}
-use Rattle.std.proofs.Common.{refl, ◌∙◌, ap, ⊎_elim, Some, None, if◌then◌else◌}
+use Rattle.std.proofs.Common.{◌≡◌, ℕ, ◌+◌, ◌-◌, ◌<◌, ◌≤◌, Bool, true, false, not, ◌&&◌, ◌||◌, List, [], length, refl}
+use Rattle.std.proofs.Common.{◌∙◌, ap, ⊎_elim, Some, None, if◌then◌else◌}
 use Rattle.std.proofs.Math.Bool.{and-false}
 use Rattle.std.proofs.lemmas.Bool.{lt-leb, le-leb, cases_lt}
 use Rattle.std.specs.Prelude.{nat_lt, nat_le}
-use Rattle.grep_matcher.specs.Terminators.{byte_of}
-use Rattle.grep_matcher.specs.Lines.{lines}
-use Rattle.grep_matcher.specs.Matching.{Meaning}
+use Rattle.grep_matcher.specs.Lines.{byte_of, lines}
+use Rattle.grep_matcher.specs.Meanings.{Meaning}
 use Rattle.grep_report.specs.declared.sink_context.SinkContextKind.TheVariants.{Before, After, Other}
+use Rattle.grep_definitions.specs.SelectedLines
 use Rattle.grep_definitions.specs.Settings.{Settings}
 use Rattle.grep_definitions.proofs.LineSliceLemmas.{slice-line}
-use Rattle.grep_definitions.specs.Below.{some_below}
+use Rattle.grep_definitions.specs.Reports.{some_below, matched, in_context}
 use Rattle.grep_definitions.specs.LineSearch
-use Rattle.grep_definitions.specs.LineSearch.{turns_at, matched, in_context}
+use Rattle.grep_definitions.specs.LineSearch.{turns_at}
 use Rattle.grep_definitions.specs.LineWalks.{IsNear}
 use Rattle.grep_definitions.specs.LineTurns.{after_turns, before_turns, match_turns, context_turns, is_gap, number_of}
 use Rattle.grep_definitions.proofs.SelectionLemmas
@@ -34,10 +34,10 @@ module _ (k : Settings) (meaning : Meaning) (bytes : List ℕ) where
   n = length all_lines
 
   abbrev is_selected : ℕ → Bool
-  is_selected = LineSearch.is_selected k meaning bytes
+  is_selected = SelectedLines.is_selected k meaning bytes
 
   abbrev is_trailing : ℕ → Bool
-  is_trailing = LineSearch.is_trailing k meaning bytes
+  is_trailing = SelectedLines.is_trailing k meaning bytes
 
   abbrev is_reported : ℕ → Bool
   is_reported = LineSearch.is_reported k meaning bytes

@@ -5,7 +5,7 @@ use Rattle.std.specs.List.{concat}
 use Rattle.std.specs.Io.KnownBytes.{Consumes, IsAtEnd}
 use Rattle.grep_decode.specs.DecoderStates.{Calls}
 use Rattle.grep_decode.specs.Source.{ReadResult}
-use Rattle.grep_definitions.specs.Readings.{IsInput, Taken, searched_bytes}
+use Rattle.grep_definitions.specs.Inputs.{IsInput, Taken, searched_bytes}
 use Rattle.grep_definitions.specs.Settings.{Settings}
 
 module _ {R : Type 0} (remaining : R → Option (List ℕ)) (read_step : R → ReadResult → R → Type 0) where

@@ -11,7 +11,7 @@ pub mod BoolLemmas
 pub mod BreakLemmas
 pub mod CallOrderLemmas
 pub mod ContextLemmas
-pub mod CountLemmas
+pub mod MatchCountLemmas
 pub mod DecodedLemmas
 pub mod FirstLineLemmas
 pub mod FirstTurnLemmas
@@ -23,7 +23,7 @@ pub mod LineSliceLemmas
 pub mod LineStartLemmas
 pub mod ListLemmas
 pub mod MatchCallLemmas
-pub mod ModeLemmas
+pub mod SearchModeLemmas
 pub mod PlanLemmas
 pub mod PlannedLawLemmas
 pub mod PlannedReaderLemmas

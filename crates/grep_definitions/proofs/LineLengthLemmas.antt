@@ -6,7 +6,8 @@ use Rattle.std.proofs.lemmas.List.{get_or-append-add, take_at}
 use Rattle.std.proofs.lemmas.List.Elements.{All-nil, All-cons, All-head, All-tail, All-weaker}
 use Rattle.std.specs.List.{concat}
 use Rattle.std.specs.Prelude.{All, slice_index_or}
-use Rattle.grep_matcher.specs.Lines.{lines, line_start, onto_first, AreEnded}
+use Rattle.grep_matcher.specs.Lines.{lines, line_start, onto_first}
+use Rattle.grep_matcher.specs.AreLines.{AreEnded}
 use Rattle.grep_lines.specs.LineLaws.{LinesJoin}
 
 -- no piece is longer than all pieces joined

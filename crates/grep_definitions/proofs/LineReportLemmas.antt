@@ -1,14 +1,13 @@
 -- What the calls by line report, and where.
-use Rattle.grep_definitions.specs.Plans.{planned}
-use Rattle.std.proofs.Common.{◌≡◌, ℕ, Bool, true, false, List, [], ◌∷◌, All, Option, Some, None}
-use Rattle.std.proofs.Common.{refl, ◌⊎◌, inl, inr, if◌then◌else◌}
+use Rattle.grep_definitions.specs.Plans.{planned, Planned, breaks, reported_bytes}
+use Rattle.std.proofs.Common.{◌≡◌, ℕ, Bool, true, false, List, [], ◌∷◌, All, Option, Some, None, refl, ◌⊎◌, inl, inr}
+use Rattle.std.proofs.Common.{if◌then◌else◌}
 use Rattle.std.proofs.lemmas.List.Elements.{All-nil, All-cons}
-use Rattle.grep_matcher.specs.Matching.{Meaning}
+use Rattle.grep_matcher.specs.Meanings.{Meaning}
 use Rattle.grep_definitions.specs.LineSearch
-use Rattle.grep_definitions.specs.LineSearch.{Kind, matched, in_context}
+use Rattle.grep_definitions.specs.Reports.{Kind, matched, in_context}
 use Rattle.grep_definitions.specs.Settings.{Settings}
 use Rattle.grep_definitions.proofs.LineSliceLemmas.{slice-line}
-use Rattle.grep_definitions.specs.Plans.{Planned, breaks, reported_bytes}
 
 module _ (k : Settings) (meaning : Meaning) (bytes : List ℕ) where
   -- what holds of a break, and of a report, whatever line it is of, holds of all calls of a line

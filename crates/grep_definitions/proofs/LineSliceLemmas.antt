@@ -1,23 +1,20 @@
 -- The bytes of a line as a part of all bytes, and the report of a line that is a match.
-use Rattle.std.proofs.Common.{◌≡◌, ℕ, ◌+◌, ◌-◌, List, [], ◌∷◌, Some}
-use Rattle.std.proofs.Common.{refl, sym, ap, ◌∙◌, arith, length, ⊎_elim}
+use Rattle.std.proofs.Common.{◌≡◌, ℕ, ◌+◌, ◌-◌, List, [], ◌∷◌, Some, refl, sym, ap, ◌∙◌, arith, length, ⊎_elim}
 use Rattle.std.proofs.lemmas.Bool.{cases_lt}
 use Rattle.std.proofs.lemmas.List.{get_or_past, take_all}
-use Rattle.std.specs.Prelude.{drop, take}
+use Rattle.std.specs.Prelude.{drop, take, slice_range}
 use Rattle.std.specs.List.{concat}
-use Rattle.grep_lines.specs.Slices.{slice}
-use Rattle.grep_matcher.specs.LineLists.{lines}
+use Rattle.grep_matcher.specs.Lines.{lines, byte_of}
 use Rattle.grep_matcher.specs.Meanings.{Meaning}
-use Rattle.grep_matcher.specs.Terminators.{byte_of}
 use Rattle.grep_definitions.specs.LineSearch
 use Rattle.grep_definitions.specs.Plans.{matches, planned}
 use Rattle.grep_definitions.specs.Reports.{line, line_count, matched, number, start}
 use Rattle.grep_definitions.specs.Settings.{Settings}
-use Rattle.grep_lines.proofs.WalkLemmas.{IsStep-line}
+use Rattle.grep_lines.proofs.LineStepLemmas.{IsStep-line}
 
 module _ (k : Settings) (bytes : List ℕ) where
   -- the bytes of a line, also past the last one
-  pub slice-line : (i : ℕ) → slice bytes (start k bytes i) (start k bytes (i + 1)) ≡ line k bytes i
+  pub slice-line : (i : ℕ) → slice_range bytes (start k bytes i) (start k bytes (i + 1)) ≡ line k bytes i
   slice-line i = ⊎_elim (λ inside. sym (IsStep-line (byte_of k.line_terminator) bytes i inside).line)
       (λ past.
       let all : List (List ℕ) = lines (byte_of k.line_terminator) bytes in

@@ -8,7 +8,7 @@ use Rattle.grep_definitions.specs.AcrossLaws
 use Rattle.grep_definitions.specs.BinaryLaws.{SeenLinesBegin}
 use Rattle.grep_definitions.specs.SearchLaws
 use Rattle.grep_definitions.specs.SearchLaws.{line_plan, is_match}
-use Rattle.grep_definitions.specs.SelectedLines.{line_end}
+use Rattle.grep_definitions.specs.SelectedLines.{reports_end}
 use Rattle.grep_definitions.specs.Plans.{Planned}
 use Rattle.grep_definitions.proofs.AcrossLemmas as across
 use Rattle.grep_definitions.proofs.AsByLineLemmas.{turns-same}
@@ -47,7 +47,7 @@ at_most-limit k meaning bytes limit is =
     omega (
       arith,
       count_by-map is_match (λ (call : Planned). call.call) (line_plan k meaning bytes).calls,
-      by_line.matches-few k meaning bytes limit (line_end k meaning bytes) is,
+      by_line.matches-few k meaning bytes limit (reports_end k meaning bytes) is,
     )
 
 -- ---- across lines

@@ -1,35 +1,32 @@
 -- A search of a reader, as today's definitions have it, is one along a plan.
-use Rattle.std.proofs.Common.{◌≡◌, ◌≤◌, ℕ, ◌+◌, Bool, true, false, inl, inr, List, [], ◌++◌, Option, Some, None}
-use Rattle.std.proofs.Common.{refl, sym, ap, subst, ◌∙◌, arith, length, Result, Ok, Err}
+use Rattle.std.proofs.Common.{◌≡◌, ◌≤◌, ℕ, Bool, true, false, inl, inr, List, [], ◌++◌, Option, Some, None, refl}
+use Rattle.std.proofs.Common.{sym, ap, subst, ◌∙◌, arith, length, Result, Ok, Err}
 use Rattle.std.specs.List.{concat}
 use Rattle.std.specs.Io.KnownBytes.{Consumes}
 use Rattle.std.specs.declared.io.Error.{Error}
 use Rattle.grep_decode.specs.Source.{ReadResult}
-use Rattle.grep_matcher.specs.Matching.{Meaning}
+use Rattle.grep_matcher.specs.Meanings.{Meaning, MatcherFacts}
 use Rattle.grep_report.specs.declared.binary_detection.BinaryDetection.TheVariants.{Quit}
 use Rattle.grep_definitions.proofs.BoolLemmas.{clash}
-use Rattle.grep_definitions.specs.Asking.{search_plan, selection_in}
-use Rattle.grep_definitions.specs.BinaryBytes.{Look, nowhere, in_contents, view_of, before_quit}
-use Rattle.grep_definitions.specs.BinaryPlans.{BinaryPoint, IsPoint}
-use Rattle.grep_definitions.specs.DecodedInputs.{IsDecodedSoFar, IsInput, searched_bytes, passes_after}
-use Rattle.grep_definitions.specs.DecodedInputs.{passes_unchanged}
+use Rattle.grep_definitions.specs.Asking.{search_plan, selection_in, is_across}
+use Rattle.grep_definitions.specs.BinaryBytes.{Look, nowhere, in_contents, view_of, before_quit, BinaryPoint}
+use Rattle.grep_definitions.specs.Searches.{IsPoint, Points, IsSearchOf, IsReaderSearch, IsCutSearch, IsRead, ran}
+use Rattle.grep_definitions.specs.Searches.{asked}
+use Rattle.grep_definitions.specs.DecodedInputs.{IsDecodedSoFar, passes_after, passes_unchanged}
+use Rattle.grep_definitions.specs.Inputs.{IsInput, searched_bytes, IsFront, GoesOnAfter, HasOpenLine, IsBelowLimit}
+use Rattle.grep_definitions.specs.Inputs.{CutsShort, IsComeSoFar, encoding_of, encoding_after, Taken, IsCut}
 use Rattle.grep_decode.specs.Decoded.{found_mark}
 use Rattle.grep_decode.specs.declared.label.Label.{Label}
 use Rattle.grep_decode.specs.declared.label.Label.TheVariants.{Utf8, Utf16Le, Utf16Be}
-use Rattle.grep_definitions.specs.InputFronts.{IsFront, GoesOnAfter, HasOpenLine}
-use Rattle.grep_definitions.specs.Readings.{IsBelowLimit, CutsShort, IsComeSoFar, encoding_of, encoding_after}
-use Rattle.grep_definitions.specs.Modes.{is_across}
-use Rattle.grep_definitions.specs.Parties.{ErrorMakers, MatcherFacts}
-use Rattle.grep_definitions.specs.PlannedSearches.{Points, IsSearchOf, IsReaderSearch, IsCutSearch, IsRead, ran, asked}
-use Rattle.grep_definitions.specs.Plans.{Steps, Planned, Plan, Outcome, all_true, finish_after, AreMade, IsFinished}
+use Rattle.grep_report.specs.ErrorMakers.{ErrorMakers}
+use Rattle.grep_definitions.specs.Plans.{Steps, Planned, Plan, Outcome, all_true, AreMade, IsFinished}
 use Rattle.grep_definitions.specs.Plans.{IsRun, counted}
-use Rattle.grep_definitions.specs.ReaderSearches
-use Rattle.grep_definitions.specs.Readings.{Taken, IsCut}
-use Rattle.grep_definitions.specs.Readings
+use Rattle.grep_definitions.specs.ReaderRuns
+use Rattle.grep_definitions.specs.Inputs
 use Rattle.grep_definitions.specs.Reports.{line_count}
 use Rattle.grep_definitions.specs.SearchTurns.{calls_across, calls_if, search_calls, search_turns, search_byte_count}
 use Rattle.grep_definitions.specs.SearchTurns.{search_turn_count}
-use Rattle.grep_definitions.specs.Searches
+use Rattle.grep_definitions.specs.ContentsSearches
 use Rattle.grep_definitions.specs.Settings.{Settings, SearcherState}
 use Rattle.grep_definitions.proofs.PlanLemmas.{plans-turns}
 use Rattle.grep_definitions.proofs.PlannedSliceLemmas.{plain-fault, quit-fault, until-planned}
@@ -71,7 +68,7 @@ consumes-none None = tt
 consumes-none (Some bytes) = refl
 
 module _ {R : Type 0} (remaining : R → Option (List ℕ)) (read_step : R → ReadResult → R → Type 0)
-    {S E F : Type 0} (step : Steps S E) (errors : ErrorMakers E) (matcher : MatcherFacts F) where
+    {S E F : Type 0} (step : Steps S E) (errors : ErrorMakers F E) (matcher : MatcherFacts F) where
   abbrev IsReadAt : SearcherState → Look → R → S → Result (Unit {0}) E → R → S → Type 0
   IsReadAt = IsRead remaining read_step step errors matcher
 
@@ -90,10 +87,11 @@ module _ {R : Type 0} (remaining : R → Option (List ℕ)) (read_step : R → R
         finished = subst (λ (p : Plan). IsFinished step k outcome mid p.finish result new) listed finished;
       }
 
-  plain-run : (state : SearcherState) (reader : R) (old : S) (reader' : R) (new : S)
-      → ReaderSearches.IsReaderRun remaining read_step step errors matcher state.settings reader old reader' new
+  plain-run : (state : SearcherState) → is_across state.settings matcher.meaning ≡ true
+      → (reader : R) (old : S) (reader' : R) (new : S)
+      → ReaderRuns.IsReaderRun remaining read_step step errors matcher state.settings reader old reader' new
       → IsReadAt state nowhere reader old (Ok tt) reader' new
-  plain-run state reader old reader' new run =
+  plain-run state across reader old reader' new run =
       let k = state.settings in
       let meaning = matcher.meaning in
       let same = across-is k meaning in
@@ -105,17 +103,7 @@ module _ {R : Type 0} (remaining : R → Option (List ℕ)) (read_step : R → R
             (planned-run k run.seen old run.outcome run.mid (Ok tt) new run.reported run.finished) (
               (λ all goes_on bytes input. subst (λ n. n ≤ line_count k run.seen) (end-is k meaning bytes)
                   (run.all bytes input all)),
-              (λ by_line. record {
-                begun = run.begun;
-                first = run.first;
-                begin = run.begin;
-                unread = run.unread (same ∙ by_line);
-                ahead = λ limit limited passes.
-                    subst (λ (p : Plan). length (concat run.taken.pieces)
-                    ≤ (finish_after run.outcome p.finish).count + limit + 3)
-                    (sym (plans-turns k meaning run.seen))
-                    (run.ahead (same ∙ by_line) limit limited (passes-unchanged k (concat run.taken.pieces) passes));
-              }),
+              (λ by_line. absurd (clash across by_line)),
             );
         each = λ bytes input. ran None refl
             (subst (λ (p : Plan). IsRun step k old p (Ok tt) new) (sym (plans-turns k meaning bytes))
@@ -127,9 +115,9 @@ module _ {R : Type 0} (remaining : R → Option (List ℕ)) (read_step : R → R
   plain-search : (state : SearcherState) (reader : R) (old : S) (e : E) (reader' : R) (new : S)
       (taken : Taken remaining read_step reader reader') (seen : List ℕ)
       → ((search_calls state.settings matcher.meaning).across ≡ true → taken.ended ≡ true)
-      → Searches.IsFault step errors matcher state.settings seen old e new
+      → ContentsSearches.IsFault step errors matcher state.settings seen old e new
       → ((bytes : List ℕ) → IsInput state.settings taken.ended taken.pieces bytes
-      → IsFront state.settings bytes seen × Searches.IsFault step errors matcher state.settings bytes old e new
+      → IsFront state.settings bytes seen × ContentsSearches.IsFault step errors matcher state.settings bytes old e new
       × ((search_calls state.settings matcher.meaning).across ≡ true → IsBelowLimit state.settings bytes))
       → IsReaderSearch remaining read_step step errors matcher state nowhere reader old (Err e) reader' new
   plain-search state reader old e reader' new taken seen ended fault each =
@@ -157,10 +145,10 @@ module _ {R : Type 0} (remaining : R → Option (List ℕ)) (read_step : R → R
   cut-none : (look : Look) (across : Bool) (view : List ℕ → List ℕ) (state : SearcherState)
       → (across ≡ true → is_across state.settings matcher.meaning ≡ true)
       → (reader : R) (old : S) (e : E) (reader' : R) (new : S) (error : Error)
-      → ReaderSearches.IsUnreadIn remaining read_step across view state matcher.meaning reader None error reader'
+      → ReaderRuns.IsUnreadIn remaining read_step across view state matcher.meaning reader None error reader'
       → errors.is_io error e → new ≡ old
       → IsCutSearch remaining read_step step errors matcher state look reader old e reader' new
-  cut-none look across view state mode reader old e reader' new error (ReaderSearches.of_contents is taken each) made
+  cut-none look across view state mode reader old e reader' new error (ReaderRuns.of_contents is taken each) made
       same =
       record {
         mid = reader';
@@ -168,32 +156,32 @@ module _ {R : Type 0} (remaining : R → Option (List ℕ)) (read_step : R → R
         seen = [];
         begun = false;
         error = error;
-        cause = Readings.of_contents (mode is) refl each;
+        cause = Inputs.of_contents (mode is) refl each;
         made = made;
         calls = λ is. absurd (cc);
         none = λ is. same;
       }
   cut-none look across view state mode reader old e reader' new error
-      (ReaderSearches.of_failed_read is mid taken unended fails came decoded below) made same =
+      (ReaderRuns.of_failed_read is mid taken unended fails came decoded below) made same =
       record {
         mid = mid;
         taken = taken;
         seen = [];
         begun = false;
         error = error;
-        cause = Readings.of_failed_read (mode is) (unended, fails) came (so-far decoded) below;
+        cause = Inputs.of_failed_read (mode is) (unended, fails) came (so-far decoded) below;
         made = made;
         calls = λ is. absurd (cc);
         none = λ is. same;
       }
-  cut-none look across view state mode reader old e reader' new error (ReaderSearches.of_buffers none kind) made same =
+  cut-none look across view state mode reader old e reader' new error (ReaderRuns.of_buffers none kind) made same =
       record {
         mid = reader';
         taken = record { ended = false; pieces = []; calls = refl; takes = consumes-none (remaining reader') };
         seen = [];
         begun = false;
         error = error;
-        cause = Readings.of_buffers none kind refl;
+        cause = Inputs.of_buffers none kind refl;
         made = made;
         calls = λ is. absurd (cc);
         none = λ is. same;
@@ -202,14 +190,14 @@ module _ {R : Type 0} (remaining : R → Option (List ℕ)) (read_step : R → R
   plain-cut : (state : SearcherState)
       → (is_across state.settings matcher.meaning ≡ false → view_of state.settings ≡ (λ bytes. bytes))
       → (reader : R) (old : S) (e : E) (reader' : R) (new : S) (seen : Option (List ℕ)) (error : Error)
-      → ReaderSearches.IsUnreadIn remaining read_step (search_calls state.settings matcher.meaning).across
+      → ReaderRuns.IsUnreadIn remaining read_step (search_calls state.settings matcher.meaning).across
       (λ bytes. bytes)
       state matcher.meaning reader seen error reader'
       → errors.is_io error e
-      → Searches.HasReportedIn step errors matcher (search_calls state.settings matcher.meaning) state.settings seen old
+      → ContentsSearches.HasReportedIn step errors matcher (search_calls state.settings matcher.meaning) state.settings seen old
       new
       → IsCutSearch remaining read_step step errors matcher state nowhere reader old e reader' new
-  plain-cut state plain reader old e reader' new (Some seen) error (ReaderSearches.of_cut by_line before taken each)
+  plain-cut state plain reader old e reader' new (Some seen) error (ReaderRuns.of_cut by_line before taken each)
       made reported =
       let k = state.settings in
       let same = across-is k matcher.meaning in
@@ -223,7 +211,7 @@ module _ {R : Type 0} (remaining : R → Option (List ℕ)) (read_step : R → R
         seen = seen;
         begun = true;
         error = error;
-        cause = Readings.of_lines (sym same ∙ by_line, before, λ bytes input. as_read bytes (each bytes input).0) refl
+        cause = Inputs.of_lines (sym same ∙ by_line, before, λ bytes input. as_read bytes (each bytes input).0) refl
             (λ bytes input. subst (λ (v : List ℕ → List ℕ). CutsShort k matcher.meaning
             (before_quit k.binary_detection (v bytes)) seen error)
             view (each bytes input).1);
@@ -232,7 +220,7 @@ module _ {R : Type 0} (remaining : R → Option (List ℕ)) (read_step : R → R
         none = λ is. absurd (cc);
       }
   plain-cut state plain reader old e reader' new (Some seen) error
-      (ReaderSearches.of_reader by_line before mid taken unended fails each came decoded open_line) made reported =
+      (ReaderRuns.of_reader by_line before mid taken unended fails each came decoded open_line) made reported =
       let k = state.settings in
       let same = across-is k matcher.meaning in
       let view = sym (plain (sym same ∙ by_line)) in
@@ -245,7 +233,7 @@ module _ {R : Type 0} (remaining : R → Option (List ℕ)) (read_step : R → R
         seen = seen;
         begun = true;
         error = error;
-        cause = Readings.of_reader (sym same ∙ by_line, before, λ bytes input. as_read bytes (each bytes input))
+        cause = Inputs.of_reader (sym same ∙ by_line, before, λ bytes input. as_read bytes (each bytes input))
             (unended, fails) came (so-far decoded)
             (subst (λ (v : List ℕ → List ℕ). HasOpenLine k (v came) seen) view open_line);
         made = made;
@@ -256,16 +244,15 @@ module _ {R : Type 0} (remaining : R → Option (List ℕ)) (read_step : R → R
       cut-none nowhere (search_calls state.settings matcher.meaning).across (λ bytes. bytes) state
       (λ is. sym (across-is state.settings matcher.meaning) ∙ is) reader old e reader' new error unread made reported
 
-  pub plain-planned : (state : SearcherState)
-      → (is_across state.settings matcher.meaning ≡ false → view_of state.settings ≡ (λ bytes. bytes))
+  pub plain-planned : (state : SearcherState) → is_across state.settings matcher.meaning ≡ true
       → (reader : R) (old : S) (result : Result (Unit {0}) E) (reader' : R) (new : S)
-      → ReaderSearches.IsPlainlySearched remaining read_step step errors matcher state reader old result reader' new
+      → ReaderRuns.IsPlainlySearched remaining read_step step errors matcher state reader old result reader' new
       → IsReadAt state nowhere reader old result reader' new
-  plain-planned state plain reader old (Ok u) reader' new run = plain-run state reader old reader' new run
-  plain-planned state plain reader old (Err e) reader' new (ReaderSearches.of_search taken seen ended fault each) =
+  plain-planned state across reader old (Ok u) reader' new run = plain-run state across reader old reader' new run
+  plain-planned state across reader old (Err e) reader' new (ReaderRuns.of_search taken seen ended fault each) =
       inl (plain-search state reader old e reader' new taken seen ended fault each)
-  plain-planned state plain reader old (Err e) reader' new (ReaderSearches.of_reading seen error unread made reported) =
-      inr (plain-cut state plain reader old e reader' new seen error unread made reported)
+  plain-planned state across reader old (Err e) reader' new (ReaderRuns.of_reading seen error unread made reported) =
+      inr (plain-cut state (λ by_line. absurd (clash across by_line)) reader old e reader' new seen error unread made reported)
 
   -- another claim of where the sink is told
   search-map : {k : Settings} (IsAt IsAt2 : Points) (HasRead : Plan → Outcome E → Type 0) (bytes : List ℕ)
@@ -292,7 +279,7 @@ module _ {R : Type 0} (remaining : R → Option (List ℕ)) (read_step : R → R
         → Ends bytes
         → IsSearchOf step errors matcher k (IsPoint k matcher.meaning bytes (in_contents b) n) HasRead bytes old result
         new)
-        → ReaderSearches.IsContentsRun remaining read_step step errors matcher k reader reader' Ends
+        → ReaderRuns.IsContentsRun remaining read_step step errors matcher k reader reader' Ends
         → IsReaderSearch remaining read_step step errors matcher state (in_contents b) reader old result reader' new
     contents-search reader old result reader' new Ends planned_by run =
         let all : List ℕ = searched_bytes k (concat run.taken.pieces ++ []) in
@@ -328,25 +315,25 @@ module _ {R : Type 0} (remaining : R → Option (List ℕ)) (read_step : R → R
     mode P p = subst P (sym across) p
 
     across-fault : (bytes : List ℕ) (old : S) (e : E) (new : S)
-        → Searches.IsQuitFault step errors matcher (calls_across k matcher.meaning) b k bytes old e new
-        → Searches.IsQuitFault step errors matcher (calls_if k matcher.meaning true) b k bytes old e new
-    across-fault bytes old e new (Searches.of_quit_sink run) = Searches.of_quit_sink run
-    across-fault bytes old e new (Searches.of_quit_matcher haystack error made asks fails message clear reported) =
-        Searches.of_quit_matcher haystack error made asks fails message clear reported
+        → ContentsSearches.IsQuitFault step errors matcher (calls_across k matcher.meaning) b k bytes old e new
+        → ContentsSearches.IsQuitFault step errors matcher (calls_if k matcher.meaning true) b k bytes old e new
+    across-fault bytes old e new (ContentsSearches.of_quit_sink run) = ContentsSearches.of_quit_sink run
+    across-fault bytes old e new (ContentsSearches.of_quit_matcher haystack error made asks fails message clear reported) =
+        ContentsSearches.of_quit_matcher haystack error made asks fails message clear reported
 
     pub contents-planned : (reader : R) (old : S) (result : Result (Unit {0}) E) (reader' : R) (new : S)
-        → ReaderSearches.IsContentsSearched remaining read_step step errors matcher b state reader old result reader'
+        → ReaderRuns.IsContentsSearched remaining read_step step errors matcher b state reader old result reader'
         new
         → IsReadAt state (in_contents b) reader old result reader' new
     contents-planned reader old (Ok u) reader' new run =
         contents-search reader old (Ok u) reader' new _
         (λ HasRead read n bytes ends. until-planned step errors matcher HasRead read b k detects n bytes old (Ok u) new
-        (mode (λ m. Searches.IsRunUntil step errors matcher (calls_if k matcher.meaning m) b k bytes old (Ok u) new)
+        (mode (λ m. ContentsSearches.IsRunUntil step errors matcher (calls_if k matcher.meaning m) b k bytes old (Ok u) new)
         ends)) run
     contents-planned reader old (Err e) reader' new (inl run) =
         inl (contents-search reader old (Err e) reader' new _
         (λ HasRead read n bytes ends. quit-fault step errors matcher HasRead read b k detects n bytes old e new
-        (mode (λ m. Searches.IsQuitFault step errors matcher (calls_if k matcher.meaning m) b k bytes old e new)
+        (mode (λ m. ContentsSearches.IsQuitFault step errors matcher (calls_if k matcher.meaning m) b k bytes old e new)
         (across-fault bytes old e new ends))) run)
     contents-planned reader old (Err e) reader' new (inr (error, unread, made, same)) =
         inr (cut-none (in_contents b) true (view_of k) state (λ is. across) reader old e reader' new error unread made

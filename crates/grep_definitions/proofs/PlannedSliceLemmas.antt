@@ -1,18 +1,16 @@
 -- A search of a slice, as the loops of a search have it, is one along its plan.
-use Rattle.std.proofs.Common.{◌≡◌, ℕ, Bool, true, false, List, None, refl, sym, ap, subst, ◌∙◌}
-use Rattle.std.proofs.Common.{Result, Ok, Err}
+use Rattle.std.proofs.Common.{◌≡◌, ℕ, Bool, true, false, List, None, refl, sym, ap, subst, ◌∙◌, Result, Ok, Err}
 use Rattle.std.specs.Prelude.{OnOk}
-use Rattle.grep_matcher.specs.Meanings.{Meaning}
+use Rattle.grep_matcher.specs.Meanings.{Meaning, MatcherFacts}
 use Rattle.grep_report.specs.declared.binary_detection.BinaryDetection.TheVariants.{Quit}
 use Rattle.grep_definitions.specs.Asking.{IsAskedWith, IsQuestionIn, is_across, search_plan}
-use Rattle.grep_definitions.specs.BinaryBytes.{in_contents}
-use Rattle.grep_definitions.specs.BinaryPlans.{IsPoint, contents_point, plan_with}
-use Rattle.grep_definitions.specs.Parties.{ErrorMakers, MatcherFacts}
-use Rattle.grep_definitions.specs.PlannedSearches.{Points, IsSearchOf, ran, asked}
+use Rattle.grep_definitions.specs.BinaryBytes.{in_contents, contents_point, plan_with}
+use Rattle.grep_definitions.specs.Searches.{IsPoint, Points, IsSearchOf, ran, asked}
+use Rattle.grep_report.specs.ErrorMakers.{ErrorMakers}
 use Rattle.grep_definitions.specs.Plans.{Steps, Planned, Plan, Outcome, IsRun}
 use Rattle.grep_definitions.specs.Reports.{start, through}
 use Rattle.grep_definitions.specs.SearchTurns.{calls_if, search_calls, search_turns, search_byte_count}
-use Rattle.grep_definitions.specs.Searches
+use Rattle.grep_definitions.specs.ContentsSearches
 use Rattle.grep_definitions.specs.Settings.{Settings}
 use Rattle.grep_definitions.specs.SinkRuns.{plan_of}
 use Rattle.grep_definitions.proofs.PlanLemmas.{plans-turns}
@@ -44,16 +42,16 @@ module _ (k : Settings) (meaning : Meaning) (bytes : List ℕ) where
       }
 
 -- ---- a slice
-module _ {S E F : Type 0} (step : Steps S E) (errors : ErrorMakers E) (matcher : MatcherFacts F) where
+module _ {S E F : Type 0} (step : Steps S E) (errors : ErrorMakers F E) (matcher : MatcherFacts F) where
   -- a fault without `binary_data`
   pub plain-fault : (IsAt : Points) → ((calls : List Planned) → IsAt calls None) → (HasRead : Plan → Outcome E → Type 0)
       → (k : Settings) (bytes : List ℕ) (old : S) (e : E) (new : S)
-      → Searches.IsFault step errors matcher k bytes old e new
+      → ContentsSearches.IsFault step errors matcher k bytes old e new
       → IsSearchOf step errors matcher k IsAt HasRead bytes old (Err e) new
-  plain-fault IsAt none HasRead k bytes old e new (Searches.of_sink run) =
+  plain-fault IsAt none HasRead k bytes old e new (ContentsSearches.of_sink run) =
       ran None (none (search_plan k matcher.meaning bytes).calls)
       (subst (λ plan. IsRun step k old plan (Err e) new) (sym (plans-turns k matcher.meaning bytes)) run) tt
-  plain-fault IsAt none HasRead k bytes old e new (Searches.of_matcher haystack error made asks fails message reported)
+  plain-fault IsAt none HasRead k bytes old e new (ContentsSearches.of_matcher haystack error made asks fails message reported)
       =
       asked haystack error made (asked-with k matcher.meaning bytes haystack made asks) fails message
       (None, none made, (λ is. refl), reported)
@@ -62,7 +60,7 @@ module _ {S E F : Type 0} (step : Steps S E) (errors : ErrorMakers E) (matcher :
   pub until-planned : (HasRead : Plan → Outcome E → Type 0) → ((p : Plan) (o : Outcome E) → HasRead p o)
       → (b : ℕ) (k : Settings) → k.binary_detection ≡ Quit b
       → (n : ℕ) (bytes : List ℕ) (old : S) (result : Result (Unit {0}) E) (new : S)
-      → Searches.IsRunUntil step errors matcher (search_calls k matcher.meaning) b k bytes old result new
+      → ContentsSearches.IsRunUntil step errors matcher (search_calls k matcher.meaning) b k bytes old result new
       → IsSearchOf step errors matcher k (IsPoint k matcher.meaning bytes (in_contents b) n) HasRead bytes old result
       new
   until-planned HasRead read b k detects n bytes old result new run =
@@ -83,13 +81,13 @@ module _ {S E F : Type 0} (step : Steps S E) (errors : ErrorMakers E) (matcher :
 
   pub quit-fault : (HasRead : Plan → Outcome E → Type 0) → ((p : Plan) (o : Outcome E) → HasRead p o)
       → (b : ℕ) (k : Settings) → k.binary_detection ≡ Quit b → (n : ℕ) (bytes : List ℕ) (old : S) (e : E) (new : S)
-      → Searches.IsQuitFault step errors matcher (search_calls k matcher.meaning) b k bytes old e new
+      → ContentsSearches.IsQuitFault step errors matcher (search_calls k matcher.meaning) b k bytes old e new
       → IsSearchOf step errors matcher k (IsPoint k matcher.meaning bytes (in_contents b) n) HasRead bytes old (Err e)
       new
-  quit-fault HasRead read b k detects n bytes old e new (Searches.of_quit_sink run) = until-planned HasRead read b k
+  quit-fault HasRead read b k detects n bytes old e new (ContentsSearches.of_quit_sink run) = until-planned HasRead read b k
       detects n bytes old (Err e) new run
   quit-fault HasRead read b k detects n bytes old e new
-      (Searches.of_quit_matcher haystack error made asks fails message clear reported) =
+      (ContentsSearches.of_quit_matcher haystack error made asks fails message clear reported) =
       asked haystack error made (asked-with k matcher.meaning bytes haystack made asks) fails message (
         None,
         sym clear,

@@ -1,11 +1,12 @@
 -- Where a stream is told of a binary byte, in the plan of a search by line.
-use Rattle.std.proofs.Common.{◌≡◌, ℕ, Bool, true, false, List, [], ◌∷◌, ◌++◌, Some}
-use Rattle.std.proofs.Common.{refl, ap, ◌∙◌, arith, length, map, take, drop, length-append}
+use Rattle.std.proofs.Common.{◌≡◌, ℕ, Bool, true, false, List, [], ◌∷◌, ◌++◌, Some, refl, ap, ◌∙◌, arith, length, map}
+use Rattle.std.proofs.Common.{take, drop, length-append}
 use Rattle.std.proofs.Math.Seq.{take-append_seam}
 use Rattle.grep_matcher.specs.Meanings.{Meaning}
 use Rattle.grep_report.specs.declared.binary_detection.BinaryDetection.{BinaryDetection}
 use Rattle.grep_definitions.specs.Asking.{search_plan}
-use Rattle.grep_definitions.specs.BinaryPlans.{BinaryPoint, IsStreamPoint, IsCutAt, quits, plan_with, told, after_told}
+use Rattle.grep_definitions.specs.BinaryBytes.{BinaryPoint, quits, plan_with, told, after_told}
+use Rattle.grep_definitions.specs.Searches.{IsStreamPoint, IsCutAt}
 use Rattle.grep_definitions.specs.Plans.{Steps, Planned, Plan, Outcome, all_true, AreMade}
 use Rattle.grep_definitions.specs.Settings.{Settings}
 use Rattle.grep_definitions.proofs.BoolLemmas.{clash}

@@ -1,12 +1,12 @@
 -- Why an input wasn't searched to its end, as the loops have it, is why its plan wasn't gone through.
-use Rattle.std.proofs.Common.{◌≡◌, ◌∙◌, ℕ, Bool, true, false, List, [], Option, Some, None, refl, ◌∙◌}
+use Rattle.std.proofs.Common.{◌≡◌, ◌∙◌, ℕ, Bool, true, false, List, [], Option, Some, None, refl}
 use Rattle.std.specs.declared.io.Error.{Error}
 use Rattle.grep_decode.specs.Source.{ReadResult}
 use Rattle.grep_matcher.specs.Meanings.{Meaning}
 use Rattle.grep_definitions.specs.BinaryBytes.{view_of}
-use Rattle.grep_definitions.specs.Modes.{is_across}
-use Rattle.grep_definitions.specs.ReaderSearches
-use Rattle.grep_definitions.specs.Readings.{IsUnread, of_lines, of_reader, of_contents, of_failed_read, of_buffers}
+use Rattle.grep_definitions.specs.Asking.{is_across}
+use Rattle.grep_definitions.specs.ReaderRuns
+use Rattle.grep_definitions.specs.Inputs.{IsUnread, of_lines, of_reader, of_contents, of_failed_read, of_buffers}
 use Rattle.grep_definitions.specs.Settings.{SearcherState}
 use Rattle.grep_definitions.proofs.PlannedReaderLemmas.{consumes-none, so-far}
 
@@ -14,11 +14,11 @@ module _ {R : Type 0} (remaining : R → Option (List ℕ)) (read_step : R → R
     (state : SearcherState) (meaning : Meaning) (reader : R) (error : Error) (across : Bool)
     (mode : is_across state.settings meaning ≡ across) where
   pub unread-planned : (seen : Option (List ℕ)) (reader' : R)
-      → ReaderSearches.IsUnreadIn remaining read_step across (view_of state.settings) state meaning reader seen error
+      → ReaderRuns.IsUnreadIn remaining read_step across (view_of state.settings) state meaning reader seen error
       reader'
       → (begun : Bool) × (lines : List ℕ)
       × IsUnread remaining read_step state meaning reader begun lines error reader'
-  unread-planned (Some seen) reader' (ReaderSearches.of_cut by_line before taken each) = (
+  unread-planned (Some seen) reader' (ReaderRuns.of_cut by_line before taken each) = (
     true,
     seen,
     (
@@ -29,7 +29,7 @@ module _ {R : Type 0} (remaining : R → Option (List ℕ)) (read_step : R → R
     ),
   )
   unread-planned (Some seen) reader'
-      (ReaderSearches.of_reader by_line before mid taken unended fails each came decoded open_line) = (
+      (ReaderRuns.of_reader by_line before mid taken unended fails each came decoded open_line) = (
         true,
         seen,
         (
@@ -39,14 +39,14 @@ module _ {R : Type 0} (remaining : R → Option (List ℕ)) (read_step : R → R
               open_line,
         ),
       )
-  unread-planned None reader' (ReaderSearches.of_contents is taken each) =
+  unread-planned None reader' (ReaderRuns.of_contents is taken each) =
       (false, [], (reader', taken, of_contents (mode ∙ is) refl each))
-  unread-planned None reader' (ReaderSearches.of_failed_read is mid taken unended fails came decoded below) = (
+  unread-planned None reader' (ReaderRuns.of_failed_read is mid taken unended fails came decoded below) = (
     false,
     [],
     (mid, taken, of_failed_read (mode ∙ is) (unended, fails) came (so-far decoded) below),
   )
-  unread-planned None reader' (ReaderSearches.of_buffers none kind) = (
+  unread-planned None reader' (ReaderRuns.of_buffers none kind) = (
     false,
     [],
     (

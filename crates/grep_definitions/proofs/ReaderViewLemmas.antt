@@ -1,23 +1,24 @@
 -- A reader that is seen through another that refers to it: if each call of the one is a call of the other, and the
 -- reference stays the same, a search of the one is a search of the other.
-use Rattle.std.proofs.Common.{◌≡◌, ◌∙◌, ℕ, Bool, true, false, List, [], ◌∷◌, Option, Some, None, ap, inl, inr}
-use Rattle.std.proofs.Common.{sym, subst}
+use Rattle.std.proofs.Common.{◌≡◌, ◌∙◌, ℕ, Bool, true, false, List, [], ◌∷◌, Option, Some, None, ap, inl, inr, sym}
+use Rattle.std.proofs.Common.{subst}
 use Rattle.std.specs.Prelude.{Result, Ok, Err}
 use Rattle.std.specs.declared.io.Error.{Error}
 use Rattle.grep_decode.specs.Source.{ReadResult, Pulls}
-use Rattle.grep_matcher.specs.Meanings.{Meaning}
+use Rattle.grep_matcher.specs.Meanings.{Meaning, MatcherFacts}
 use Rattle.grep_report.specs.declared.config_error.ConfigError.{ConfigError}
 use Rattle.grep_definitions.specs.BinaryBytes.{Look, look_of}
-use Rattle.grep_definitions.specs.Parties.{ErrorMakers, MatcherFacts, refusal_of}
-use Rattle.grep_definitions.specs.PlannedSearches.{Points, IsSearchOf, HasReadLines, IsReaderSearch, IsRead}
-use Rattle.grep_definitions.specs.PlannedSearches.{IsUnlessThis, IsReaderSearched, ran, asked}
+use Rattle.grep_report.specs.ErrorMakers.{ErrorMakers}
+use Rattle.grep_definitions.specs.Asking.{refusal_of}
+use Rattle.grep_definitions.specs.Searches.{Points, IsSearchOf, HasReadLines, IsReaderSearch, IsRead, IsUnlessRefusedBy}
+use Rattle.grep_definitions.specs.Searches.{IsReaderSearched, ran, asked}
 use Rattle.grep_definitions.specs.Plans.{Steps, Plan, Outcome}
-use Rattle.grep_definitions.specs.Readings.{Reads, Taken, IsCut, IsUnread, IsReadingError}
-use Rattle.grep_definitions.specs.Readings.{of_lines, of_reader, of_contents, of_failed_read, of_buffers}
+use Rattle.grep_definitions.specs.Inputs.{Reads, Taken, IsCut, IsUnread, IsReadingError, of_lines, of_reader}
+use Rattle.grep_definitions.specs.Inputs.{IsReadForLine, of_contents, of_failed_read, of_buffers}
 use Rattle.grep_definitions.specs.Settings.{Settings, SearcherState}
 
 -- how far a search has read is said of it
-search-reads : {S E F : Type 0} (step : Steps S E) (errors : ErrorMakers E) (matcher : MatcherFacts F)
+search-reads : {S E F : Type 0} (step : Steps S E) (errors : ErrorMakers F E) (matcher : MatcherFacts F)
     (settings : Settings) (IsAt : Points) (HasRead HasRead2 : Plan → Outcome E → Type 0)
     → ((plan : Plan) (outcome : Outcome E) → HasRead plan outcome → HasRead2 plan outcome)
     → (bytes : List ℕ) (old : S) (result : Result (Unit {0}) E) (new : S)
@@ -118,7 +119,7 @@ module _ {R T N : Type 0} (view : R → T) (name : R → N) (remaining : T → O
     IsUnread-seen meaning begun lines error (mid, taken, cut) =
         (view mid, Taken-seen reader mid taken, IsCut-seen meaning mid taken lines begun error cut)
 
-    module _ {S E F : Type 0} (step : Steps S E) (errors : ErrorMakers E) (matcher : MatcherFacts F) (look : Look)
+    module _ {S E F : Type 0} (step : Steps S E) (errors : ErrorMakers F E) (matcher : MatcherFacts F) (look : Look)
       where
         search-view : (old : S) (result : Result (Unit {0}) E) (new : S)
             → IsReaderSearch (λ s. remaining (view s)) read step errors matcher state look reader old result reader' new
@@ -135,6 +136,19 @@ module _ {R T N : Type 0} (view : R → T) (name : R → N) (remaining : T → O
           whole = search.whole;
         }
           where
+            once-view : IsReadForLine (λ s. remaining (view s)) read state.settings reader reader'
+                → IsReadForLine remaining seen_read state.settings (view reader) (view reader')
+            once-view asks = record {
+              mid = view asks.mid;
+              before = Taken-seen reader asks.mid asks.before;
+              unended = asks.unended;
+              piece = asks.piece;
+              last = (seen asks.mid (Ok asks.piece) reader' asks.last).1;
+              came = asks.came;
+              so_far = asks.so_far;
+              open_line = asks.open_line;
+            }
+
             lines-view : (plan : Plan) (outcome : Outcome E)
                 → HasReadLines (λ s. remaining (view s)) read step errors matcher state look reader old reader'
                 search.taken plan outcome
@@ -145,6 +159,7 @@ module _ {R T N : Type 0} (view : R → T) (name : R → N) (remaining : T → O
               first = lines.first;
               begin = lines.begin;
               unread = λ idle. ap view (lines.unread idle);
+              once = λ reads idle. once-view (lines.once reads idle);
               ahead = lines.ahead;
             }
 
@@ -173,18 +188,18 @@ module _ {R T N : Type 0} (view : R → T) (name : R → N) (remaining : T → O
           none = cut.none;
         })
 
-    module _ {S E F : Type 0} (step : Steps S E) (errors : ErrorMakers E) (matcher : MatcherFacts F) where
+    module _ {S E F : Type 0} (step : Steps S E) (errors : ErrorMakers F E) (matcher : MatcherFacts F) where
       pub IsReaderSearched-seen : (old : S) (result : Result (Unit {0}) E) (new : S)
           → IsReaderSearched (λ s. remaining (view s)) read step errors matcher state reader old result reader' new
           → IsReaderSearched remaining seen_read step errors matcher state (view reader) old result last new
       IsReaderSearched-seen old result new searched = go (refusal_of state.settings matcher.meaning) searched
         where
           go : (refusal : Option ConfigError)
-              → IsUnlessThis errors matcher state.settings old result new (reader' ≡ reader)
+              → IsUnlessRefusedBy errors matcher state.settings old result new (reader' ≡ reader)
               (IsRead (λ s. remaining (view s)) read step errors matcher state (look_of state.settings matcher.meaning
               false) reader old result
               reader' new) refusal
-              → IsUnlessThis errors matcher state.settings old result new (last ≡ view reader)
+              → IsUnlessRefusedBy errors matcher state.settings old result new (last ≡ view reader)
               (IsRead remaining seen_read step errors matcher state (look_of state.settings matcher.meaning false)
               (view reader) old result last new) refusal
           go None searched = λ lawful. IsRead-seen step errors matcher (look_of state.settings matcher.meaning false)

@@ -1,29 +1,25 @@
 -- Runs of sinks whose steps are functions, and what a search without binary detection comes to.
-use Rattle.grep_definitions.specs.Plans.{planned}
+use Rattle.grep_definitions.specs.Plans.{planned, Call, begins, matches, context, breaks, binary_data, finishes, Steps}
+use Rattle.grep_definitions.specs.Plans.{Finish, Planned, Plan, Outcome, AreMade, IsFinished, IsRun}
 use Rattle.std.proofs.Common.{◌≡◌, ℕ, Bool, true, false, List, [], ◌∷◌, Option, Some, None, refl, sym, ◌∙◌, ap, subst}
 use Rattle.std.proofs.Common.{inl, inr, length, Result, Ok, Err}
 use Rattle.std.specs.Prelude.{◌⊎◌}
 use Rattle.std.specs.List.{fold}
 use Rattle.grep_decode.specs.Source.{ReadResult}
-use Rattle.grep_matcher.specs.Matching.{IsInfallible}
+use Rattle.grep_matcher.specs.Meanings.{IsInfallible, MatcherFacts}
 use Rattle.grep_report.specs.declared.binary_detection.BinaryDetection.TheVariants.{None as no_detection}
 use Rattle.grep_report.specs.declared.config_error.ConfigError.{ConfigError}
-use Rattle.grep_definitions.specs.Asking.{search_plan}
-use Rattle.grep_definitions.specs.BinaryBytes.{nowhere, look_of}
-use Rattle.grep_definitions.specs.BinaryPlans.{BinaryPoint, IsPoint, plan_with}
-use Rattle.grep_definitions.specs.Parties.{ErrorMakers, MatcherFacts, IsLawful, refusal_of}
-use Rattle.grep_definitions.specs.PlannedSearches.{IsSearchOf, IsRead, IsCutSearch, IsSliceSearch, IsUnlessThis}
-use Rattle.grep_definitions.specs.PlannedSearches.{ran, asked}
-use Rattle.grep_definitions.specs.SliceSearches.{IsSliceRead, IsSliceSearchedIf}
-use Rattle.grep_definitions.specs.Plans.{Call, begins, matches, context, breaks, binary_data, finishes}
-use Rattle.grep_definitions.specs.Plans.{Steps, Finish, Planned, Plan, Outcome, AreMade, IsFinished, IsRun}
-use Rattle.grep_definitions.specs.Readings.{is_searched_unchanged, searched_bytes}
+use Rattle.grep_definitions.specs.Asking.{search_plan, IsLawful, refusal_of}
+use Rattle.grep_definitions.specs.BinaryBytes.{nowhere, look_of, BinaryPoint, plan_with}
+use Rattle.grep_definitions.specs.Searches.{IsPoint, IsSearchOf, IsRead, IsCutSearch, IsUnlessRefusedBy, ran, asked}
+use Rattle.grep_report.specs.ErrorMakers.{ErrorMakers}
+use Rattle.grep_definitions.specs.SliceSearches.{IsSliceSearch, IsSliceRead, IsSliceSearchedIf, is_searched_unchanged}
+use Rattle.grep_definitions.specs.Inputs.{searched_bytes}
 use Rattle.grep_definitions.specs.SearchLaws.{UnchangedIsInput, calls_of, is_match, match_calls}
 use Rattle.grep_definitions.specs.Settings.{Settings, SearcherState}
-use Rattle.grep_definitions.specs.SinkFolds.{fold_while, run_fold, AreTaken, IsTakenOk, IsTakenBy, StepsBy}
-use Rattle.grep_definitions.specs.SinkFolds.{RunsFold, RunsFoldAll, RunsFoldMatches, FailsAtStep}
-use Rattle.grep_definitions.specs.SinkFolds.{SearchesRun, ReaderSearchesRun, SearchesFail, ReaderSearchesFail}
-use Rattle.grep_definitions.specs.SinkFolds.{KnownReadersRun}
+use Rattle.grep_definitions.specs.SinkFolds.{fold_while, run_fold, AreTaken, IsTakenOk, IsTakenBy, StepsBy, RunsFold}
+use Rattle.grep_definitions.specs.SinkFolds.{RunsFoldAll, RunsFoldMatches, FailsAtStep, SearchesRun, ReaderSearchesRun}
+use Rattle.grep_definitions.specs.SinkFolds.{SearchesFail, ReaderSearchesFail, KnownReadersRun}
 use Rattle.grep_definitions.proofs.KnownReaderLemmas.{taken-input}
 
 module _ {V : Type 0} (taken : V → Call → Bool → V → Type 0) where
@@ -194,11 +190,11 @@ module _ {S E : Type 0} (step : Steps S E) where
       let there = subst (λ s. step old settings planned.call (Err e') s) (sym last.1) made in
       (old, planned.call, subst (λ x. step old settings planned.call (Err x) new) same there)
 
-module _ {S E F : Type 0} (step : Steps S E) (errors : ErrorMakers E) (matcher : MatcherFacts F) where
+module _ {S E F : Type 0} (step : Steps S E) (errors : ErrorMakers F E) (matcher : MatcherFacts F) where
   -- a search that wasn't refused
   not-refused : (k : Settings) (old new : S) (IsSame IsSearched : Type 0) (refusal : Option ConfigError)
       → IsLawful matcher k
-      → IsUnlessThis errors matcher k old (Ok tt) new IsSame IsSearched refusal → IsSearched
+      → IsUnlessRefusedBy errors matcher k old (Ok tt) new IsSame IsSearched refusal → IsSearched
   not-refused k old new IsSame IsSearched None lawful searched = searched lawful
   not-refused k old new IsSame IsSearched (Some refusal) lawful (e, is, made, same, left) = absurd (cc)
 
@@ -257,7 +253,7 @@ module _ {S E F : Type 0} (step : Steps S E) (errors : ErrorMakers E) (matcher :
     reader_searches-fail state reader old e reader' new none infallible lawful allowed searched =
         let k = state.settings in
         elim (read-nowhere state reader old (Err e) reader' new none
-        (subst (IsUnlessThis errors matcher k old (Err e) new (reader' ≡ reader) (IsRead remaining read_step step errors
+        (subst (IsUnlessRefusedBy errors matcher k old (Err e) new (reader' ≡ reader) (IsRead remaining read_step step errors
         matcher state (look_of k matcher.meaning false) reader old (Err e) reader' new)) allowed searched lawful)) [
           | inl read ↦ inl (fails-search k _ _ read.seen old e new infallible read.over_seen)
           | inr cut ↦ inr cut
@@ -294,7 +290,7 @@ module _ {S E F : Type 0} (step : Steps S E) (errors : ErrorMakers E) (matcher :
           × IsCutSearch (λ all. Some all) IsSliceRead step errors matcher state nowhere input old e rest new)
       go true is searched =
           inl (fails-search state.settings _ _ input old e new infallible
-          (subst (IsUnlessThis errors matcher state.settings old (Err e) new (Unit {0})
+          (subst (IsUnlessRefusedBy errors matcher state.settings old (Err e) new (Unit {0})
           (IsSliceSearch step errors matcher state.settings input old (Err e) new)) allowed searched lawful))
       go false is (rest, searched) =
           elim (reader_searches-fail (λ all. Some all) IsSliceRead state input old e rest new none infallible lawful

@@ -1,16 +1,18 @@
 -- The successive matches: how many there are, in which order, and which are left after some of them.
 use Rattle.std.proofs.Common.{◌≡◌, ℕ, zero, suc, ◌+◌, ◌-◌, ◌<◌, ◌≤◌, Bool, true, false, List, [], ◌∷◌, ◌++◌, length}
-use Rattle.std.proofs.Common.{take, drop, refl, ap, sym, ◌∙◌, arith, ⊎_elim}
-use Rattle.std.proofs.Common.{Option, Some, None, if◌then◌else◌, length-drop}
+use Rattle.std.proofs.Common.{take, drop, refl, ap, sym, ◌∙◌, arith, ⊎_elim, Option, Some, None, if◌then◌else◌}
+use Rattle.std.proofs.Common.{length-drop}
 use Rattle.std.proofs.Math.Seq.{take-nil}
 use Rattle.std.proofs.lemmas.List.Elements.{All-nil, All-cons, All-take}
 use Rattle.std.proofs.lemmas.Bool.{lt-ltb, le-ltb, le-leb, leb-true, ltb-true, cases_lt}
 use Rattle.std.specs.Prelude.{nat_lt, nat_le, ◌&&◌, IfSome, All}
 use Rattle.std.specs.Option.{option_map}
-use Rattle.grep_matcher.specs.Matching.{Meaning, IsWithin}
-use Rattle.grep_definitions.specs.SuccessiveMatches.{position_after, position_past, if_within, match_from, matches_from}
-use Rattle.grep_definitions.specs.SuccessiveMatches.{matches_up_to, matches_left}
-use Rattle.grep_definitions.specs.Below.{is_below}
+use Rattle.grep_matcher.specs.Meanings.{Meaning}
+use Rattle.grep_matcher.specs.FindResults.{IsWithin}
+use Rattle.grep_definitions.specs.SelectedLines.{position_after, position_past, if_within, match_from, matches_from}
+use Rattle.grep_definitions.specs.SelectedLines.{matches_up_to}
+use Rattle.grep_definitions.specs.SuccessiveMatches.{matches_left}
+use Rattle.grep_definitions.specs.Reports.{is_below}
 use Rattle.grep_definitions.proofs.BoolLemmas.{and-both, both_true, clash}
 
 -- after a match that doesn't end before it starts, the next is looked for at a later position

@@ -1,20 +1,18 @@
 -- Which lines a match touches: those that it has a byte of, and an empty match the line that holds its position.
 use Rattle.std.proofs.Common.{◌≡◌, ◌≢◌, ℕ, zero, suc, ◌+◌, ◌-◌, ◌<◌, ◌≤◌, ◌==◌, Bool, true, ◌&&◌, List, length}
-use Rattle.std.proofs.Common.{slice_index}
-use Rattle.std.proofs.Common.{refl, sym, ap, ◌∙◌, arith, ⊎_elim, inl, inr, take_all}
+use Rattle.std.proofs.Common.{slice_index, refl, sym, ap, ◌∙◌, arith, ⊎_elim, inl, inr, take_all}
 use Rattle.std.proofs.lemmas.Bool.{le-leb, lt-leb, leb-true, lt-ltb, le-ltb, cases_lt, cases_eq, ne_eqb}
 use Rattle.std.proofs.lemmas.List.Sums.{count_by_more_no}
 use Rattle.std.specs.Prelude.{nat_lt, nat_le}
 use Rattle.grep_matcher.specs.declared.line_terminator.LineTerminator.{LineTerminator}
 use Rattle.grep_matcher.specs.Lawful.{HoldsPosition}
-use Rattle.grep_matcher.specs.Lines.{lines, line_start}
-use Rattle.grep_matcher.specs.Matching.{Meaning}
-use Rattle.grep_matcher.specs.Terminators.{byte_of}
+use Rattle.grep_matcher.specs.Lines.{lines, line_start, byte_of}
+use Rattle.grep_matcher.specs.Meanings.{Meaning}
 use Rattle.grep_lines.specs.Blocks.{lines_before, block_start, block_end}
 use Rattle.grep_lines.proofs.LawLemmas.{AreLines-lines}
 use Rattle.grep_lines.proofs.LineLemmas.{count, lines-closed, lines-unclosed}
-use Rattle.grep_lines.proofs.PositionLemmas.{block_start-is, block_end-closed, block_end-open}
-use Rattle.grep_lines.proofs.WalkLemmas.{IsLastStart-line}
+use Rattle.grep_lines.proofs.LinePositionLemmas.{block_start-is, block_end-closed, block_end-open}
+use Rattle.grep_lines.proofs.LineStepLemmas.{IsLastStart-line}
 use Rattle.grep_definitions.proofs.BoolLemmas.{both_true, and-both}
 use Rattle.grep_definitions.proofs.LineStartLemmas.{line_start-ascends, line_start-within, line_start-last}
 use Rattle.grep_definitions.proofs.TurnEndLemmas.{line_start-le}

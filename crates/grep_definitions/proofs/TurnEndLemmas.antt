@@ -1,20 +1,19 @@
 -- Where the turns of calls end, against where lines start.
-use Rattle.grep_definitions.specs.Plans.{planned}
-use Rattle.std.proofs.Common.{◌≡◌, ℕ, zero, suc, ◌+◌, ◌-◌, ◌<◌, ◌≤◌, Bool, true, false, ◌&&◌, List, [], ◌∷◌}
-use Rattle.std.proofs.Common.{refl, sym, ◌∙◌, arith, ⊎_elim, Option, Some, None, if◌then◌else◌}
+use Rattle.grep_definitions.specs.SelectedLines
+use Rattle.grep_definitions.specs.Plans.{planned, Call, Planned, matches, context, breaks}
+use Rattle.std.proofs.Common.{◌≡◌, ℕ, zero, suc, ◌+◌, ◌-◌, ◌<◌, ◌≤◌, Bool, true, false, ◌&&◌, List, [], ◌∷◌, refl, sym}
+use Rattle.std.proofs.Common.{◌∙◌, arith, ⊎_elim, Option, Some, None, if◌then◌else◌}
 use Rattle.std.proofs.Math.Bool.{and-false}
 use Rattle.std.proofs.lemmas.Bool.{ltb-true, le-ltb, cases_lt, cases_Bool}
 use Rattle.std.proofs.lemmas.List.Elements.{All-nil, All-cons}
 use Rattle.std.specs.Prelude.{nat_le, nat_lt, All, slice_index_or}
-use Rattle.grep_matcher.specs.Terminators.{byte_of}
-use Rattle.grep_matcher.specs.Lines.{lines, line_start}
-use Rattle.grep_matcher.specs.Matching.{Meaning}
+use Rattle.grep_matcher.specs.Lines.{byte_of, lines, line_start}
+use Rattle.grep_matcher.specs.Meanings.{Meaning}
 use Rattle.grep_report.specs.declared.sink_context.SinkContextKind.TheVariants.{Before, After, Other}
 use Rattle.grep_definitions.specs.Settings.{Settings}
-use Rattle.grep_definitions.specs.Plans.{Call, Planned, matches, context, breaks}
-use Rattle.grep_definitions.specs.Below.{first_below}
+use Rattle.grep_definitions.specs.Reports.{first_below, Kind, matched, in_context}
 use Rattle.grep_definitions.specs.LineSearch
-use Rattle.grep_definitions.specs.LineSearch.{turns_at, Kind, matched, in_context}
+use Rattle.grep_definitions.specs.LineSearch.{turns_at}
 use Rattle.grep_definitions.specs.LineTurns.{one_turn, broken_turns, pending_turns, match_turns, listed_turns}
 use Rattle.grep_definitions.specs.LineTurns.{listed_number, number_of, is_gap}
 use Rattle.grep_definitions.proofs.BelowLemmas.{some_below-some, some_below-find, first_below-of, first_below-none}
@@ -79,14 +78,14 @@ module _ (k : Settings) (meaning : Meaning) (bytes : List ℕ) where
   turn_end-late q (Some (in_context Before)) = go (first_below later (LineSearch.line_count k meaning bytes)) refl
     where
       later : ℕ → Bool
-      later j = nat_lt q j && LineSearch.is_selected k meaning bytes j
+      later j = nat_lt q j && SelectedLines.is_selected k meaning bytes j
 
       go : (found : Option ℕ) → first_below later (LineSearch.line_count k meaning bytes) ≡ found
           → start (q + 1) ≤ start (LineSearch.lines_through_next k meaning bytes q)
       go None is = rw is (omega arith)
       go (Some j) is =
           let found = first_below-of later (LineSearch.line_count k meaning bytes) j is in
-          let above = ltb-true q j (both_true (nat_lt q j) (LineSearch.is_selected k meaning bytes j) found.1).0 in
+          let above = ltb-true q j (both_true (nat_lt q j) (SelectedLines.is_selected k meaning bytes j) found.1).0 in
           rw is (line_start-le (byte_of k.line_terminator) bytes (q + 1) (j + 1) (omega (arith, above)))
 
   -- if the turn of a line ends no earlier than some offset, each of its calls does so
@@ -138,10 +137,10 @@ module _ (k : Settings) (meaning : Meaning) (bytes : List ℕ) where
       n = LineSearch.line_count k meaning bytes
 
       later : ℕ → Bool
-      later q = nat_lt j q && LineSearch.is_selected k meaning bytes q
+      later q = nat_lt j q && SelectedLines.is_selected k meaning bytes q
 
       nearer : ℕ → Bool
-      nearer q = nat_lt j q && nat_le (q - j) k.before_context && LineSearch.is_selected k meaning bytes q
+      nearer q = nat_lt j q && nat_le (q - j) k.before_context && SelectedLines.is_selected k meaning bytes q
 
       missed : (q : ℕ) → q < i → later q ≡ false
       missed q less = ⊎_elim
@@ -152,7 +151,7 @@ module _ (k : Settings) (meaning : Meaning) (bytes : List ℕ) where
       nearer-later : (q : ℕ) → nearer q ≡ true → later q ≡ true
       nearer-later q is =
           let both = both_true (nat_lt j q && nat_le (q - j) k.before_context)
-          (LineSearch.is_selected k meaning bytes q) is in
+          (SelectedLines.is_selected k meaning bytes q) is in
           let above = (both_true (nat_lt j q) (nat_le (q - j) k.before_context) both.0).0 in
           let chosen = both.1 in
           rw (above, chosen) refl
@@ -168,7 +167,7 @@ module _ (k : Settings) (meaning : Meaning) (bytes : List ℕ) where
           let far : i ≤ q = ⊎_elim (λ less. absurd (clash passes (missed q less))) (λ le. le) (cases_lt q i) in
           rw is (line_start-le (byte_of k.line_terminator) bytes (i + 1) (q + 1) (omega arith))
 
-      out : (LineSearch.is_selected k meaning bytes j ≡ false) × (LineSearch.follows_selected k meaning bytes j ≡ false)
+      out : (SelectedLines.is_selected k meaning bytes j ≡ false) × (LineSearch.follows_selected k meaning bytes j ≡ false)
       out = near.passed j low high
 
       plain : k.passthru ≡ false

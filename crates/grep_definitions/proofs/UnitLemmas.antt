@@ -1,26 +1,24 @@
 -- The bytes that the match reports across lines have.
-use Rattle.grep_definitions.specs.Plans.{planned}
+use Rattle.grep_definitions.specs.Plans.{planned, Call, Planned, matches, context, breaks}
 use Rattle.std.proofs.Common.{◌≡◌, ℕ, zero, suc, ◌+◌, ◌-◌, ◌<◌, ◌≤◌, Bool, true, false, not, ◌&&◌, List, [], ◌∷◌, ◌++◌}
-use Rattle.std.proofs.Common.{length, take, drop}
-use Rattle.std.proofs.Common.{refl, sym, ap, subst, ◌∙◌, arith, ⊎_elim, Option, Some, None, if◌then◌else◌}
+use Rattle.std.proofs.Common.{length, take, drop, refl, sym, ap, subst, ◌∙◌, arith, ⊎_elim, Option, Some, None}
+use Rattle.std.proofs.Common.{if◌then◌else◌}
 use Rattle.std.proofs.Math.Seq.{take-add}
 use Rattle.std.proofs.lemmas.Bool.{cases_Bool, cases_lt, lt-ltb}
 use Rattle.std.proofs.lemmas.Grind.{flat_map-append}
 use Rattle.std.proofs.lemmas.List.{append-nil, drop-drop, length-take, length-drop}
-use Rattle.std.specs.Prelude.{nat_lt}
+use Rattle.std.specs.Prelude.{nat_lt, slice_range}
 use Rattle.std.specs.List.{flat_map}
 use Rattle.std.specs.List.Sorted.{IsStrictlyIncreasing}
-use Rattle.grep_matcher.specs.Matching.{Meaning}
-use Rattle.grep_matcher.specs.Terminators.{byte_of}
-use Rattle.grep_lines.specs.Positions.{slice}
+use Rattle.grep_matcher.specs.Meanings.{Meaning}
+use Rattle.grep_matcher.specs.Lines.{byte_of}
 use Rattle.grep_lines.proofs.LawLemmas.{AreLines-lines}
 use Rattle.grep_report.specs.declared.sink_context.SinkContextKind.{SinkContextKind}
 use Rattle.grep_report.specs.declared.sink_context.SinkContextKind.TheVariants.{Before, After, Other}
 use Rattle.grep_definitions.specs.Settings.{Settings}
 use Rattle.grep_definitions.proofs.LineSliceLemmas.{slice-line}
-use Rattle.grep_definitions.specs.Plans.{Call, Planned, matches, context, breaks}
-use Rattle.grep_definitions.specs.Below.{joined_from}
-use Rattle.grep_definitions.specs.LineSearch.{Kind, matched, in_context, line_count, line, start, number}
+use Rattle.grep_definitions.specs.Reports.{joined_from, Kind, matched, in_context}
+use Rattle.grep_definitions.specs.LineSearch.{line_count, line, start, number}
 use Rattle.grep_definitions.specs.AcrossLines
 use Rattle.grep_definitions.specs.AcrossLines.{is_selected, continues_unit, turns_at}
 use Rattle.grep_definitions.specs.AcrossLaws.{report_bytes, report_edges}
@@ -49,7 +47,7 @@ flat_map-joined g f i (suc n) =
     ∙ ap (λ xs. flat_map g (f i) ++ xs) (flat_map-joined g f (i + 1) n)
 
 -- two slices, one after the other, are one
-slice-join : (bytes : List ℕ) (a b c : ℕ) → a ≤ b → b ≤ c → slice bytes a b ++ slice bytes b c ≡ slice bytes a c
+slice-join : (bytes : List ℕ) (a b c : ℕ) → a ≤ b → b ≤ c → slice_range bytes a b ++ slice_range bytes b c ≡ slice_range bytes a c
 slice-join bytes a b c first second =
     let sum : c - a ≡ (b - a) + (c - b) = omega arith in
     let at : a + (b - a) ≡ b = omega arith in
@@ -78,7 +76,7 @@ module _ (k : Settings) (meaning : Meaning) (bytes : List ℕ) where
 
   -- and so are those of selected lines, one after the other
   lines-slice : (i m : ℕ) → i + m ≤ n → ((j : ℕ) → i ≤ j → j < i + m → selected j ≡ true)
-      → slice bytes (at i) (at (i + m)) ≡ joined_from each i m
+      → slice_range bytes (at i) (at (i + m)) ≡ joined_from each i m
   lines-slice i zero inside all =
       let same : i + zero ≡ i = omega arith in
       let nothing : at i - at i ≡ zero = omega arith in
@@ -87,7 +85,7 @@ module _ (k : Settings) (meaning : Meaning) (bytes : List ℕ) where
       let t = byte_of k.line_terminator in
       let sum : i + suc m ≡ (i + 1) + m = omega arith in
       let here = all i (omega arith) (omega arith) in
-      ap (λ x. slice bytes (at i) (at x)) sum
+      ap (λ x. slice_range bytes (at i) (at x)) sum
       ∙ sym (slice-join bytes (at i) (at (i + 1)) (at ((i + 1) + m))
       (line_start-le (byte_of k.line_terminator) bytes i (i + 1) (omega arith))
       (line_start-le (byte_of k.line_terminator) bytes (i + 1) ((i + 1) + m) (omega arith)))
@@ -165,7 +163,7 @@ module _ (k : Settings) (meaning : Meaning) (bytes : List ℕ) where
       let run = IsRunEnd-run_end selected n i inside here in
       let sum : i + (run_end selected n i - i) ≡ run_end selected n i = omega (arith, run.low) in
       let unit : AcrossLines.unit k meaning bytes i ≡ joined_from each i (run_end selected n i - i) =
-      ap (λ e. slice bytes (at i) (at e)) (end ∙ sym sum)
+      ap (λ e. slice_range bytes (at i) (at e)) (end ∙ sym sum)
       ∙ lines-slice i (run_end selected n i - i) (omega (arith, sum, run.high))
       (λ j low below. run.inner j low (omega (arith, sum))) in
       rw (here, fresh) unit)
@@ -191,7 +189,7 @@ module _ (k : Settings) (meaning : Meaning) (bytes : List ℕ) where
       let run = IsRunEnd-run_end selected n i inside here in
       omega (
         arith,
-        ap (λ e. length (slice bytes (at i) (at e))) end,
+        ap (λ e. length (slice_range bytes (at i) (at e))) end,
         length-take (at (run_end selected n i) - at i) (drop (at i) bytes),
         length-drop (at i) bytes,
         line_start-le (byte_of k.line_terminator) bytes i (run_end selected n i) run.low,
@@ -213,7 +211,7 @@ module _ (k : Settings) (meaning : Meaning) (bytes : List ℕ) where
         later = omega (arith, end);
         size = omega (
           arith,
-          ap (λ e. length (slice bytes (at i) (at e))) end,
+          ap (λ e. length (slice_range bytes (at i) (at e))) end,
           ap at end,
           ap length (slice-line k bytes i),
           line_start-more (byte_of k.line_terminator) bytes i inside,

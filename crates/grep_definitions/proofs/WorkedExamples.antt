@@ -5,7 +5,7 @@ use Rattle.std.proofs.Common.{codes}
 use Rattle.std.specs.Prelude.{nat_eq, Result, Ok}
 use Rattle.std.specs.List.{list_any}
 use Rattle.grep_matcher.specs.declared.line_terminator.LineTerminator.TheVariants.{Crlf}
-use Rattle.grep_matcher.specs.LineLists.{lines}
+use Rattle.grep_matcher.specs.Lines.{lines}
 use Rattle.grep_matcher.specs.Meanings.{Meaning}
 use Rattle.grep_report.specs.declared.sink_context.SinkContextKind.{SinkContextKind}
 use Rattle.grep_report.specs.declared.sink_context.SinkContextKind.TheVariants.{Before, After, Other}

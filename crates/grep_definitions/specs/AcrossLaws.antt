@@ -1,20 +1,19 @@
 -- Laws of the planned calls across lines, and of the mode.
 use Rattle.std.specs.Prelude.{◌≡◌, ℕ, ◌+◌, ◌-◌, ◌<◌, ◌≤◌, Bool, true, false, not, ◌&&◌, ◌⊎◌}
-use Rattle.std.specs.Prelude.{if◌then◌else◌, nat_lt}
-use Rattle.std.specs.Prelude.{List, [], ◌∷◌, length, count_by, Some, None}
+use Rattle.std.specs.Prelude.{if◌then◌else◌, nat_lt, List, [], ◌∷◌, length, count_by, Some, None}
 use Rattle.std.specs.List.{flat_map}
 use Rattle.std.specs.List.Sorted.{IsStrictlyIncreasing}
 use Rattle.grep_matcher.specs.Lawful.{HoldsPosition}
 use Rattle.grep_matcher.specs.Meanings.{ExcludesTerminator, Meaning}
 use Rattle.grep_report.specs.declared.sink_context.SinkContextKind.TheVariants.{After}
 use Rattle.grep_definitions.specs.Asking.{is_across, search_plan}
-use Rattle.grep_definitions.specs.Plans.{Call, begins, matches, context, breaks, binary_data}
-use Rattle.grep_definitions.specs.Plans.{finishes, Plan, planned}
+use Rattle.grep_definitions.specs.Plans.{Call, matches, context}
+use Rattle.grep_definitions.specs.Plans.{Plan, planned}
 use Rattle.grep_definitions.specs.Reports.{joined_from, line_count, line, number, start, calls_at}
 use Rattle.grep_definitions.specs.Reports.{reports_plan}
 use Rattle.grep_definitions.specs.SearchLaws.{AreInOrder, calls_of, is_match, line_plan}
 use Rattle.grep_definitions.specs.SearchLaws.{report_calls}
-use Rattle.grep_definitions.specs.SelectedLines.{is_selected, is_trailing, line_end}
+use Rattle.grep_definitions.specs.SelectedLines.{is_selected, is_trailing, reports_end}
 use Rattle.grep_definitions.specs.SelectedLines.{is_touched_selected, touched_lines, touches}
 use Rattle.grep_definitions.specs.SelectedLines.{matches_from, all_matches}
 use Rattle.grep_definitions.specs.Settings.{Settings}
@@ -103,20 +102,12 @@ AtMostLimit =
 
 -- the bytes of a match report, and where it begins and ends
 abbrev pub report_bytes : Call → List ℕ
-report_bytes begins = []
 report_bytes (matches number offset bytes) = bytes
-report_bytes (context kind number offset bytes) = []
-report_bytes breaks = []
-report_bytes (binary_data offset) = []
-report_bytes (finishes count binary) = []
+report_bytes _ = []
 
 abbrev pub report_edges : Call → List ℕ
-report_edges begins = []
 report_edges (matches number offset bytes) = offset ∷ (offset + length bytes) ∷ []
-report_edges (context kind number offset bytes) = []
-report_edges breaks = []
-report_edges (binary_data offset) = []
-report_edges (finishes count binary) = []
+report_edges _ = []
 
 -- the match reports, joined, are the selected lines, joined: each selected line is in one report,
 -- and no other line is
@@ -144,7 +135,7 @@ ReportsAreAsByLine =
     (settings : Settings) (meaning other : Meaning) (bytes : List ℕ) → settings.invert_match ≡ true
     → ((i : ℕ)
     → is_touched_selected settings meaning bytes i ≡ is_selected settings other bytes i)
-    → line_end settings other bytes ≡ line_count settings bytes
+    → reports_end settings other bytes ≡ line_count settings bytes
     → ((i : ℕ) → is_trailing settings other bytes i ≡ false)
     → (across_plan settings meaning bytes).calls ≡ (line_plan settings other bytes).calls
 

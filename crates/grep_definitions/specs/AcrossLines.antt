@@ -1,13 +1,11 @@
 -- The reports of a search across lines, as lemmas about its walk name them.
-use Rattle.std.specs.Prelude.{ℕ, Bool, List, ◌∷◌, Option}
+use Rattle.std.specs.Prelude.{ℕ, Bool, List, ◌∷◌, Option, slice_range}
 use Rattle.grep_matcher.specs.Meanings.{Meaning}
-use Rattle.grep_lines.specs.Slices.{slice}
 use Rattle.grep_definitions.specs.Plans.{Planned, begins, planned}
 use Rattle.grep_definitions.specs.Reports
 use Rattle.grep_definitions.specs.Reports.{Kind, Selection, joined_from, start, through}
 use Rattle.grep_definitions.specs.SelectedLines.{is_touched_selected, touched_lines}
 use Rattle.grep_definitions.specs.Settings.{Settings}
-pub use Rattle.grep_definitions.specs.SelectedLines.{touches, is_touched, is_free}
 
 module _ (settings : Settings) (meaning : Meaning) (bytes : List ℕ) where
   abbrev pub is_selected : ℕ → Bool
@@ -48,7 +46,7 @@ module _ (settings : Settings) (meaning : Meaning) (bytes : List ℕ) where
 
   -- the bytes of the unit that begins at line i
   abbrev pub unit : ℕ → List ℕ
-  unit i = slice bytes (start settings bytes i) (start settings bytes (unit_end i))
+  unit i = slice_range bytes (start settings bytes i) (start settings bytes (unit_end i))
 
   abbrev pub report : ℕ → Option Kind → List Planned
   report = Reports.report settings bytes selection

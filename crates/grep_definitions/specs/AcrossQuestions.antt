@@ -1,14 +1,14 @@
 -- What a search across lines asks a matcher: for the next match, in the bytes after those that it
 -- found.
-use Rattle.std.specs.Prelude.{◌≡◌, ℕ, true}
-use Rattle.std.specs.Prelude.{List}
-use Rattle.grep_matcher.specs.Matching.{Meaning}
-use Rattle.grep_definitions.specs.AcrossLines.{is_free, turns_through}
-use Rattle.grep_definitions.specs.Below.{count_below, is_below}
+use Rattle.std.specs.Prelude.{◌≡◌, ℕ, true, List}
+use Rattle.grep_matcher.specs.Meanings.{Meaning}
+use Rattle.grep_definitions.specs.SelectedLines.{is_free}
+use Rattle.grep_definitions.specs.AcrossLines.{turns_through}
+use Rattle.grep_definitions.specs.Reports.{count_below, is_below}
 use Rattle.grep_definitions.specs.LineSearch.{start}
 use Rattle.grep_definitions.specs.Settings.{Settings}
 use Rattle.grep_definitions.specs.Plans.{Planned}
-pub use Rattle.grep_definitions.specs.Asking.{match_limit, counted_matches, IsAskedAfter, IsAskedAt}
+use Rattle.grep_definitions.specs.Asking.{IsAskedAt}
 
 module _ (settings : Settings) (meaning : Meaning) (bytes : List ℕ) where
   -- what a matcher is asked across lines, and the calls that were made before: just those whose

@@ -1,35 +1,47 @@
--- What a search asks a matcher, and which calls it made before. By line it asks about one line, or
--- about many lines at once; across lines for the next match, in the bytes after those that it
--- found.
+-- Why a search is refused, what it asks a matcher, and which calls it made before. By line it asks
+-- about one line or about many at once; across lines for the next match, in the bytes after the
+-- last.
 use Rattle.std.specs.Prelude.{◌≡◌, ◌≢◌, ◌⊎◌, ℕ, ◌-◌, ◌<◌, ◌≤◌, ◌&&◌, ◌||◌, ◌==◌, Bool, true, false}
-use Rattle.std.specs.Prelude.{not, if◌then◌else◌}
-use Rattle.std.specs.Prelude.{nat_lt, nat_le, List, ◌++◌, length, drop, Option, None, Some}
-use Rattle.grep_lines.specs.Slices.{slice}
+use Rattle.std.specs.Prelude.{not, if◌then◌else◌, nat_lt, nat_le, List, ◌++◌, length, drop, Option}
+use Rattle.std.specs.Prelude.{None, Some, slice_range}
 use Rattle.grep_matcher.specs.declared.line_terminator.LineTerminator.{LineTerminator}
 use Rattle.grep_matcher.specs.declared.line_terminator.LineTerminator.TheVariants.{Byte, Crlf}
-use Rattle.grep_matcher.specs.Terminators.{byte_of}
-use Rattle.grep_matcher.specs.Meanings.{ExcludesTerminator, Meaning}
-use Rattle.grep_matcher.specs.LineLists.{strip}
-use Rattle.grep_definitions.specs.Reports.{some_below, count_below, is_below}
-use Rattle.grep_definitions.specs.SelectedLines.{is_chosen, is_open_at, line_end, selected_lines}
+use Rattle.grep_matcher.specs.Lines.{byte_of, strip}
+use Rattle.grep_matcher.specs.Meanings.{ExcludesTerminator, MatcherFacts, Meaning}
+use Rattle.grep_report.specs.declared.config_error.ConfigError.{ConfigError}
+use Rattle.grep_report.specs.declared.config_error.ConfigError.TheVariants.{SearchUnavailable}
+use Rattle.grep_report.specs.declared.config_error.ConfigError.TheVariants.{MismatchedLineTerminators}
 use Rattle.grep_definitions.specs.Plans.{Planned, Plan}
-use Rattle.grep_definitions.specs.Reports.{Selection, line, line_count, start, follows_selected}
-use Rattle.grep_definitions.specs.Reports.{reports_plan, through}
+use Rattle.grep_definitions.specs.Reports.{Selection, count_below, follows_selected, is_at, is_below}
+use Rattle.grep_definitions.specs.Reports.{line, line_count, reports_plan, some_below, start, through}
+use Rattle.grep_definitions.specs.SelectedLines.{is_chosen, is_free, is_open_at, is_touched}
+use Rattle.grep_definitions.specs.SelectedLines.{matches_up_to, position_past, reports_end}
+use Rattle.grep_definitions.specs.SelectedLines.{selected_lines, touched_lines}
 use Rattle.grep_definitions.specs.Settings.{Settings}
-use Rattle.grep_definitions.specs.SelectedLines.{matches_up_to, position_past, is_free, is_touched}
-use Rattle.grep_definitions.specs.SelectedLines.{touched_lines}
 
 -- whether two terminators are the same; the byte LF and CRLF are two
 abbrev pub is_same : LineTerminator → LineTerminator → Bool
 is_same (Byte a) (Byte b) = a == b
-is_same (Byte a) Crlf = false
-is_same Crlf (Byte b) = false
 is_same Crlf Crlf = true
+is_same _ _ = false
 
 -- whether a terminator is declared, and is this one
 abbrev pub is_declared : Option LineTerminator → LineTerminator → Bool
 is_declared None terminator = false
 is_declared (Some declared) terminator = is_same declared terminator
+
+-- the matcher declares another terminator than the searcher has
+abbrev pub mismatch_of : Option LineTerminator → LineTerminator → Option ConfigError
+mismatch_of None searcher = None
+mismatch_of (Some matcher) searcher =
+    if is_same matcher searcher then None else Some (MismatchedLineTerminators matcher searcher)
+
+-- why a search is refused: the heap limit is looked at first, then the terminators
+abbrev pub refusal_of : Settings → Meaning → Option ConfigError
+refusal_of settings meaning =
+    if is_at 0 settings.heap_limit
+    then Some SearchUnavailable
+    else mismatch_of meaning.terminator settings.line_terminator
 
 -- across lines if `multi_line` is set, and the matcher doesn't say that no match contains the line
 -- terminator: it doesn't declare it, and its byte isn't one that no match contains
@@ -46,11 +58,10 @@ pub record AsksAhead (settings : Settings) (meaning : Meaning) : Type 0 where
   pub excludes : ExcludesTerminator settings.line_terminator meaning
   pub declares : meaning.terminator ≢ Some (Byte 0)
 
--- what a matcher has to be lawful for: the search's terminator, if the search may ask about many
--- lines at once
-abbrev pub IsLawfulFor : Settings → Meaning → (LineTerminator → Type 0) → Type 0
-IsLawfulFor settings meaning is_lawful =
-    AsksAhead settings meaning → is_lawful settings.line_terminator
+-- if it may, the matcher is lawful for the search's terminator
+abbrev pub IsLawful : {F : Type 0} → MatcherFacts F → Settings → Type 0
+IsLawful matcher settings =
+    AsksAhead settings matcher.meaning → matcher.is_lawful settings.line_terminator
 
 -- how many matches count: under inversion the limit is one of lines, and all count unless it is 0
 abbrev pub match_limit : Settings → Option ℕ
@@ -68,7 +79,7 @@ module _ (settings : Settings) (meaning : Meaning) (bytes : List ℕ) where
     pub end : ℕ
     pub after : i < end
     pub within : end ≤ line_count settings bytes
-    pub lines : haystack ≡ slice bytes (start settings bytes i) (start settings bytes end)
+    pub lines : haystack ≡ slice_range bytes (start settings bytes i) (start settings bytes end)
 
   -- a question at line i: about that line without its terminator, or about whole lines from that
   -- line on
@@ -78,7 +89,7 @@ module _ (settings : Settings) (meaning : Meaning) (bytes : List ℕ) where
 
   -- by line: while fewer lines hit than the limit has, or in the context after a selected line
   pub record IsLineQuestion (i : ℕ) (haystack : List ℕ) : Type 0 where
-    pub has_turn : i < line_end settings meaning bytes
+    pub has_turn : i < reports_end settings meaning bytes
     pub room : (is_open_at settings meaning bytes i
         || follows_selected settings bytes (selected_lines settings meaning bytes) i) ≡ true
     pub question : IsAsked i haystack
@@ -95,9 +106,8 @@ module _ (settings : Settings) (meaning : Meaning) (bytes : List ℕ) where
     pub inside : position_past 0 found < length bytes
     pub rest : haystack ≡ drop (position_past 0 found) bytes
 
-  -- A question at line i: that is the first line, or the line after a run of lines that the matches
-  -- so far touch. From it on they touch one run of lines, and where that ends is what the next
-  -- match says
+  -- a question at line i: the first line, or the line after a run of lines that the matches so far
+  -- touch. From it on they touch one run of lines, and where that ends is what the next match says
   pub record IsAskedAt (i : ℕ) (haystack : List ℕ) : Type 0 where
     pub found : List (ℕ × ℕ)
     pub question : IsAskedAfter found haystack

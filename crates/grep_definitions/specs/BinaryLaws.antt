@@ -3,10 +3,11 @@ use Rattle.std.specs.Prelude.{◌≡◌, ℕ, ◌≤◌, true, false, List, ◌+
 use Rattle.grep_matcher.specs.Meanings.{Meaning}
 use Rattle.grep_report.specs.declared.binary_detection.BinaryDetection.TheVariants.{Quit}
 use Rattle.grep_definitions.specs.Asking.{search_plan}
-use Rattle.grep_definitions.specs.BinaryBytes.{binary_of, position_of, view_of}
-use Rattle.grep_definitions.specs.BinaryPlans.{BinaryPoint, IsCutAt, contents_point, holds_byte}
+use Rattle.grep_definitions.specs.BinaryBytes.{binary_of, position_of, view_of, BinaryPoint}
+use Rattle.grep_definitions.specs.BinaryBytes.{contents_point, holds_byte}
+use Rattle.grep_definitions.specs.Searches.{IsCutAt}
 use Rattle.grep_definitions.specs.Plans.{Planned}
-use Rattle.grep_definitions.specs.Readings.{IsFront}
+use Rattle.grep_definitions.specs.Inputs.{IsFront}
 use Rattle.grep_definitions.specs.SearchLaws.{line_plan}
 use Rattle.grep_definitions.specs.Settings.{Settings}
 

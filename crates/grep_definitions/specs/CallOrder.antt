@@ -1,16 +1,16 @@
 -- In which order a search that isn't refused calls its sink, whatever the matcher finds and the
 -- reader gives: `begin`, calls in between, up to the first that doesn't return true, and `finish`,
 -- which doesn't follow an error.
-use Rattle.std.specs.Prelude.{◌≡◌, ◌≤◌, ◌⊎◌, ℕ, Bool, true, false, List, ◌∷◌, All, count_by}
-use Rattle.std.specs.Prelude.{Result, Ok, Err}
+use Rattle.std.specs.Prelude.{◌≡◌, ◌≤◌, ◌⊎◌, ℕ, Bool, true, false, List, ◌∷◌, All, count_by, Result}
+use Rattle.std.specs.Prelude.{Ok, Err}
 use Rattle.std.specs.declared.io.Error.{Error}
 use Rattle.grep_definitions.specs.BinaryBytes.{is_detecting}
-pub use Rattle.grep_definitions.specs.Readings.{IsOwnError, HasFailedRead, IsReadingError}
-use Rattle.grep_definitions.specs.Searches.{ErrorMakers, MatcherFacts}
+use Rattle.grep_report.specs.ErrorMakers.{ErrorMakers}
+use Rattle.grep_matcher.specs.Meanings.{MatcherFacts}
 use Rattle.grep_definitions.specs.Settings.{Settings}
 use Rattle.grep_definitions.specs.Plans.{Planned, begins, Steps, Outcome, all_true, stopped, failed}
 use Rattle.grep_definitions.specs.Plans.{AreMade, counted, is_binary_data, planned}
-use Rattle.grep_definitions.specs.PlannedSearches.{comes_between}
+use Rattle.grep_definitions.specs.Searches.{comes_between}
 
 abbrev pub AreInner : Settings → List Planned → Type 0
 AreInner settings turns =
@@ -57,13 +57,13 @@ module _ {S E : Type 0} (step : Steps S E) (settings : Settings) where
     pub ends : EndsAt outcome count
     pub called : HasBegunWith told old outcome new
 
-  module _ {F : Type 0} (errors : ErrorMakers E) (matcher : MatcherFacts F) where
+  module _ {F : Type 0} (errors : ErrorMakers F E) (matcher : MatcherFacts F) where
     -- the sink's own error in the last of such calls, or the matcher's after calls that all
     -- returned true
     pub data HasFailedIn (Called : Outcome E → S → Type 0) : E → S → Type 0 where
       of_call : {e : E} {new : S} → Called (failed e) new → HasFailedIn Called e new
       of_question : {e : E} {new : S} (haystack : List ℕ) (error : F)
-          → matcher.fails haystack error → errors.is_message (matcher.text_of error) e
+          → matcher.fails haystack error → errors.is_message error e
           → Called all_true new → HasFailedIn Called e new
 
     -- reports after `begin`, by what they came to: the search goes on, or it ends with this byte

@@ -2,7 +2,7 @@
 use Rattle.std.specs.Prelude.{◌≡◌, ℕ, Bool, List, length}
 use Rattle.grep_matcher.specs.Meanings.{Meaning}
 use Rattle.grep_definitions.specs.Asking.{search_plan}
-use Rattle.grep_definitions.specs.Readings.{searched_bytes}
+use Rattle.grep_definitions.specs.Inputs.{searched_bytes}
 use Rattle.grep_definitions.specs.SearchLaws.{match_calls}
 use Rattle.grep_definitions.specs.Settings.{Settings}
 

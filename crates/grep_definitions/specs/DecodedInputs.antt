@@ -6,12 +6,8 @@ use Rattle.grep_decode.specs.declared.label.Label.{Label}
 use Rattle.grep_decode.specs.declared.label.Label.TheVariants.{Utf8, Utf16Le, Utf16Be}
 use Rattle.grep_decode.specs.Decoded.{by_label, found_mark}
 use Rattle.grep_definitions.specs.Settings.{Settings}
-unfoldable pub use Rattle.grep_definitions.specs.Readings.{
-  searched_bytes,
-  is_searched_unchanged,
-  encoding_of,
-}
-pub use Rattle.grep_definitions.specs.Readings.{looks_for_mark, encoding_after, AreWaiting, IsInput}
+use Rattle.grep_definitions.specs.Inputs.{searched_bytes, encoding_of}
+use Rattle.grep_definitions.specs.Inputs.{looks_for_mark, AreWaiting, IsInput}
 
 -- whether the bytes after this mark, or without one, pass unchanged: after that of UTF-8, or
 -- without a label too

@@ -3,10 +3,11 @@ use Rattle.std.specs.Prelude.{◌≡◌, ◌⊎◌, ℕ, List, Option, Result, O
 use Rattle.std.specs.Io.KnownBytes.{Consumes, Keeps}
 use Rattle.std.specs.declared.io.Error.{Error}
 use Rattle.grep_decode.specs.Source.{ReadResult}
-use Rattle.grep_definitions.specs.Parties.{ErrorMakers, MatcherFacts}
-use Rattle.grep_definitions.specs.PlannedSearches.{IsInOrder, IsReaderSearched}
+use Rattle.grep_report.specs.ErrorMakers.{ErrorMakers}
+use Rattle.grep_matcher.specs.Meanings.{MatcherFacts}
+use Rattle.grep_definitions.specs.Searches.{IsInOrder, IsReaderSearched}
 use Rattle.grep_definitions.specs.Plans.{Steps}
-use Rattle.grep_definitions.specs.Readings.{IsReadingError}
+use Rattle.grep_definitions.specs.Inputs.{IsReadingError}
 use Rattle.grep_definitions.specs.Settings.{SearcherState, Settings}
 
 -- a read of a file, if it says which bytes remain: what it returned was their front, and an error
@@ -16,7 +17,7 @@ IsFileRead remaining old (Ok bytes) new = Consumes (remaining old) (remaining ne
 IsFileRead remaining old (Err e) new = Keeps (remaining old) (remaining new)
 
 module _ {F : Type 0} (remaining : F → Option (List ℕ))
-    {S E G : Type 0} (step : Steps S E) (errors : ErrorMakers E) (matcher : MatcherFacts G) where
+    {S E G : Type 0} (step : Steps S E) (errors : ErrorMakers G E) (matcher : MatcherFacts G) where
   -- a search of a file from where it is: that of a reader
   abbrev pub IsFileSearched : SearcherState → F → S → Result (Unit {0}) E → F → S → Type 0
   IsFileSearched state file old result file' new =

@@ -4,17 +4,10 @@ use Rattle.grep_matcher.specs.Meanings.{Meaning}
 use Rattle.grep_definitions.specs.Plans.{Planned, begins, planned}
 use Rattle.grep_definitions.specs.Reports
 use Rattle.grep_definitions.specs.Reports.{Selection, joined_from, through}
-use Rattle.grep_definitions.specs.SelectedLines.{end_by_stop, end_by_limit, line_end, selected_lines}
+use Rattle.grep_definitions.specs.SelectedLines.{end_by_stop, end_by_limit, reports_end}
+use Rattle.grep_definitions.specs.SelectedLines.{selected_lines}
 use Rattle.grep_definitions.specs.Settings.{Settings}
-pub use Rattle.grep_definitions.specs.Reports.{Kind, matched, in_context}
-pub use Rattle.grep_definitions.specs.SelectedLines.{
-  differ,
-  hits,
-  is_open_at,
-  is_chosen,
-  is_trailing,
-}
-pub use Rattle.grep_definitions.specs.SelectedLines.{ends_chosen, is_selected, fills_limit}
+use Rattle.grep_definitions.specs.Reports.{Kind}
 
 module _ (settings : Settings) (meaning : Meaning) (bytes : List ℕ) where
   abbrev pub line_count : ℕ
@@ -39,7 +32,7 @@ module _ (settings : Settings) (meaning : Meaning) (bytes : List ℕ) where
   turns_by_limit = end_by_limit settings meaning bytes
 
   abbrev pub turn_count : ℕ
-  turn_count = line_end settings meaning bytes
+  turn_count = reports_end settings meaning bytes
 
   abbrev pub follows_selected : ℕ → Bool
   follows_selected = Reports.follows_selected settings bytes selection

@@ -9,7 +9,6 @@ pub data Call : Type 0 where
   begins : Call
   -- line number, offset, bytes
   matches : Option ℕ → ℕ → List ℕ → Call
-  -- kind, line number, offset, bytes
   context : SinkContextKind → Option ℕ → ℕ → List ℕ → Call
   breaks : Call
   -- the offset of the first binary byte
@@ -17,8 +16,7 @@ pub data Call : Type 0 where
   -- byte count, and that offset if there was the call before
   finishes : ℕ → Option ℕ → Call
 
--- the bytes of the line or the lines that a call reports, and the offset of the first; other calls
--- have none
+-- the bytes of the lines that a call reports, and the offset of the first; other calls have none
 abbrev pub reported_bytes : Call → List ℕ
 reported_bytes (matches number offset bytes) = bytes
 reported_bytes (context kind number offset bytes) = bytes
@@ -37,13 +35,11 @@ abbrev pub is_binary_data : Call → Bool
 is_binary_data (binary_data offset) = true
 is_binary_data _ = false
 
--- what `finish` has: the byte count, and the offset of the first binary byte if the sink was told
--- of it
+-- what `finish` has: the byte count, and the offset of the first binary byte if it was reported
 pub record Finish : Type 0 where
   pub count : ℕ
   pub binary : Option ℕ
 
--- what `finish` has after so many bytes, while the sink was told of no binary byte
 abbrev pub counted : ℕ → Finish
 counted count = record { count = count; binary = None }
 
@@ -60,8 +56,7 @@ pub record Plan : Type 0 where
   pub calls : List Planned
   pub finish : Finish
 
--- a sink's meaning: the state before a call, the settings, the call, what it returned, the state
--- after
+-- a sink's meaning: state before, settings, call, what the call returned, state after
 abbrev pub Steps : Type 0 → Type 0 → Type 1
 Steps S E = S → Settings → Call → Result Bool E → S → Type 0
 
@@ -78,9 +73,8 @@ pub data Outcome (E : Type 0) : Type 0 where
 
 -- what `finish` has after them
 abbrev pub finish_after : {E : Type 0} → Outcome E → Finish → Finish
-finish_after all_true finish = finish
 finish_after (stopped if_false) finish = if_false
-finish_after (failed e) finish = finish
+finish_after _ finish = finish
 
 module _ {S E : Type 0} (step : Steps S E) (settings : Settings) where
   -- the calls are made in order, up to the first that doesn't return true
@@ -106,7 +100,7 @@ module _ {S E : Type 0} (step : Steps S E) (settings : Settings) where
     pub made : AreMade old plan.calls outcome mid
     pub finished : IsFinished outcome mid plan.finish result new
 
--- no step fails, of those that are made where the sink may be called
+-- no step fails of those that are made when the sink may be called
 abbrev pub NeverFails : {S E : Type 0} → Steps S E → (S → Type 0) → Type 0
 NeverFails {S} {E} step may_call =
     (old : S) (settings : Settings) (call : Call) (e : E) (new : S)

@@ -1,11 +1,11 @@
 -- What a search by line asks a matcher: about one line, or about many lines at once.
 use Rattle.std.specs.Prelude.{◌≡◌, ℕ, ◌<◌, ◌||◌, true, List}
-use Rattle.grep_matcher.specs.Matching.{Meaning}
-use Rattle.grep_definitions.specs.LineSearch.{turn_count, turns_through, start}
-use Rattle.grep_definitions.specs.LineSearch.{is_open_at, follows_selected}
+use Rattle.grep_matcher.specs.Meanings.{Meaning}
+use Rattle.grep_definitions.specs.LineSearch.{turn_count, turns_through, start, follows_selected}
+use Rattle.grep_definitions.specs.SelectedLines.{is_open_at}
 use Rattle.grep_definitions.specs.Settings.{Settings}
 use Rattle.grep_definitions.specs.Plans.{Planned}
-pub use Rattle.grep_definitions.specs.Asking.{AsksAhead, IsLawfulFor, IsAskedAhead, IsAsked}
+use Rattle.grep_definitions.specs.Asking.{IsAsked}
 
 module _ (settings : Settings) (meaning : Meaning) (bytes : List ℕ) where
   -- what a matcher is asked by line, and the calls that were made before: at a line that has a

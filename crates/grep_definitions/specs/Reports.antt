@@ -1,15 +1,11 @@
 -- How lines are reported, given which of them are selected: the calls of a search, said of the
--- whole list of lines by offsets and distances alone. Lines are counted from 0 here, and the
--- numbers that are reported from 1.
+-- whole list of lines. Lines are counted from 0 here, and the numbers that are reported from 1.
 use Rattle.std.specs.Prelude.{ℕ, zero, suc, ◌+◌, ◌-◌, min, Bool, true, false, not, ◌&&◌, ◌||◌}
-use Rattle.std.specs.Prelude.{if◌then◌else◌, ◌==◌}
-use Rattle.std.specs.Prelude.{nat_lt, nat_le}
-use Rattle.std.specs.Prelude.{List, [], ◌∷◌, ◌++◌, length, take, slice_index_or, count_by, filter}
-use Rattle.std.specs.Prelude.{Option, Some, None, is_some}
+use Rattle.std.specs.Prelude.{if◌then◌else◌, ◌==◌, nat_lt, nat_le, List, [], ◌∷◌, ◌++◌, length}
+use Rattle.std.specs.Prelude.{take, slice_index_or, slice_range, count_by, filter, Option, Some}
+use Rattle.std.specs.Prelude.{None, is_some}
 use Rattle.std.specs.Option.{option_map, unwrap_or}
-use Rattle.grep_matcher.specs.Terminators.{byte_of}
-use Rattle.grep_matcher.specs.LineLists.{lines, line_start}
-use Rattle.grep_lines.specs.Slices.{slice}
+use Rattle.grep_matcher.specs.Lines.{byte_of, lines, line_start}
 use Rattle.grep_report.specs.declared.sink_context.SinkContextKind.{SinkContextKind}
 use Rattle.grep_report.specs.declared.sink_context.SinkContextKind.TheVariants.{Before, After}
 use Rattle.grep_report.specs.declared.sink_context.SinkContextKind.TheVariants.{Other}
@@ -17,17 +13,15 @@ use Rattle.grep_definitions.specs.Settings.{Settings}
 use Rattle.grep_definitions.specs.Plans.{begins, matches, context, breaks, Planned, Plan, counted}
 use Rattle.grep_definitions.specs.Plans.{planned}
 
--- whether some number below n passes
+-- of the numbers below n: whether some pass, how many do, and which is the first
 abbrev pub some_below : (ℕ → Bool) → ℕ → Bool
 some_below p zero = false
 some_below p (suc n) = some_below p n || p n
 
--- how many numbers below n pass
 abbrev pub count_below : (ℕ → Bool) → ℕ → ℕ
 count_below p zero = 0
 count_below p (suc n) = if p n then count_below p n + 1 else count_below p n
 
--- the first number below n that passes
 abbrev pub first_below : (ℕ → Bool) → ℕ → Option ℕ
 first_below p zero = None
 first_below p (suc n) = if some_below p n then first_below p n else (if p n then Some n else None)
@@ -51,8 +45,8 @@ abbrev pub joined_from : {X : Type 0} → (ℕ → List X) → ℕ → ℕ → L
 joined_from f i zero = []
 joined_from f i (suc n) = f i ++ joined_from f (i + 1) n
 
--- which lines are selected, which hit past the limit, whether selected lines in a row are one
--- report, and up to which line there are reports
+-- which lines are selected, and which hit past the limit; whether selected lines in a row are one
+-- report; and how many of the first lines may be reported
 pub record Selection : Type 0 where
   pub selected : ℕ → Bool
   pub trailing : ℕ → Bool
@@ -69,13 +63,13 @@ abbrev pub through : ℕ → List Planned → List Planned
 through offset calls = filter (λ call. nat_le call.if_false.count offset) calls
 
 module _ (settings : Settings) (bytes : List ℕ) where
-  -- the lines, their bytes and offsets
   abbrev pub line_count : ℕ
   line_count = length (lines (byte_of settings.line_terminator) bytes)
 
   abbrev pub line : ℕ → List ℕ
   line i = slice_index_or (lines (byte_of settings.line_terminator) bytes) i []
 
+  -- the offset of line i
   abbrev pub start : ℕ → ℕ
   start i = line_start (byte_of settings.line_terminator) bytes i
 
@@ -132,20 +126,16 @@ module _ (settings : Settings) (bytes : List ℕ) where
     -- the byte count if the report of line i returns false: a line before a match goes with that
     -- match
     abbrev pub count_at : ℕ → Option Kind → ℕ
-    count_at i None = start (i + 1)
     count_at i (Some matched) = start (report_end i)
     count_at i (Some (in_context Before)) = start (lines_through_next i)
-    count_at i (Some (in_context After)) = start (i + 1)
-    count_at i (Some (in_context Other)) = start (i + 1)
+    count_at i _ = start (i + 1)
 
     -- a break comes before a match or a line before one, if lines were left out since the last
     -- report
     abbrev pub can_break : Option Kind → Bool
-    can_break None = false
     can_break (Some matched) = true
     can_break (Some (in_context Before)) = true
-    can_break (Some (in_context After)) = false
-    can_break (Some (in_context Other)) = false
+    can_break _ = false
 
     abbrev pub breaks_before : ℕ → Bool
     breaks_before i =
@@ -159,7 +149,7 @@ module _ (settings : Settings) (bytes : List ℕ) where
         if continues i
         then []
         else planned
-        (matches (number i) (start i) (slice bytes (start i) (start (report_end i))))
+        (matches (number i) (start i) (slice_range bytes (start i) (start (report_end i))))
         (count_at i (Some matched)) ∷ []
     report i (Some (in_context c)) =
         planned (context c (number i) (start i) (line i)) (count_at i (Some (in_context c))) ∷ []

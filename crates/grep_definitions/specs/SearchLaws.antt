@@ -1,26 +1,24 @@
 -- Laws of the planned calls.
 use Rattle.std.specs.Prelude.{◌≡◌, ℕ, ◌+◌, ◌-◌, ◌<◌, ◌≤◌, Bool, true, false, not, ◌||◌, ◌&&◌}
-use Rattle.std.specs.Prelude.{if◌then◌else◌, nat_lt}
-use Rattle.std.specs.Prelude.{List, [], ◌∷◌, ◌++◌, length, slice_index, count_by, filter, map}
-use Rattle.std.specs.Prelude.{Option, slice_get, Some, None}
-use Rattle.std.specs.Prelude.{All}
+use Rattle.std.specs.Prelude.{if◌then◌else◌, nat_lt, List, [], ◌∷◌, ◌++◌, length, slice_index}
+use Rattle.std.specs.Prelude.{count_by, filter, map, Option, slice_get, Some, None, All}
 use Rattle.std.specs.List.{AllPairs}
 use Rattle.std.specs.Option.{option_map}
 use Rattle.grep_decode.specs.declared.label.Label.TheVariants.{Utf8}
-use Rattle.grep_decode.specs.Marks.{mark_of, marked}
-use Rattle.grep_matcher.specs.Terminators.{byte_of}
-use Rattle.grep_matcher.specs.Matching.{plain}
+use Rattle.grep_decode.specs.Decoded.{mark_of, marked}
+use Rattle.grep_matcher.specs.Lines.{byte_of}
+use Rattle.grep_matcher.specs.FindResults.{plain}
 use Rattle.grep_matcher.specs.Meanings.{Meaning}
 use Rattle.grep_report.specs.declared.sink_context.SinkContextKind.TheVariants.{After}
 use Rattle.grep_definitions.specs.Asking.{is_across, search_plan}
-use Rattle.grep_definitions.specs.Plans.{Call, begins, matches, context, breaks, binary_data}
-use Rattle.grep_definitions.specs.Plans.{finishes, Planned, Plan, reported_bytes, reported_from}
+use Rattle.grep_definitions.specs.Plans.{Call, matches, context}
+use Rattle.grep_definitions.specs.Plans.{Planned, Plan, reported_bytes, reported_from}
 use Rattle.grep_definitions.specs.Plans.{planned}
-use Rattle.grep_definitions.specs.Readings.{searched_bytes, is_searched_unchanged, encoding_of}
-use Rattle.grep_definitions.specs.Readings.{looks_for_mark}
+use Rattle.grep_definitions.specs.Inputs.{searched_bytes, encoding_of, looks_for_mark}
+use Rattle.grep_definitions.specs.SliceSearches.{is_searched_unchanged}
 use Rattle.grep_definitions.specs.Reports.{count_below, first_below, joined_from, line_count, line}
 use Rattle.grep_definitions.specs.Reports.{start, number, follows_selected, calls_at, reports_plan}
-use Rattle.grep_definitions.specs.SelectedLines.{is_selected, is_trailing, line_end}
+use Rattle.grep_definitions.specs.SelectedLines.{is_selected, is_trailing, reports_end}
 use Rattle.grep_definitions.specs.SelectedLines.{selected_lines}
 use Rattle.grep_definitions.specs.Settings.{Settings}
 
@@ -58,20 +56,13 @@ MarkedPasses =
 
 -- whether a call reports lines, and whether it reports a match
 abbrev pub is_report : Call → Bool
-is_report begins = false
 is_report (matches number offset bytes) = true
 is_report (context kind number offset bytes) = true
-is_report breaks = false
-is_report (binary_data offset) = false
-is_report (finishes count binary) = false
+is_report _ = false
 
 abbrev pub is_match : Call → Bool
-is_match begins = false
 is_match (matches number offset line) = true
-is_match (context kind number offset line) = false
-is_match breaks = false
-is_match (binary_data offset) = false
-is_match (finishes count binary) = false
+is_match _ = false
 
 -- some calls without the counts, and those of them that report lines, or a match, in order
 abbrev pub calls_of : List Planned → List Call
@@ -110,7 +101,7 @@ ReportsAscend =
 abbrev pub AfterWins : Type 0
 AfterWins =
     (settings : Settings) (meaning : Meaning) (bytes : List ℕ) (i j : ℕ)
-    → i < line_end settings meaning bytes
+    → i < reports_end settings meaning bytes
     → is_selected settings meaning bytes i ≡ false → is_selected settings meaning bytes j ≡ true
     → j < i → i - j ≤ settings.after_context
     → calls_at settings bytes (selected_lines settings meaning bytes) i
@@ -152,7 +143,7 @@ AtMostLimit =
 abbrev pub WholeCount : Type 0
 WholeCount =
     (settings : Settings) (meaning : Meaning) (bytes : List ℕ)
-    → line_end settings meaning bytes ≡ line_count settings bytes
+    → reports_end settings meaning bytes ≡ line_count settings bytes
     → (line_plan settings meaning bytes).finish.count ≡ length bytes
 
 -- by line the plan, and which lines may be reported, depend on a matcher's matches alone, not on
@@ -161,7 +152,7 @@ abbrev pub MatchesDecide : Type 0
 MatchesDecide =
     (settings : Settings) (meaning : Meaning) (bytes : List ℕ)
     → (line_plan settings (plain meaning.first) bytes ≡ line_plan settings meaning bytes)
-    × (line_end settings (plain meaning.first) bytes ≡ line_end settings meaning bytes)
+    × (reports_end settings (plain meaning.first) bytes ≡ reports_end settings meaning bytes)
 
 -- the number of line i
 abbrev pub number_of : Settings → ℕ → Option ℕ
@@ -189,7 +180,7 @@ is_matched settings meaning bytes i =
 abbrev pub matched_lines : Settings → Meaning → List ℕ → List ℕ
 matched_lines settings meaning bytes =
     joined_from (λ i. if is_matched settings meaning bytes i then i ∷ [] else []) 0
-    (line_end settings meaning bytes)
+    (reports_end settings meaning bytes)
 
 -- by line, the matches that are reported are these lines, in order
 abbrev pub MatchesAreMatchedLines : Type 0
@@ -203,7 +194,7 @@ abbrev pub MatchesAreCounted : Type 0
 MatchesAreCounted =
     (settings : Settings) (meaning : Meaning) (bytes : List ℕ) → is_across settings meaning ≡ false
     → length (match_calls (search_plan settings meaning bytes).calls)
-    ≡ count_below (is_matched settings meaning bytes) (line_end settings meaning bytes)
+    ≡ count_below (is_matched settings meaning bytes) (reports_end settings meaning bytes)
 
 -- the first of them is the first selected line
 abbrev pub FirstMatchIsFirst : Type 0

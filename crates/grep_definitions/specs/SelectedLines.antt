@@ -1,17 +1,15 @@
 -- Which lines a search selects: by line those that match by themselves, across lines those that its
 -- successive matches touch.
 use Rattle.std.specs.Prelude.{ℕ, zero, suc, ◌+◌, Bool, true, false, not, ◌&&◌, if◌then◌else◌}
-use Rattle.std.specs.Prelude.{nat_lt, nat_le}
-use Rattle.std.specs.Prelude.{List, [], ◌∷◌, length, take, drop, Option, Some, None, is_some}
+use Rattle.std.specs.Prelude.{nat_lt, nat_le, List, [], ◌∷◌, length, take, drop, Option, Some, None}
+use Rattle.std.specs.Prelude.{is_some}
 use Rattle.std.specs.List.{list_any}
 use Rattle.std.specs.Option.{option_map}
 use Rattle.grep_lines.specs.Blocks.{block_start, block_end}
-use Rattle.grep_matcher.specs.LineLists.{strip}
+use Rattle.grep_matcher.specs.Lines.{byte_of, strip}
 use Rattle.grep_matcher.specs.Meanings.{Meaning}
-use Rattle.grep_matcher.specs.Terminators.{byte_of}
 use Rattle.grep_definitions.specs.Reports.{some_below, count_below, first_below, at_most, is_below}
-use Rattle.grep_definitions.specs.Reports.{is_at}
-use Rattle.grep_definitions.specs.Reports.{Selection, line_count, line, start}
+use Rattle.grep_definitions.specs.Reports.{is_at, Selection, line_count, line, start}
 use Rattle.grep_definitions.specs.Settings.{Settings}
 
 -- ---- by line
@@ -65,8 +63,8 @@ module _ (settings : Settings) (meaning : Meaning) (bytes : List ℕ) where
       option_map (λ m. suc (m + settings.after_context))
       (first_below fills_limit (line_count settings bytes))
 
-  abbrev pub line_end : ℕ
-  line_end =
+  abbrev pub reports_end : ℕ
+  reports_end =
       at_most (if settings.passthru then None else end_by_limit settings.max_matches)
       (at_most end_by_stop (line_count settings bytes))
 
@@ -75,7 +73,7 @@ module _ (settings : Settings) (meaning : Meaning) (bytes : List ℕ) where
     selected = is_selected;
     trailing = is_trailing;
     joined = false;
-    end = line_end;
+    end = reports_end;
   }
 
 -- ---- across lines
@@ -114,19 +112,17 @@ module _ (meaning : Meaning) (bytes : List ℕ) where
     | Some m ↦ m ∷ matches_from (position_after m) n
   ]
 
-  -- all of them: there are at most as many as bytes
+  -- all of them, of which there are at most as many as bytes; and as many as a limit has
   abbrev pub all_matches : List (ℕ × ℕ)
   all_matches = matches_from 0 (length bytes)
 
-  -- the first of them, as many as a limit has
   abbrev pub matches_up_to : Option ℕ → List (ℕ × ℕ)
   matches_up_to None = all_matches
   matches_up_to (Some limit) = take limit all_matches
 
 module _ (settings : Settings) (meaning : Meaning) (bytes : List ℕ) where
   -- whether a line is within the block of a match: the whole lines that it extends over, as
-  -- `locate` returns them. The block of an empty match at the end of bytes that end in a terminator
-  -- has no line
+  -- `locate` returns them. That of an empty match after the last terminator has no line
   abbrev pub touches : ℕ → ℕ × ℕ → Bool
   touches i m =
       nat_le (block_start (byte_of settings.line_terminator) bytes m) (start settings bytes i)

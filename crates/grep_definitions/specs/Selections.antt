@@ -1,13 +1,12 @@
 -- How lines are reported, given which of them are selected: this is the same by line and across
 -- lines. What a walk over lines knows of the lines before it. The contracts of private functions
 -- cite these definitions; no public contract does.
-use Rattle.std.specs.Prelude.{◌≡◌, ℕ, ◌-◌, ◌<◌, ◌≤◌, Bool, true, false, ◌&&◌, if◌then◌else◌}
-use Rattle.std.specs.Prelude.{nat_lt, nat_le, Option, Some, None, is_some}
+use Rattle.std.specs.Prelude.{◌≡◌, ℕ, ◌-◌, ◌<◌, ◌≤◌, Bool, true, false, ◌&&◌, if◌then◌else◌, nat_lt}
+use Rattle.std.specs.Prelude.{nat_le, Option, Some, None, is_some}
 use Rattle.grep_report.specs.declared.sink_context.SinkContextKind.TheVariants.{Before, After}
 use Rattle.grep_report.specs.declared.sink_context.SinkContextKind.TheVariants.{Other}
 use Rattle.grep_definitions.specs.Settings.{Settings}
-use Rattle.grep_definitions.specs.Below.{some_below}
-use Rattle.grep_definitions.specs.LineSearch.{Kind, matched, in_context}
+use Rattle.grep_definitions.specs.Reports.{some_below, Kind, matched, in_context}
 
 -- across lines no line is trailing
 abbrev pub no_line : ℕ → Bool

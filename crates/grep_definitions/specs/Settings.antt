@@ -5,8 +5,7 @@ use Rattle.grep_matcher.specs.declared.line_terminator.LineTerminator.{LineTermi
 use Rattle.grep_report.specs.declared.binary_detection.BinaryDetection.{BinaryDetection}
 use Rattle.grep_report.specs.declared.mmap_choice.MmapChoice.{MmapChoice}
 
--- the settings, as a builder has them or as a searcher was built, where both contexts are 0 under
--- passthru
+-- as a builder has them, or a searcher that was built: then both contexts are 0 under passthru
 pub record Settings : Type 0 where
   pub line_terminator : LineTerminator
   pub invert_match : Bool
@@ -23,9 +22,8 @@ pub record Settings : Type 0 where
   pub stop_on_nonmatch : Bool
   pub max_matches : Option ℕ
 
--- what contracts see of a searcher: its settings, and whether it has its buffers. One that is lent
--- to a sink during a search of a reader has none, and neither has a clone of it, until it is first
--- searched with
+-- what contracts see of a searcher. One that is lent to a sink during a search of a reader has no
+-- buffers, and neither has a clone of it, until it is first searched with
 pub record SearcherState : Type 0 where
   pub settings : Settings
   pub has_buffers : Bool

@@ -1,32 +1,29 @@
 -- What a sink whose steps are functions makes of a run, and what a search without binary detection
 -- comes to.
-use Rattle.std.specs.Prelude.{◌≡◌, ◌⊎◌, ℕ, Bool, true, false, if◌then◌else◌, List, [], ◌∷◌}
-use Rattle.std.specs.Prelude.{Option, Some, None, Ok, Err}
+use Rattle.std.specs.Prelude.{◌≡◌, ◌⊎◌, ℕ, Bool, true, false, if◌then◌else◌, List, [], ◌∷◌, Option}
+use Rattle.std.specs.Prelude.{Some, None, Ok, Err}
 use Rattle.std.specs.List.{fold}
 use Rattle.grep_decode.specs.Source.{ReadResult}
-use Rattle.grep_matcher.specs.Matching.{IsInfallible}
+use Rattle.grep_matcher.specs.Meanings.{IsInfallible, MatcherFacts}
 use Rattle.grep_report.specs.declared.binary_detection.BinaryDetection.TheVariants.{None as no_detection}
-use Rattle.grep_definitions.specs.Asking.{search_plan}
+use Rattle.grep_definitions.specs.Asking.{search_plan, IsLawful, refusal_of}
 use Rattle.grep_definitions.specs.BinaryBytes.{nowhere}
-use Rattle.grep_definitions.specs.Parties.{ErrorMakers, MatcherFacts, IsLawful, refusal_of}
-use Rattle.grep_definitions.specs.PlannedSearches.{IsReaderSearched, IsReaderSearch, IsCutSearch}
-use Rattle.grep_definitions.specs.Plans.{Call, begins, matches, context, breaks, binary_data}
+use Rattle.grep_report.specs.ErrorMakers.{ErrorMakers}
+use Rattle.grep_definitions.specs.Searches.{IsReaderSearched, IsReaderSearch, IsCutSearch}
+use Rattle.grep_definitions.specs.Plans.{Call, matches}
 use Rattle.grep_definitions.specs.Plans.{finishes, Finish, Planned, Plan, Steps, IsRun}
-use Rattle.grep_definitions.specs.Readings.{IsInput, is_searched_unchanged, searched_bytes}
+use Rattle.grep_definitions.specs.Inputs.{IsInput, searched_bytes}
+use Rattle.grep_definitions.specs.SliceSearches.{is_searched_unchanged, IsSliceRead}
+use Rattle.grep_definitions.specs.SliceSearches.{IsSliceSearched}
 use Rattle.grep_definitions.specs.SearchLaws.{calls_of, match_calls}
 use Rattle.grep_definitions.specs.Settings.{Settings, SearcherState}
-use Rattle.grep_definitions.specs.SliceSearches.{IsSliceRead, IsSliceSearched}
 
 module _ {V : Type 0} (taken : V → Call → Bool → V → Type 0) where
   -- a call that succeeds, of a sink that takes matches alone: any other call goes on and leaves the
   -- state
   abbrev pub IsTakenOk : V → Call → Bool → V → Type 0
-  IsTakenOk old begins b new = (b ≡ true) × (new ≡ old)
   IsTakenOk old (matches number offset line) b new = taken old (matches number offset line) b new
-  IsTakenOk old (context kind number offset line) b new = (b ≡ true) × (new ≡ old)
-  IsTakenOk old breaks b new = (b ≡ true) × (new ≡ old)
-  IsTakenOk old (binary_data offset) b new = (b ≡ true) × (new ≡ old)
-  IsTakenOk old (finishes count binary) b new = (b ≡ true) × (new ≡ old)
+  IsTakenOk old _ b new = (b ≡ true) × (new ≡ old)
 
   -- some matches are taken in order, up to the first after which the sink doesn't go on
   abbrev pub AreTaken : V → List Call → V → Type 0
@@ -110,7 +107,7 @@ module _ {S E : Type 0} (step : Steps S E) where
       → IsRun step settings old plan (Ok tt) new
       → new ≡ fold_while goes next old (match_calls plan.calls)
 
-module _ {S E F : Type 0} (step : Steps S E) (errors : ErrorMakers E)
+module _ {S E F : Type 0} (step : Steps S E) (errors : ErrorMakers F E)
     (matcher : MatcherFacts F) where
   -- an error is that of a step of the sink
   abbrev pub FailsAtStep : Settings → E → S → Type 0
@@ -142,7 +139,7 @@ module _ {S E F : Type 0} (step : Steps S E) (errors : ErrorMakers E)
       × IsCutSearch (λ all. Some all) IsSliceRead step errors matcher state nowhere input old e
       rest new)
 
-module _ {S E F : Type 0} (step : Steps S E) (errors : ErrorMakers E) (matcher : MatcherFacts F)
+module _ {S E F : Type 0} (step : Steps S E) (errors : ErrorMakers F E) (matcher : MatcherFacts F)
     {R : Type 0} (remaining : R → Option (List ℕ)) (read_step : R → ReadResult → R → Type 0) where
   -- a search of a reader that ended in `Ok` is a run along the plan, whatever follows what was
   -- taken

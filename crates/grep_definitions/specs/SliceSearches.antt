@@ -1,20 +1,35 @@
 -- What a search of a slice does: it is searched as it is, or as a reader that has its bytes.
-use Rattle.std.specs.Prelude.{◌≡◌, ◌++◌, ℕ, Bool, true, false, List, Some, Result, Ok, Err}
+use Rattle.std.specs.Prelude.{◌≡◌, ◌++◌, ℕ, Bool, true, false, List, length, Some, Result, Ok}
+use Rattle.std.specs.Prelude.{Err}
 use Rattle.std.specs.declared.io.Error.{Error}
 use Rattle.grep_decode.specs.Source.{ReadResult}
-use Rattle.grep_matcher.specs.Meanings.{Meaning}
-use Rattle.grep_definitions.specs.Parties.{ErrorMakers, MatcherFacts}
-use Rattle.grep_definitions.specs.PlannedSearches.{IsReaderSearched, IsSliceSearch, IsUnlessRefused}
+use Rattle.grep_matcher.specs.Meanings.{Meaning, MatcherFacts}
+use Rattle.grep_report.specs.ErrorMakers.{ErrorMakers}
+use Rattle.grep_decode.specs.Decoded.{is_unchanged}
+use Rattle.grep_definitions.specs.BinaryBytes.{look_of}
+use Rattle.grep_definitions.specs.Inputs.{IsUnread}
 use Rattle.grep_definitions.specs.Plans.{Steps}
-use Rattle.grep_definitions.specs.Readings.{is_searched_unchanged, IsUnread}
-use Rattle.grep_definitions.specs.Settings.{SearcherState}
+use Rattle.grep_definitions.specs.Searches.{IsPoint, IsReaderSearched, IsSearchOf, IsUnlessRefused}
+use Rattle.grep_definitions.specs.Settings.{Settings, SearcherState}
+
+-- no label is set and no mark is found, so that the input is searched as it is
+unfoldable pub is_searched_unchanged : Settings → List ℕ → Bool
+is_searched_unchanged settings input = is_unchanged settings.encoding settings.bom_sniffing input
+
+-- a slice that is searched as it is
+abbrev pub IsSliceSearch : {S E F : Type 0} → Steps S E → ErrorMakers F E → MatcherFacts F
+    → Settings → List ℕ → S → Result (Unit {0}) E → S → Type 0
+IsSliceSearch step errors matcher settings bytes =
+    IsSearchOf step errors matcher settings
+    (IsPoint settings matcher.meaning bytes (look_of settings matcher.meaning true) (length bytes))
+    (λ plan outcome. Unit {0}) bytes
 
 -- a read of a slice gives bytes from its front, and none fails
 abbrev pub IsSliceRead : List ℕ → ReadResult → List ℕ → Type 0
 IsSliceRead old (Ok bytes) new = old ≡ bytes ++ new
 IsSliceRead old (Err e) new = ⊥
 
-module _ {S E F : Type 0} (step : Steps S E) (errors : ErrorMakers E) (matcher : MatcherFacts F)
+module _ {S E F : Type 0} (step : Steps S E) (errors : ErrorMakers F E) (matcher : MatcherFacts F)
     (state : SearcherState) (input : List ℕ) where
   -- by whether it is searched as it is: if it isn't, it is read, and some of it may be left
   abbrev pub IsSliceSearchedIf : Bool → S → Result (Unit {0}) E → S → Type 0

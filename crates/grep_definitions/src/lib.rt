@@ -3,8 +3,8 @@
 //! cites them.
 //!
 //! The definitions are in `specs/`: `Plans` has the calls of a search and a sink's run along them,
-//! `Reports` and `SelectedLines` which calls they are, `Readings` what is read of an input, and
-//! `PlannedSearches` a search with its faults. What follows from them is in `laws`.
+//! `Reports` and `SelectedLines` which calls they are, `Inputs` what is read of an input, and
+//! `Searches` a search with its faults. What follows from them is in `laws`.
 #![tactic(auto)]
 
 pub mod laws;

@@ -2,7 +2,7 @@
 use Rattle.std.proofs.Common.{◌≡◌, ℕ, ◌+◌, ◌-◌, ◌<◌, ◌≤◌, Bool, List, ◌++◌, length, drop, Option, slice_index, sym, ap}
 use Rattle.std.proofs.Common.{subst, ◌∙◌, arith}
 use Rattle.grep_line_buffer.specs.declared.detection.Detection.{Detection}
-use Rattle.grep_lines.specs.Positions.{slice}
+use Rattle.std.specs.Prelude.{slice_range}
 use Rattle.grep_line_buffer.specs.BufferStates.{BufferState, Lacks, EndsWith}
 use Rattle.grep_line_buffer.proofs.SliceLemmas.{drop-slice, slice-join, length-slice, slice_index-slice}
 
@@ -54,38 +54,38 @@ module _ (start line_end end count found t : ℕ) (bytes : List ℕ) (low : star
     (within : end ≤ length bytes) (read : count ≤ end - line_end) where
   -- the bytes that were read last
   abbrev pub last_read : List ℕ
-  last_read = slice bytes (end - count) end
+  last_read = slice_range bytes (end - count) end
 
   pub length-last_read : length last_read ≡ count
   length-last_read = length-slice bytes (end - count) end within ∙ omega arith
 
   -- they are the last ones that aren't shown
-  pub drop-last_read : drop ((end - line_end) - count) (slice bytes line_end end) ≡ last_read
+  pub drop-last_read : drop ((end - line_end) - count) (slice_range bytes line_end end) ≡ last_read
   drop-last_read =
       let at : line_end + ((end - line_end) - count) ≡ end - count = omega arith in
-      drop-slice bytes line_end end ((end - line_end) - count) (omega arith) ∙ ap (λ k. slice bytes k end) at
+      drop-slice bytes line_end end ((end - line_end) - count) (omega arith) ∙ ap (λ k. slice_range bytes k end) at
 
   -- all that is held, however much of it is shown
-  pub held-same : found ≤ count → slice bytes start ((end - count) + found) ++ slice bytes ((end - count) + found) end
-      ≡ slice bytes start line_end ++ slice bytes line_end end
+  pub held-same : found ≤ count → slice_range bytes start ((end - count) + found) ++ slice_range bytes ((end - count) + found) end
+      ≡ slice_range bytes start line_end ++ slice_range bytes line_end end
   held-same part = slice-join bytes start ((end - count) + found) end (omega arith) (omega arith)
       ∙ sym (slice-join bytes start line_end end low high)
 
   -- the last byte shown is the terminator
   pub EndsWith-shown : 0 < found → found ≤ count → slice_index last_read (found - 1) ≡ t
-      → EndsWith t (slice bytes start ((end - count) + found))
+      → EndsWith t (slice_range bytes start ((end - count) + found))
   EndsWith-shown some part is =
       let top = (end - count) + found in
-      let len : length (slice bytes start top) ≡ top - start = length-slice bytes start top (omega arith) in
+      let len : length (slice_range bytes start top) ≡ top - start = length-slice bytes start top (omega arith) in
       let at : start + (top - start - 1) ≡ (end - count) + (found - 1) = omega arith in
       let here : top - start - 1 < top - start = omega arith in
       let there : found - 1 < end - (end - count) = omega arith in
-      let last : slice_index (slice bytes start top) (top - start - 1) ≡ t =
+      let last : slice_index (slice_range bytes start top) (top - start - 1) ≡ t =
       slice_index-slice bytes start top (top - start - 1) here ∙ ap (slice_index bytes) at
       ∙ sym (slice_index-slice bytes (end - count) end (found - 1) there) ∙ is in
       record { some = rw len (omega arith); last = rw len last }
 
   -- what follows the shown bytes has no terminator
-  pub Lacks-rest : found ≤ count → Lacks t (drop found last_read) → Lacks t (slice bytes ((end - count) + found) end)
+  pub Lacks-rest : found ≤ count → Lacks t (drop found last_read) → Lacks t (slice_range bytes ((end - count) + found) end)
   Lacks-rest part none =
       let P : List ℕ → Type 0 = Lacks t in subst P (drop-slice bytes (end - count) end found (omega arith)) none

@@ -1,16 +1,15 @@
 -- Detection in the bytes that were read last.
 use borrow.Rule.Slice.PartMut.{put_mid}
 use Rattle.std.proofs.Common.{◌≡◌, ℕ, ◌+◌, ◌-◌, ◌<◌, ◌≤◌, ◌⊎◌, inl, inr, ◌==◌, true, false, ◌&&◌, List, ◌++◌, length}
-use Rattle.std.proofs.Common.{take, drop}
-use Rattle.std.proofs.Common.{Option, None, Some, refl, sym, ap, ◌∙◌, subst, arith, length-append, length-drop}
-use Rattle.std.proofs.Common.{length-take-le}
+use Rattle.std.proofs.Common.{take, drop, Option, None, Some, refl, sym, ap, ◌∙◌, subst, arith, length-append}
+use Rattle.std.proofs.Common.{length-drop, length-take-le}
 use Rattle.std.specs.List.{position, position_or_len}
 use Rattle.std.specs.Option.{option_map, is_some}
 use Rattle.std.proofs.lemmas.Bool.{false≢true}
 use Rattle.std.proofs.lemmas.List.{drop_at, take_all, take-append-drop, take-take}
 use Rattle.std.proofs.lemmas.Slice.{between_is, drop-put_mid, take-put_mid, take-put_mid_below}
 use Rattle.std.proofs.Math.Seq.{take-append_seam}
-use Rattle.grep_lines.specs.Positions.{slice}
+use Rattle.std.specs.Prelude.{slice_range}
 use Rattle.grep_line_buffer.specs.Appends.{Detects}
 use Rattle.grep_line_buffer.specs.BufferStates.{BufferState, held}
 use Rattle.grep_line_buffer.specs.Detections.{detected, found_in, first_of}
@@ -46,32 +45,32 @@ Detects-made count old new front last made free binary split counted is changed 
 module _ (start line_end end count : ℕ) (bytes : List ℕ) (low : start ≤ line_end) (high : line_end ≤ end)
     (within : end ≤ length bytes) (read : count ≤ end - line_end) where
   -- the bytes that aren't shown, in two parts
-  pub split-rest : slice bytes line_end end ≡ slice bytes line_end (end - count) ++ slice bytes (end - count) end
+  pub split-rest : slice_range bytes line_end end ≡ slice_range bytes line_end (end - count) ++ slice_range bytes (end - count) end
   split-rest = sym (slice-join bytes line_end (end - count) end (omega arith) (omega arith))
 
-  pub length-last : length (slice bytes (end - count) end) ≡ count
+  pub length-last : length (slice_range bytes (end - count) end) ≡ count
   length-last = length-slice bytes (end - count) end within ∙ omega arith
 
-  pub length-held : length (slice bytes start line_end ++ slice bytes line_end end) ≡ end - start
+  pub length-held : length (slice_range bytes start line_end ++ slice_range bytes line_end end) ≡ end - start
   length-held = ap (λ l. length l) (slice-join bytes start line_end end low high) ∙ length-slice bytes start end within
 
   -- up to a byte of the last ones
   pub slice-before : (at : ℕ) → at ≤ count
-      → slice bytes line_end (end - count + at) ≡ slice bytes line_end (end - count)
-      ++ take at (slice bytes (end - count) end)
+      → slice_range bytes line_end (end - count + at) ≡ slice_range bytes line_end (end - count)
+      ++ take at (slice_range bytes (end - count) end)
   slice-before at part =
       let from = end - count in
       let most : from + at - from ≡ at = omega arith in
       let left : at ≤ end - from = omega arith in
       sym (slice-join bytes line_end from (from + at) (omega arith) (omega arith))
-      ∙ ap (λ l. slice bytes line_end from ++ l)
+      ∙ ap (λ l. slice_range bytes line_end from ++ l)
       (ap (λ n. take n (drop from bytes)) most ∙ sym (take-take at (end - from) (drop from bytes) left))
 
   pub length-cut : (at : ℕ) → at ≤ count
-      → length (slice bytes start line_end ++ (slice bytes line_end (end - count)
-      ++ take at (slice bytes (end - count) end))) ≡ end - count + at - start
+      → length (slice_range bytes start line_end ++ (slice_range bytes line_end (end - count)
+      ++ take at (slice_range bytes (end - count) end))) ≡ end - count + at - start
   length-cut at part =
-      ap (λ l. length (slice bytes start line_end ++ l)) (sym (slice-before at part))
+      ap (λ l. length (slice_range bytes start line_end ++ l)) (sym (slice-before at part))
       ∙ ap (λ l. length l) (slice-join bytes start line_end (end - count + at) (omega arith) (omega arith))
       ∙ length-slice bytes start (end - count + at) (omega arith)
 
@@ -102,25 +101,25 @@ module _ (start line_end end count : ℕ) (bytes : List ℕ) (low : start ≤ li
         ∙ ap (λ l. (take (end - count) bytes ++ made) ++ l) changed-back)
         ∙ rw (length-append, length-append, front, counted, length-drop) (omega arith)
 
-    changed-rest : slice changed line_end end ≡ slice bytes line_end (end - count) ++ made
+    changed-rest : slice_range changed line_end end ≡ slice_range bytes line_end (end - count) ++ made
     changed-rest =
         sym (slice-join changed line_end (end - count) end (omega arith) (omega arith))
-        ∙ ap (λ l. l ++ slice changed (end - count) end)
+        ∙ ap (λ l. l ++ slice_range changed (end - count) end)
         (slice-kept bytes changed line_end (end - count) (end - count) changed-front (omega arith))
-        ∙ ap (λ l. slice bytes line_end (end - count) ++ l) last
+        ∙ ap (λ l. slice_range bytes line_end (end - count) ++ l) last
       where
-        last : slice changed (end - count) end ≡ made
+        last : slice_range changed (end - count) end ≡ made
         last = between_is changed (end - count) end ∙ ap (drop (end - count)) changed-end
             ∙ drop_at (take (end - count) bytes) made (end - count) (length-take-le (end - count) bytes (omega arith))
 
     -- what a buffer over bytes that have become these shows, and how many it holds
     pub record IsChanged (now : List ℕ) : Type 0 where
       pub size : length now ≡ length bytes
-      pub shown : slice now start line_end ≡ slice bytes start line_end
-      pub rest : slice now line_end end ≡ slice bytes line_end (end - count) ++ made
-      pub sum : (length bytes - end) + length (slice bytes start line_end
-          ++ (slice bytes line_end (end - count) ++ made))
-          ≡ (length bytes - end) + length (slice bytes start line_end ++ slice bytes line_end end)
+      pub shown : slice_range now start line_end ≡ slice_range bytes start line_end
+      pub rest : slice_range now line_end end ≡ slice_range bytes line_end (end - count) ++ made
+      pub sum : (length bytes - end) + length (slice_range bytes start line_end
+          ++ (slice_range bytes line_end (end - count) ++ made))
+          ≡ (length bytes - end) + length (slice_range bytes start line_end ++ slice_range bytes line_end end)
 
     pub is-changed : (now : List ℕ) → now ≡ changed → IsChanged now
     is-changed now is = subst IsChanged (sym is) (record {
@@ -130,8 +129,8 @@ module _ (start line_end end count : ℕ) (bytes : List ℕ) (low : start ≤ li
       sum = omega (
         arith,
         length-held,
-        length-append (slice bytes start line_end) (slice bytes line_end (end - count) ++ made),
-        length-append (slice bytes line_end (end - count)) made,
+        length-append (slice_range bytes start line_end) (slice_range bytes line_end (end - count) ++ made),
+        length-append (slice_range bytes line_end (end - count)) made,
         length-slice bytes start line_end (omega arith),
         length-slice bytes line_end (end - count) (omega arith),
         counted,

@@ -10,7 +10,8 @@ use Rattle.std.proofs.KnownBytes.{Consumes-nil}
 use Rattle.std.specs.Io.KnownBytes.{Consumes, Keeps, prepend_known}
 use Rattle.std.specs.declared.io.Error.{Error}
 use Rattle.grep_decode.specs.declared.mode.Mode.TheVariants.{Passing}
-use Rattle.grep_decode.specs.DecoderStates.{DecoderState, Decodes, IsSettled, TakesAtMost, runs_ahead, yet}
+use Rattle.grep_decode.specs.DecoderStates.{DecoderState, Decodes, HasReadNothing, HasWaited, IsSettled, TakesAtMost}
+use Rattle.grep_decode.specs.DecoderStates.{runs_ahead, yet}
 use Rattle.grep_decode.specs.Source.{ReadResult}
 use Rattle.grep_line_buffer.specs.declared.detection.Detection.{Detection}
 use Rattle.grep_line_buffer.specs.declared.fill_error.FillError.{FillError}
@@ -26,7 +27,7 @@ use Rattle.grep_line_buffer.specs.BufferStates.{BufferState, coming_to, held, is
 use Rattle.grep_line_buffer.specs.BufferStates.{IsSameBuffer, GrowsIfFull, KeepsStream, EndsWith, ShowsLine, IsFilled}
 use Rattle.grep_line_buffer.specs.BufferStates.{HasNoLine}
 use Rattle.grep_line_buffer.specs.Fills.{IfRead, UnlessRead, Fills, FailsToFill, FillFails, PassesOffsets, IsAtLimit}
-use Rattle.grep_line_buffer.specs.Fills.{MayGrow}
+use Rattle.grep_line_buffer.specs.Fills.{HasWaitedForLine, MayGrow}
 use Rattle.grep_line_buffer.specs.Appends.{Appends, Detects, FailsToRead}
 use Rattle.grep_line_buffer.specs.Room.{IsFullFault}
 use Rattle.grep_line_buffer.proofs.ReadLemmas.{Continues, HasRead, HasRead-none, HasRead-more, HasRead-failed}
@@ -188,6 +189,8 @@ module _ {R : Type 0} (remaining : R → Option (List ℕ)) (step : R → ReadRe
     pub none : Lacks old.terminator now.rest
     pub offset : now.offset + length (held now) < 2 ^ 64
     pub going : is_cut now ≡ false
+    pub begun : HasReadNothing d → ((d' ≡ d) × (r' ≡ r)) ⊎ HasWaitedForLine remaining step old d r r'
+    pub waited : (r' ≡ r) ⊎ HasWaitedForLine remaining step old d r r'
 
   -- it begins with all that was held moved to the front
   pub HasNone-first : (old now : BufferState) (d : DecoderState) (r : R) (free : ℕ) → Decodes remaining step d r [] d r
@@ -220,6 +223,8 @@ module _ {R : Type 0} (remaining : R → Option (List ℕ)) (step : R → ReadRe
         none = λ k x below. absurd (omega arith);
         offset = rw all offset;
         going = uncut;
+        begun = λ nothing. inl (refl, refl);
+        waited = inl refl;
       })
 
   -- it goes on with more room
@@ -256,6 +261,8 @@ module _ {R : Type 0} (remaining : R → Option (List ℕ)) (step : R → ReadRe
         none = before.none;
         offset = before.offset;
         going = before.going;
+        begun = before.begun;
+        waited = before.waited;
       })
     where
       fits : (size ≡ now.size) ⊎ (now.size < size) × (now.free ≡ 0) × (size ≤ 2 * now.size + 1)
@@ -280,6 +287,55 @@ module _ {R : Type 0} (remaining : R → Option (List ℕ)) (step : R → ReadRe
       quits in
       first-missing old.binary (found_in old.detection old.terminator f.raw) (λ i. old.offset + length (held old) + i)
       (sym f.found ∙ none)
+
+  -- so there was none before a read that calls the reader
+  HasNone-last : (old now : BufferState) (d d1 : DecoderState) (r r1 r2 : R) → HasNone old d r now d1 r1
+      → 0 < now.free → HasWaited remaining step d1 r1 r2 → HasWaitedForLine remaining step old d r r2
+  HasNone-last old now d d1 r r1 r2 before some last =
+      let f = before.filling in
+      let uncut = going-none old now d d1 r r1 f before.going in
+      let P : List ℕ → Type 0 = Lacks old.terminator in
+      record {
+        given = f.raw;
+        waiting = d1;
+        mid = r1;
+        decodes = f.read.decodes;
+        unended = subst P f.came before.none;
+        uncut = uncut;
+        room = λ limit is. omega (
+          arith,
+          some,
+          f.rolled,
+          subst (λ m. IsWithin m now.size) (f.same.limit ∙ is) f.within,
+          ap (λ l. length (l ++ now.rest)) f.shown,
+          length-append (held old) now.rest,
+          ap (λ l. length l) f.came,
+          length-uncut old.detection old.terminator f.raw uncut,
+        );
+        last = last;
+      }
+
+  pub HasNone-waited : (old now : BufferState) (d d1 : DecoderState) (r r1 r2 : R) → HasNone old d r now d1 r1
+      → 0 < now.free → (r2 ≡ r1) ⊎ HasWaited remaining step d1 r1 r2
+      → (r2 ≡ r) ⊎ HasWaitedForLine remaining step old d r r2
+  HasNone-waited old now d d1 r r1 r2 before some (inl same) =
+      subst (λ x. (x ≡ r) ⊎ HasWaitedForLine remaining step old d r x) (sym same) before.waited
+  HasNone-waited old now d d1 r r1 r2 before some (inr last) =
+      inr (HasNone-last old now d d1 r r1 r2 before some last)
+
+  -- and the first read calls it
+  pub HasNone-begun : (old now : BufferState) (d d1 : DecoderState) (r r1 r2 : R) → HasNone old d r now d1 r1
+      → 0 < now.free → (HasReadNothing d1 → HasWaited remaining step d1 r1 r2)
+      → (r2 ≡ r1) ⊎ HasWaited remaining step d1 r1 r2
+      → HasReadNothing d → HasWaitedForLine remaining step old d r r2
+  HasNone-begun old now d d1 r r1 r2 before some begins waited nothing = go (before.begun nothing) waited
+    where
+      go : ((d1 ≡ d) × (r1 ≡ r)) ⊎ HasWaitedForLine remaining step old d r r1
+          → (r2 ≡ r1) ⊎ HasWaited remaining step d1 r1 r2 → HasWaitedForLine remaining step old d r r2
+      go (inl first) any = HasNone-last old now d d1 r r1 r2 before some
+          (begins (subst HasReadNothing (sym first.0) nothing))
+      go (inr line) (inl same) = subst (HasWaitedForLine remaining step old d r) (sym same) line
+      go (inr line) (inr last) = HasNone-last old now d d1 r r1 r2 before some last
 
   -- the bytes of one read, as detection makes them
   pub record Comes (count : ℕ) (now : BufferState) (given : List ℕ) (made : BufferState) : Type 0 where
@@ -694,9 +750,10 @@ module _ {R : Type 0} (remaining : R → Option (List ℕ)) (step : R → ReadRe
       → HasNone old d r now d1 r1 → Comes count now given made → length given ≡ count → is_cut made ≡ false
       → IsFilling old d r made d2 r2
       → Lacks made.terminator (drop (length made.rest - count) made.rest) → made.offset + length (held made) < 2 ^ 64
-      → new ≡ made
+      → new ≡ made → (HasReadNothing d → HasWaitedForLine remaining step old d r r2)
+      → (r2 ≡ r) ⊎ HasWaitedForLine remaining step old d r r2
       → HasNone old d r new d2 r2
-  HasNone-more old now made new d d1 d2 r r1 r2 count given before comes counted going f lacks offset is =
+  HasNone-more old now made new d d1 d2 r r1 r2 count given before comes counted going f lacks offset is begun waited =
       let kept = Comes-counted old now made d d1 d2 r r1 r2 count given before comes counted going in
       let last = subst (λ t. Lacks t (drop (length made.rest - count) made.rest)) f.same.terminator lacks in
       subst (λ w. HasNone old d r w d2 r2) (sym is) (record {
@@ -705,6 +762,8 @@ module _ {R : Type 0} (remaining : R → Option (List ℕ)) (step : R → ReadRe
             comes.rest kept before.none last;
         offset = offset;
         going = going;
+        begun = λ nothing. inr (begun nothing);
+        waited = waited;
       })
 
   -- an offset would be above 2^64 - 1

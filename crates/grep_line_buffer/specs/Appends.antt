@@ -1,11 +1,11 @@
 -- One read into a line buffer.
-use Rattle.std.specs.Prelude.{◌≡◌, ℕ, ◌+◌, ◌-◌, ◌≤◌, List, [], ◌++◌, length, take, drop, Option}
+use Rattle.std.specs.Prelude.{◌≡◌, ◌⊎◌, ℕ, ◌+◌, ◌-◌, ◌≤◌, List, [], ◌++◌, length, take, drop, Option}
 use Rattle.std.specs.Option.{option_map}
 use Rattle.std.specs.Io.KnownBytes.{Consumes, Keeps, IsAtEnd}
 use Rattle.std.specs.declared.io.Error.{Error}
 use Rattle.grep_decode.specs.declared.mode.Mode.TheVariants.{Passing}
 use Rattle.grep_decode.specs.DecoderStates.{DecoderState, Decodes, FailsToDecode, IsDone, IsSettled}
-use Rattle.grep_decode.specs.DecoderStates.{IsWaiting, TakesAtMost, runs_ahead, yet}
+use Rattle.grep_decode.specs.DecoderStates.{HasReadNothing, HasWaited, IsWaiting, TakesAtMost, runs_ahead, yet}
 use Rattle.grep_decode.specs.Source.{ReadResult}
 use Rattle.grep_line_buffer.specs.BufferStates.{BufferState, held}
 use Rattle.grep_line_buffer.specs.Detections.{detected, found_in, first_of}
@@ -36,6 +36,8 @@ module _ {R : Type 0} (remaining : R → Option (List ℕ)) (step : R → ReadRe
     pub passing : decoder'.mode ≡ Passing → (length decoder'.ready ≤ 3) × (decoder'.held ≡ [])
     pub done : given ≡ [] → IsDone decoder'
     pub end : given ≡ [] → IsAtEnd (yet decoder' (remaining reader'))
+    pub begins : HasReadNothing decoder → HasWaited remaining step decoder reader reader'
+    pub last : (reader' ≡ reader) ⊎ HasWaited remaining step decoder reader reader'
 
   -- One read of a decoder failed, and nothing is lost.
   pub record FailsToRead (decoder : DecoderState) (reader : R) (error : Error)

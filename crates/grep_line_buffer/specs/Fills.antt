@@ -1,15 +1,15 @@
 -- What a fill of a line buffer reads, and why it fails.
-use Rattle.std.specs.Prelude.{◌≡◌, ◌≢◌, ℕ, ◌+◌, ◌^◌, ◌<◌, ◌≤◌, List, [], ◌++◌, length, Option, Some}
+use Rattle.std.specs.Prelude.{◌≡◌, ◌≢◌, ℕ, ◌+◌, ◌^◌, ◌<◌, ◌≤◌, List, [], ◌++◌, length, Option, None, Some}
 use Rattle.std.specs.Prelude.{true, false, Result, Ok, Err}
 use Rattle.std.specs.Option.{option_map}
 use Rattle.std.specs.declared.io.Error.{Error}
-use Rattle.grep_decode.specs.DecoderStates.{DecoderState, Decodes}
+use Rattle.grep_decode.specs.DecoderStates.{DecoderState, Decodes, HasWaited}
 use Rattle.grep_decode.specs.Source.{ReadResult}
 use Rattle.grep_line_buffer.specs.declared.fill_error.FillError.{FillError}
 use Rattle.grep_line_buffer.specs.declared.fill_error.FillError.TheVariants.{Read, HeapLimit}
 use Rattle.grep_line_buffer.specs.declared.fill_error.FillError.TheVariants.{Offset, Memory}
-use Rattle.grep_line_buffer.specs.BufferStates.{BufferState, held, is_cut, HasNoLine}
-use Rattle.grep_line_buffer.specs.Detections.{detected, found_in, first_of}
+use Rattle.grep_line_buffer.specs.BufferStates.{BufferState, held, is_cut, HasNoLine, Lacks}
+use Rattle.grep_line_buffer.specs.Detections.{detected, found_in, first_of, is_quit}
 
 -- the fact holds of the reader's error, if the result is one
 abbrev pub IfRead : {X : Type 0} → Result X FillError → (Error → Type 0) → Type 0
@@ -77,3 +77,17 @@ module _ {R : Type 0} (remaining : R → Option (List ℕ)) (step : R → ReadRe
     pub fills : Fills old decoder reader new decoder' mid
     pub unended : decoder'.has_ended ≡ false
     pub failed : step mid (Err error) reader'
+
+  -- Before the last read that called the reader, the decoder had given some bytes. As detection
+  -- makes them, none ends a line and none the input, and with those that the buffer held they are
+  -- fewer than its limit.
+  pub record HasWaitedForLine (old : BufferState) (decoder : DecoderState) (reader reader' : R)
+      : Type 0 where
+    pub given : List ℕ
+    pub waiting : DecoderState
+    pub mid : R
+    pub decodes : Decodes remaining step decoder reader given waiting mid
+    pub unended : Lacks old.terminator (detected old.detection old.terminator given)
+    pub uncut : is_quit old.detection ≡ true → found_in old.detection old.terminator given ≡ None
+    pub room : (limit : ℕ) → old.limit ≡ Some limit → length (held old) + length given < limit
+    pub last : HasWaited remaining step waiting mid reader'

@@ -1,28 +1,23 @@
 //! A buffer over a reader that shows whole lines.
 ghost use Rattle.std.specs.Prelude.{◌≡◌, ◌≢◌, ◌⊎◌, ◌↔◌, ◌<◌, ◌≤◌, ◌+◌, ◌*◌, ◌-◌, ◌^◌, ◌++◌, ℕ};
-ghost use Rattle.std.specs.Prelude.{List, [], ◌∷◌, true};
-ghost use Rattle.std.specs.Prelude.{false, Err, None, Some, length, take, drop, IsTrue, IsOk, IfOk};
-ghost use Rattle.std.specs.Prelude.{IfErr, IfSome};
-ghost use Rattle.std.specs.Prelude.{IfNone, OnOk, OnErr, MatchBool, slice_index, replicate};
-ghost use Rattle.std.specs.Prelude.{vec_len};
+ghost use Rattle.std.specs.Prelude.{List, [], ◌∷◌, true, false, Err, None, Some, length, take};
+ghost use Rattle.std.specs.Prelude.{drop, IsTrue, IsOk, IfOk, IfErr, IfSome, IfNone, OnOk, OnErr};
+ghost use Rattle.std.specs.Prelude.{MatchBool, slice_index, replicate, vec_len, slice_range};
 ghost use Rattle.std.specs.Io.KnownBytes.{IsAtEnd};
 ghost use Rattle.std.specs.Option.{option_map};
 ghost use Rattle.std.specs.Io.{ReadsAtMost};
 ghost use lib.Seq.{paste};
 ghost use Rattle.grep_decode.specs.Source.{FailsWith};
 ghost use Rattle.grep_decode.specs.declared.mode.Mode.TheVariants.{Passing};
-ghost use Rattle.grep_decode.specs.DecoderStates.{IsDone, IsSettled, IsWaiting, TakesAtMost};
-ghost use Rattle.grep_decode.specs.DecoderStates.{runs_ahead};
-ghost use Rattle.grep_decode.specs.DecoderStates.{yet};
-ghost use Rattle.grep_lines.specs.Positions.{slice};
+ghost use Rattle.grep_decode.specs.DecoderStates.{HasReadNothing, IsDone, IsSettled, IsWaiting};
+ghost use Rattle.grep_decode.specs.DecoderStates.{TakesAtMost, runs_ahead, yet};
 ghost use Rattle.grep_line_buffer.specs.BufferStates.{BufferState, empty_buffer, held, Lacks};
-ghost use Rattle.grep_line_buffer.specs.BufferStates.{IsWithin, IsSameBuffer};
-ghost use Rattle.grep_line_buffer.specs.BufferStates.{GrowsIfFull, ShowsLine, IsFilled, HasNoLine};
-ghost use Rattle.grep_line_buffer.specs.BufferStates.{KeepsStream};
+ghost use Rattle.grep_line_buffer.specs.BufferStates.{IsWithin, IsSameBuffer, GrowsIfFull};
+ghost use Rattle.grep_line_buffer.specs.BufferStates.{ShowsLine, IsFilled, HasNoLine, KeepsStream};
 ghost use Rattle.grep_line_buffer.specs.BufferStates.{is_cut};
 ghost use Rattle.grep_line_buffer.specs.Detections.{byte_offset, first_of, is_quit};
 ghost use Rattle.grep_line_buffer.specs.Fills.{IfRead, UnlessRead, IsAtLimit, FillFails, Fills};
-ghost use Rattle.grep_line_buffer.specs.Fills.{FailsToFill};
+ghost use Rattle.grep_line_buffer.specs.Fills.{FailsToFill, HasWaitedForLine};
 ghost use Rattle.grep_line_buffer.specs.declared.fill_error.FillError.TheVariants.{HeapLimit};
 ghost use Rattle.grep_line_buffer.specs.Appends.{Appends, Detects, FailsToRead};
 ghost use Rattle.grep_line_buffer.specs.Room.{IsFullFault};
@@ -62,8 +57,8 @@ impl<A: Allocator> Model for LineBuffer<A> {
     ghost Value = { BufferState };
 
     ghost view = { λ b. record {
-      shown = slice b.bytes.items b.start b.line_end;
-      rest = slice b.bytes.items b.line_end b.end;
+      shown = slice_range b.bytes.items b.start b.line_end;
+      rest = slice_range b.bytes.items b.line_end b.end;
       offset = b.offset;
       size = length b.bytes.items;
       limit = b.limit;
@@ -232,6 +227,13 @@ impl<A: Allocator> LineBuffer<A> {
         ensures fault { IfRead result (λ e. FailsWith R.step reader.old e reader.new) }
         ensures uncut { IfRead result (λ _. is_cut self.new ≡ false) }
         ensures fits { OnOk result (self.new.offset + length (held self.new) < 2 ^ 64) }
+
+        // the reader is called at first, and again only as long as no line has come
+        ensures begins { self.old.has_ended ≡ false → is_cut self.old ≡ false
+            → HasReadNothing decoder.old → OnOk result
+            (HasWaitedForLine R.remaining R.step self.old decoder.old reader.old reader.new) }
+        ensures last { OnOk result ((reader.new ≡ reader.old)
+            ⊎ HasWaitedForLine R.remaining R.step self.old decoder.old reader.old reader.new) }
 
         // Nothing is left once the end was seen, unless a byte ended the input, and nothing is read
         // then.

@@ -1,13 +1,13 @@
 -- The lines of some bytes have the four properties that make a list their lines, and no other list has them.
 use Rattle.std.proofs.Common.{◌≡◌, ◌≢◌, ℕ, zero, suc, ◌-◌, ◌<◌, List, [], ◌∷◌, ◌++◌, length, drop, slice_index, refl}
-use Rattle.std.proofs.Common.{ap, sym, ◌∙◌, subst}
-use Rattle.std.proofs.Common.{arith, length-append, ⊎_elim}
+use Rattle.std.proofs.Common.{ap, sym, ◌∙◌, subst, arith, length-append, ⊎_elim}
 use Rattle.std.proofs.lemmas.Bool.{cases_eq}
 use Rattle.std.proofs.lemmas.List.{get_or_append_left, take_at, drop_at}
 use Rattle.std.proofs.lemmas.List.Elements.{All-nil, All-cons, All-head, All-tail}
 use Rattle.std.specs.List.{concat}
 use native.Mathlib.Numerals.{unary_clauses}
-use Rattle.grep_matcher.specs.Lines.{lines, onto_first, IsUnbroken, AreEnded, AreLines}
+use Rattle.grep_matcher.specs.Lines.{lines, onto_first}
+use Rattle.grep_matcher.specs.AreLines.{IsUnbroken, AreEnded, AreLines}
 use Rattle.grep_lines.specs.FirstLine.{IsFirstLine}
 use Rattle.grep_lines.proofs.LineLemmas.{lines-end, lines-inner, lines-first}
 

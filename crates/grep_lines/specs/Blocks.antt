@@ -1,7 +1,7 @@
 -- The whole lines that a match extends over.
 use Rattle.std.specs.Prelude.{ℕ, ◌+◌, ◌-◌, ◌&&◌, ◌==◌, nat_lt, if◌then◌else◌, List, take}
 use Rattle.std.specs.Prelude.{slice_index, count_by}
-use Rattle.grep_matcher.specs.LineLists.{line_start}
+use Rattle.grep_matcher.specs.Lines.{line_start}
 
 -- how many lines end at a position or before it, with a terminator: the index of the line that the
 -- position is in

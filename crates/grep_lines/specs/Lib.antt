@@ -2,5 +2,4 @@ pub mod Blocks
 pub mod FirstLine
 pub mod LineLaws
 pub mod Positions
-pub mod Slices
 pub mod Steps

@@ -1,7 +1,8 @@
 -- Laws of the lines of some bytes.
 use Rattle.std.specs.Prelude.{◌≡◌, ℕ, ◌-◌, ◌<◌, ◌≤◌, ◌==◌, List, ◌++◌, length, take, slice_index}
 use Rattle.std.specs.Prelude.{count_by}
-use Rattle.grep_matcher.specs.Lines.{lines, line_start, AreLines}
+use Rattle.grep_matcher.specs.Lines.{lines, line_start}
+use Rattle.grep_matcher.specs.AreLines.{AreLines}
 
 -- the lines have the four properties that say what lines are
 abbrev pub LinesJoin : Type 0

@@ -1,7 +1,8 @@
 //! Steps from line to line.
 ghost use Rattle.std.specs.Prelude.{◌≡◌, ◌∷◌, ◌↔◌, ◌≤◌, ◌<◌, ℕ, length, IsNone, IfSome, IfNone};
+ghost use Rattle.std.specs.Prelude.{slice_range};
 ghost use Rattle.grep_matcher.specs.Lines.{lines};
-ghost use Rattle.grep_lines.specs.Positions.{slice, IsLineStart, IsLine};
+ghost use Rattle.grep_lines.specs.Positions.{IsLineStart, IsLine};
 ghost use Rattle.grep_lines.specs.FirstLine.{IsFirstLine};
 
 use memchr::memchr;
@@ -56,9 +57,9 @@ impl LineStep {
         ensures bounds { IfSome result (λ line. (line.0 < line.1) × (line.1 ≤ self.old.end)) }
         ensures moves { IfSome result (λ line. self.new ≡ record self.old { start = line.1 }) }
         ensures first { IfSome result (λ line.
-            lines self.old.terminator (slice bytes.now line.0 self.old.end)
-            ≡ slice bytes.now line.0 line.1
-            ∷ lines self.old.terminator (slice bytes.now line.1 self.old.end)) }
+            lines self.old.terminator (slice_range bytes.now line.0 self.old.end)
+            ≡ slice_range bytes.now line.0 line.1
+            ∷ lines self.old.terminator (slice_range bytes.now line.1 self.old.end)) }
         ensures listed { IfSome result (λ line. (i : ℕ) → self.old.end ≡ length bytes.now
             → IsLineStart self.old.terminator bytes.now line.0 i
             → IsLine self.old.terminator bytes.now i line.0 line.1) }

@@ -1,18 +1,16 @@
 -- What a literal's first occurrence in many lines says of each of them.
 use Rattle.std.proofs.Common.{◌≡◌, inl, inr, ℕ, zero, suc, Bool, ◌+◌, ◌-◌, ◌<◌, ◌≤◌, true, false, List, [], length}
-use Rattle.std.proofs.Common.{slice_index}
-use Rattle.std.proofs.Common.{slice_index_or, Some, None, ap, sym, subst, arith, ⊎_elim, is_some}
+use Rattle.std.proofs.Common.{slice_index, slice_index_or, Some, None, ap, sym, subst, arith, ⊎_elim, is_some}
 use Rattle.std.proofs.lemmas.Bool.{cases_lt, cases_eq}
 use Rattle.memchr.specs.Find.{OccursAt, NoneBefore, FindsNeedle}
 use Rattle.grep_matcher.specs.declared.line_match_kind.LineMatchKind.{LineMatchKind}
 use Rattle.grep_matcher.specs.declared.line_terminator.LineTerminator.{LineTerminator}
 use Rattle.grep_matcher.specs.declared.line_terminator.LineTerminator.TheVariants.{Byte, Crlf}
-use Rattle.grep_matcher.specs.Lawful.{matches_at, HoldsPosition, ExcludesTerminator, IsTrusted, position_of}
-use Rattle.grep_matcher.specs.Lawful.{is_confirmed}
-use Rattle.grep_matcher.specs.Lines.{lines, line_start, strip}
+use Rattle.grep_matcher.specs.Lawful.{matches_at, HoldsPosition, IsTrusted, position_of, is_confirmed}
+use Rattle.grep_matcher.specs.Meanings.{ExcludesTerminator}
+use Rattle.grep_matcher.specs.Lines.{lines, line_start, strip, byte_of, bytes_of}
 use Rattle.grep_matcher.specs.Literals.{literal_meaning, lacks}
-use Rattle.grep_matcher.specs.Terminators.{byte_of, bytes_of}
-use Rattle.grep_matcher.proofs.LineLemmas.{line-is, strip-joined, strip-occurs}
+use Rattle.grep_matcher.proofs.StrippedLineLemmas.{line-is, strip-joined, strip-occurs}
 use Rattle.grep_matcher.proofs.LiteralLemmas.{match-found, match-none}
 use Rattle.grep_matcher.proofs.OccurrenceLemmas.{OccursAt-outer, OccursAt-inner, OccursAt-before, apart}
 

@@ -1,4 +1,4 @@
-pub mod LineLemmas
+pub mod StrippedLineLemmas
 pub mod LiteralLemmas
 pub mod OccurrenceLemmas
 pub mod CandidateLemmas

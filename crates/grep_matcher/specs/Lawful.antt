@@ -2,16 +2,13 @@
 -- that asks it about many lines then finds the same lines as one that asks about one line at a
 -- time.
 use Rattle.std.specs.Prelude.{◌≡◌, ◌≢◌, ◌⊎◌, ℕ, ◌+◌, ◌-◌, ◌<◌, ◌≤◌, Bool, true, false, List, []}
-use Rattle.std.specs.Prelude.{length}
-use Rattle.std.specs.Prelude.{slice_index, slice_index_or, Option, Some, None, is_some}
+use Rattle.std.specs.Prelude.{length, slice_index, slice_index_or, Option, Some, None, is_some}
 use Rattle.grep_matcher.specs.declared.line_match_kind.LineMatchKind.{LineMatchKind}
 use Rattle.grep_matcher.specs.declared.line_match_kind.LineMatchKind.TheVariants.{Confirmed}
 use Rattle.grep_matcher.specs.declared.line_match_kind.LineMatchKind.TheVariants.{Candidate}
 use Rattle.grep_matcher.specs.declared.line_terminator.LineTerminator.{LineTerminator}
-use Rattle.grep_matcher.specs.Terminators.{byte_of}
-use Rattle.grep_matcher.specs.Lines.{lines, line_start, strip}
-use Rattle.grep_matcher.specs.Matching.{Meaning}
-pub use Rattle.grep_matcher.specs.Meanings.{ExcludesTerminator}
+use Rattle.grep_matcher.specs.Lines.{byte_of, lines, line_start, strip}
+use Rattle.grep_matcher.specs.Meanings.{ExcludesTerminator, Meaning}
 
 -- the position of what was found, and whether its line surely matches
 abbrev pub position_of : LineMatchKind → ℕ

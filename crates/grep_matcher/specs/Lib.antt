@@ -1,8 +1,7 @@
+pub mod AreLines
 pub mod ByteSets
+pub mod FindResults
 pub mod Lawful
-pub mod LineLists
 pub mod Lines
 pub mod Literals
-pub mod Matching
 pub mod Meanings
-pub mod Terminators

@@ -1,7 +1,7 @@
--- What a matcher means.
+-- What a matcher means, and what is known of it.
 use Rattle.std.specs.Prelude.{◌≡◌, ◌⊎◌, ℕ, Bool, true, List, Option, Some}
 use Rattle.grep_matcher.specs.declared.line_terminator.LineTerminator.{LineTerminator}
-use Rattle.grep_matcher.specs.Terminators.{byte_of}
+use Rattle.grep_matcher.specs.Lines.{byte_of}
 
 -- for each haystack its first match, by its start and its end, if it has one; the line terminator
 -- that the matcher declares, if any; and bytes that no match contains
@@ -10,8 +10,14 @@ pub record Meaning : Type 0 where
   pub terminator : Option LineTerminator
   pub absent : ℕ → Bool
 
--- the matcher says that no match contains the terminator: it declares it, or its byte is one that
--- no match contains
+-- what a matcher means, which errors a haystack may get, and for which terminators what the matcher
+-- finds in many lines can be trusted
+pub record MatcherFacts (F : Type 0) : Type 1 where
+  pub meaning : Meaning
+  pub fails : List ℕ → F → Type 0
+  pub is_lawful : LineTerminator → Type 0
+
+-- no match contains the terminator, as the matcher says: it declares it, or its byte is absent
 abbrev pub ExcludesTerminator : LineTerminator → Meaning → Type 0
 ExcludesTerminator terminator meaning = (meaning.terminator ≡ Some terminator)
     ⊎ (meaning.absent (byte_of terminator) ≡ true)

@@ -1,6 +1,6 @@
 //! A line terminator.
 ghost use Rattle.std.specs.Prelude.{◌≡◌, ◌↔◌, IsTrue};
-ghost use Rattle.grep_matcher.specs.Terminators.{byte_of, bytes_of};
+ghost use Rattle.grep_matcher.specs.Lines.{byte_of, bytes_of};
 
 use std::slice;
 

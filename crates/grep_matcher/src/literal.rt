@@ -83,11 +83,11 @@ impl Matcher for LiteralMatcher<'_> {
     ghost use Rattle.grep_matcher.specs.Lawful.{IsInside, IsTrusted};
     ghost use Rattle.grep_matcher.specs.Literals.{literal_meaning, literal_candidate};
 
-    ghost meaning = { literal_meaning };
-
-    ghost fails = { λ _ _ _. ⊥ };
-
-    ghost is_lawful = { λ _ _. Unit {0} };
+    ghost facts = { λ m. record {
+      meaning = literal_meaning m;
+      fails = λ _ _. ⊥;
+      is_lawful = λ _. Unit {0};
+    } };
 
     #[inline]
     fn find(&self, haystack: &[u8]) -> Result<Option<Match>, io::Error> {

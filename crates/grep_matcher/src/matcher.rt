@@ -1,9 +1,9 @@
 //! The trait of a pattern.
-ghost use Rattle.std.specs.Prelude.{◌≡◌, ℕ, List, Option, is_some, IfOk, IfErr};
+ghost use Rattle.std.specs.Prelude.{◌≡◌, ℕ, is_some, IfOk, IfErr};
 ghost use Rattle.std.specs.Option.{option_copied};
-ghost use Rattle.grep_matcher.specs.declared.line_terminator.LineTerminator.{LineTerminator};
 ghost use Rattle.grep_matcher.specs.Lawful.{IsInside, IsTrusted};
-ghost use Rattle.grep_matcher.specs.Matching.{Meaning, IsWithin, Avoids, IsPosition, holds_if_some};
+ghost use Rattle.grep_matcher.specs.Meanings.{MatcherFacts};
+ghost use Rattle.grep_matcher.specs.FindResults.{IsWithin, Avoids, IsPosition, holds_if_some};
 
 use crate::byte_set::ByteSet;
 use crate::line_match_kind::LineMatchKind;
@@ -20,25 +20,20 @@ pub trait Matcher {
     /// Why a call failed.
     type Error: Display + Drop;
 
-    /// What the matcher means.
-    ghost meaning: { Self → Meaning };
-
-    /// Which errors a call may return for a haystack.
-    ghost fails: { Self → List ℕ → Self.Error → Type 0 };
-
-    /// For which line terminators `find_candidate_line` can be trusted. A search with another one
-    /// is safe and returns, but which calls it makes isn't promised if it may ask about many lines
-    /// at once.
-    ghost is_lawful: { Self → LineTerminator → Type 0 };
+    /// What the matcher means (`meaning`), which errors a call may return for a haystack (`fails`),
+    /// and for which line terminators `find_candidate_line` can be trusted (`is_lawful`). A search
+    /// with another one is safe and returns, but which calls it makes isn't promised if it may ask
+    /// about many lines at once.
+    ghost facts: { Self → MatcherFacts Self.Error };
 
     /// The first match of a haystack, as positions in it, or `None` if it has no match. The match
     /// lies within the haystack and contains none of the non-matching bytes. An error is one that
     /// the matcher may return for this haystack.
     fn find(&self, haystack: &[u8]) -> Result<Option<Match>, Self::Error>
-        ensures value { IfOk result (λ m. m ≡ (meaning self.now).first haystack.now) }
+        ensures value { IfOk result (λ m. m ≡ (facts self.now).meaning.first haystack.now) }
         ensures within { IfOk result (IsWithin haystack.now) }
-        ensures avoids { IfOk result (Avoids (meaning self.now).absent haystack.now) }
-        ensures error { IfErr result (λ e. fails self.now haystack.now e) };
+        ensures avoids { IfOk result (Avoids (facts self.now).meaning.absent haystack.now) }
+        ensures error { IfErr result ((facts self.now).fails haystack.now) };
 
     /// A position in the haystack if it has a match, and `None` otherwise. Which position isn't
     /// specified, so a matcher can return as soon as it knows that there is a match. An error is
@@ -47,8 +42,8 @@ pub trait Matcher {
     /// The default calls `find` and returns the end of its match.
     fn shortest_match(&self, haystack: &[u8]) -> Result<Option<usize>, Self::Error>
         ensures position { IfOk result
-            (IsPosition haystack.now ((meaning self.now).first haystack.now)) }
-        ensures error { IfErr result (λ e. fails self.now haystack.now e) }
+            (IsPosition haystack.now ((facts self.now).meaning.first haystack.now)) }
+        ensures error { IfErr result ((facts self.now).fails haystack.now) }
     {
         match self.find(haystack)? {
             Some(found) => Ok(Some(found.end())),
@@ -62,8 +57,8 @@ pub trait Matcher {
     /// The default calls `shortest_match`.
     fn is_match(&self, haystack: &[u8]) -> Result<bool, Self::Error>
         ensures value { IfOk result
-            (λ matches. matches ≡ is_some ((meaning self.now).first haystack.now)) }
-        ensures error { IfErr result (λ e. fails self.now haystack.now e) }
+            (λ matches. matches ≡ is_some ((facts self.now).meaning.first haystack.now)) }
+        ensures error { IfErr result ((facts self.now).fails haystack.now) }
     {
         Ok(self.shortest_match(haystack)?.is_some())
     }
@@ -87,8 +82,8 @@ pub trait Matcher {
     fn find_candidate_line(&self, haystack: &[u8]) -> Result<Option<LineMatchKind>, Self::Error>
         ensures inside { IfOk result (IsInside haystack.now) }
         ensures trusted { IfOk result
-            (IsTrusted (meaning self.now) (is_lawful self.now) haystack.now) }
-        ensures error { IfErr result (λ e. fails self.now haystack.now e) }
+            (IsTrusted (facts self.now).meaning (facts self.now).is_lawful haystack.now) }
+        ensures error { IfErr result ((facts self.now).fails haystack.now) }
     {
         Ok(Some(LineMatchKind::Candidate(0)))
     }
@@ -96,23 +91,19 @@ pub trait Matcher {
     /// The line terminator that the matcher declares, if any. A search with another line terminator
     /// is refused.
     fn line_terminator(&self) -> Option<LineTerminator>
-        ensures { result ≡ (meaning self.now).terminator };
+        ensures { result ≡ (facts self.now).meaning.terminator };
 
     /// Bytes that no match contains, if the matcher knows of any. It needn't give all of them.
     fn non_matching_bytes(&self) -> Option<&ByteSet>
         ensures { (byte : ℕ) →
-            (meaning self.now).absent byte ≡ holds_if_some (option_copied result) byte };
+            (facts self.now).meaning.absent byte ≡ holds_if_some (option_copied result) byte };
 }
 
 /// A reference is the matcher that it refers to.
 impl<M: Matcher> Matcher for &M {
     type Error = M::Error;
 
-    ghost meaning = { λ m. M.meaning m.now };
-
-    ghost fails = { λ m. M.fails m.now };
-
-    ghost is_lawful = { λ m. M.is_lawful m.now };
+    ghost facts = { λ m. M.facts m.now };
 
     fn find(&self, haystack: &[u8]) -> Result<Option<Match>, M::Error> {
         (**self).find(haystack)

@@ -13,13 +13,13 @@ pub struct Plain<M>(pub M);
 impl<M: Matcher> Matcher for Plain<M> {
     type Error = M::Error;
 
-    ghost use Rattle.grep_matcher.specs.Matching.{plain};
+    ghost use Rattle.grep_matcher.specs.FindResults.{plain};
 
-    ghost meaning = { λ m. plain (M.meaning m.0).first };
-
-    ghost fails = { λ m. M.fails m.0 };
-
-    ghost is_lawful = { λ _ _. Unit {0} };
+    ghost facts = { λ m. record {
+      meaning = plain (M.facts m.0).meaning.first;
+      fails = (M.facts m.0).fails;
+      is_lawful = λ _. Unit {0};
+    } };
 
     fn find(&self, haystack: &[u8]) -> Result<Option<Match>, M::Error> {
         self.0.find(haystack)

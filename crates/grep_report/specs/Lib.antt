@@ -1,4 +1,5 @@
 pub mod BinaryDetections
 pub mod ConfigErrors
+pub mod ErrorMakers
 pub mod SinkReports
 pub mod SearchErrors

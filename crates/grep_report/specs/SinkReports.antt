@@ -1,6 +1,5 @@
 -- What contracts see of the values that a sink is given.
-use Rattle.std.specs.Prelude.{ℕ, List, Option}
-use Rattle.grep_lines.specs.Positions.{slice}
+use Rattle.std.specs.Prelude.{ℕ, List, Option, slice_range}
 use Rattle.grep_report.specs.declared.sink_context.SinkContextKind.{SinkContextKind}
 
 -- a match: the byte at which its lines are split, the number of its first line, its offset in the
@@ -15,7 +14,7 @@ pub record MatchReport : Type 0 where
 
 -- the bytes of a match
 abbrev pub match_bytes : MatchReport → List ℕ
-match_bytes m = slice m.buffer m.start m.end
+match_bytes m = slice_range m.buffer m.start m.end
 
 -- a line that isn't a match: its kind, its number, its offset in the whole input and its bytes
 pub record ContextReport : Type 0 where

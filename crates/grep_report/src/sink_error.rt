@@ -1,7 +1,6 @@
 //! The errors that a search can end in.
 ghost use Rattle.std.specs.Prelude.{◌≡◌, ℕ, List, Option};
-ghost use Rattle.std.specs.declared.io.Error.{Error};
-ghost use Rattle.grep_report.specs.declared.config_error.ConfigError.{ConfigError};
+ghost use Rattle.grep_report.specs.ErrorMakers.{ErrorMakers};
 
 use crate::config_error::ConfigError;
 use std::alloc::{AllocError, Allocator, Global};
@@ -16,28 +15,22 @@ use thiserror::Error as ThisError;
 /// text.
 pub trait SinkError<A: Allocator>: Sized {
     /// Which errors may be made of a message, given by the text that its `Display` writes, if that
-    /// text is known.
-    ghost is_message: { Option (List ℕ) → Self → Type 0 };
-
-    /// Which errors may be made of an `io::Error`.
-    ghost is_io: { Error → Self → Type 0 };
-
-    /// Which errors may be made of a `ConfigError`.
-    ghost is_config: { ConfigError → Self → Type 0 };
+    /// text is known; of an `io::Error`; and of a `ConfigError`.
+    ghost makers: { ErrorMakers (Option (List ℕ)) Self };
 
     /// The error of a message, such as a matcher's error. If there is no memory for its text, the
     /// error is made without it.
     fn error_message<T: Display + Drop>(alloc: A, message: T) -> Self
-        ensures { is_message (T.output message) result };
+        ensures { makers.is_message (T.output message) result };
 
     /// The error of an `io::Error`: a reader's, or one for a heap limit that was reached, or one
     /// for being out of memory.
     fn error_io(alloc: A, error: io::Error) -> Self
-        ensures { is_io error result };
+        ensures { makers.is_io error result };
 
     /// The error of a configuration that no search can run with.
     fn error_config(alloc: A, error: ConfigError) -> Self
-        ensures { is_config error result };
+        ensures { makers.is_config error result };
 }
 
 /// The error for sinks that need none of their own: one variant for each of `SinkError`'s
@@ -60,11 +53,11 @@ impl<A: Allocator + Copy> SinkError<A> for SearchError<A> {
     ghost use Rattle.grep_report.specs.SearchErrors.{IsMessageOf};
     ghost use Rattle.grep_report.specs.declared.sink_error.SearchError.TheVariants.{Io, Config};
 
-    ghost is_message = { IsMessageOf };
-
-    ghost is_io = { λ error e. e ≡ Io error };
-
-    ghost is_config = { λ error e. e ≡ Config error };
+    ghost makers = { record {
+      is_message = IsMessageOf;
+      is_io = λ error e. e ≡ Io error;
+      is_config = λ error e. e ≡ Config error;
+    } };
 
     fn error_message<T: Display + Drop>(alloc: A, message: T) -> SearchError<A> {
         match message.to_string(alloc) {
@@ -88,11 +81,11 @@ impl<A: Allocator + Copy> SinkError<A> for io::Error {
     ghost use Rattle.std.specs.IoError.{error_kind};
     ghost use Rattle.std.specs.declared.io.ErrorKind.TheVariants.{Other};
 
-    ghost is_message = { λ _ e. error_kind e ≡ Other };
-
-    ghost is_io = { λ error e. e ≡ error };
-
-    ghost is_config = { λ _ e. error_kind e ≡ Other };
+    ghost makers = { record {
+      is_message = λ _ e. error_kind e ≡ Other;
+      is_io = λ error e. e ≡ error;
+      is_config = λ _ e. error_kind e ≡ Other;
+    } };
 
     fn error_message<T: Display + Drop>(alloc: A, message: T) -> io::Error {
         match message.to_string(alloc) {

@@ -3,11 +3,13 @@ use Rattle.std.proofs.Common.{◌≡◌, ℕ, Bool, true, false, List, Some, Non
 use Rattle.std.specs.Prelude.{MatchResult}
 use Rattle.grep_decode.specs.Source.{ReadResult}
 use Rattle.grep_report.specs.declared.config_error.ConfigError.{ConfigError}
-use Rattle.grep_definitions.specs.Parties.{ErrorMakers, MatcherFacts, IsLawful, refusal_of}
-use Rattle.grep_definitions.specs.PlannedSearches.{IsReaderSearched, IsSliceSearch}
-use Rattle.grep_definitions.specs.SliceSearches.{IsSliceRead, IsSliceSearched, IsSliceSearchedIf}
+use Rattle.grep_report.specs.ErrorMakers.{ErrorMakers}
+use Rattle.grep_matcher.specs.Meanings.{MatcherFacts}
+use Rattle.grep_definitions.specs.Asking.{IsLawful, refusal_of}
+use Rattle.grep_definitions.specs.Searches.{IsReaderSearched}
+use Rattle.grep_definitions.specs.SliceSearches.{IsSliceSearch, IsSliceRead, IsSliceSearched, IsSliceSearchedIf}
+use Rattle.grep_definitions.specs.SliceSearches.{is_searched_unchanged}
 use Rattle.grep_definitions.specs.Plans.{Steps}
-use Rattle.grep_definitions.specs.Readings.{is_searched_unchanged}
 use Rattle.grep_definitions.specs.Settings.{SearcherState}
 use Rattle.grep_searcher.proofs.SourceSearchLemmas.{not-refused, refused}
 
@@ -18,7 +20,7 @@ pub slice-read : (s : Bor (List ℕ)) (result : ReadResult) (t : Bor (List ℕ))
 slice-read s (Ok bytes) t read = (refl, read)
 slice-read s (Err e) t read = absurd read
 
-module _ {S E F : Type 0} (step : Steps S E) (errors : ErrorMakers E) (matcher : MatcherFacts F)
+module _ {S E F : Type 0} (step : Steps S E) (errors : ErrorMakers F E) (matcher : MatcherFacts F)
     (state : SearcherState) (input : List ℕ) where
   -- one that is searched as it is
   pub slice-unchanged : is_searched_unchanged state.settings input ≡ true

@@ -1,6 +1,5 @@
 -- A search of a reader with the searcher's buffers.
-use Rattle.std.proofs.Common.{◌≡◌, ℕ, Bool, false, List, [], Option, Some, None, Result, Ok, Err, inr, refl, sym}
-use Rattle.std.proofs.Common.{subst}
+use Rattle.std.proofs.Common.{◌≡◌, ℕ, Bool, false, List, [], Option, Some, None, Result, Ok, Err, inr, refl, sym, subst}
 use Rattle.std.specs.Prelude.{IfErr}
 use Rattle.std.specs.IoError.{error_kind}
 use Rattle.std.specs.declared.io.Error.{Error}
@@ -8,10 +7,12 @@ use Rattle.std.specs.declared.io.ErrorKind.TheVariants.{OutOfMemory}
 use Rattle.grep_decode.specs.Source.{ReadResult}
 use Rattle.grep_report.specs.declared.config_error.ConfigError.{ConfigError}
 use Rattle.grep_definitions.specs.BinaryBytes.{Look, look_of}
-use Rattle.grep_definitions.specs.Parties.{ErrorMakers, MatcherFacts, IsLawful, refusal_of}
-use Rattle.grep_definitions.specs.PlannedSearches.{IsRead, IsUnlessRefused, IsUnlessThis}
+use Rattle.grep_report.specs.ErrorMakers.{ErrorMakers}
+use Rattle.grep_matcher.specs.Meanings.{MatcherFacts}
+use Rattle.grep_definitions.specs.Asking.{IsLawful, refusal_of}
+use Rattle.grep_definitions.specs.Searches.{IsRead, IsUnlessRefused, IsUnlessRefusedBy}
 use Rattle.grep_definitions.specs.Plans.{Steps}
-use Rattle.grep_definitions.specs.Readings.{IsUnread, Taken, of_buffers}
+use Rattle.grep_definitions.specs.Inputs.{IsUnread, Taken, of_buffers}
 use Rattle.grep_definitions.specs.Settings.{Settings, SearcherState}
 use Rattle.grep_definitions.proofs.PlannedReaderLemmas.{consumes-none}
 
@@ -21,20 +22,20 @@ pub if_err-each : {T E : Type 0} (P Q : E → Type 0) (result : Result T E) → 
 if_err-each P Q (Ok u) each claim = tt
 if_err-each P Q (Err e) each claim = each e claim
 
-module _ {S E F : Type 0} (errors : ErrorMakers E) (matcher : MatcherFacts F) (k : Settings) where
+module _ {S E F : Type 0} (errors : ErrorMakers F E) (matcher : MatcherFacts F) (k : Settings) where
   -- a search that isn't refused
   pub not-refused : refusal_of k matcher.meaning ≡ None → (old : S) (result : Result (Unit {0}) E) (new : S)
       (IsSame IsSearched : Type 0) → (IsLawful matcher k → IsSearched)
       → IsUnlessRefused errors matcher k old result new IsSame IsSearched
   not-refused allowed old result new IsSame IsSearched searched =
-      subst (IsUnlessThis errors matcher k old result new IsSame IsSearched) (sym allowed) searched
+      subst (IsUnlessRefusedBy errors matcher k old result new IsSame IsSearched) (sym allowed) searched
 
   -- and one that is
   pub refused : (refusal : ConfigError) → refusal_of k matcher.meaning ≡ Some refusal → (old : S) (e : E)
       (IsSame IsSearched : Type 0) → errors.is_config refusal e → IsSame
       → IsUnlessRefused errors matcher k old (Err e) old IsSame IsSearched
   refused refusal is old e IsSame IsSearched made same =
-      subst (IsUnlessThis errors matcher k old (Err e) old IsSame IsSearched) (sym is) (e, refl, made, refl, same)
+      subst (IsUnlessRefusedBy errors matcher k old (Err e) old IsSame IsSearched) (sym is) (e, refl, made, refl, same)
 
 module _ {R : Type 0} (remaining : R → Option (List ℕ)) (read_step : R → ReadResult → R → Type 0) where
   -- nothing was taken
@@ -48,7 +49,7 @@ module _ {R : Type 0} (remaining : R → Option (List ℕ)) (read_step : R → R
       → IsUnread remaining read_step state matcher.meaning reader false [] error reader
   unread-buffers matcher state reader error none memory = (reader, taken-none reader, of_buffers none memory refl)
 
-  module _ {S E F : Type 0} (step : Steps S E) (errors : ErrorMakers E) (matcher : MatcherFacts F) where
+  module _ {S E F : Type 0} (step : Steps S E) (errors : ErrorMakers F E) (matcher : MatcherFacts F) where
     pub fault-buffers : (state : SearcherState) (look : Look) (reader : R) (old : S) (error : Error) (e : E)
         → state.has_buffers ≡ false → error_kind error ≡ OutOfMemory → errors.is_io error e
         → IsRead remaining read_step step errors matcher state look reader old (Err e) reader old

@@ -8,8 +8,8 @@ use Rattle.std.specs.Str.Lossy.{utf8_lossy}
 use Rattle.std.specs.declared.io.Error.{Error}
 use Rattle.std.specs.declared.io.ErrorKind.TheVariants.{Other, OutOfMemory}
 use Rattle.grep_definitions.specs.Asking.{is_across, search_plan}
-use Rattle.grep_definitions.specs.Plans.{Call, begins, matches, context, breaks, binary_data}
-use Rattle.grep_definitions.specs.Plans.{finishes, Plan, Steps, IsRun}
+use Rattle.grep_definitions.specs.Plans.{Call, matches}
+use Rattle.grep_definitions.specs.Plans.{Plan, Steps, IsRun}
 use Rattle.grep_definitions.specs.Reports.{line}
 use Rattle.grep_definitions.specs.SearchLaws.{match_calls, matched_lines}
 use Rattle.grep_definitions.specs.Settings.{Settings}
@@ -54,26 +54,17 @@ module _ {F : Type 0} (call : F → ℕ → Bor (List ℕ) → Result Bool Error
   -- a match: there is no text for the closure, or it is called with the text; any other call passes
   -- it over
   abbrev pub IsClosureStep : F → Call → Result Bool Error → F → Type 0
-  IsClosureStep old begins result new = IsPassedOver old result new
   IsClosureStep old (matches number offset bytes) result new =
       IsRefusedBy (λ e. is_text bytes (Err e)) old result new
       ⊎ ((text : List ℕ) × is_text bytes (Ok text) × IsCalled number text old result new)
-  IsClosureStep old (context kind number offset bytes) result new = IsPassedOver old result new
-  IsClosureStep old breaks result new = IsPassedOver old result new
-  IsClosureStep old (binary_data offset) result new = IsPassedOver old result new
-  IsClosureStep old (finishes count binary) result new = IsPassedOver old result new
+  IsClosureStep old _ result new = IsPassedOver old result new
 
   -- the closure is called at a match, with its number and its text, and returns whether the search
   -- goes on
   abbrev pub IsCalledAt : F → Call → Bool → F → Type 0
-  IsCalledAt old begins b new = ⊥
-  IsCalledAt old (matches None offset bytes) b new = ⊥
   IsCalledAt old (matches (Some number) offset bytes) b new =
       (text : List ℕ) × is_text bytes (Ok text) × IsCalled (Some number) text old (Ok b) new
-  IsCalledAt old (context kind number offset bytes) b new = ⊥
-  IsCalledAt old breaks b new = ⊥
-  IsCalledAt old (binary_data offset) b new = ⊥
-  IsCalledAt old (finishes count binary) b new = ⊥
+  IsCalledAt old _ b new = ⊥
 
   -- the closure was called at these matches, in order, up to the first at which it returned false
   pub record AreCalled (old : F) (calls : List Call) (new : F) : Type 0 where

@@ -2,15 +2,14 @@
 //! first ones are over the definition of those calls alone, the others say what a sink makes of
 //! them.
 ghost use Rattle.std.specs.Str.Lossy.{utf8_lossy};
-ghost use Rattle.grep_searcher.specs.ClosureSinks.{ClosuresAreCalled, ClosuresKeep};
-ghost use Rattle.grep_searcher.specs.ClosureSinks.{IsUtf8Text, IsLossyText, IsWholeText};
+ghost use Rattle.grep_searcher.specs.ClosureSinks.{ClosuresAreCalled, ClosuresKeep, IsUtf8Text};
+ghost use Rattle.grep_searcher.specs.ClosureSinks.{IsLossyText, IsWholeText};
 ghost use Rattle.grep_searcher.specs.CountSinks.{RunsCount, RunsCountAll};
 ghost use Rattle.grep_definitions.specs.FileSearches.{IsFileRead};
-ghost use Rattle.grep_definitions.specs.Parties.{errors_by, facts_by};
 ghost use Rattle.grep_definitions.specs.SinkFolds.{RunsFold, RunsFoldAll, RunsFoldMatches};
-ghost use Rattle.grep_definitions.specs.SinkFolds.{SearchesRun, ReaderSearchesRun};
-ghost use Rattle.grep_definitions.specs.SinkFolds.{SearchesFail, ReaderSearchesFail};
-ghost use Rattle.grep_definitions.specs.SinkFolds.{KnownReadersRun};
+ghost use Rattle.grep_definitions.specs.SinkFolds.{SearchesRun, ReaderSearchesRun, SearchesFail};
+ghost use Rattle.grep_definitions.specs.SinkFolds.{ReaderSearchesFail, KnownReadersRun};
+ghost use Rattle.grep_report.specs.ErrorMakers.{makers_of};
 
 use crate::sink::Sink;
 use crate::sinks::{Bytes, Lossy, UTF8};
@@ -107,8 +106,7 @@ pub fn searches_run<A: Allocator + Copy, M: Matcher, S: Sink>(_: &S)
 where
     S::Error: SinkError<A>,
     ensures { (matcher : M) → SearchesRun S.step
-        (errors_by S.Error.is_message S.Error.is_io S.Error.is_config)
-        (facts_by M.meaning M.fails M.is_lawful M.Error.output matcher) }
+        (makers_of M.Error.output S.Error.makers) (M.facts matcher) }
 {
     unchanged_is_searched();
 }
@@ -119,8 +117,7 @@ pub fn reader_searches_run<A: Allocator + Copy, M: Matcher, R: Source, S: Sink>(
 where
     S::Error: SinkError<A>,
     ensures { (matcher : M) → ReaderSearchesRun S.step
-        (errors_by S.Error.is_message S.Error.is_io S.Error.is_config)
-        (facts_by M.meaning M.fails M.is_lawful M.Error.output matcher)
+        (makers_of M.Error.output S.Error.makers) (M.facts matcher)
         R.remaining R.step }
 {}
 
@@ -131,8 +128,7 @@ pub fn searches_fail<A: Allocator + Copy, M: Matcher, S: Sink>()
 where
     S::Error: SinkError<A>,
     ensures { (matcher : M) → SearchesFail S.step
-        (errors_by S.Error.is_message S.Error.is_io S.Error.is_config)
-        (facts_by M.meaning M.fails M.is_lawful M.Error.output matcher) }
+        (makers_of M.Error.output S.Error.makers) (M.facts matcher) }
 {}
 
 /// Under these conditions an error that a search of a reader ended in is that of a step of the
@@ -141,8 +137,7 @@ pub fn reader_searches_fail<A: Allocator + Copy, M: Matcher, R: Source, S: Sink>
 where
     S::Error: SinkError<A>,
     ensures { (matcher : M) → ReaderSearchesFail S.step
-        (errors_by S.Error.is_message S.Error.is_io S.Error.is_config)
-        (facts_by M.meaning M.fails M.is_lawful M.Error.output matcher)
+        (makers_of M.Error.output S.Error.makers) (M.facts matcher)
         R.remaining R.step }
 {}
 
@@ -153,8 +148,7 @@ pub fn known_readers_run<A: Allocator + Copy, M: Matcher, R: Source, S: Sink>()
 where
     S::Error: SinkError<A>,
     ensures { (matcher : M) → KnownReadersRun S.step
-        (errors_by S.Error.is_message S.Error.is_io S.Error.is_config)
-        (facts_by M.meaning M.fails M.is_lawful M.Error.output matcher)
+        (makers_of M.Error.output S.Error.makers) (M.facts matcher)
         R.remaining R.step }
 {}
 
@@ -164,7 +158,6 @@ pub fn known_files_run<A: Allocator + Copy, M: Matcher, F: Read, S: Sink>()
 where
     S::Error: SinkError<A>,
     ensures { (matcher : M) → KnownReadersRun S.step
-        (errors_by S.Error.is_message S.Error.is_io S.Error.is_config)
-        (facts_by M.meaning M.fails M.is_lawful M.Error.output matcher)
+        (makers_of M.Error.output S.Error.makers) (M.facts matcher)
         F.remaining (IsFileRead F.remaining) }
 {}

@@ -3,7 +3,7 @@
 //!
 //! What a search does is one plan, which grep_definitions defines: `specs/Plans.antt` has the calls
 //! and a sink's run along them, `specs/Reports.antt` and `specs/SelectedLines.antt` which calls they
-//! are, by line and across lines, and `specs/PlannedSearches.antt` what a search does, with its
+//! are, by line and across lines, and `specs/Searches.antt` what a search does, with its
 //! faults.
 #![tactic(auto)]
 

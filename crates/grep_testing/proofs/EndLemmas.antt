@@ -6,9 +6,8 @@ use Rattle.std.specs.List.{slice_get}
 use Rattle.grep_matcher.specs.declared.line_terminator.LineTerminator.{LineTerminator}
 use Rattle.grep_matcher.specs.declared.line_terminator.LineTerminator.TheVariants.{Byte}
 use Rattle.grep_matcher.specs.Lawful.{HoldsPosition}
-use Rattle.grep_matcher.specs.Lines.{line_start}
-use Rattle.grep_matcher.specs.Matching.{Meaning}
-use Rattle.grep_matcher.specs.Terminators.{byte_of}
+use Rattle.grep_matcher.specs.Lines.{line_start, byte_of}
+use Rattle.grep_matcher.specs.Meanings.{Meaning}
 use Rattle.grep_lines.specs.LineLaws.{LinesJoin}
 use Rattle.grep_lines.specs.Positions.{IsLine, IsLineStart}
 use Rattle.grep_definitions.proofs.LineStartLemmas.{line_start-within}

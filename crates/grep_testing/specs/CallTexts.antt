@@ -46,12 +46,8 @@ call_text (finishes count binary) = finish_text count binary
 
 -- whether a call's result says if the search goes on: each but the last
 abbrev pub is_asked : Call → Bool
-is_asked begins = true
-is_asked (matches number offset bytes) = true
-is_asked (context kind number offset bytes) = true
-is_asked breaks = true
-is_asked (binary_data offset) = true
 is_asked (finishes count binary) = false
+is_asked _ = true
 
 -- the text of the calls that were made, how many these were, and at which call, counted from 1,
 -- false or an error is returned, if at any

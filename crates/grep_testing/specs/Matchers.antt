@@ -2,7 +2,7 @@
 use Rattle.std.specs.Prelude.{ℕ, ◌==◌, false, List, length, Option, Some, None, if◌then◌else◌}
 use Rattle.std.specs.Option.{option_or}
 use Rattle.grep_matcher.specs.declared.line_terminator.LineTerminator.{LineTerminator}
-use Rattle.grep_matcher.specs.Matching.{Meaning}
+use Rattle.grep_matcher.specs.Meanings.{Meaning}
 use Rattle.grep_matcher.specs.Literals.{literal_match}
 
 -- some first matches, with a terminator that is named and no byte set

@@ -15,11 +15,11 @@ pub struct CandidatesOnly<M>(pub M);
 impl<M: Matcher> Matcher for CandidatesOnly<M> {
     type Error = &'static str;
 
-    ghost meaning = { λ m. M.meaning m.0 };
-
-    ghost fails = { λ _ _ _. Unit {0} };
-
-    ghost is_lawful = { λ m. M.is_lawful m.0 };
+    ghost facts = { λ m. record {
+      meaning = (M.facts m.0).meaning;
+      fails = λ _ _. Unit {0};
+      is_lawful = (M.facts m.0).is_lawful;
+    } };
 
     fn find(&self, _haystack: &[u8]) -> Result<Option<Match>, &'static str> {
         Err(CANDIDATES_ONLY)
@@ -50,13 +50,13 @@ impl<M: Matcher> Matcher for EveryLine<M> {
     type Error = M::Error;
 
     ghost use Rattle.std.specs.Prelude.{◌≡◌};
-    ghost use Rattle.grep_matcher.specs.Terminators.{byte_of};
+    ghost use Rattle.grep_matcher.specs.Lines.{byte_of};
 
-    ghost meaning = { λ m. M.meaning m.0 };
-
-    ghost fails = { λ m. M.fails m.0 };
-
-    ghost is_lawful = { λ _ terminator. byte_of terminator ≡ 10 };
+    ghost facts = { λ m. record {
+      meaning = (M.facts m.0).meaning;
+      fails = (M.facts m.0).fails;
+      is_lawful = λ terminator. byte_of terminator ≡ 10;
+    } };
 
     fn find(&self, haystack: &[u8]) -> Result<Option<Match>, M::Error> {
         self.0.find(haystack)
@@ -90,11 +90,11 @@ impl Matcher for ConfirmsEnd {
     ghost use Rattle.grep_matcher.specs.declared.line_terminator.LineTerminator.TheVariants.{Byte};
     ghost use Rattle.grep_testing.specs.Matchers.{naming};
 
-    ghost meaning = { λ _. naming (Byte 10) (λ _. None) };
-
-    ghost fails = { λ _ _ _. ⊥ };
-
-    ghost is_lawful = { λ _ _. Unit {0} };
+    ghost facts = { λ _. record {
+      meaning = naming (Byte 10) (λ _. None);
+      fails = λ _ _. ⊥;
+      is_lawful = λ _. Unit {0};
+    } };
 
     fn find(&self, _haystack: &[u8]) -> Result<Option<Match>, io::Error> {
         Ok(None)
@@ -132,11 +132,11 @@ impl Matcher for Contrary {
     ghost use Rattle.grep_matcher.specs.declared.line_terminator.LineTerminator.TheVariants.{Byte};
     ghost use Rattle.grep_testing.specs.Matchers.{naming};
 
-    ghost meaning = { λ m. naming (Byte 10) (λ _. if m.matches then Some (0, 0) else None) };
-
-    ghost fails = { λ _ _ _. ⊥ };
-
-    ghost is_lawful = { λ _ _. ⊥ };
+    ghost facts = { λ m. record {
+      meaning = naming (Byte 10) (λ _. if m.matches then Some (0, 0) else None);
+      fails = λ _ _. ⊥;
+      is_lawful = λ _. ⊥;
+    } };
 
     fn find(&self, _haystack: &[u8]) -> Result<Option<Match>, io::Error> {
         if self.matches {

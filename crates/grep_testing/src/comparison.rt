@@ -11,11 +11,11 @@ use std::{fmt, io};
 pub struct Failed;
 
 impl<A: Allocator> SinkError<A> for Failed {
-    ghost is_message = { λ _ _. Unit {0} };
-
-    ghost is_io = { λ _ _. Unit {0} };
-
-    ghost is_config = { λ _ _. Unit {0} };
+    ghost makers = { record {
+      is_message = λ _ _. Unit {0};
+      is_io = λ _ _. Unit {0};
+      is_config = λ _ _. Unit {0};
+    } };
 
     fn error_message<T: Display + Drop>(_alloc: A, _message: T) -> Failed {
         Failed

@@ -112,12 +112,12 @@ impl<M: Matcher<Error = io::Error>> Matcher for Counting<'_, M> {
     ghost use Rattle.std.specs.Prelude.{◌≡◌, ◌⊎◌, Some};
     ghost use Rattle.std.specs.Option.{option_map};
 
-    ghost meaning = { λ m. M.meaning m.matcher };
-
-    ghost fails = { λ m haystack error.
-        (option_map (λ fault. fault.1) m.fault ≡ Some error) ⊎ M.fails m.matcher haystack error };
-
-    ghost is_lawful = { λ m. M.is_lawful m.matcher };
+    ghost facts = { λ m. record {
+      meaning = (M.facts m.matcher).meaning;
+      fails = λ haystack error. (option_map (λ fault. fault.1) m.fault ≡ Some error)
+          ⊎ (M.facts m.matcher).fails haystack error;
+      is_lawful = (M.facts m.matcher).is_lawful;
+    } };
 
     fn find(&self, haystack: &[u8]) -> io::Result<Option<Match>> {
         self.count(&self.finds, haystack)?;

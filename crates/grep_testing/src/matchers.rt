@@ -15,15 +15,15 @@ pub struct Naming<M> {
 impl<M: Matcher> Matcher for Naming<M> {
     type Error = M::Error;
 
-    ghost use Rattle.grep_matcher.specs.Lawful.{ExcludesTerminator};
+    ghost use Rattle.grep_matcher.specs.Meanings.{ExcludesTerminator};
     ghost use Rattle.grep_testing.specs.Matchers.{naming};
 
-    ghost meaning = { λ m. naming m.terminator (M.meaning m.matcher).first };
-
-    ghost fails = { λ m. M.fails m.matcher };
-
-    ghost is_lawful = { λ m terminator. M.is_lawful m.matcher terminator
-        × ExcludesTerminator terminator (M.meaning m.matcher) };
+    ghost facts = { λ m. record {
+      meaning = naming m.terminator (M.facts m.matcher).meaning.first;
+      fails = (M.facts m.matcher).fails;
+      is_lawful = λ terminator. (M.facts m.matcher).is_lawful terminator
+          × ExcludesTerminator terminator (M.facts m.matcher).meaning;
+    } };
 
     fn find(&self, haystack: &[u8]) -> Result<Option<Match>, M::Error> {
         self.matcher.find(haystack)
@@ -49,14 +49,14 @@ pub struct Empty;
 impl Matcher for Empty {
     type Error = io::Error;
 
-    ghost use Rattle.grep_matcher.specs.Matching.{plain};
+    ghost use Rattle.grep_matcher.specs.FindResults.{plain};
     ghost use Rattle.grep_testing.specs.Matchers.{empty_match};
 
-    ghost meaning = { λ _. plain empty_match };
-
-    ghost fails = { λ _ _ _. ⊥ };
-
-    ghost is_lawful = { λ _ _. Unit {0} };
+    ghost facts = { λ _. record {
+      meaning = plain empty_match;
+      fails = λ _ _. ⊥;
+      is_lawful = λ _. Unit {0};
+    } };
 
     fn find(&self, haystack: &[u8]) -> Result<Option<Match>, io::Error> {
         if haystack.is_empty() {
@@ -82,14 +82,14 @@ pub struct AtEnd;
 impl Matcher for AtEnd {
     type Error = io::Error;
 
-    ghost use Rattle.grep_matcher.specs.Matching.{plain};
+    ghost use Rattle.grep_matcher.specs.FindResults.{plain};
     ghost use Rattle.grep_testing.specs.Matchers.{end_match};
 
-    ghost meaning = { λ _. plain end_match };
-
-    ghost fails = { λ _ _ _. ⊥ };
-
-    ghost is_lawful = { λ _ _. Unit {0} };
+    ghost facts = { λ _. record {
+      meaning = plain end_match;
+      fails = λ _ _. ⊥;
+      is_lawful = λ _. Unit {0};
+    } };
 
     fn find(&self, haystack: &[u8]) -> Result<Option<Match>, io::Error> {
         Ok(Some(Match::zero(haystack.len())))
@@ -117,14 +117,14 @@ pub struct Either {
 impl Matcher for Either {
     type Error = io::Error;
 
-    ghost use Rattle.grep_matcher.specs.Matching.{plain};
+    ghost use Rattle.grep_matcher.specs.FindResults.{plain};
     ghost use Rattle.grep_testing.specs.Matchers.{either_match};
 
-    ghost meaning = { λ m. plain (either_match m.first m.second) };
-
-    ghost fails = { λ _ _ _. ⊥ };
-
-    ghost is_lawful = { λ _ _. Unit {0} };
+    ghost facts = { λ m. record {
+      meaning = plain (either_match m.first m.second);
+      fails = λ _ _. ⊥;
+      is_lawful = λ _. Unit {0};
+    } };
 
     fn find(&self, haystack: &[u8]) -> Result<Option<Match>, io::Error> {
         match self.first.find(haystack)? {
@@ -153,13 +153,13 @@ impl Matcher for Failing {
     type Error = &'static str;
 
     ghost use Rattle.std.specs.Prelude.{Some, Contains};
-    ghost use Rattle.grep_matcher.specs.Matching.{plain};
+    ghost use Rattle.grep_matcher.specs.FindResults.{plain};
 
-    ghost meaning = { λ _. plain (λ _. Some (0, 0)) };
-
-    ghost fails = { λ _ haystack _. Contains haystack 33 };
-
-    ghost is_lawful = { λ _ _. Unit {0} };
+    ghost facts = { λ _. record {
+      meaning = plain (λ _. Some (0, 0));
+      fails = λ haystack _. Contains haystack 33;
+      is_lawful = λ _. Unit {0};
+    } };
 
     fn find(&self, haystack: &[u8]) -> Result<Option<Match>, &'static str> {
         if haystack.contains(&b'!') {

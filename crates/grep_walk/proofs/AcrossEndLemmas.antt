@@ -1,19 +1,18 @@
 -- How the calls of a walk across lines end, against those that are defined.
-use Rattle.std.proofs.Common.{◌≡◌, ℕ, ◌+◌, ◌-◌, ◌≤◌, true, List, ◌++◌, length, drop, inl, inr}
-use Rattle.std.proofs.Common.{refl, sym, ◌∙◌, ap, subst, arith, ⊎_elim, length-take, length-drop, None, if◌then◌else◌}
+use Rattle.std.proofs.Common.{◌≡◌, ℕ, ◌+◌, ◌-◌, ◌≤◌, true, List, ◌++◌, length, drop, inl, inr, refl, sym, ◌∙◌, ap}
+use Rattle.std.proofs.Common.{subst, arith, ⊎_elim, length-take, length-drop, None, if◌then◌else◌}
 use Rattle.std.proofs.Math.Bool.{and-false}
 use Rattle.std.proofs.lemmas.Bool.{cases_lt, cases_Bool}
-use Rattle.std.specs.Prelude.{Ok, Err, false, not, ◌&&◌, All}
-use Rattle.grep_lines.specs.Positions.{slice}
+use Rattle.std.specs.Prelude.{Ok, Err, false, not, ◌&&◌, All, slice_range}
 use Rattle.grep_lines.proofs.LawLemmas.{AreLines-lines}
-use Rattle.grep_matcher.specs.Lines.{lines}
-use Rattle.grep_matcher.specs.Matching.{Meaning}
-use Rattle.grep_matcher.specs.Terminators.{byte_of}
+use Rattle.grep_matcher.specs.Lines.{lines, byte_of}
+use Rattle.grep_matcher.specs.Meanings.{Meaning, MatcherFacts}
 use Rattle.grep_definitions.specs.AcrossLines.{byte_count, turns, turns_at}
-use Rattle.grep_definitions.specs.AcrossQuestions.{IsAskedAt, match_limit}
-use Rattle.grep_definitions.specs.Below.{is_at, is_below, joined_from}
+use Rattle.grep_definitions.specs.Asking.{IsAskedAt, match_limit}
+use Rattle.grep_definitions.specs.Reports.{is_at, is_below, joined_from}
 use Rattle.grep_definitions.specs.LineSearch.{start}
-use Rattle.grep_definitions.specs.Searches.{ErrorMakers, MatcherFacts, IsFaultIn, of_sink, of_matcher}
+use Rattle.grep_report.specs.ErrorMakers.{ErrorMakers}
+use Rattle.grep_definitions.specs.ContentsSearches.{IsFaultIn, of_sink, of_matcher}
 use Rattle.grep_definitions.specs.SearchTurns.{calls_across}
 use Rattle.grep_definitions.specs.Settings.{Settings}
 use Rattle.grep_definitions.specs.Plans.{Planned, begins, Steps, Outcome, all_true, stopped, failed, AreMade, counted}
@@ -115,13 +114,13 @@ module _ (k : Settings) (meaning : Meaning) (bytes : List ℕ) where
         → AreMade step k first (front w.next_unreported) all_true new → IsCounted q all_true new
     counted-past w p q same across next end plain none new reported =
         let past = steps.across-past k meaning bytes w p q same across next plain none in
-        let size : w.offset + length (slice bytes p q) ≡ q =
+        let size : w.offset + length (slice_range bytes p q) ≡ q =
         omega (arith, same, next.from, next.within, length-take (q - p) (drop p bytes), length-drop p bytes) in
         subst (λ count. IsCounted count all_true new) size
-        (counted-end (skip_lines k w (slice bytes p q)) new past (size ∙ end) reported)
+        (counted-end (skip_lines k w (slice_range bytes p q)) new past (size ∙ end) reported)
 
 -- how it ends in a fault
-module _ {State E F : Type 0} (step : Steps State E) (errors : ErrorMakers E) (matcher : MatcherFacts F) (k : Settings)
+module _ {State E F : Type 0} (step : Steps State E) (errors : ErrorMakers F E) (matcher : MatcherFacts F) (k : Settings)
     (bytes : List ℕ) (first : State) where
   abbrev IsFaulty : E → State → Type 0
   IsFaulty e new = IsFaultIn step errors matcher (calls_across k matcher.meaning) k bytes first e new
@@ -148,7 +147,7 @@ module _ {State E F : Type 0} (step : Steps State E) (errors : ErrorMakers E) (m
   pub fault-matcher : (w : Walk) (now : State) → IsAcross k matcher.meaning bytes w
       → AreMade step k first (turns_before k matcher.meaning bytes w.next_unreported) all_true now
       → (haystack : List ℕ) (error : F) (e : E) → IsAskedAt k matcher.meaning bytes w.line haystack
-      → is_done k w ≡ false → matcher.fails haystack error → errors.is_message (matcher.text_of error) e
+      → is_done k w ≡ false → matcher.fails haystack error → errors.is_message error e
       → IsFaulty e now
   fault-matcher w now across reported haystack error e asked goes fails message =
       of_matcher haystack error (turns_before k matcher.meaning bytes w.next_unreported)
@@ -168,7 +167,7 @@ module _ {State E F : Type 0} (step : Steps State E) (errors : ErrorMakers E) (m
   -- the first question
   pub fault-first : (now : State) → step first k begins (Ok true) now → (haystack : List ℕ) (error : F) (e : E)
       → IsAskedAt k matcher.meaning bytes 0 haystack → matcher.fails haystack error
-      → errors.is_message (matcher.text_of error) e → IsFaulty e now
+      → errors.is_message error e → IsFaulty e now
   fault-first now begun haystack error e asked fails message =
       fault-matcher start now (steps.across-start k matcher.meaning bytes)
       (reported-begin k matcher.meaning bytes step first now begun) haystack error e asked goes fails message

@@ -1,18 +1,18 @@
 -- A walk across lines, from line to line and from unit to unit.
 use Rattle.std.proofs.Common.{◌≡◌, ℕ, zero, suc, ◌+◌, ◌-◌, ◌<◌, ◌≤◌, Bool, true, false, not, ◌&&◌, List, [], ◌++◌}
-use Rattle.std.proofs.Common.{length, drop}
-use Rattle.std.proofs.Common.{refl, sym, ◌∙◌, ap, subst, arith, ⊎_elim, if◌then◌else◌, length-take, length-drop}
+use Rattle.std.proofs.Common.{length, drop, refl, sym, ◌∙◌, ap, subst, arith, ⊎_elim, if◌then◌else◌, length-take}
+use Rattle.std.proofs.Common.{length-drop}
 use Rattle.std.proofs.Math.Path.{ap₂}
 use Rattle.std.proofs.lemmas.Bool.{cases_Bool}
 use Rattle.std.proofs.lemmas.List.Elements.{All-weaker}
-use Rattle.std.specs.Prelude.{nat_lt, All}
-use Rattle.grep_matcher.specs.Lines.{lines, line_start}
-use Rattle.grep_matcher.specs.Matching.{Meaning}
-use Rattle.grep_matcher.specs.Terminators.{byte_of}
-use Rattle.grep_lines.specs.Positions.{slice, IsLine, IsLineStart}
+use Rattle.std.specs.Prelude.{nat_lt, All, slice_range}
+use Rattle.grep_matcher.specs.Lines.{lines, line_start, byte_of}
+use Rattle.grep_matcher.specs.Meanings.{Meaning}
+use Rattle.grep_lines.specs.Positions.{IsLine, IsLineStart}
 use Rattle.grep_report.specs.declared.sink_context.SinkContextKind.TheVariants.{After, Other}
-use Rattle.grep_definitions.specs.AcrossLines.{is_free, is_selected}
-use Rattle.grep_definitions.specs.Below.{count_below, is_at, is_below}
+use Rattle.grep_definitions.specs.SelectedLines.{is_free}
+use Rattle.grep_definitions.specs.AcrossLines.{is_selected}
+use Rattle.grep_definitions.specs.Reports.{count_below, is_at, is_below}
 use Rattle.grep_definitions.specs.LineTurns.{context_turns, match_turns, number_of, pending_turns}
 use Rattle.grep_definitions.specs.Settings.{Settings}
 use Rattle.grep_definitions.specs.Plans.{Planned}
@@ -114,7 +114,7 @@ module _ (k : Settings) (meaning : Meaning) (bytes : List ℕ) where
 
   module _ (w : Walk) (p q : ℕ) (same : w.offset ≡ p) (across : IsAcross k meaning bytes w) where
     abbrev here : List ℕ
-    here = slice bytes p q
+    here = slice_range bytes p q
 
     -- the calls of the line, if it isn't chosen, and those of the unit
     abbrev line-turns : ℕ → ℕ → List ℕ → List Planned
@@ -177,11 +177,11 @@ module _ (k : Settings) (meaning : Meaning) (bytes : List ℕ) where
           calls.front-missed k meaning bytes bare w.next_unreported w.line w.after_context_left across.near line.listed
           missed
           ∙ ap (λ turns. front w.next_unreported ++ turns)
-          (ap (λ o. line-turns o (starts (w.line + 1)) (slice bytes (starts w.line) (starts (w.line + 1))))
+          (ap (λ o. line-turns o (starts (w.line + 1)) (slice_range bytes (starts w.line) (starts (w.line + 1))))
           (line.begins ∙ sym same)
-          ∙ (ap (λ e. line-turns w.offset e (slice bytes (starts w.line) (starts (w.line + 1))))
+          ∙ (ap (λ e. line-turns w.offset e (slice_range bytes (starts w.line) (starts (w.line + 1))))
           (start-after k meaning bytes w p q same line)
-          ∙ ap₂ (λ a b. line-turns w.offset (line_end w here) (slice bytes a b)) line.begins line.ends))
+          ∙ ap₂ (λ a b. line-turns w.offset (line_end w here) (slice_range bytes a b)) line.begins line.ends))
 
       pub across-missed : IsAcross k meaning bytes (after_line k w here false)
       across-missed = record {
@@ -233,11 +233,11 @@ module _ (k : Settings) (meaning : Meaning) (bytes : List ℕ) where
           chosen.some
           chosen.at.listed chosen.hits chosen.closed chosen.single chosen.first
           ∙ ap (λ turns. front w.next_unreported ++ turns)
-          (ap (λ e. unit-turns (starts w.line) e (slice bytes (starts w.line) (starts chosen.last)))
+          (ap (λ e. unit-turns (starts w.line) e (slice_range bytes (starts w.line) (starts chosen.last)))
           (chosen.at.begins ∙ sym unit-end)
-          ∙ (ap (λ o. unit-turns o (line_end w here) (slice bytes (starts w.line) (starts chosen.last)))
+          ∙ (ap (λ o. unit-turns o (line_end w here) (slice_range bytes (starts w.line) (starts chosen.last)))
           across.placed.at.begins
-          ∙ ap₂ (λ a b. unit-turns w.offset (line_end w here) (slice bytes a b)) (across.placed.at.begins ∙ same)
+          ∙ ap₂ (λ a b. unit-turns w.offset (line_end w here) (slice_range bytes a b)) (across.placed.at.begins ∙ same)
           chosen.at.begins)))
 
       across-to : IsAcross k meaning bytes (walk-to chosen.last)

@@ -1,13 +1,14 @@
 -- What a walk across lines comes to after a line that isn't chosen, or after a unit.
-use Rattle.std.proofs.Common.{◌≡◌, ℕ, ◌-◌, ◌<◌, ◌≤◌, ◌==◌, Bool, true, false, ◌&&◌, List, [], ◌++◌, length, drop}
-use Rattle.std.proofs.Common.{refl, sym, ◌∙◌, ap, subst, arith, ⊎_elim, length-take, length-drop}
+use Rattle.std.proofs.Common.{◌≡◌, ℕ, ◌-◌, ◌<◌, ◌≤◌, ◌==◌, Bool, true, false, ◌&&◌, List, [], ◌++◌, length, drop, refl}
+use Rattle.std.proofs.Common.{sym, ◌∙◌, ap, subst, arith, ⊎_elim, length-take, length-drop}
 use Rattle.std.proofs.lemmas.Bool.{cases_Bool, cases_lt, eq-eqb, eqb-true}
 use Rattle.std.proofs.Math.Bool.{and-false}
-use Rattle.grep_matcher.specs.Matching.{Meaning}
-use Rattle.grep_matcher.specs.Terminators.{byte_of}
-use Rattle.grep_lines.specs.Positions.{slice, IsLine, IsLineStart}
-use Rattle.grep_lines.proofs.WalkLemmas.{IsAt-start}
-use Rattle.grep_definitions.specs.Below.{is_at}
+use Rattle.grep_matcher.specs.Meanings.{Meaning}
+use Rattle.grep_matcher.specs.Lines.{byte_of}
+use Rattle.std.specs.Prelude.{slice_range}
+use Rattle.grep_lines.specs.Positions.{IsLine, IsLineStart}
+use Rattle.grep_lines.proofs.LineStepLemmas.{IsAt-start}
+use Rattle.grep_definitions.specs.Reports.{is_at}
 use Rattle.grep_definitions.specs.Settings.{Settings}
 use Rattle.grep_definitions.proofs.BoolLemmas.{clash}
 use Rattle.grep_walk.specs.declared.blocks.Blocks.{Blocks}
@@ -51,12 +52,12 @@ module _ (k : Settings) (meaning : Meaning) (bytes : List ℕ) where
 
   -- the walk after it, its calls, and the unit that is next
   pub record IsTurned (start end : ℕ) (w : Walk) (unit : ℕ × ℕ) (blocks : Blocks) (chosen : Bool) : Type 0 where
-    pub across : IsAcross k meaning bytes (after_lines k w (slice bytes start end) chosen)
-    pub front : turns_before k meaning bytes (after_lines k w (slice bytes start end) chosen).next_unreported
-        ≡ turns_before k meaning bytes w.next_unreported ++ line_turns k bytes w (slice bytes start end) chosen false
-    pub ready : IsReady k meaning bytes end (after_lines k w (slice bytes start end) chosen) unit blocks
-    pub offset : (after_lines k w (slice bytes start end) chosen).offset ≡ end
-    pub end_is : line_end w (slice bytes start end) ≡ end
+    pub across : IsAcross k meaning bytes (after_lines k w (slice_range bytes start end) chosen)
+    pub front : turns_before k meaning bytes (after_lines k w (slice_range bytes start end) chosen).next_unreported
+        ≡ turns_before k meaning bytes w.next_unreported ++ line_turns k bytes w (slice_range bytes start end) chosen false
+    pub ready : IsReady k meaning bytes end (after_lines k w (slice_range bytes start end) chosen) unit blocks
+    pub offset : (after_lines k w (slice_range bytes start end) chosen).offset ≡ end
+    pub end_is : line_end w (slice_range bytes start end) ≡ end
 
   module _ (bare : Bare) (start end next : ℕ) (w : Walk) (unit : ℕ × ℕ) (blocks : Blocks)
       (across : IsAcross k meaning bytes w)
@@ -69,7 +70,7 @@ module _ (k : Settings) (meaning : Meaning) (bytes : List ℕ) where
     some : start < length bytes
     some = omega (arith, below, within)
 
-    size : line_end w (slice bytes start end) ≡ end
+    size : line_end w (slice_range bytes start end) ≡ end
     size = omega (arith, same, below, within, length-take (end - start) (drop start bytes), length-drop start bytes)
 
     open-chosen : IsChosen k meaning bytes w end → is_done k w ≡ false

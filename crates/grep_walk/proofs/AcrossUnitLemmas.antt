@@ -1,19 +1,17 @@
 -- The unit of lines that a walk across lines comes to, the lines that aren't chosen before it, and the lines that are.
 use Rattle.std.proofs.Common.{◌≡◌, ℕ, ◌+◌, ◌-◌, ◌<◌, ◌≤◌, ◌==◌, Bool, true, false, not, ◌&&◌, List, length}
-use Rattle.std.proofs.Common.{if◌then◌else◌, None}
-use Rattle.std.proofs.Common.{refl, sym, ◌∙◌, ap, subst, arith, ⊎_elim}
+use Rattle.std.proofs.Common.{if◌then◌else◌, None, refl, sym, ◌∙◌, ap, subst, arith, ⊎_elim}
 use Rattle.std.proofs.Math.Bool.{and-false}
 use Rattle.std.proofs.lemmas.Bool.{lt-ltb, le-ltb, ltb-true, ltb-false, eq-eqb, cases_Bool, cases_lt}
 use Rattle.std.specs.Prelude.{nat_lt, IfOk, Result, Ok, Err}
-use Rattle.grep_matcher.specs.Lines.{lines, line_start}
-use Rattle.grep_matcher.specs.Matching.{Meaning}
-use Rattle.grep_matcher.specs.Terminators.{byte_of}
+use Rattle.grep_matcher.specs.Lines.{lines, line_start, byte_of}
+use Rattle.grep_matcher.specs.Meanings.{Meaning}
 use Rattle.grep_lines.specs.Positions.{IsLine, IsLineStart}
 use Rattle.grep_lines.proofs.LawLemmas.{AreLines-lines}
-use Rattle.grep_definitions.specs.AcrossLines.{is_free, is_selected, is_touched, continues_unit}
-use Rattle.grep_definitions.specs.Below.{count_below, is_at, is_below}
+use Rattle.grep_definitions.specs.SelectedLines.{is_free, is_touched, all_matches, matches_up_to}
+use Rattle.grep_definitions.specs.AcrossLines.{is_selected, continues_unit}
+use Rattle.grep_definitions.specs.Reports.{count_below, is_at, is_below}
 use Rattle.grep_definitions.specs.Settings.{Settings}
-use Rattle.grep_definitions.specs.SuccessiveMatches.{all_matches, matches_up_to}
 use Rattle.grep_definitions.proofs.BelowLemmas.{count_below-le, is_below-le}
 use Rattle.grep_definitions.proofs.BoolLemmas.{and-both, clash}
 use Rattle.grep_definitions.proofs.LineStartLemmas.{line_start-ascends, line_start-last}

@@ -1,15 +1,13 @@
 -- The lines before a chosen one, reported one after another.
 use Rattle.std.proofs.Common.{length, ◌≡◌, ℕ, ◌+◌, ◌-◌, ◌<◌, ◌≤◌, min, List, [], ◌++◌, take, refl, sym, ◌∙◌, ap, subst}
-use Rattle.std.proofs.Common.{arith}
-use Rattle.std.proofs.Common.{if◌then◌else◌, Some, None}
+use Rattle.std.proofs.Common.{arith, if◌then◌else◌, Some, None}
 use Rattle.std.proofs.lemmas.Bool.{lt-leb}
-use Rattle.std.specs.Prelude.{count_by, ◌==◌}
-use Rattle.grep_matcher.specs.Terminators.{byte_of}
-use Rattle.grep_matcher.specs.Lines.{lines, line_start}
-use Rattle.grep_lines.specs.Positions.{slice, IsLine, IsLineStart}
+use Rattle.std.specs.Prelude.{count_by, ◌==◌, slice_range}
+use Rattle.grep_matcher.specs.Lines.{byte_of, lines, line_start}
+use Rattle.grep_lines.specs.Positions.{IsLine, IsLineStart}
 use Rattle.grep_definitions.specs.Settings.{Settings}
 use Rattle.grep_definitions.specs.Plans.{Planned, Steps, Outcome, all_true, AreMade}
-use Rattle.grep_definitions.specs.Below.{joined_from}
+use Rattle.grep_definitions.specs.Reports.{joined_from}
 use Rattle.grep_definitions.specs.LineTurns.{before_turns, listed_turns, pending_turns, listed_number, number_of}
 use Rattle.grep_definitions.proofs.BelowLemmas.{joined_from-add, joined_from-more, joined_from-none}
 use Rattle.grep_definitions.proofs.SinkRunLemmas.{AreMade-append, AreMade-ended}
@@ -27,13 +25,13 @@ module _ (k : Settings) (bytes : List ℕ) (v i end : ℕ) where
 
   -- a line as the walk sees it
   here-is : (q start next : ℕ) → IsLine t bytes q start next
-      → before_turns k v q i (number_of k q) start end (slice bytes start next) ≡ at_line q
+      → before_turns k v q i (number_of k q) start end (slice_range bytes start next) ≡ at_line q
   here-is q start next line =
       let number : listed_number k bytes q ≡ number_of k q =
       ap (λ p. if k.line_number then Some (count_by (λ b. b == t) (take p bytes) + 1) else None) line.begins
       ∙ ap (λ c. if k.line_number then Some (c + 1) else None) line.number in
-      ap (λ m. before_turns k v q i m start end (slice bytes start next)) (sym number)
-      ∙ (ap (λ p. before_turns k v q i (listed_number k bytes q) p end (slice bytes start next)) (sym line.begins)
+      ap (λ m. before_turns k v q i m start end (slice_range bytes start next)) (sym number)
+      ∙ (ap (λ p. before_turns k v q i (listed_number k bytes q) p end (slice_range bytes start next)) (sym line.begins)
       ∙ ap (λ l. before_turns k v q i (listed_number k bytes q) (line_start t bytes q) end l) (sym line.line))
 
   -- the lines that the context doesn't reach have no calls
@@ -62,7 +60,7 @@ module _ (k : Settings) (bytes : List ℕ) (v i end : ℕ) where
       subst (λ turns. AreMade step k old turns all_true old) (sym (pending-none low none)) (refl, refl)
 
   module _ {S E : Type 0} (step : Steps S E) (old mid new : S) (first q start next offset : ℕ)
-      (line : IsLine t bytes q start next) (own : List ℕ) (bytes_same : slice bytes start next ≡ own)
+      (line : IsLine t bytes q start next) (own : List ℕ) (bytes_same : slice_range bytes start next ≡ own)
       (same : offset ≡ start) (low : first ≤ q)
       (before : AreMade step k old (pending_turns k bytes v i end first (q - first)) all_true mid)
       (outcome : Outcome E)
@@ -108,14 +106,14 @@ module _ (k : Settings) (gone window input : List ℕ) (w : Walk) (start : ℕ)
     mid)
     (outcome : Outcome E)
     (here : AreMade step k mid
-    (before_turns k w.next_unreported q w.line (number_of k q) offset end (slice window p next)) outcome new) where
+    (before_turns k w.next_unreported q w.line (number_of k q) offset end (slice_range window p next)) outcome new) where
   own_line : IsLine (byte_of k.line_terminator) window (q - length (lines (byte_of k.line_terminator) gone)) p next
   own_line = line (q - length (lines (byte_of k.line_terminator) gone)) at.begins
 
   shown_line : IsLine (byte_of k.line_terminator) input q (length gone + p) (length gone + next)
   shown_line = windows.input-line k gone window input q p next at line inside.shown
 
-  shown_bytes : slice input (length gone + p) (length gone + next) ≡ slice window p next
+  shown_bytes : slice_range input (length gone + p) (length gone + next) ≡ slice_range window p next
   shown_bytes = windows.slice-in gone window inside.shown.after input inside.shown.whole p next
       (omega (arith, own_line.above)) own_line.within
 
@@ -123,13 +121,13 @@ module _ (k : Settings) (gone window input : List ℕ) (w : Walk) (start : ℕ)
       outcome new
   window-more = reported-more k input w.next_unreported w.line end step old mid new first q (length gone + p)
       (length gone + next) offset
-      shown_line (slice window p next) shown_bytes (omega (arith, same, inside.at)) low before outcome here
+      shown_line (slice_range window p next) shown_bytes (omega (arith, same, inside.at)) low before outcome here
 
   pub window-ended : q < w.line → (outcome ≡ all_true → ⊥)
       → AreMade step k old (pending_turns k input w.next_unreported w.line end first (w.line - first)) outcome new
   window-ended = reported-ended k input w.next_unreported w.line end step old mid new first q (length gone + p)
       (length gone + next) offset
-      shown_line (slice window p next) shown_bytes (omega (arith, same, inside.at)) low before outcome here
+      shown_line (slice_range window p next) shown_bytes (omega (arith, same, inside.at)) low before outcome here
 
 -- a window that has the lines before a walk does not end among them
 pub window-short : (k : Settings) (gone window input : List ℕ) (w : Walk) (start : ℕ)

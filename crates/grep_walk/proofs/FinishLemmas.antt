@@ -5,7 +5,9 @@ use Rattle.grep_definitions.specs.Plans.{Planned, finishes, Steps, Outcome, all_
 use Rattle.grep_definitions.specs.Plans.{IsRun, Finish, finish_result, counted}
 use Rattle.grep_definitions.specs.SinkRuns.{plan_of}
 use Rattle.grep_definitions.specs.SearchTurns.{search_turns, search_byte_count}
-use Rattle.grep_definitions.specs.Searches.{ErrorMakers, MatcherFacts, IsSearchedAlong, of_sink}
+use Rattle.grep_report.specs.ErrorMakers.{ErrorMakers}
+use Rattle.grep_matcher.specs.Meanings.{MatcherFacts}
+use Rattle.grep_definitions.specs.ContentsSearches.{IsSearchedAlong, of_sink}
 use Rattle.grep_walk.specs.Walks.{Counted, IsCount}
 
 module _ {S E : Type 0} (step : Steps S E) (k : Settings) (old : S) (turns : List Planned) (whole : ℕ) where
@@ -31,7 +33,7 @@ module _ {S E : Type 0} (step : Steps S E) (k : Settings) (old : S) (turns : Lis
   }
 
 -- and so the search, whatever `finish` returned
-pub searched-finish : {S E F : Type 0} (step : Steps S E) (errors : ErrorMakers E) (matcher : MatcherFacts F)
+pub searched-finish : {S E F : Type 0} (step : Steps S E) (errors : ErrorMakers F E) (matcher : MatcherFacts F)
     (k : Settings) (bytes : List ℕ) (old : S) (count : ℕ) (outcome : Outcome E) (mid : S)
     (result : Result (Unit {0}) E) (new : S)
     → Counted step k old (search_turns k matcher.meaning bytes) (search_byte_count k matcher.meaning bytes) count

@@ -1,17 +1,18 @@
 -- Which matches were found across lines, and which are still to be found, from one match to the next.
 use Rattle.std.proofs.Common.{◌≡◌, ℕ, ◌+◌, ◌-◌, ◌<◌, true, List, [], ◌∷◌, ◌++◌, length, drop, refl, sym, ◌∙◌, ap, arith}
-use Rattle.std.proofs.Common.{append_assoc, length-append, length-drop, ap₂}
-use Rattle.std.proofs.Common.{Option, Some, None}
+use Rattle.std.proofs.Common.{append_assoc, length-append, length-drop, ap₂, Option, Some, None}
 use Rattle.std.proofs.lemmas.Bool.{lt-ltb, ltb-true}
 use Rattle.std.specs.Option.{option_map}
-use Rattle.grep_matcher.specs.Matching.{Meaning, IsWithin}
-use Rattle.grep_definitions.specs.Below.{is_below}
-use Rattle.grep_definitions.specs.AcrossQuestions.{IsAskedAfter, match_limit}
+use Rattle.grep_matcher.specs.Meanings.{Meaning}
+use Rattle.grep_matcher.specs.FindResults.{IsWithin}
+use Rattle.grep_definitions.specs.Reports.{is_below}
+use Rattle.grep_definitions.specs.Asking.{IsAskedAfter, match_limit}
 use Rattle.grep_definitions.specs.Settings.{Settings}
-use Rattle.grep_definitions.specs.SuccessiveMatches.{position_after, match_from, matches_left}
+use Rattle.grep_definitions.specs.SelectedLines.{position_after, match_from}
+use Rattle.grep_definitions.specs.SuccessiveMatches.{matches_left}
 use Rattle.grep_definitions.proofs.SuccessiveMatchLemmas.{matches_left-start, matches_left-found, matches_left-none}
-use Rattle.grep_definitions.proofs.SuccessiveMatchLemmas.{matches_left-end, position_past-last}
-use Rattle.grep_definitions.proofs.SuccessiveMatchLemmas.{match_from-found, match_from-missed}
+use Rattle.grep_definitions.proofs.SuccessiveMatchLemmas.{matches_left-end, position_past-last, match_from-found}
+use Rattle.grep_definitions.proofs.SuccessiveMatchLemmas.{match_from-missed}
 use Rattle.grep_walk.specs.declared.blocks.Blocks.{Blocks}
 use Rattle.grep_walk.specs.Units.{AreFound, IsFound, HasNoMore}
 

@@ -11,14 +11,14 @@ use Rattle.std.specs.List.{concat}
 use Rattle.grep_matcher.specs.declared.line_match_kind.LineMatchKind.{LineMatchKind}
 use Rattle.grep_matcher.specs.declared.line_terminator.LineTerminator.{LineTerminator}
 use Rattle.grep_matcher.specs.Lawful.{matches_at, HoldsPosition, IsLawfulResult, position_of, is_confirmed}
-use Rattle.grep_matcher.specs.Lines.{lines, line_start, strip}
-use Rattle.grep_matcher.specs.Matching.{Meaning}
-use Rattle.grep_matcher.specs.Terminators.{byte_of}
+use Rattle.grep_matcher.specs.Lines.{lines, line_start, strip, byte_of}
+use Rattle.grep_matcher.specs.Meanings.{Meaning}
 use Rattle.grep_lines.specs.Blocks.{lines_before, block_start, block_end}
-use Rattle.grep_lines.specs.Positions.{slice, IsLine, IsLineStart}
+use Rattle.std.specs.Prelude.{slice_range}
+use Rattle.grep_lines.specs.Positions.{IsLine, IsLineStart}
 use Rattle.grep_lines.proofs.LawLemmas.{AreLines-lines}
 use Rattle.grep_lines.proofs.LineLemmas.{count, lines-append, lines-closed, lines-unclosed}
-use Rattle.grep_lines.proofs.WalkLemmas.{IsAt-start, IsStep-line, lines-at-most, lines-numbered}
+use Rattle.grep_lines.proofs.LineStepLemmas.{IsAt-start, IsStep-line, lines-at-most, lines-numbered}
 use Rattle.grep_definitions.specs.LineTurns.{matches_line}
 use Rattle.grep_definitions.specs.Settings.{Settings}
 use Rattle.grep_definitions.proofs.LineStartLemmas.{line_start-last}
@@ -144,7 +144,7 @@ module _ (t : ℕ) (bytes : List ℕ) (start first : ℕ) (here : IsLineStart t 
   record IsLater (p q j : ℕ) : Type 0 where
     pub listed : j < length (lines t rest)
     pub begins : p ≡ start + line_start t rest j
-    pub line : get_or (lines t rest) j [] ≡ slice bytes p q
+    pub line : get_or (lines t rest) j [] ≡ slice_range bytes p q
 
   -- a line of the bytes that begins at the start or later is one of them
   IsLater-line : (i p q : ℕ) → IsLine t bytes i p q → start ≤ p → IsLater p q (i - first)
@@ -179,7 +179,7 @@ module _ (k : Settings) (meaning : Meaning) (window : List ℕ) (start first : �
 
   -- a line of the window matches if it does among the lines of those bytes
   matches-later : (p q j : ℕ) → IsLater t window start first here p q j
-      → matches_line k meaning (slice window p q) ≡ matches_at k.line_terminator meaning asked j
+      → matches_line k meaning (slice_range window p q) ≡ matches_at k.line_terminator meaning asked j
   matches-later p q j inside = ap (λ l. is_some (meaning.first (strip k.line_terminator l))) (sym inside.line)
 
   -- if nothing was found, no line matches
@@ -210,7 +210,7 @@ module _ (k : Settings) (meaning : Meaning) (window : List ℕ) (start first : �
 
     -- no line before it matches
     miss-before : (i p q : ℕ) → IsLine t window i p q → start ≤ p → p < candidate
-        → matches_line k meaning (slice window p q) ≡ false
+        → matches_line k meaning (slice_range window p q) ≡ false
     miss-before i p q own after early =
         let inside = IsLater-line t window start first here i p q own after in
         let before : i - first < located = ⊎_elim

@@ -1,23 +1,21 @@
 -- A walk that skips lines which don't match.
 use Rattle.std.proofs.Common.{◌≡◌, ℕ, zero, suc, ◌+◌, ◌-◌, ◌<◌, ◌≤◌, Bool, true, false, not, ◌&&◌, ◌||◌, ◌==◌}
-use Rattle.std.proofs.Common.{if◌then◌else◌}
-use Rattle.std.proofs.Common.{List, [], length, drop, Some, None, refl, sym, ◌∙◌, ap, subst, arith, ⊎_elim}
-use Rattle.std.proofs.Common.{length-take, length-drop}
+use Rattle.std.proofs.Common.{if◌then◌else◌, List, [], length, drop, Some, None, refl, sym, ◌∙◌, ap, subst, arith}
+use Rattle.std.proofs.Common.{⊎_elim, length-take, length-drop}
 use Rattle.std.proofs.lemmas.Bool.{cases_lt, cases_Bool, eqb-true, ltb-true, ltb-false}
-use Rattle.std.specs.Prelude.{nat_lt, IfSome}
+use Rattle.std.specs.Prelude.{nat_lt, IfSome, slice_range}
 use Rattle.grep_lines.specs.LineLaws.{LinesJoin, LinesAppend}
-use Rattle.grep_lines.specs.Positions.{slice, IsLine, IsLineStart}
-use Rattle.grep_matcher.specs.Lines.{lines, line_start}
-use Rattle.grep_matcher.specs.Matching.{Meaning}
-use Rattle.grep_matcher.specs.Terminators.{byte_of}
+use Rattle.grep_lines.specs.Positions.{IsLine, IsLineStart}
+use Rattle.grep_matcher.specs.Lines.{lines, line_start, byte_of}
+use Rattle.grep_matcher.specs.Meanings.{Meaning, MatcherFacts}
 use Rattle.grep_report.specs.declared.sink_context.SinkContextKind.TheVariants.{After, Other}
 use Rattle.grep_definitions.proofs.BoolLemmas.{both_true, not_false}
 use Rattle.grep_definitions.proofs.LineStartLemmas.{line_start-last}
 use Rattle.grep_definitions.proofs.TurnEndLemmas.{line_start-le}
-use Rattle.grep_definitions.specs.Below.{is_at}
-use Rattle.grep_definitions.specs.LineSearch.{differ}
+use Rattle.grep_definitions.specs.Reports.{is_at}
+use Rattle.grep_definitions.specs.SelectedLines.{differ}
 use Rattle.grep_definitions.specs.LineTurns.{context_turns, matches_line, number_of}
-use Rattle.grep_definitions.specs.Searches.{ErrorMakers, MatcherFacts}
+use Rattle.grep_report.specs.ErrorMakers.{ErrorMakers}
 use Rattle.grep_walk.specs.WalkFaults.{IsWalkFault}
 use Rattle.grep_definitions.specs.Settings.{Settings}
 use Rattle.grep_definitions.specs.Plans.{Steps, all_true, AreMade}
@@ -94,17 +92,17 @@ module _ (k : Settings) (meaning : Meaning) (window : List ℕ) where
   -- and is so of the line there
   pub known-line : (a : Ahead) (i p q : ℕ) → IsKnown k meaning window p a
       → IsLine (byte_of k.line_terminator) window i p q
-      → IfSome (known_at a p) (λ matches. matches ≡ matches_line k meaning (slice window p q))
+      → IfSome (known_at a p) (λ matches. matches ≡ matches_line k meaning (slice_range window p q))
   known-line a i p q known line = go (nat_lt p a.candidate) (nat_lt p a.match_end) refl refl
     where
       go : (b c : Bool) → nat_lt p a.candidate ≡ b → nat_lt p a.match_end ≡ c
           → IfSome (if b then Some false else (if c then Some true else None))
-          (λ m. m ≡ matches_line k meaning (slice window p q))
+          (λ m. m ≡ matches_line k meaning (slice_range window p q))
       go true c is_b is_c = sym (known.miss i p q line (omega arith) (ltb-true p a.candidate is_b))
       go false true is_b is_c = sym (known.hit i p q line (ltb-false p a.candidate is_b) (ltb-true p a.match_end is_c))
       go false false is_b is_c = tt
 
-module _ {S E F : Type 0} (join : LinesJoin) (append : LinesAppend) (step : Steps S E) (errors : ErrorMakers E)
+module _ {S E F : Type 0} (join : LinesJoin) (append : LinesAppend) (step : Steps S E) (errors : ErrorMakers F E)
     (matcher : MatcherFacts F) (k : Settings) (gone window input : List ℕ) (first : Origin S) (now : S)
     (bare : Bare k matcher.meaning input) where
   abbrev t : ℕ
@@ -115,7 +113,7 @@ module _ {S E F : Type 0} (join : LinesJoin) (append : LinesAppend) (step : Step
 
   -- the lines from one position up to another don't match
   abbrev Misses : ℕ → ℕ → Type 0
-  Misses p q = (i a b : ℕ) → IsLine t window i a b → p ≤ a → a < q → matches_line k matcher.meaning (slice window a b)
+  Misses p q = (i a b : ℕ) → IsLine t window i a b → p ≤ a → a < q → matches_line k matcher.meaning (slice_range window a b)
       ≡ false
 
   abbrev moved : Walk → ℕ → ℕ → Walk
@@ -142,7 +140,7 @@ module _ {S E F : Type 0} (join : LinesJoin) (append : LinesAppend) (step : Step
 
   -- the matcher's error for the lines from there on
   pub failed-ahead : (w : Walk) (p : ℕ) → Walked p w → p < length window → MayAskAhead k matcher.meaning w
-      → (error : F) (e : E) → errors.is_message (matcher.text_of error) e → matcher.fails (drop p window) error
+      → (error : F) (e : E) → errors.is_message error e → matcher.fails (drop p window) error
       → IsWalkFault step errors matcher k input first e now
   failed-ahead w p so_far less may error e message fails =
       let there = line-there w p so_far less in
@@ -155,14 +153,14 @@ module _ {S E F : Type 0} (join : LinesJoin) (append : LinesAppend) (step : Step
 
   -- one line is skipped
   walked-one : (w : Walk) (p q i : ℕ) → Walked p w → IsSkipping k w → IsLine t window i p q
-      → matches_line k matcher.meaning (slice window p q) ≡ false → Walked q (moved w (q - p) 1)
+      → matches_line k matcher.meaning (slice_range window p q) ≡ false → Walked q (moved w (q - p) 1)
   walked-one w p q i so_far skipping line missed = subst (Walked q) same
       (searched-next step errors matcher k gone window input first bare p q w now so_far line.above line.within there
       false false value now
       silent goes_on)
     where
       here : List ℕ
-      here = slice window p q
+      here = slice_range window p q
 
       there : (j : ℕ) → IsLineStart t window p j → IsLine t window j p q
       there j start = subst (λ m. IsLine t window m p q)
@@ -245,7 +243,7 @@ module _ {S E F : Type 0} (join : LinesJoin) (append : LinesAppend) (step : Step
   -- the lines that don't match are passed, if the walk may skip them
   pub walked-past : (w : Walk) (p : ℕ) (a : Ahead) → Walked p w → a.candidate ≤ length window
       → IsKnown k matcher.meaning window p a → skips k w p a.candidate ≡ true
-      → Walked a.candidate (skip_lines k w (slice window p a.candidate))
+      → Walked a.candidate (skip_lines k w (slice_range window p a.candidate))
   walked-past w p a so_far within known is =
       let parts = both_true (nat_lt p a.candidate) (can_skip k w) is in
       let less = ltb-true p a.candidate parts.0 in
@@ -255,10 +253,10 @@ module _ {S E F : Type 0} (join : LinesJoin) (append : LinesAppend) (step : Step
       let sum : i + (known.index - i) ≡ known.index = omega (arith, ordered) in
       let many = lines-between t window p a.candidate i known.index from known.at (omega (arith, less)) within
       ordered in
-      let size : w.offset + (a.candidate - p) ≡ w.offset + length (slice window p a.candidate) =
+      let size : w.offset + (a.candidate - p) ≡ w.offset + length (slice_range window p a.candidate) =
       omega (arith, length-take (a.candidate - p) (drop p window), length-drop p window, within) in
       subst (Walked a.candidate)
-      (same-walk (skip_lines k w (slice window p a.candidate)) _ _ _ _ _ size (ap (λ n. w.line + n) (sym many)) refl
+      (same-walk (skip_lines k w (slice_range window p a.candidate)) _ _ _ _ _ size (ap (λ n. w.line + n) (sym many)) refl
       refl refl)
       (walked-lines (known.index - i) w p a.candidate i so_far (is_skipping k w parts.1) from
       (subst (IsLineStart t window a.candidate) (sym sum) known.at) known.miss)

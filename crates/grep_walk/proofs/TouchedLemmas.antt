@@ -1,7 +1,6 @@
 -- Which lines the matches that were found across lines touch, from one match to the next.
 use Rattle.std.proofs.Common.{◌≡◌, ℕ, ◌+◌, ◌-◌, ◌<◌, ◌≤◌, Bool, true, false, ◌||◌, List, [], ◌∷◌, ◌++◌, length, drop}
-use Rattle.std.proofs.Common.{refl, sym, ◌∙◌, ap, ap₂, subst, arith, ⊎_elim}
-use Rattle.std.proofs.Common.{Some, None}
+use Rattle.std.proofs.Common.{refl, sym, ◌∙◌, ap, ap₂, subst, arith, ⊎_elim, Some, None}
 use Rattle.std.proofs.lemmas.Bool.{cases_lt, lt-ltb, le-ltb, le-leb, lt-leb, leb-true, ltb-true, false_from_ne_true}
 use Rattle.std.proofs.lemmas.Bool.{and_left, or_from, or_left}
 use Rattle.std.proofs.lemmas.List.{append-nil}
@@ -10,19 +9,18 @@ use Rattle.std.proofs.lemmas.List.Elements.{All-weaker}
 use Rattle.std.proofs.lemmas.List.Folds.{list_any-append, list_any_none}
 use Rattle.std.specs.Prelude.{nat_lt, All}
 use Rattle.std.specs.List.{list_any}
-use Rattle.grep_matcher.specs.Matching.{Meaning}
-use Rattle.grep_matcher.specs.Terminators.{byte_of}
+use Rattle.grep_matcher.specs.Meanings.{Meaning}
+use Rattle.grep_matcher.specs.Lines.{byte_of}
 use Rattle.grep_lines.specs.Blocks.{block_start, block_end}
 use Rattle.grep_lines.specs.Positions.{IsLineStart}
 use Rattle.grep_lines.proofs.LawLemmas.{AreLines-lines}
-use Rattle.grep_definitions.specs.AcrossLines.{touches}
-use Rattle.grep_definitions.specs.AcrossQuestions.{counted_matches}
+use Rattle.grep_definitions.specs.SelectedLines.{touches, position_after}
+use Rattle.grep_definitions.specs.Asking.{counted_matches}
 use Rattle.grep_definitions.specs.LineSearch.{line_count, start}
 use Rattle.grep_definitions.specs.Settings.{Settings}
-use Rattle.grep_definitions.specs.SuccessiveMatches.{position_after}
 use Rattle.grep_definitions.proofs.BlockLemmas.{within-block, block_start-edge, block_end-edge, block_start-le}
-use Rattle.grep_definitions.proofs.BlockLemmas.{block_start-low, block_end-within, block-some}
-use Rattle.grep_definitions.proofs.BlockLemmas.{block_start-part, block_end-part}
+use Rattle.grep_definitions.proofs.BlockLemmas.{block_start-low, block_end-within, block-some, block_start-part}
+use Rattle.grep_definitions.proofs.BlockLemmas.{block_end-part}
 use Rattle.grep_definitions.proofs.BoolLemmas.{and-both, both_true}
 use Rattle.grep_definitions.proofs.LineStartLemmas.{line_start-within, line_start-last}
 use Rattle.grep_definitions.proofs.TouchLemmas.{rises}

@@ -1,18 +1,17 @@
 -- A walk that may have skipped lines uncounted, against the calls that are defined for the input: where lines aren't
 -- counted, no call depends on their count.
 use Rattle.std.proofs.Common.{◌≡◌, ℕ, ◌+◌, ◌-◌, ◌<◌, ◌≤◌, ◌||◌, min, Bool, true, false, if◌then◌else◌, List, [], ◌++◌}
-use Rattle.std.proofs.Common.{length, drop}
-use Rattle.std.proofs.Common.{Option, refl, sym, ◌∙◌, ap, ap₂, subst, arith, ⊎_elim}
+use Rattle.std.proofs.Common.{length, drop, Option, refl, sym, ◌∙◌, ap, ap₂, subst, arith, ⊎_elim}
 use Rattle.std.proofs.lemmas.Bool.{cases_lt, false≢true, lt-ltb, ltb-false}
-use Rattle.std.specs.Prelude.{nat_lt, IfSome}
+use Rattle.std.specs.Prelude.{nat_lt, IfSome, slice_range}
 use Rattle.grep_lines.specs.LineLaws.{LinesJoin, LinesAppend}
-use Rattle.grep_lines.specs.Positions.{slice, IsLine, IsLineStart}
-use Rattle.grep_matcher.specs.Lines.{lines, strip}
-use Rattle.grep_matcher.specs.Terminators.{byte_of}
-use Rattle.grep_definitions.specs.Below.{joined_from}
+use Rattle.grep_lines.specs.Positions.{IsLine, IsLineStart}
+use Rattle.grep_matcher.specs.Lines.{lines, strip, byte_of}
+use Rattle.grep_definitions.specs.Reports.{joined_from}
 use Rattle.grep_definitions.specs.LineSearch.{byte_count, turns}
 use Rattle.grep_definitions.specs.LineTurns.{listed_turns, match_turns, matches_line, pending_turns}
-use Rattle.grep_definitions.specs.Searches.{ErrorMakers, MatcherFacts}
+use Rattle.grep_report.specs.ErrorMakers.{ErrorMakers}
+use Rattle.grep_matcher.specs.Meanings.{MatcherFacts}
 use Rattle.grep_walk.specs.WalkFaults.{IsWalkFault}
 use Rattle.grep_definitions.specs.Settings.{Settings}
 use Rattle.grep_definitions.specs.Plans.{Steps, Outcome, all_true, failed, stopped, AreMade, counted}
@@ -120,7 +119,7 @@ module _ (k : Settings) (w : Walk) (line through : ℕ) (counts : AreCounts k w 
     (counts is).1,
   )
 
-module _ {S E F : Type 0} (step : Steps S E) (errors : ErrorMakers E) (matcher : MatcherFacts F) (k : Settings)
+module _ {S E F : Type 0} (step : Steps S E) (errors : ErrorMakers F E) (matcher : MatcherFacts F) (k : Settings)
     (gone window input : List ℕ) (first : Origin S) where
   abbrev t : ℕ
   t = byte_of k.line_terminator
@@ -144,20 +143,20 @@ module _ {S E F : Type 0} (step : Steps S E) (errors : ErrorMakers E) (matcher :
   pub record HasLine (p q : ℕ) (w : Walk) (now : S) (known : Option Bool) : Type 0 where
     pub here : Searched p w now
     pub line : (i : ℕ) → IsLineStart t window p i → IsLine t window i p q
-    pub agrees : IfSome known (λ matches. matches ≡ matches_line k matcher.meaning (slice window p q))
+    pub agrees : IfSome known (λ matches. matches ≡ matches_line k matcher.meaning (slice_range window p q))
 
   module _ (bare : Bare k matcher.meaning input) where
     -- one line, from p up to q of the window
     module _ (p q : ℕ) (w : Walk) (now : S) (so_far : Searched p w now) (below : p < q) (within : q ≤ length window)
         (line : (i : ℕ) → IsLineStart t window p i → IsLine t window i p q) where
       abbrev here : List ℕ
-      here = slice window p q
+      here = slice_range window p q
 
       abbrev exact : Walk
       exact = recounted w so_far.line so_far.through
 
       -- the matcher's error for that line
-      pub failed-asked : can_hit k w ≡ true → (error : F) (e : E) → errors.is_message (matcher.text_of error) e
+      pub failed-asked : can_hit k w ≡ true → (error : F) (e : E) → errors.is_message error e
           → matcher.fails (strip k.line_terminator here) error → IsWalkFault step errors matcher k input first e now
       failed-asked can error e message fails = search.failed-matcher step errors matcher k gone window input first bare
           p q exact now
@@ -211,7 +210,7 @@ module _ {S E F : Type 0} (step : Steps S E) (errors : ErrorMakers E) (matcher :
     module _ (join : LinesJoin) (append : LinesAppend) (now : S) where
       -- the matcher's error for the lines from a position on
       pub failed-ahead : (w : Walk) (p : ℕ) → Searched p w now → p < length window → MayAskAhead k matcher.meaning w
-          → (error : F) (e : E) → errors.is_message (matcher.text_of error) e → matcher.fails (drop p window) error
+          → (error : F) (e : E) → errors.is_message error e → matcher.fails (drop p window) error
           → IsWalkFault step errors matcher k input first e now
       failed-ahead w p so_far less may = skips.failed-ahead join append step errors matcher k gone window input first
           now bare
@@ -221,19 +220,19 @@ module _ {S E F : Type 0} (step : Steps S E) (errors : ErrorMakers E) (matcher :
       searched-skipped : (w : Walk) (p : ℕ) (a : Ahead) → Searched p w now → a.candidate ≤ length window
           → IsKnown k matcher.meaning window p a
           → Searched (if skips k w p a.candidate then a.candidate else p)
-          (if skips k w p a.candidate then skip_unmatched k w (slice window p a.candidate) else w) now
+          (if skips k w p a.candidate then skip_unmatched k w (slice_range window p a.candidate) else w) now
       searched-skipped w p a so_far within known = go (skips k w p a.candidate) refl
         where
           exact : Walk
           exact = recounted w so_far.line so_far.through
 
           go : (b : Bool) → skips k w p a.candidate ≡ b → Searched (if b then a.candidate else p)
-              (if b then skip_unmatched k w (slice window p a.candidate) else w) now
+              (if b then skip_unmatched k w (slice_range window p a.candidate) else w) now
           go false is = so_far
           go true is = record {
-            line = so_far.line + length (lines t (slice window p a.candidate));
+            line = so_far.line + length (lines t (slice_range window p a.candidate));
             through = so_far.through;
-            counts = counts-past k w so_far.line so_far.through so_far.counts (slice window p a.candidate);
+            counts = counts-past k w so_far.line so_far.through so_far.counts (slice_range window p a.candidate);
             walked = skips.walked-past join append step errors matcher k gone window input first now bare exact p a
                 so_far.walked within
                 known is;
@@ -243,7 +242,7 @@ module _ {S E F : Type 0} (step : Steps S E) (errors : ErrorMakers E) (matcher :
       pub searched-on : (w : Walk) (p : ℕ) (a : Ahead) → Searched p w now → a.candidate ≤ length window
           → IsKnown k matcher.meaning window p a → (r : ℕ) (next : Walk)
           → r ≡ (if skips k w p a.candidate then a.candidate else p)
-          → next ≡ (if skips k w p a.candidate then skip_unmatched k w (slice window p a.candidate) else w)
+          → next ≡ (if skips k w p a.candidate then skip_unmatched k w (slice_range window p a.candidate) else w)
           → Searched r next now
       searched-on w p a so_far within known r next is_r is_next = subst (λ q. Searched q next now) (sym is_r)
           (subst (λ v. Searched (if skips k w p a.candidate then a.candidate else p) v now) (sym is_next)
@@ -253,7 +252,7 @@ module _ {S E F : Type 0} (step : Steps S E) (errors : ErrorMakers E) (matcher :
       pub line-reached : (w : Walk) (p : ℕ) (a : Ahead) → Searched p w now → IsBounded window a
           → IsKnown k matcher.meaning window p a → (r : ℕ) (next : Walk) → p ≤ r
           → r ≡ (if skips k w p a.candidate then a.candidate else p)
-          → next ≡ (if skips k w p a.candidate then skip_unmatched k w (slice window p a.candidate) else w)
+          → next ≡ (if skips k w p a.candidate then skip_unmatched k w (slice_range window p a.candidate) else w)
           → (b q : ℕ) → b ≡ t → (IsExact b window a → (i : ℕ) → IsLineStart b window r i → IsLine b window i r q)
           → (o : Option Bool) → o ≡ known_at a r → HasLine r q next now o
       line-reached w p a so_far bounded known r next low is_r is_next b q is_b ends o is_o =
@@ -264,7 +263,7 @@ module _ {S E F : Type 0} (step : Steps S E) (errors : ErrorMakers E) (matcher :
           record {
             here = here;
             line = line;
-            agrees = subst (λ o. IfSome o (λ m. m ≡ matches_line k matcher.meaning (slice window r q))) (sym is_o)
+            agrees = subst (λ o. IfSome o (λ m. m ≡ matches_line k matcher.meaning (slice_range window r q))) (sym is_o)
                 (known-line k matcher.meaning window a _ r q (known-later k matcher.meaning window p r a low known)
                 (line _ here.walked.inside.line.begins));
           }

@@ -1,19 +1,18 @@
 -- How a search across lines puts one unit together, from one match to the next.
 use Rattle.std.proofs.Common.{◌≡◌, ℕ, ◌-◌, ◌<◌, ◌≤◌, List, [], ◌∷◌, ◌++◌, length, sym, ◌∙◌, ap, ap₂, subst, arith}
-use Rattle.std.proofs.Common.{⊎_elim}
-use Rattle.std.proofs.Common.{Option, Some, None}
+use Rattle.std.proofs.Common.{⊎_elim, Option, Some, None}
 use Rattle.std.proofs.lemmas.Bool.{cases_lt}
 use Rattle.std.proofs.lemmas.List.{append-nil}
 use Rattle.std.proofs.lemmas.List.Elements.{All-nil, All-cons, All-weaker}
 use Rattle.std.specs.Prelude.{IfNone}
-use Rattle.grep_matcher.specs.Matching.{Meaning}
-use Rattle.grep_matcher.specs.Terminators.{byte_of}
-use Rattle.grep_matcher.specs.Lines.{lines}
+use Rattle.grep_matcher.specs.Meanings.{Meaning}
+use Rattle.grep_matcher.specs.Lines.{byte_of, lines}
 use Rattle.grep_lines.specs.Blocks.{block_start, block_end}
 use Rattle.grep_lines.proofs.LawLemmas.{AreLines-lines}
-use Rattle.grep_definitions.specs.AcrossQuestions.{match_limit}
+use Rattle.grep_definitions.specs.Asking.{match_limit}
 use Rattle.grep_definitions.specs.Settings.{Settings}
-use Rattle.grep_definitions.specs.SuccessiveMatches.{matches_left, position_after}
+use Rattle.grep_definitions.specs.SuccessiveMatches.{matches_left}
+use Rattle.grep_definitions.specs.SelectedLines.{position_after}
 use Rattle.grep_definitions.proofs.BlockLemmas.{block_start-le}
 use Rattle.grep_definitions.proofs.LineStartLemmas.{line_start-within}
 use Rattle.grep_definitions.proofs.SuccessiveMatchLemmas.{matches_left-after, position_after-start}
@@ -21,8 +20,7 @@ use Rattle.grep_walk.specs.declared.blocks.Blocks.{Blocks}
 use Rattle.grep_walk.specs.Units.{IsPart, IsUnit, AreFound, IsFound, HasNoMore, AreTouched, AreLeft, IsReached}
 use Rattle.grep_walk.proofs.FoundMatchLemmas.{found-start}
 use Rattle.grep_walk.proofs.TouchedLemmas.{touched-none, touched-passed, touched-first, touched-inside, touched-part}
-use Rattle.grep_walk.proofs.TouchedLemmas.{touched-end}
-use Rattle.grep_walk.proofs.TouchedLemmas.{unit-of, unit-none, last_start, starts-there, part-apart}
+use Rattle.grep_walk.proofs.TouchedLemmas.{touched-end, unit-of, unit-none, last_start, starts-there, part-apart}
 
 -- before the first match
 abbrev pub starts : Option ℕ → Blocks

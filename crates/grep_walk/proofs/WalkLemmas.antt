@@ -1,36 +1,37 @@
 -- A walk over lines, against the calls that are defined.
+use Rattle.grep_definitions.specs.SelectedLines
 use Rattle.grep_definitions.specs.Plans.{planned, Planned, begins, context, Steps, Outcome, all_true, stopped, failed}
 use Rattle.grep_definitions.specs.Plans.{AreMade, counted}
 use Rattle.std.proofs.Common.{◌≡◌, ℕ, ◌+◌, ◌-◌, ◌<◌, ◌≤◌, Bool, true, false, not, ◌&&◌, ◌||◌, List, [], ◌∷◌, ◌++◌}
-use Rattle.std.proofs.Common.{length, take, drop}
-use Rattle.std.proofs.Common.{refl, sym, ◌∙◌, ap, subst, arith, ⊎_elim, inl, inr, Some, None, Ok, Err, if◌then◌else◌}
-use Rattle.std.proofs.Common.{length-take, length-drop}
+use Rattle.std.proofs.Common.{length, take, drop, refl, sym, ◌∙◌, ap, subst, arith, ⊎_elim, inl, inr, Some, None, Ok}
+use Rattle.std.proofs.Common.{Err, if◌then◌else◌, length-take, length-drop}
 use Rattle.std.proofs.lemmas.Bool.{lt-ltb, le-leb, lt-leb, eqb-true, cases_lt}
 use Rattle.std.proofs.lemmas.List.{append-nil}
 use Rattle.std.proofs.lemmas.List.Elements.{All-nil, All-cons, All-append, All-weaker, filter-append}
-use Rattle.std.specs.Prelude.{nat_lt, nat_le, ◌==◌, count_by, All, filter}
-use Rattle.grep_matcher.specs.Terminators.{byte_of}
-use Rattle.grep_matcher.specs.Lines.{lines}
-use Rattle.grep_matcher.specs.Matching.{Meaning}
-use Rattle.grep_lines.specs.Positions.{slice, IsLine, IsLineStart}
+use Rattle.std.specs.Prelude.{nat_lt, nat_le, ◌==◌, count_by, All, filter, slice_range}
+use Rattle.grep_matcher.specs.Lines.{byte_of, lines}
+use Rattle.grep_matcher.specs.Meanings.{Meaning, MatcherFacts}
+use Rattle.grep_lines.specs.Positions.{IsLine, IsLineStart}
 use Rattle.grep_report.specs.declared.sink_context.SinkContextKind.TheVariants.{After, Other}
 use Rattle.grep_definitions.specs.Settings.{Settings}
-use Rattle.grep_definitions.specs.Below.{is_at, joined_from}
+use Rattle.grep_definitions.specs.Reports.{is_at, joined_from, in_context}
 use Rattle.grep_definitions.specs.LineSearch
-use Rattle.grep_definitions.specs.LineSearch.{differ, turns_at, turns, turns_through, byte_count, in_context}
+use Rattle.grep_definitions.specs.SelectedLines.{differ}
+use Rattle.grep_definitions.specs.LineSearch.{turns_at, turns, turns_through, byte_count}
 use Rattle.grep_definitions.specs.LineTurns.{after_turns, context_turns, match_turns, pending_turns, matches_line}
 use Rattle.grep_definitions.specs.LineTurns.{number_of}
-use Rattle.grep_definitions.specs.Searches.{ErrorMakers, MatcherFacts, IsLineFault, of_sink, of_matcher}
+use Rattle.grep_report.specs.ErrorMakers.{ErrorMakers}
+use Rattle.grep_definitions.specs.ContentsSearches.{IsLineFault, of_sink, of_matcher}
 use Rattle.grep_definitions.specs.LineWalks.{IsNear, IsOpen}
-use Rattle.grep_definitions.specs.Questions.{IsAsked}
+use Rattle.grep_definitions.specs.Asking.{IsAsked}
 use Rattle.grep_definitions.proofs.BelowLemmas.{joined_from-equal, joined_from-none, headed-through, headed-many}
-use Rattle.grep_definitions.proofs.LimitLemmas.{IsOpen-none, IsOpen-chosen, IsOpen-missed, turn_above, turn_all}
-use Rattle.grep_definitions.proofs.LimitLemmas.{IsDone, IsDone-chosen, IsDone-limit, IsDone-stop, IsDone-none}
-use Rattle.grep_definitions.proofs.LimitLemmas.{selected-is, chosen-is}
+use Rattle.grep_definitions.proofs.LimitLemmas.{IsOpen-none, IsOpen-chosen, IsOpen-missed, turn_above, turn_all, IsDone}
+use Rattle.grep_definitions.proofs.LimitLemmas.{IsDone-chosen, IsDone-limit, IsDone-stop, IsDone-none, selected-is}
+use Rattle.grep_definitions.proofs.LimitLemmas.{chosen-is}
 use Rattle.grep_definitions.proofs.SelectionLemmas.{headed-missed}
 use Rattle.grep_definitions.proofs.ContextLemmas.{IsNear-none, IsNear-hit, IsNear-missed, follows-selected}
-use Rattle.grep_definitions.proofs.ContextLemmas.{turns_at-done}
-use Rattle.grep_definitions.proofs.ContextLemmas.{turns_at-passed, turns_at-hit, turns_at-after, turns_at-other}
+use Rattle.grep_definitions.proofs.ContextLemmas.{turns_at-done, turns_at-passed, turns_at-hit, turns_at-after}
+use Rattle.grep_definitions.proofs.ContextLemmas.{turns_at-other}
 use Rattle.grep_definitions.proofs.TurnEndLemmas.{ends-one, ends-pending, ends-match, ends-late, ends-passed}
 use Rattle.grep_walk.specs.declared.walk.Walk.{Walk}
 use Rattle.grep_walk.specs.WalkFaults.{IsWalkFault, at_call, at_question}
@@ -126,7 +127,7 @@ module _ (k : Settings) (meaning : Meaning) (bytes : List ℕ) where
   -- the line that a walk is at
   module _ (w : Walk) (start end : ℕ) (same : w.offset ≡ start) (line : IsLine t bytes w.line start end) where
     abbrev pub here : List ℕ
-    here = slice bytes start end
+    here = slice_range bytes start end
 
     pub end-is : line_end w here ≡ end
     end-is = omega (
@@ -179,10 +180,10 @@ module _ (k : Settings) (meaning : Meaning) (bytes : List ℕ) where
           ap (λ p. if k.line_number then Some (count_by (λ b. b == t) (take p bytes) + 1) else None) line.begins
           ∙ ap (λ c. if k.line_number then Some (c + 1) else None) line.number
 
-      hits-here : LineSearch.hits k meaning bytes w.line ≡ differ (matches_line k meaning here) k.invert_match
+      hits-here : SelectedLines.hits k meaning bytes w.line ≡ differ (matches_line k meaning here) k.invert_match
       hits-here = let inside = lt-ltb w.line n line.listed in rw (inside, line.line) refl
 
-      pub chosen-here : (b r : Bool) → IsDecided k meaning w here b r → LineSearch.is_chosen k meaning bytes w.line ≡ b
+      pub chosen-here : (b r : Bool) → IsDecided k meaning w here b r → SelectedLines.is_chosen k meaning bytes w.line ≡ b
       chosen-here b r decided =
           chosen-is k meaning bytes w.line w.after_context_left w.match_count walk.opened
           ∙ (ap (λ h. h && not (is_at w.match_count k.max_matches)) hits-here
@@ -190,9 +191,9 @@ module _ (k : Settings) (meaning : Meaning) (bytes : List ℕ) where
           ∙ sym decided.chosen_is))
 
       pub trailing-here : (b r : Bool) → IsDecided k meaning w here b r → 0 < w.after_context_left
-          → LineSearch.is_trailing k meaning bytes w.line ≡ r
+          → SelectedLines.is_trailing k meaning bytes w.line ≡ r
       trailing-here b r decided some =
-          ap (λ h. h && not (LineSearch.is_open_at k meaning bytes w.line)) hits-here
+          ap (λ h. h && not (SelectedLines.is_open_at k meaning bytes w.line)) hits-here
           ∙ (ap (λ o. differ (matches_line k meaning here) k.invert_match && not o) walk.opened.below
           ∙ (ap (λ f. differ (matches_line k meaning here) k.invert_match && f)
           (not-not (is_at w.match_count k.max_matches))
@@ -205,17 +206,17 @@ module _ (k : Settings) (meaning : Meaning) (bytes : List ℕ) where
 
       -- the matcher is asked about it only if the limit has room, or in the context after a selected line
       pub room-here : can_hit k w ≡ true
-          → (LineSearch.is_open_at k meaning bytes w.line || LineSearch.follows_selected k meaning bytes w.line) ≡ true
+          → (SelectedLines.is_open_at k meaning bytes w.line || LineSearch.follows_selected k meaning bytes w.line) ≡ true
       room-here can =
           ap (λ o. o || LineSearch.follows_selected k meaning bytes w.line) walk.opened.below
           ∙ (ap (λ f. not (is_at w.match_count k.max_matches) || f)
           (follows-selected k meaning bytes w.next_unreported w.line w.after_context_left walk.near) ∙ can)
 
-      selected : (b : Bool) → LineSearch.is_chosen k meaning bytes w.line ≡ b
-          → LineSearch.is_selected k meaning bytes w.line ≡ b
+      selected : (b : Bool) → SelectedLines.is_chosen k meaning bytes w.line ≡ b
+          → SelectedLines.is_selected k meaning bytes w.line ≡ b
       selected b is = selected-is k meaning bytes w.line w.after_context_left w.match_count walk.opened ∙ is
 
-      pending-is : LineSearch.is_selected k meaning bytes w.line ≡ true
+      pending-is : SelectedLines.is_selected k meaning bytes w.line ≡ true
           → joined_from T w.next_unreported (w.line - w.next_unreported)
           ≡ pending_turns k bytes w.next_unreported w.line (line_end w here) w.next_unreported
           (w.line - w.next_unreported)
@@ -223,15 +224,15 @@ module _ (k : Settings) (meaning : Meaning) (bytes : List ℕ) where
           turns_at-passed k meaning bytes w.next_unreported w.line w.after_context_left walk.near line.listed has hit
           j _ (line_end w here) _ low (omega (arith, walk.near.low)) refl start-after refl)
 
-      hit-is : LineSearch.is_selected k meaning bytes w.line ≡ true → T w.line
+      hit-is : SelectedLines.is_selected k meaning bytes w.line ≡ true → T w.line
           ≡ match_turns k w.next_unreported w.line w.offset (line_end w here) here
       hit-is hit = turns_at-hit k meaning bytes w.next_unreported w.line w.after_context_left walk.near line.listed has
           hit
           w.offset (line_end w here) _ number-is start-is start-after line.line
 
       -- the calls of the line
-      pub front-step : (chosen trailing : Bool) → LineSearch.is_chosen k meaning bytes w.line ≡ chosen
-          → (0 < w.after_context_left → LineSearch.is_trailing k meaning bytes w.line ≡ trailing)
+      pub front-step : (chosen trailing : Bool) → SelectedLines.is_chosen k meaning bytes w.line ≡ chosen
+          → (0 < w.after_context_left → SelectedLines.is_trailing k meaning bytes w.line ≡ trailing)
           → front (after_line k w here chosen).next_unreported
           ≡ front w.next_unreported ++ line_turns k bytes w here chosen trailing
       front-step true trailing is late =
@@ -242,11 +243,11 @@ module _ (k : Settings) (meaning : Meaning) (bytes : List ℕ) where
           ∙ (ap (λ xs. front w.next_unreported ++ (xs ++ T w.line)) (pending-is hit)
           ∙ ap (λ xs. front w.next_unreported ++ (pending ++ xs)) (hit-is hit))
       front-step false trailing is late =
-          headed-missed k (LineSearch.is_selected k meaning bytes) (LineSearch.is_trailing k meaning bytes) n turned
+          headed-missed k (SelectedLines.is_selected k meaning bytes) (SelectedLines.is_trailing k meaning bytes) n turned
           w.next_unreported w.line w.after_context_left walk.near
           (planned begins 0) T _ _ after_is other_is
         where
-          miss : LineSearch.is_selected k meaning bytes w.line ≡ false
+          miss : SelectedLines.is_selected k meaning bytes w.line ≡ false
           miss = selected false is
 
           after_is : 0 < w.after_context_left
@@ -262,7 +263,7 @@ module _ (k : Settings) (meaning : Meaning) (bytes : List ℕ) where
               turns_at-other k meaning bytes w.next_unreported w.line w.after_context_left walk.near line.listed has
               w.offset (line_end w here) _ miss none is_p (bare is_p).1 number-is start-is start-after line.line
 
-      pub near-next : (chosen : Bool) → LineSearch.is_chosen k meaning bytes w.line ≡ chosen
+      pub near-next : (chosen : Bool) → SelectedLines.is_chosen k meaning bytes w.line ≡ chosen
           → IsNear k meaning bytes (after_line k w here chosen).next_unreported (w.line + 1)
           (after_line k w here chosen).after_context_left
       near-next true is = IsNear-hit k meaning bytes w.next_unreported w.line w.after_context_left walk.near line.listed
@@ -272,7 +273,7 @@ module _ (k : Settings) (meaning : Meaning) (bytes : List ℕ) where
           IsNear-missed k meaning bytes w.next_unreported w.line w.after_context_left walk.near line.listed has
           (λ is_p. (bare is_p).1) (selected false is)
 
-      open-next : (chosen : Bool) → LineSearch.is_chosen k meaning bytes w.line ≡ chosen
+      open-next : (chosen : Bool) → SelectedLines.is_chosen k meaning bytes w.line ≡ chosen
           → is_over k (after_line k w here chosen) chosen
           ≡ false
           → IsOpen k meaning bytes (w.line + 1) (after_line k w here chosen).after_context_left
@@ -295,8 +296,8 @@ module _ (k : Settings) (meaning : Meaning) (bytes : List ℕ) where
           (w.after_context_left - 1) parts.1
           (ap not plain) full in omega arith)
 
-      pub walk-next : (chosen trailing : Bool) → LineSearch.is_chosen k meaning bytes w.line ≡ chosen
-          → (0 < w.after_context_left → LineSearch.is_trailing k meaning bytes w.line ≡ trailing)
+      pub walk-next : (chosen trailing : Bool) → SelectedLines.is_chosen k meaning bytes w.line ≡ chosen
+          → (0 < w.after_context_left → SelectedLines.is_trailing k meaning bytes w.line ≡ trailing)
           → is_over k (after_line k w here chosen) chosen ≡ false
           → IsWalk k meaning bytes (after_line k w here chosen)
       walk-next chosen trailing is late goes = record {
@@ -307,7 +308,7 @@ module _ (k : Settings) (meaning : Meaning) (bytes : List ℕ) where
             (ended-next k bytes w here chosen trailing (front w.next_unreported) walk.ended);
       }
 
-      pub done-next : (chosen : Bool) → LineSearch.is_chosen k meaning bytes w.line ≡ chosen
+      pub done-next : (chosen : Bool) → SelectedLines.is_chosen k meaning bytes w.line ≡ chosen
           → is_over k (after_line k w here chosen) chosen ≡ true
           → IsDone k meaning bytes (w.line + 1)
       done-next true is over = ⊎_elim
@@ -424,10 +425,10 @@ module _ (k : Settings) (meaning : Meaning) (bytes : List ℕ) where
     module _ (bare : Bare) (w : Walk) (mid : S) (so_far : HasReported k meaning bytes step old w mid)
         (start end : ℕ) (same : w.offset ≡ start) (line : IsLine t bytes w.line start end) (chosen trailing : Bool)
         (decided : IsDecided k meaning w (here w start end same line) chosen trailing) where
-      is : LineSearch.is_chosen k meaning bytes w.line ≡ chosen
+      is : SelectedLines.is_chosen k meaning bytes w.line ≡ chosen
       is = chosen-here w start end same line bare so_far.walk chosen trailing decided
 
-      late : 0 < w.after_context_left → LineSearch.is_trailing k meaning bytes w.line ≡ trailing
+      late : 0 < w.after_context_left → SelectedLines.is_trailing k meaning bytes w.line ≡ trailing
       late = trailing-here w start end same line bare so_far.walk chosen trailing decided
 
       abbrev own : List Planned
@@ -513,7 +514,7 @@ module _ (k : Settings) (meaning : Meaning) (bytes : List ℕ) where
     }
 
 -- how a search ends in a fault
-module _ {S E F : Type 0} (step : Steps S E) (errors : ErrorMakers E) (matcher : MatcherFacts F) (k : Settings)
+module _ {S E F : Type 0} (step : Steps S E) (errors : ErrorMakers F E) (matcher : MatcherFacts F) (k : Settings)
     (bytes : List ℕ) where
   pub fault-begin : (old : S) (e : E) (new : S) → step old k begins (Err e) new
       → IsLineFault step errors matcher k bytes old e new
@@ -528,7 +529,7 @@ module _ {S E F : Type 0} (step : Steps S E) (errors : ErrorMakers E) (matcher :
   pub fault-matcher : (old : Origin S) (w : Walk) (new : S) → HasReported k matcher.meaning bytes step old w new
       → (start end : ℕ) (same : w.offset ≡ start) (line : IsLine (byte_of k.line_terminator) bytes w.line start end)
       → Bare k matcher.meaning bytes → can_hit k w ≡ true → (haystack : List ℕ) (error : F) (e : E)
-      → IsAsked k matcher.meaning bytes w.line haystack → errors.is_message (matcher.text_of error) e
+      → IsAsked k matcher.meaning bytes w.line haystack → errors.is_message error e
       → matcher.fails haystack error → IsWalkFault step errors matcher k bytes old e new
   fault-matcher old w new so_far start end same line bare room haystack error e asked message fails = at_question
       haystack

@@ -1,25 +1,22 @@
 -- A window of an input: where its lines are in the input, and which of them are kept when the next window is shown.
 use Rattle.std.proofs.Common.{◌≡◌, ℕ, ◌+◌, ◌-◌, ◌<◌, ◌≤◌, ◌==◌, min, List, [], ◌∷◌, ◌++◌, length, take, drop, get_or}
-use Rattle.std.proofs.Common.{arith}
-use Rattle.std.proofs.Common.{refl, sym, ◌∙◌, ap, ap₂, subst, ⊎_elim, append-nil, append_assoc, length-append}
+use Rattle.std.proofs.Common.{arith, refl, sym, ◌∙◌, ap, ap₂, subst, ⊎_elim, append-nil, append_assoc, length-append}
 use Rattle.std.proofs.Common.{length-drop, slice_index}
 use Rattle.std.proofs.Math.Seq.{drop-append-add, take-append-add, take-append_seam, get_or-append_right}
 use Rattle.std.proofs.lemmas.Bool.{cases_lt}
 use Rattle.std.proofs.lemmas.List.{take-append-drop, take-append-le, drop-append-le, get_or_append_left}
-use Rattle.std.proofs.lemmas.List.{get_or-append-add}
-use Rattle.std.proofs.lemmas.List.{get_or-drop, get_or-take, length-take-le, drop_all}
+use Rattle.std.proofs.lemmas.List.{get_or-append-add, get_or-drop, get_or-take, length-take-le, drop_all}
 use Rattle.std.proofs.lemmas.List.Folds.{concat-append}
-use Rattle.std.specs.Prelude.{count_by}
+use Rattle.std.specs.Prelude.{count_by, slice_range}
 use Rattle.std.specs.List.{concat}
-use Rattle.grep_matcher.specs.Terminators.{byte_of}
-use Rattle.grep_matcher.specs.Lines.{lines, line_start}
-use Rattle.grep_lines.specs.Positions.{slice, IsLine, IsLineStart}
+use Rattle.grep_matcher.specs.Lines.{byte_of, lines, line_start}
+use Rattle.grep_lines.specs.Positions.{IsLine, IsLineStart}
 use Rattle.grep_lines.specs.LineLaws.{LinesJoin, LinesAppend, LinesAreNumbered, LinesAreFew}
 use Rattle.grep_definitions.specs.Settings.{Settings}
 use Rattle.grep_definitions.proofs.LineStartLemmas.{line_start-ascends, line_start-last}
 use Rattle.grep_definitions.proofs.TurnEndLemmas.{line_start-le}
 use Rattle.grep_walk.specs.declared.walk.Walk.{Walk}
-use Rattle.grep_definitions.specs.InputFronts.{IsClosed}
+use Rattle.grep_definitions.specs.Inputs.{IsClosed}
 use Rattle.grep_walk.specs.Windows.{IsWindow, IsLineIn, IsInWindow}
 
 -- the whole input is a window of itself
@@ -38,7 +35,7 @@ own-window t bytes = record {
 -- bytes of a window are bytes of the input
 pub slice-in : (gone window after input : List ℕ) → input ≡ gone ++ (window ++ after) → (p q : ℕ) → p ≤ q
     → q ≤ length window
-    → slice input (length gone + p) (length gone + q) ≡ slice window p q
+    → slice_range input (length gone + p) (length gone + q) ≡ slice_range window p q
 slice-in gone window after input whole p q low high =
     let size : (length gone + q) - (length gone + p) ≡ q - p = omega arith in
     let rest = ap (drop (length gone + p)) whole

@@ -1,24 +1,24 @@
 -- A walk over the lines of a window, against the calls that are defined for the input.
 use Rattle.std.proofs.Common.{◌∙◌, ◌≡◌, ℕ, ◌+◌, ◌-◌, ◌<◌, ◌≤◌, ◌&&◌, min, Bool, true, false, not, List, [], length}
-use Rattle.std.proofs.Common.{drop, arith}
-use Rattle.std.proofs.Common.{Ok, refl, sym, ap, ap₂, subst, inl, inr, if◌then◌else◌, length-take, length-drop}
+use Rattle.std.proofs.Common.{drop, arith, Ok, refl, sym, ap, ap₂, subst, inl, inr, if◌then◌else◌, length-take}
+use Rattle.std.proofs.Common.{length-drop}
 use Rattle.std.proofs.lemmas.List.{take_rest}
-use Rattle.grep_matcher.specs.Lines.{lines, line_start, strip}
-use Rattle.grep_matcher.specs.Matching.{Meaning}
+use Rattle.grep_matcher.specs.Lines.{lines, line_start, strip, byte_of}
+use Rattle.grep_matcher.specs.Meanings.{Meaning, MatcherFacts}
 use Rattle.grep_lines.specs.LineLaws.{LinesJoin}
-use Rattle.grep_lines.specs.Positions.{slice, IsLine, IsLineStart}
+use Rattle.std.specs.Prelude.{slice_range}
+use Rattle.grep_lines.specs.Positions.{IsLine, IsLineStart}
 use Rattle.grep_definitions.proofs.LineStartLemmas.{line_start-last}
 use Rattle.grep_definitions.specs.Settings.{Settings}
 use Rattle.grep_definitions.specs.Plans.{begins, Steps, Outcome, all_true, stopped, failed, AreMade, counted}
-use Rattle.grep_definitions.specs.Below.{is_at}
+use Rattle.grep_definitions.specs.Reports.{is_at}
 use Rattle.grep_definitions.specs.LineSearch.{turns, byte_count}
-use Rattle.grep_definitions.specs.Searches.{ErrorMakers, MatcherFacts}
+use Rattle.grep_report.specs.ErrorMakers.{ErrorMakers}
 use Rattle.grep_walk.specs.WalkFaults.{IsWalkFault}
-use Rattle.grep_matcher.specs.Terminators.{byte_of}
 use Rattle.grep_walk.specs.declared.walk.Walk.{Walk}
 use Rattle.grep_walk.specs.Walks.{IsDecided, IsOrdered, HasReported, can_hit, line_end, line_turns, after_line, is_over}
 use Rattle.grep_walk.specs.Walks.{recounted, reports_line, CountedFrom}
-use Rattle.grep_definitions.specs.Questions.{IsAsked}
+use Rattle.grep_definitions.specs.Asking.{IsAsked}
 use Rattle.grep_walk.specs.LookAheads.{MayAskAhead}
 use Rattle.grep_walk.specs.Windows.{IsWindow, IsInWindow, HasPassed, HasSearched, HasWalked}
 use Rattle.grep_walk.proofs.LineRangeLemmas.{line-at}
@@ -30,7 +30,7 @@ use Rattle.grep_walk.proofs.WindowLemmas as windows
 -- a line leaves the counts of a walk in order
 pub ordered-next : (k : Settings) (w : Walk) (p q : ℕ) (window : List ℕ) (chosen : Bool) → p < q → q ≤ length window
     → IsOrdered w
-    → IsOrdered (after_line k w (slice window p q) chosen)
+    → IsOrdered (after_line k w (slice_range window p q) chosen)
 ordered-next k w p q window chosen below within ordered = record {
   few = omega (arith, ordered.few, length-take (q - p) (drop p window), length-drop p window);
   low = low (reports_line k w chosen);
@@ -112,7 +112,7 @@ counted-passed step k meaning gone window input first w now passed all =
     walks.counted-end k meaning input step first (recounted w passed.searched.line passed.searched.through) now
     passed.searched.walked.reported (passed.all ∙ all)
 
-module _ {S E F : Type 0} (step : Steps S E) (errors : ErrorMakers E) (matcher : MatcherFacts F) (k : Settings)
+module _ {S E F : Type 0} (step : Steps S E) (errors : ErrorMakers F E) (matcher : MatcherFacts F) (k : Settings)
     (gone window input : List ℕ) (first : Origin S) where
   abbrev pub t : ℕ
   t = byte_of k.line_terminator
@@ -137,19 +137,19 @@ module _ {S E F : Type 0} (step : Steps S E) (errors : ErrorMakers E) (matcher :
       (within : q ≤ length window)
       (line : (i : ℕ) → IsLineStart t window p i → IsLine t window i p q) where
     abbrev here : List ℕ
-    here = slice window p q
+    here = slice_range window p q
 
     at : IsLine t input w.line (length gone + p) (length gone + q)
     at = windows.input-line k gone window input w.line p q so_far.inside.line line so_far.inside.shown
 
     -- what holds of the bytes in the input holds of them in the window
-    shifted : (P : List ℕ → Type 0) → P (slice input (length gone + p) (length gone + q)) → P here
+    shifted : (P : List ℕ → Type 0) → P (slice_range input (length gone + p) (length gone + q)) → P here
     shifted P = subst P (windows.slice-in gone window so_far.inside.shown.after input so_far.inside.shown.whole p q
         (omega arith) within)
 
     -- the matcher's error for a question at that line
     pub failed-matcher : can_hit k w ≡ true → (haystack : List ℕ) (error : F) (e : E)
-        → IsAsked k matcher.meaning input w.line haystack → errors.is_message (matcher.text_of error) e
+        → IsAsked k matcher.meaning input w.line haystack → errors.is_message error e
         → matcher.fails haystack error → IsWalkFault step errors matcher k input first e now
     failed-matcher room haystack error e asked message fails = walks.fault-matcher step errors matcher k input first w
         now
@@ -181,7 +181,7 @@ module _ {S E F : Type 0} (step : Steps S E) (errors : ErrorMakers E) (matcher :
           end = before + count;
           after = omega (arith, own.listed, so_far.inside.line.low);
           within = omega (arith, there.listed, own.listed);
-          lines = sym (ap₂ (λ a b. slice input a b) at.begins
+          lines = sym (ap₂ (λ a b. slice_range input a b) at.begins
               (ap (line_start t input) (sym sum) ∙ (there.ends ∙ ap (λ n. length gone + n) end))
               ∙ (windows.slice-in gone window so_far.inside.shown.after input so_far.inside.shown.whole p
               (length window)
@@ -191,8 +191,8 @@ module _ {S E F : Type 0} (step : Steps S E) (errors : ErrorMakers E) (matcher :
     module _ (chosen trailing : Bool) (decided : IsDecided k matcher.meaning w here chosen trailing) where
       -- what holds of a line in the input by what was decided of it holds of the line in the window
       matched : (P : List ℕ → Type 0)
-          → (IsDecided k matcher.meaning w (slice input (length gone + p) (length gone + q)) chosen trailing
-          → P (slice input (length gone + p) (length gone + q))) → P here
+          → (IsDecided k matcher.meaning w (slice_range input (length gone + p) (length gone + q)) chosen trailing
+          → P (slice_range input (length gone + p) (length gone + q))) → P here
       matched P holds = shifted (λ xs. IsDecided k matcher.meaning w xs chosen trailing → P xs) holds decided
 
       pub failed-line : (e : E) (new : S) → AreMade step k now (line_turns k input w here chosen trailing)

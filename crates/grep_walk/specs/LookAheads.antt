@@ -1,14 +1,13 @@
 -- What a walk knows of the lines from its line on, and which of them it may skip. No contract of
 -- grep_searcher cites these definitions.
 use Rattle.std.specs.Prelude.{◌≡◌, ℕ, ◌<◌, ◌≤◌, Bool, true, false, not, ◌&&◌, ◌==◌, if◌then◌else◌}
-use Rattle.std.specs.Prelude.{nat_lt}
-use Rattle.std.specs.Prelude.{List, length, Option, Some, None}
-use Rattle.grep_lines.specs.Positions.{slice, IsLine, IsLineStart}
-use Rattle.grep_matcher.specs.Matching.{Meaning}
-use Rattle.grep_matcher.specs.Terminators.{byte_of}
-use Rattle.grep_definitions.specs.Below.{is_at}
+use Rattle.std.specs.Prelude.{nat_lt, List, length, Option, Some, None, slice_range}
+use Rattle.grep_lines.specs.Positions.{IsLine, IsLineStart}
+use Rattle.grep_matcher.specs.Meanings.{Meaning}
+use Rattle.grep_matcher.specs.Lines.{byte_of}
+use Rattle.grep_definitions.specs.Reports.{is_at}
 use Rattle.grep_definitions.specs.LineTurns.{matches_line}
-use Rattle.grep_definitions.specs.Questions.{AsksAhead}
+use Rattle.grep_definitions.specs.Asking.{AsksAhead}
 use Rattle.grep_definitions.specs.Settings.{Settings}
 use Rattle.grep_walk.specs.declared.look_ahead.Ahead.{Ahead}
 use Rattle.grep_walk.specs.declared.walk.Walk.{Walk}
@@ -39,10 +38,10 @@ pub record IsKnown (settings : Settings) (meaning : Meaning) (window : List ℕ)
   pub exact : IsExact (byte_of settings.line_terminator) window ahead
   pub miss : (i p q : ℕ) → IsLine (byte_of settings.line_terminator) window i p q
       → start ≤ p → p < ahead.candidate
-      → matches_line settings meaning (slice window p q) ≡ false
+      → matches_line settings meaning (slice_range window p q) ≡ false
   pub hit : (i p q : ℕ) → IsLine (byte_of settings.line_terminator) window i p q
       → ahead.candidate ≤ p → p < ahead.match_end
-      → matches_line settings meaning (slice window p q) ≡ true
+      → matches_line settings meaning (slice_range window p q) ≡ true
 
 -- a walk may ask about many lines at once
 pub record MayAskAhead (settings : Settings) (meaning : Meaning) (w : Walk) : Type 0 where

@@ -4,15 +4,15 @@ use Rattle.std.specs.Prelude.{◌≡◌, ℕ, ◌+◌, ◌-◌, ◌<◌, ◌≤�
 use Rattle.std.specs.Prelude.{List, [], ◌∷◌, ◌++◌, length, drop, Option, Some, None, IfSome, IfNone}
 use Rattle.std.specs.List.{list_any}
 use Rattle.std.specs.Option.{option_map}
-use Rattle.grep_matcher.specs.Matching.{Meaning}
-use Rattle.grep_matcher.specs.Terminators.{byte_of}
+use Rattle.grep_matcher.specs.Meanings.{Meaning}
+use Rattle.grep_matcher.specs.Lines.{byte_of}
 use Rattle.grep_lines.specs.Blocks.{block_start, block_end}
 use Rattle.grep_lines.specs.Positions.{IsLineStart}
 use Rattle.grep_definitions.specs.Settings.{Settings}
 use Rattle.grep_definitions.specs.LineSearch.{line_count, start}
-use Rattle.grep_definitions.specs.AcrossLines.{touches, is_touched}
-use Rattle.grep_definitions.specs.AcrossQuestions.{counted_matches, match_limit}
-use Rattle.grep_definitions.specs.SuccessiveMatches.{matches_left, position_after, position_past}
+use Rattle.grep_definitions.specs.SelectedLines.{touches, is_touched, position_after, position_past}
+use Rattle.grep_definitions.specs.Asking.{counted_matches, match_limit}
+use Rattle.grep_definitions.specs.SuccessiveMatches.{matches_left}
 use Rattle.grep_walk.specs.declared.blocks.Blocks.{Blocks}
 
 -- whether a line that begins at a position is in a range of whole lines, if there is one

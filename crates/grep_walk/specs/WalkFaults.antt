@@ -4,14 +4,15 @@
 use Rattle.std.specs.Prelude.{◌≡◌, ℕ, List, ◌++◌}
 use Rattle.grep_definitions.specs.LineSearch.{turns}
 use Rattle.grep_definitions.specs.Questions.{IsAskedByLine}
-use Rattle.grep_definitions.specs.Searches.{ErrorMakers, MatcherFacts}
+use Rattle.grep_report.specs.ErrorMakers.{ErrorMakers}
+use Rattle.grep_matcher.specs.Meanings.{MatcherFacts}
 use Rattle.grep_definitions.specs.Settings.{Settings}
 use Rattle.grep_definitions.specs.Plans.{Planned, Steps, all_true, failed}
 use Rattle.grep_walk.specs.Origins.{AreMadeFrom, Origin}
 
 -- in the sink's own error, that of the last call; or in the matcher's at a question, before which
 -- the first calls were made
-pub data IsWalkFault {S E F : Type 0} (step : Steps S E) (errors : ErrorMakers E)
+pub data IsWalkFault {S E F : Type 0} (step : Steps S E) (errors : ErrorMakers F E)
     (matcher : MatcherFacts F) (settings : Settings) (bytes : List ℕ) (first : Origin S) : E → S
     → Type 0 where
   at_call : {e : E} {new : S}
@@ -20,6 +21,6 @@ pub data IsWalkFault {S E F : Type 0} (step : Steps S E) (errors : ErrorMakers E
   at_question : {e : E} {new : S} (haystack : List ℕ) (error : F) (made later : List Planned)
       → IsAskedByLine settings matcher.meaning bytes haystack made
       → turns settings matcher.meaning bytes ≡ made ++ later
-      → matcher.fails haystack error → errors.is_message (matcher.text_of error) e
+      → matcher.fails haystack error → errors.is_message error e
       → AreMadeFrom step settings first made all_true new
       → IsWalkFault step errors matcher settings bytes first e new

@@ -1,18 +1,17 @@
 -- The walk over the lines of some bytes: what it reports of the line that it is at, how that line
 -- moves it on, and what it comes to. No contract of grep_searcher cites these definitions.
 use Rattle.std.specs.Prelude.{◌≡◌, ℕ, ◌+◌, ◌-◌, ◌<◌, ◌≤◌, Bool, true, false, not, ◌&&◌, ◌||◌, ◌==◌}
-use Rattle.std.specs.Prelude.{if◌then◌else◌, nat_lt, List, []}
-use Rattle.std.specs.Prelude.{◌++◌, length, All}
-use Rattle.grep_matcher.specs.Terminators.{byte_of}
-use Rattle.grep_matcher.specs.Lines.{lines}
-use Rattle.grep_matcher.specs.Matching.{Meaning}
+use Rattle.std.specs.Prelude.{if◌then◌else◌, nat_lt, List, [], ◌++◌, length, All}
+use Rattle.grep_matcher.specs.Lines.{byte_of, lines}
+use Rattle.grep_matcher.specs.Meanings.{Meaning}
 use Rattle.grep_lines.specs.Positions.{IsLineStart}
 use Rattle.grep_report.specs.declared.sink_context.SinkContextKind.TheVariants.{Other}
 use Rattle.grep_definitions.specs.Settings.{Settings}
 use Rattle.grep_definitions.specs.Plans.{Planned, Outcome, all_true, stopped, failed, Steps}
 use Rattle.grep_definitions.specs.Plans.{AreMade, counted}
-use Rattle.grep_definitions.specs.Below.{is_at}
-use Rattle.grep_definitions.specs.LineSearch.{differ, turns_before}
+use Rattle.grep_definitions.specs.Reports.{is_at}
+use Rattle.grep_definitions.specs.SelectedLines.{differ}
+use Rattle.grep_definitions.specs.LineSearch.{turns_before}
 use Rattle.grep_definitions.specs.LineWalks.{IsNear, IsOpen}
 use Rattle.grep_definitions.specs.LineTurns.{number_of, matches_line, pending_turns, match_turns}
 use Rattle.grep_definitions.specs.LineTurns.{after_turns, context_turns}

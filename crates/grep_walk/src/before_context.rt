@@ -1,12 +1,10 @@
 //! The lines before a match: which of them are reported with it, which are kept for a match that is
 //! still to come, and where a break is.
 ghost use Rattle.std.specs.Prelude.{◌≡◌, ◌≤◌, ◌<◌, ◌-◌, ◌&&◌, ◌++◌, ℕ, List, nat_lt, length, take};
-ghost use Rattle.std.specs.Prelude.{drop};
-ghost use Rattle.std.specs.Prelude.{slice_index, min};
-ghost use Rattle.grep_matcher.specs.Terminators.{byte_of};
-ghost use Rattle.grep_matcher.specs.Lines.{lines};
+ghost use Rattle.std.specs.Prelude.{drop, slice_index, min};
+ghost use Rattle.grep_matcher.specs.Lines.{byte_of, lines};
 ghost use Rattle.grep_lines.specs.Positions.{IsLineStart};
-ghost use Rattle.grep_definitions.specs.InputFronts.{IsClosed};
+ghost use Rattle.grep_definitions.specs.Inputs.{IsClosed};
 ghost use Rattle.grep_definitions.specs.LineTurns.{is_gap};
 ghost use Rattle.grep_walk.specs.Walks.{AreCounts, recounted};
 ghost use Rattle.grep_walk.specs.Windows.{IsInWindow};

@@ -3,10 +3,10 @@ ghost use Rattle.std.specs.Prelude.{◌≡◌, ◌≤◌, ◌<◌, ◌+◌, ◌-
 ghost use Rattle.std.specs.Prelude.{IfOk, IfErr, IfSome, IfNone};
 ghost use Rattle.std.specs.Option.{option_map};
 ghost use Rattle.grep_lines.specs.Positions.{IsLineStart};
-ghost use Rattle.grep_matcher.specs.Terminators.{byte_of};
-ghost use Rattle.grep_definitions.specs.AcrossQuestions.{IsAskedAfter, IsAskedAt, match_limit};
-ghost use Rattle.grep_definitions.specs.Below.{is_below};
-ghost use Rattle.grep_definitions.specs.SuccessiveMatches.{position_after};
+ghost use Rattle.grep_matcher.specs.Lines.{byte_of};
+ghost use Rattle.grep_definitions.specs.Asking.{IsAskedAfter, IsAskedAt, match_limit};
+ghost use Rattle.grep_definitions.specs.Reports.{is_below};
+ghost use Rattle.grep_definitions.specs.SelectedLines.{position_after};
 ghost use Rattle.grep_walk.specs.Units.{AreFound, AreLeft, IsFound, HasNoMore, IsPart, IsUnit};
 
 use crate::config::Config;
@@ -30,11 +30,11 @@ pub struct Blocks {
 impl Config {
     /// Finds the first match. The error is the matcher's.
     pub fn first_block<M: Matcher>(&self, matcher: &M, bytes: &[u8]) -> Result<Blocks, M::Error>
-        ensures left { IfOk result (AreLeft self.now (M.meaning matcher.now) bytes.now) }
+        ensures left { IfOk result (AreLeft self.now (M.facts matcher.now).meaning bytes.now) }
         ensures end { IfOk result (λ blocks. blocks.end ≡ 0) }
         ensures fault { IfErr result (λ error. (haystack : List ℕ)
-            × IsAskedAt self.now (M.meaning matcher.now) bytes.now 0 haystack
-            × M.fails matcher.now haystack error) }
+            × IsAskedAt self.now (M.facts matcher.now).meaning bytes.now 0 haystack
+            × (M.facts matcher.now).fails haystack error) }
     {
         let mut blocks = Blocks {
             position: 0,
@@ -69,17 +69,17 @@ impl Config {
         bytes: &[u8],
         blocks: &mut Blocks,
     ) -> Result<Match, M::Error>
-        requires { AreLeft self.now (M.meaning matcher.now) bytes.now blocks.old }
+        requires { AreLeft self.now (M.facts matcher.now).meaning bytes.now blocks.old }
         ensures unit { IfOk result
-            (IsUnit self.now (M.meaning matcher.now) bytes.now blocks.old.end) }
+            (IsUnit self.now (M.facts matcher.now).meaning bytes.now blocks.old.end) }
         ensures end { IfOk result (λ unit. blocks.new.end ≡ unit.1) }
         ensures left { IfOk result (λ unit.
-            AreLeft self.now (M.meaning matcher.now) bytes.now blocks.new) }
+            AreLeft self.now (M.facts matcher.now).meaning bytes.now blocks.new) }
         ensures fault { IfErr result (λ error. (i : ℕ)
             → IsLineStart (byte_of self.now.line_terminator) bytes.now blocks.old.end i
             → (haystack : List ℕ)
-            × IsAskedAt self.now (M.meaning matcher.now) bytes.now i haystack
-            × M.fails matcher.now haystack error) }
+            × IsAskedAt self.now (M.facts matcher.now).meaning bytes.now i haystack
+            × (M.facts matcher.now).fails haystack error) }
     {
         let Some(mut unit) = blocks.next.take() else {
             blocks.end = bytes.len();
@@ -109,18 +109,18 @@ impl Config {
         blocks: &mut Blocks,
     ) -> Result<Option<Match>, M::Error>
         ensures some { IfOk result (λ found. IfSome found
-            (IsFound self.now (M.meaning matcher.now) bytes.now blocks.old blocks.new)) }
+            (IsFound self.now (M.facts matcher.now).meaning bytes.now blocks.old blocks.new)) }
         ensures none { IfOk result (λ found. IfNone found
-            (HasNoMore self.now (M.meaning matcher.now) bytes.now blocks.old blocks.new)) }
+            (HasNoMore self.now (M.facts matcher.now).meaning bytes.now blocks.old blocks.new)) }
         ensures end { blocks.new.end ≡ blocks.old.end }
         ensures next { blocks.new.next ≡ blocks.old.next }
         ensures inside { IfErr result (λ e. blocks.old.position < length bytes.now) }
         ensures fault { IfErr result (λ error. (found : List (ℕ × ℕ))
-            → AreFound self.now (M.meaning matcher.now) bytes.now
+            → AreFound self.now (M.facts matcher.now).meaning bytes.now
             blocks.old.position blocks.old.left found
             → (haystack : List ℕ)
-            × IsAskedAfter self.now (M.meaning matcher.now) bytes.now found haystack
-            × M.fails matcher.now haystack error) }
+            × IsAskedAfter self.now (M.facts matcher.now).meaning bytes.now found haystack
+            × (M.facts matcher.now).fails haystack error) }
     {
         if blocks.position >= bytes.len() || !has_room(blocks.left) {
             return Ok(None);

@@ -1,9 +1,8 @@
 //! The settings of a searcher, and what they say of a search before its first line.
 ghost use Rattle.std.specs.Prelude.{◌≡◌};
-ghost use Rattle.grep_definitions.specs.DecodedInputs.{is_searched_unchanged};
-ghost use Rattle.grep_definitions.specs.Modes.{is_across};
-ghost use Rattle.grep_definitions.specs.ReaderSearches.{reads_lines};
-ghost use Rattle.grep_definitions.specs.Refusals.{refusal_of};
+ghost use Rattle.grep_definitions.specs.SliceSearches.{is_searched_unchanged};
+ghost use Rattle.grep_definitions.specs.Asking.{is_across, refusal_of};
+ghost use Rattle.grep_definitions.specs.Inputs.{reads_lines};
 
 use grep_decode::{Label, label_of_mark};
 use grep_matcher::{LineTerminator, Matcher};
@@ -88,7 +87,7 @@ impl Model for Config {
 impl Config {
     /// Why a search is refused, if it is.
     pub fn refusal<M: Matcher>(&self, matcher: &M) -> Option<ConfigError>
-        ensures { result ≡ refusal_of self.now (M.meaning matcher.now) }
+        ensures { result ≡ refusal_of self.now (M.facts matcher.now).meaning }
     {
         if self.heap_limit == Some(0) {
             return Some(ConfigError::SearchUnavailable);
@@ -106,7 +105,7 @@ impl Config {
     /// matcher doesn't say that no match contains the line terminator. It says so by declaring the
     /// searcher's terminator, or by having its byte among the bytes that no match contains.
     pub fn is_across<M: Matcher>(&self, matcher: &M) -> bool
-        ensures { result ≡ is_across self.now (M.meaning matcher.now) }
+        ensures { result ≡ is_across self.now (M.facts matcher.now).meaning }
     {
         if !self.multi_line || matcher.line_terminator() == Some(self.line_terminator) {
             return false;
@@ -118,7 +117,7 @@ impl Config {
     }
 
     /// Whether a slice needs no decoding.
-    #[tactic(auto, unfolding(grep_definitions::specs::DecodedInputs::is_searched_unchanged))]
+    #[tactic(auto, unfolding(grep_definitions::specs::SliceSearches::is_searched_unchanged))]
     pub fn is_searched_unchanged(&self, input: &[u8]) -> bool
         ensures { result ≡ is_searched_unchanged self.now input.now }
     {

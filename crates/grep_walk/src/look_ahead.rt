@@ -1,13 +1,12 @@
 //! What a walk knows of the lines from its line on: what a matcher found in many lines at once, and
 //! which of them the walk skips.
-ghost use Rattle.std.specs.Prelude.{◌≡◌, ◌≤◌, ◌<◌, ◌+◌, ◌-◌, ◌^◌, ℕ, true, if◌then◌else◌};
-ghost use Rattle.std.specs.Prelude.{length, drop, IfOk, IfErr, IfSome, IfNone};
-ghost use Rattle.grep_lines.specs.Positions.{slice, IsLine, IsLineStart};
-ghost use Rattle.grep_matcher.specs.Lines.{lines};
+ghost use Rattle.std.specs.Prelude.{◌≡◌, ◌≤◌, ◌<◌, ◌+◌, ◌-◌, ◌^◌, ℕ, true, if◌then◌else◌, length};
+ghost use Rattle.std.specs.Prelude.{drop, IfOk, IfErr, IfSome, IfNone, slice_range};
+ghost use Rattle.grep_lines.specs.Positions.{IsLine, IsLineStart};
+ghost use Rattle.grep_matcher.specs.Lines.{lines, byte_of};
 ghost use Rattle.grep_matcher.specs.Lawful.{IsInside, IsLawfulResult};
-ghost use Rattle.grep_matcher.specs.Matching.{Meaning};
-ghost use Rattle.grep_matcher.specs.Terminators.{byte_of};
-ghost use Rattle.grep_definitions.specs.Questions.{IsLawfulFor};
+ghost use Rattle.grep_matcher.specs.Meanings.{Meaning};
+ghost use Rattle.grep_definitions.specs.Asking.{IsLawful};
 ghost use Rattle.grep_walk.specs.LookAheads.{known_at, IsBounded, IsExact, IsKnown, MayAskAhead};
 ghost use Rattle.grep_walk.specs.LookAheads.{can_skip, skips};
 ghost use Rattle.grep_walk.specs.Walks.{skip_unmatched, IsOrdered};
@@ -81,15 +80,15 @@ impl Config {
         requires bounded { IsBounded window.now ahead }
         ensures bounded { IfOk result (IsBounded window.now) }
         ensures known { IfOk result (λ next.
-            IsLawfulFor self.now (M.meaning matcher.now) (M.is_lawful matcher.now)
+            IsLawful (M.facts matcher.now) self.now
             → (i : ℕ) → IsLineStart (byte_of self.now.line_terminator) window.now start i
-            → IsKnown self.now (M.meaning matcher.now) window.now start ahead
-            → IsKnown self.now (M.meaning matcher.now) window.now start next) }
+            → IsKnown self.now (M.facts matcher.now).meaning window.now start ahead
+            → IsKnown self.now (M.facts matcher.now).meaning window.now start next) }
         ensures some { IfErr result (λ e. start < length window.now) }
         ensures unknown { IfErr result (λ e. ahead.match_end ≤ start) }
         ensures allowed { IfErr result
-            (λ e. MayAskAhead self.now (M.meaning matcher.now) walk.now) }
-        ensures fault { IfErr result (M.fails matcher.now (drop start window.now)) }
+            (λ e. MayAskAhead self.now (M.facts matcher.now).meaning walk.now) }
+        ensures fault { IfErr result ((M.facts matcher.now).fails (drop start window.now)) }
     {
         if start < ahead.match_end || start == window.len() || !self.asks_ahead(matcher, walk) {
             return Ok(ahead);
@@ -102,7 +101,7 @@ impl Config {
 
     // Whether a walk may ask a matcher about many lines at once.
     fn asks_ahead<M: Matcher>(&self, matcher: &M, walk: &Walk) -> bool
-        ensures { result ≡ true → MayAskAhead self.now (M.meaning matcher.now) walk.now }
+        ensures { result ≡ true → MayAskAhead self.now (M.facts matcher.now).meaning walk.now }
     {
         if self.passthru || self.is_full(walk) || self.stop_on_nonmatch && walk.match_count > 0 {
             return false;
@@ -165,7 +164,7 @@ impl Config {
         ensures position { result ≡ (if skips self.now walk.old start ahead.now.candidate
             then ahead.now.candidate else start) }
         ensures walk { walk.new ≡ (if skips self.now walk.old start ahead.now.candidate
-            then skip_unmatched self.now walk.old (slice window.now start ahead.now.candidate)
+            then skip_unmatched self.now walk.old (slice_range window.now start ahead.now.candidate)
             else walk.old) }
         ensures ordered { IsOrdered walk.new }
         ensures moved { walk.new.offset + start ≡ walk.old.offset + result }

@@ -1,9 +1,9 @@
 //! The steps of a walk across lines, from one unit of lines that matches touch to the next.
 ghost use Rattle.std.specs.Prelude.{◌≡◌, ◌≤◌, ◌<◌, ◌+◌, ◌^◌, ℕ, true, false, List, length, IfOk};
 ghost use Rattle.std.specs.Prelude.{IfErr};
-ghost use Rattle.grep_matcher.specs.Terminators.{byte_of};
+ghost use Rattle.grep_matcher.specs.Lines.{byte_of};
 ghost use Rattle.grep_lines.specs.Positions.{IsLine, IsLineStart};
-ghost use Rattle.grep_definitions.specs.AcrossQuestions.{IsAskedAt};
+ghost use Rattle.grep_definitions.specs.Asking.{IsAskedAt};
 ghost use Rattle.grep_walk.specs.AcrossWalks.{is_done, is_joined, next_chosen, after_lines};
 ghost use Rattle.grep_walk.specs.AcrossWalks.{IsReady};
 ghost use Rattle.grep_walk.specs.Walks.{IsOrdered};
@@ -32,17 +32,17 @@ impl Config {
         requires some { start < length bytes.now }
         requires at { IsLineStart (byte_of self.now.line_terminator) bytes.now start
             walk.now.line }
-        requires ready { IsReady self.now (M.meaning matcher.now) bytes.now start
+        requires ready { IsReady self.now (M.facts matcher.now).meaning bytes.now start
             walk.now unit blocks.old }
         ensures ready { IfOk result (λ next.
-            IsReady self.now (M.meaning matcher.now) bytes.now start
+            IsReady self.now (M.facts matcher.now).meaning bytes.now start
             walk.now next blocks.new) }
         ensures ahead { IfOk result (λ next.
             is_done self.now walk.now ≡ false → start < next.1) }
         ensures open { IfErr result (λ e. is_done self.now walk.now ≡ false) }
         ensures fault { IfErr result (λ error. (haystack : List ℕ)
-            × IsAskedAt self.now (M.meaning matcher.now) bytes.now walk.now.line haystack
-            × M.fails matcher.now haystack error) }
+            × IsAskedAt self.now (M.facts matcher.now).meaning bytes.now walk.now.line haystack
+            × (M.facts matcher.now).fails haystack error) }
     {
         if start < unit.end() || self.invert_match && self.is_full(walk) {
             return Ok(unit);

@@ -2,12 +2,11 @@
 //! of that, and whether later lines may be reported.
 ghost use Rattle.std.specs.Prelude.{◌≡◌, ◌≤◌, ◌<◌, ◌+◌, ◌^◌, ◌&&◌, ℕ, not, true, false, length};
 ghost use Rattle.std.specs.Prelude.{IfOk, IfErr, IfSome, IfNone, MatchBool, None};
-ghost use Rattle.grep_matcher.specs.Terminators.{byte_of};
-ghost use Rattle.grep_matcher.specs.Lines.{lines, strip};
+ghost use Rattle.grep_matcher.specs.Lines.{byte_of, lines, strip};
 ghost use Rattle.grep_lines.specs.Positions.{IsLine, IsLineStart};
-ghost use Rattle.grep_definitions.specs.Below.{is_at};
-ghost use Rattle.grep_definitions.specs.InputFronts.{IsClosed};
-ghost use Rattle.grep_definitions.specs.LineSearch.{differ};
+ghost use Rattle.grep_definitions.specs.Reports.{is_at};
+ghost use Rattle.grep_definitions.specs.Inputs.{IsClosed};
+ghost use Rattle.grep_definitions.specs.SelectedLines.{differ};
 ghost use Rattle.grep_definitions.specs.LineTurns.{number_of, matches_line};
 ghost use Rattle.grep_walk.specs.Walks.{counts_lines, after_line, skip_lines, is_over, IsOrdered};
 ghost use Rattle.grep_walk.specs.Walks.{can_hit, chooses, trails, IsDecided};
@@ -165,13 +164,13 @@ impl Config {
     ) -> Result<Verdict, M::Error>
         ensures decided { IfOk result (λ verdict.
             IfSome known (λ matches. matches
-            ≡ matches_line self.now (M.meaning matcher.now) line.now)
-            → IsDecided self.now (M.meaning matcher.now) walk.now line.now
+            ≡ matches_line self.now (M.facts matcher.now).meaning line.now)
+            → IsDecided self.now (M.facts matcher.now).meaning walk.now line.now
             (chooses verdict) (trails verdict)) }
         ensures open { IfErr result (λ e. can_hit self.now walk.now ≡ true) }
         ensures unknown { IfErr result (λ e. known ≡ None) }
         ensures fault { IfErr result
-            (M.fails matcher.now (strip self.now.line_terminator line.now)) }
+            ((M.facts matcher.now).fails (strip self.now.line_terminator line.now)) }
     {
         if !self.can_hit(walk) {
             return Ok(Verdict::Missed);

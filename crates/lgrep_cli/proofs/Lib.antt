@@ -1,6 +1,6 @@
 pub mod CommandLemmas
 pub mod CommandRows
-pub mod CountLemmas
+pub mod CountTextLemmas
 pub mod NumeralLemmas
 pub mod OneLineLemmas
 pub mod OutputLemmas

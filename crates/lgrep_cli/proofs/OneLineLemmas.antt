@@ -3,14 +3,13 @@ use Rattle.std.proofs.Common.{◌≡◌, ℕ, zero, suc, ◌+◌, ◌<◌, List,
 use Rattle.std.specs.Prelude.{Bool, true, false, not, ◌&&◌, ◌||◌, ◌==◌, nat_lt, if◌then◌else◌, map, All}
 use Rattle.std.proofs.lemmas.Bool.{ltb-true}
 use Rattle.std.proofs.lemmas.List.Elements.{All-nil, All-cons, All-head, All-tail, All-append, All-map}
-use Rattle.grep_matcher.specs.Terminators.{byte_of}
-use Rattle.grep_matcher.specs.Lines.{lines, onto_first}
-use Rattle.grep_matcher.specs.Matching.{Meaning}
+use Rattle.grep_matcher.specs.Lines.{byte_of, lines, onto_first}
+use Rattle.grep_matcher.specs.Meanings.{Meaning}
 use Rattle.grep_searcher.specs.Asking.{is_declared, search_plan}
 use Rattle.grep_searcher.specs.Reports.{joined_from, line, line_count}
 use Rattle.grep_searcher.specs.SearchLaws.{MatchesAreMatchedLines, is_match, is_matched, match_calls, match_of}
 use Rattle.grep_searcher.specs.SearchLaws.{matched_lines}
-use Rattle.grep_searcher.specs.SelectedLines.{line_end}
+use Rattle.grep_searcher.specs.SelectedLines.{reports_end}
 use Rattle.grep_searcher.specs.Settings.{Settings}
 use Rattle.grep_searcher.specs.Plans.{Call, Planned, begins, matches, context, breaks, binary_data, finishes}
 use Rattle.lgrep_cli.specs.Printers.{IsOneLine, IsMade}
@@ -72,7 +71,7 @@ module _ (settings : Settings) (meaning : Meaning) (bytes : List ℕ) (feeds : b
         (passing (λ i. IsOneLine (match_of settings bytes i)) (is_matched settings meaning bytes)
         (λ i is. subst (λ t. IsAlone t (line settings bytes i)) feeds
         (lines-alone (byte_of settings.line_terminator) bytes i [] (matched-inside i is)))
-        0 (line_end settings meaning bytes))
+        0 (reports_end settings meaning bytes))
 
 -- if each match of some calls is one line, each of the calls is so
 calls-alone : (calls : List Planned) → All IsOneLine (match_calls calls) → All (λ planned. IsOneLine planned.call) calls

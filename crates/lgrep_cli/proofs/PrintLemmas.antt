@@ -4,7 +4,7 @@ use Rattle.std.specs.Prelude.{true, false, ◌-◌, ◌==◌, if◌then◌else�
 use Rattle.std.specs.Prelude.{Ok, Err}
 use Rattle.std.specs.declared.io.Error.{Error}
 use Rattle.std.proofs.lemmas.List.{append-nil}
-use Rattle.lgrep_cli.specs.Texts.{ended, numbered, next_number, match_text}
+use Rattle.lgrep_cli.specs.PrintedTexts.{ended, numbered, next_number, match_text}
 use Rattle.lgrep_cli.specs.Outputs.{OutputCall, Writes}
 use Rattle.lgrep_cli.specs.PendingTexts.{PutsAll, Puts}
 use Rattle.lgrep_cli.proofs.OutputLemmas.{Writes-more, Writes-cut}

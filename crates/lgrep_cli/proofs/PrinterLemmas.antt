@@ -10,16 +10,16 @@ use Rattle.grep_searcher.specs.declared.SearchError.{SearchError}
 use Rattle.grep_searcher.specs.declared.SearchError.TheVariants.{Io}
 use Rattle.grep_searcher.specs.Settings.{Settings}
 use Rattle.grep_searcher.specs.Asking.{search_plan}
-use Rattle.grep_searcher.specs.BinaryBytes.{nowhere}
-use Rattle.grep_searcher.specs.BinaryPlans.{BinaryPoint, IsPoint, plan_with}
+use Rattle.grep_searcher.specs.BinaryBytes.{nowhere, BinaryPoint, plan_with}
+use Rattle.grep_searcher.specs.Searches.{IsPoint, IsSearchOf, ran, asked}
 use Rattle.grep_searcher.specs.Plans.{Outcome, all_true, stopped, failed, AreMade, IsFinished, IsRun, Finish, Plan}
 use Rattle.grep_searcher.specs.Plans.{Planned, finishes}
-use Rattle.grep_searcher.specs.Parties.{ErrorMakers, MatcherFacts}
-use Rattle.grep_searcher.specs.PlannedSearches.{IsSearchOf, ran, asked}
+use Rattle.grep_searcher.specs.ErrorMakers.{ErrorMakers}
+use Rattle.grep_searcher.specs.Meanings.{MatcherFacts}
 use Rattle.grep_matcher.specs.Meanings.{IsInfallible}
 use Rattle.lgrep_cli.specs.Printers.{PrintsCall, Prints, IsMade}
 use Rattle.grep_searcher.specs.SearchLaws.{is_match}
-use Rattle.lgrep_cli.specs.Texts.{call_text, text, has_match}
+use Rattle.lgrep_cli.specs.PrintedTexts.{call_text, text, has_match}
 use Rattle.lgrep_cli.specs.Outputs.{OutputCall, Writes}
 use Rattle.lgrep_cli.specs.PendingTexts.{PutsAll}
 use Rattle.lgrep_cli.specs.declared.printer.Printer.{Printer}
@@ -149,7 +149,7 @@ module _ {W : Type 0} (write_step : W → OutputCall → W → Type 0) (settings
           subst (λ r. IsEnd old plan.calls r new) (sym is) (subst (λ s. IsCut old plan.calls e s) (sym same) fails)
 
   -- a search that looks for no binary byte, with a matcher that never fails
-  pub search-put : {F : Type 0} (errors : ErrorMakers (SearchError Global)) (matcher : MatcherFacts F) (bytes : List ℕ)
+  pub search-put : {F : Type 0} (errors : ErrorMakers F (SearchError Global)) (matcher : MatcherFacts F) (bytes : List ℕ)
       → All (λ planned. IsMade settings planned.call) (search_plan settings matcher.meaning bytes).calls
       → IsInfallible matcher.fails → (n : ℕ) (HasRead : Plan → Outcome (SearchError Global) → Type 0) (old : Printer W)
       (result : Result (Unit {0}) (SearchError Global)) (new : Printer W)

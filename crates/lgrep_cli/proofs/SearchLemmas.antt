@@ -15,21 +15,20 @@ use Rattle.grep_searcher.specs.declared.SearchError.TheVariants.{Io}
 use Rattle.grep_searcher.specs.SearchErrors.{IsOutOfMemory}
 use Rattle.grep_searcher.specs.Settings.{Settings, SearcherState}
 use Rattle.grep_searcher.specs.Asking.{search_plan}
-use Rattle.grep_searcher.specs.BinaryBytes.{nowhere}
-use Rattle.grep_searcher.specs.BinaryPlans.{BinaryPoint, calls_with}
-use Rattle.grep_searcher.specs.Parties.{ErrorMakers, MatcherFacts}
-use Rattle.grep_searcher.specs.PlannedSearches.{EachPoint, GoesOnWith, IsReaderSearch, IsReaderSearched, IsRead}
+use Rattle.grep_searcher.specs.BinaryBytes.{nowhere, BinaryPoint, calls_with}
+use Rattle.grep_searcher.specs.ErrorMakers.{ErrorMakers}
+use Rattle.grep_searcher.specs.Meanings.{MatcherFacts}
+use Rattle.grep_searcher.specs.Searches.{EachPoint, GoesOnWith, IsReaderSearch, IsReaderSearched, IsRead}
 use Rattle.grep_searcher.specs.Plans.{AreMade, all_true}
-use Rattle.grep_searcher.specs.Readings
-use Rattle.grep_searcher.specs.Readings.{searched_bytes, IsInput, IsUnread, Reads, Taken}
+use Rattle.grep_searcher.specs.Inputs
+use Rattle.grep_searcher.specs.Inputs.{searched_bytes, IsInput, IsUnread, Reads, Taken}
 use Rattle.grep_searcher.specs.SearchLaws.{MatchesAreMatchedLines}
 use Rattle.lgrep_cli.specs.OptionSettings.{numbered_unless, settings_of_options}
 use Rattle.lgrep_cli.specs.Printers.{Prints, IsMade}
 use Rattle.lgrep_cli.specs.ProgramRuns.{searcher_of, meaning_of, calls_of, calls_over, whole_text, partial_text, Input}
-use Rattle.lgrep_cli.specs.ProgramRuns.{IsPrinted}
-use Rattle.lgrep_cli.specs.ProgramRuns.{IsPrintedAndFlushed, IsPrintedWhole, IsProgramRun}
-use Rattle.lgrep_cli.specs.ProgramRuns.{IsFailure, of_memory, of_reader, of_reader_and_write, of_write}
-use Rattle.lgrep_cli.specs.Texts.{count_text, text, has_match}
+use Rattle.lgrep_cli.specs.ProgramRuns.{IsPrinted, IsPrintedAndFlushed, IsPrintedWhole, IsProgramRun, IsFailure}
+use Rattle.lgrep_cli.specs.ProgramRuns.{of_memory, of_reader, of_reader_and_write, of_write}
+use Rattle.lgrep_cli.specs.PrintedTexts.{count_text, text, has_match}
 use Rattle.lgrep_cli.specs.Outputs.{OutputCall, flushes, taken_by, Writes}
 use Rattle.lgrep_cli.specs.PendingTexts.{PutsAll}
 use Rattle.lgrep_cli.specs.declared.options.Options.{Options}
@@ -239,11 +238,10 @@ module _ {R W : Type 0} (remaining : R → Option (List ℕ)) (read_step : R →
     of_reading = λ ok. its_end begun seen error fails put e io;
   }
 
-  module _ {F : Type 0} (is_message : Option (List ℕ) → SearchError Global → Type 0)
-      (is_config : ConfigError → SearchError Global → Type 0)
-      (text_of : F → Option (List ℕ)) where
+  module _ {F : Type 0} (is_message : F → SearchError Global → Type 0)
+      (is_config : ConfigError → SearchError Global → Type 0) where
     -- how a search's errors are made, and what is known of the matcher of a literal
-    abbrev errors : ErrorMakers (SearchError Global)
+    abbrev errors : ErrorMakers F (SearchError Global)
     errors = record { is_message = is_message; is_io = λ error e. e ≡ Io error; is_config = is_config }
 
     abbrev facts : List ℕ → MatcherFacts F
@@ -251,7 +249,6 @@ module _ {R W : Type 0} (remaining : R → Option (List ℕ)) (read_step : R →
       meaning = literal_meaning literal;
       fails = λ _ _. ⊥;
       is_lawful = λ _. Unit {0};
-      text_of = text_of;
     }
 
     -- the calls over the lines that were seen: no binary byte is looked for
@@ -328,7 +325,7 @@ module _ {R W : Type 0} (remaining : R → Option (List ℕ)) (read_step : R →
                 unread true short.seen short.error e short.made ok (
                   short.mid,
                   short.taken,
-                  subst (λ b. Readings.IsCut remaining read_step (numbering options false)
+                  subst (λ b. Inputs.IsCut remaining read_step (numbering options false)
                       (meaning_of options) reader short.mid reader' short.taken short.seen b short.error) is short.cause,
                 )
                 (reported short.taken.ended short.taken.pieces short.seen (short.calls is))
@@ -336,7 +333,7 @@ module _ {R W : Type 0} (remaining : R → Option (List ℕ)) (read_step : R →
                 unread false short.seen short.error e short.made ok (
                   short.mid,
                   short.taken,
-                  subst (λ b. Readings.IsCut remaining read_step (numbering options false)
+                  subst (λ b. Inputs.IsCut remaining read_step (numbering options false)
                       (meaning_of options) reader short.mid reader' short.taken short.seen b short.error) is short.cause,
                 )
                 (subst (ArePut write_step (settings_of_options options) old []) (sym (short.none is))

@@ -5,5 +5,5 @@ pub mod Outputs
 pub mod PendingTexts
 pub mod Printers
 pub mod ProgramRuns
-pub mod Texts
+pub mod PrintedTexts
 pub mod Writing

@@ -6,31 +6,24 @@ use Rattle.grep_matcher.specs.Lines.{lines}
 use Rattle.grep_searcher.specs.declared.SearchError.{SearchError}
 use Rattle.grep_searcher.specs.declared.SearchError.TheVariants.{Io}
 use Rattle.grep_searcher.specs.Settings.{Settings}
-use Rattle.grep_searcher.specs.Plans.{Call, begins, matches, context, breaks, binary_data}
-use Rattle.grep_searcher.specs.Plans.{finishes}
+use Rattle.grep_searcher.specs.Plans.{Call, matches, context, breaks}
 use Rattle.grep_searcher.specs.SearchLaws.{is_match}
-use Rattle.lgrep_cli.specs.Texts.{call_text}
+use Rattle.lgrep_cli.specs.PrintedTexts.{call_text}
 use Rattle.lgrep_cli.specs.Outputs.{OutputCall}
 use Rattle.lgrep_cli.specs.PendingTexts.{Puts}
 use Rattle.lgrep_cli.specs.declared.printer.Printer.{Printer}
 
 -- whether a call is written at all
 abbrev pub is_written : Call → Bool
-is_written begins = false
 is_written (matches number offset bytes) = true
 is_written (context kind number offset line) = true
 is_written breaks = true
-is_written (binary_data offset) = false
-is_written (finishes count binary) = false
+is_written _ = false
 
 -- a match is one line
 abbrev pub IsOneLine : Call → Type 0
-IsOneLine begins = Unit {0}
 IsOneLine (matches number offset bytes) = lines 10 bytes ≡ bytes ∷ []
-IsOneLine (context kind number offset line) = Unit {0}
-IsOneLine breaks = Unit {0}
-IsOneLine (binary_data offset) = Unit {0}
-IsOneLine (finishes count binary) = Unit {0}
+IsOneLine _ = Unit {0}
 
 -- a call as a search with these settings makes it: if no match may extend over several lines, each
 -- match is one line

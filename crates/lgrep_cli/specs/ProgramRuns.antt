@@ -15,11 +15,11 @@ use Rattle.grep_searcher.specs.declared.SearchError.{SearchError}
 use Rattle.grep_searcher.specs.declared.SearchError.TheVariants.{Io}
 use Rattle.grep_searcher.specs.Asking.{search_plan}
 use Rattle.grep_searcher.specs.Plans.{Planned}
-use Rattle.grep_searcher.specs.Readings.{IsInput, Taken, IsUnread, searched_bytes}
+use Rattle.grep_searcher.specs.Inputs.{IsInput, Taken, IsUnread, searched_bytes}
 use Rattle.grep_searcher.specs.Settings.{SearcherState}
 use Rattle.lgrep_cli.specs.CommandLine.{AskFor}
 use Rattle.lgrep_cli.specs.OptionSettings.{searched_settings, settings_of_options}
-use Rattle.lgrep_cli.specs.Texts.{count_text, has_match, text}
+use Rattle.lgrep_cli.specs.PrintedTexts.{count_text, has_match, text}
 use Rattle.lgrep_cli.specs.Outputs.{OutputCall, flushes, Writes}
 use Rattle.lgrep_cli.specs.declared.options.Options.{Options}
 

@@ -1,6 +1,6 @@
 //! Lines and numbers, each written at once.
 ghost use Rattle.std.specs.Prelude.{◌≡◌, ◌∷◌, ◌++◌, [], decimal};
-ghost use Rattle.lgrep_cli.specs.Texts.{ended, numbered};
+ghost use Rattle.lgrep_cli.specs.PrintedTexts.{ended, numbered};
 ghost use Rattle.lgrep_cli.specs.Outputs.{Writes};
 
 use crate::output::{Output, write_all};

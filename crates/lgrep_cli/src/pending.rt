@@ -3,7 +3,7 @@ ghost use Rattle.std.specs.Prelude.{◌≡◌, ◌∷◌, ◌++◌, ◌+◌, ◌
 ghost use Rattle.std.specs.Prelude.{take};
 ghost use Rattle.lgrep_cli.specs.Outputs.{Writes};
 ghost use Rattle.lgrep_cli.specs.PendingTexts.{Puts};
-ghost use Rattle.lgrep_cli.specs.Texts.{ended, numbered};
+ghost use Rattle.lgrep_cli.specs.PrintedTexts.{ended, numbered};
 
 use crate::lines::write_line;
 use crate::numeral::{MARKED_LEN, Numeral};

@@ -1,7 +1,7 @@
 //! The sink that puts together the text of what is reported.
 ghost use Rattle.std.specs.Prelude.{◌≡◌, [], true, false, Ok, Err, MatchResult};
 ghost use Rattle.grep_matcher.specs.Lines.{lines};
-ghost use Rattle.lgrep_cli.specs.Texts.{match_text, next_number};
+ghost use Rattle.lgrep_cli.specs.PrintedTexts.{match_text, next_number};
 ghost use Rattle.lgrep_cli.specs.Outputs.{Writes};
 ghost use Rattle.lgrep_cli.specs.PendingTexts.{Puts};
 

@@ -32,13 +32,13 @@ impl Matcher for Verbose {
     type Error = Message;
 
     ghost use Rattle.std.specs.Prelude.{None};
-    ghost use Rattle.grep_matcher.specs.Matching.{plain};
+    ghost use Rattle.grep_matcher.specs.FindResults.{plain};
 
-    ghost meaning = { λ _. plain (λ _. None) };
-
-    ghost fails = { λ _ _ _. Unit {0} };
-
-    ghost is_lawful = { λ _ _. Unit {0} };
+    ghost facts = { λ _. record {
+      meaning = plain (λ _. None);
+      fails = λ _ _. Unit {0};
+      is_lawful = λ _. Unit {0};
+    } };
 
     fn find(&self, _haystack: &[u8]) -> Result<Option<Match>, Message> {
         Err(Message)

@@ -43,13 +43,13 @@ impl Matcher for Shortest {
     type Error = &'static str;
 
     ghost use Rattle.std.specs.Prelude.{Some};
-    ghost use Rattle.grep_matcher.specs.Matching.{plain};
+    ghost use Rattle.grep_matcher.specs.FindResults.{plain};
 
-    ghost meaning = { λ _. plain (λ _. Some (0, 0)) };
-
-    ghost fails = { λ _ _ _. Unit {0} };
-
-    ghost is_lawful = { λ _ _. Unit {0} };
+    ghost facts = { λ _. record {
+      meaning = plain (λ _. Some (0, 0));
+      fails = λ _ _. Unit {0};
+      is_lawful = λ _. Unit {0};
+    } };
 
     fn find(&self, _haystack: &[u8]) -> Result<Option<Match>, &'static str> {
         Err("find was asked")

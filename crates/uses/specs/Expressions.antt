@@ -1,6 +1,6 @@
 -- What a pattern means that is matched by line.
 use Rattle.std.specs.Prelude.{ℕ, true, Some, List, [], ◌∷◌}
-use Rattle.grep_searcher.specs.Matching.{Meaning}
+use Rattle.grep_searcher.specs.Meanings.{Meaning}
 use Rattle.grep_regex.specs.Patterns.{default_options, meaning_of}
 use Rattle.grep_regex.specs.declared.options.Options.{Options}
 use Rattle.grep_matcher.specs.declared.line_terminator.LineTerminator.TheVariants.{Byte}

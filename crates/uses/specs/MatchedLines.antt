@@ -6,13 +6,13 @@ use Rattle.std.specs.Option.{option_map}
 use Rattle.grep_searcher.specs.Meanings.{Meaning}
 use Rattle.grep_searcher.specs.Reports.{count_below, first_below, line_count, line, start}
 use Rattle.grep_searcher.specs.SearchLaws.{is_matched, matched_lines}
-use Rattle.grep_searcher.specs.SelectedLines.{is_selected, line_end}
+use Rattle.grep_searcher.specs.SelectedLines.{is_selected, reports_end}
 use Rattle.grep_searcher.specs.Settings.{Settings}
 
 -- how many lines are matched
 abbrev pub matched_count : Settings → Meaning → List ℕ → ℕ
 matched_count settings meaning bytes =
-    count_below (is_matched settings meaning bytes) (line_end settings meaning bytes)
+    count_below (is_matched settings meaning bytes) (reports_end settings meaning bytes)
 
 -- the number of the first selected line, counted from 1, and its offset
 abbrev pub first_selected : Settings → Meaning → List ℕ → Option (ℕ × ℕ)

@@ -1,9 +1,8 @@
 //! The lines of all matches.
 ghost use Rattle.std.specs.Prelude.{◌≡◌, ◌⊎◌, true, false, None, IfOk, IfErr};
-ghost use Rattle.grep_searcher.specs.Readings.{searched_bytes};
+ghost use Rattle.grep_searcher.specs.Inputs.{searched_bytes};
 ghost use Rattle.grep_searcher.specs.Meanings.{IsInfallible};
-ghost use Rattle.grep_searcher.specs.Asking.{is_across, IsLawfulFor};
-ghost use Rattle.grep_searcher.specs.Parties.{refusal_of};
+ghost use Rattle.grep_searcher.specs.Asking.{is_across, IsLawful, refusal_of};
 ghost use Rattle.grep_searcher.specs.SearchErrors.{IsOutOfMemory};
 ghost use Rattle.uses.specs.DecodingErrors.{IsDecodingError};
 ghost use Rattle.uses.specs.MatchedLines.{matched_bytes};
@@ -32,19 +31,19 @@ pub fn matching_lines<M: Matcher + Drop>(
     matcher: M,
     bytes: &[u8],
 ) -> Result<Vec<u8>, SearchError>
-    ensures lines { IsLawfulFor searcher.old.settings (M.meaning matcher) (M.is_lawful matcher)
-        → is_across searcher.old.settings (M.meaning matcher) ≡ false
+    ensures lines { IsLawful (M.facts matcher) searcher.old.settings
+        → is_across searcher.old.settings (M.facts matcher).meaning ≡ false
         → searcher.old.settings.binary_detection ≡ BinaryDetection.None
         → IfOk result (λ text. text.items
-        ≡ matched_bytes searcher.old.settings (M.meaning matcher)
+        ≡ matched_bytes searcher.old.settings (M.facts matcher).meaning
         (searched_bytes searcher.old.settings bytes.now)) }
     ensures settings { searcher.new.settings ≡ searcher.old.settings }
     ensures buffers { searcher.old.has_buffers ≡ true → searcher.new.has_buffers ≡ true }
-    ensures error { IsInfallible (M.fails matcher)
-        → IsLawfulFor searcher.old.settings (M.meaning matcher) (M.is_lawful matcher)
-        → refusal_of searcher.old.settings (M.meaning matcher) ≡ None
+    ensures error { IsInfallible (M.facts matcher).fails
+        → IsLawful (M.facts matcher) searcher.old.settings
+        → refusal_of searcher.old.settings (M.facts matcher).meaning ≡ None
         → searcher.old.settings.binary_detection ≡ BinaryDetection.None → IfErr result (λ e.
-        IsOutOfMemory e ⊎ IsDecodingError searcher.old (M.meaning matcher) bytes.now e) }
+        IsOutOfMemory e ⊎ IsDecodingError searcher.old (M.facts matcher).meaning bytes.now e) }
 {
     let mut matches = MatchText {
         text: Vec::new(alloc),

@@ -1,9 +1,9 @@
 //! How many lines match.
 ghost use Rattle.std.specs.Prelude.{◌≡◌, ◌-◌, ◌^◌, None, true, false, min, IfOk, IfErr, IsOk};
-ghost use Rattle.grep_searcher.specs.Readings.{searched_bytes, is_searched_unchanged};
+ghost use Rattle.grep_searcher.specs.Inputs.{searched_bytes};
+ghost use Rattle.grep_searcher.specs.SliceSearches.{is_searched_unchanged};
 ghost use Rattle.grep_searcher.specs.Meanings.{IsInfallible};
-ghost use Rattle.grep_searcher.specs.Asking.{is_across, IsLawfulFor};
-ghost use Rattle.grep_searcher.specs.Parties.{refusal_of};
+ghost use Rattle.grep_searcher.specs.Asking.{is_across, IsLawful, refusal_of};
 ghost use Rattle.uses.specs.DecodingErrors.{IsDecodingError};
 ghost use Rattle.uses.specs.MatchedLines.{matched_count};
 
@@ -31,26 +31,26 @@ pub fn count_matching_lines<M: Matcher + Drop>(
     matcher: M,
     bytes: &[u8],
 ) -> Result<u64, SearchError>
-    ensures count { IsLawfulFor searcher.old.settings (M.meaning matcher) (M.is_lawful matcher)
-        → is_across searcher.old.settings (M.meaning matcher) ≡ false
+    ensures count { IsLawful (M.facts matcher) searcher.old.settings
+        → is_across searcher.old.settings (M.facts matcher).meaning ≡ false
         → searcher.old.settings.binary_detection ≡ BinaryDetection.None
         → is_searched_unchanged searcher.old.settings bytes.now ≡ true → IfOk result (λ count.
-        count ≡ matched_count searcher.old.settings (M.meaning matcher) bytes.now) }
-    ensures decoded { IsLawfulFor searcher.old.settings (M.meaning matcher) (M.is_lawful matcher)
-        → is_across searcher.old.settings (M.meaning matcher) ≡ false
+        count ≡ matched_count searcher.old.settings (M.facts matcher).meaning bytes.now) }
+    ensures decoded { IsLawful (M.facts matcher) searcher.old.settings
+        → is_across searcher.old.settings (M.facts matcher).meaning ≡ false
         → searcher.old.settings.binary_detection ≡ BinaryDetection.None
         → IfOk result (λ count. count
-        ≡ min (matched_count searcher.old.settings (M.meaning matcher)
+        ≡ min (matched_count searcher.old.settings (M.facts matcher).meaning
         (searched_bytes searcher.old.settings bytes.now))
         (2 ^ 64 - 1)) }
     ensures settings { searcher.new.settings ≡ searcher.old.settings }
     ensures buffers { searcher.old.has_buffers ≡ true → searcher.new.has_buffers ≡ true }
-    ensures error { IsInfallible (M.fails matcher)
-        → IsLawfulFor searcher.old.settings (M.meaning matcher) (M.is_lawful matcher)
-        → refusal_of searcher.old.settings (M.meaning matcher) ≡ None
-        → IfErr result (IsDecodingError searcher.old (M.meaning matcher) bytes.now) }
-    ensures succeeds { IsInfallible (M.fails matcher)
-        → refusal_of searcher.old.settings (M.meaning matcher) ≡ None
+    ensures error { IsInfallible (M.facts matcher).fails
+        → IsLawful (M.facts matcher) searcher.old.settings
+        → refusal_of searcher.old.settings (M.facts matcher).meaning ≡ None
+        → IfErr result (IsDecodingError searcher.old (M.facts matcher).meaning bytes.now) }
+    ensures succeeds { IsInfallible (M.facts matcher).fails
+        → refusal_of searcher.old.settings (M.facts matcher).meaning ≡ None
         → is_searched_unchanged searcher.old.settings bytes.now ≡ true → IsOk result }
 {
     let mut matches = MatchCount { count: 0 };

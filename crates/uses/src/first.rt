@@ -1,10 +1,9 @@
 //! The first match of a reader.
 ghost use Rattle.std.specs.Prelude.{◌≡◌, ℕ, Bool, true, false, None, List, IfOk, IfErr};
 ghost use Rattle.std.specs.declared.io.Error.{Error};
-ghost use Rattle.grep_searcher.specs.Readings.{IsInput, Taken, IsUnread};
+ghost use Rattle.grep_searcher.specs.Inputs.{IsInput, Taken, IsUnread};
 ghost use Rattle.grep_searcher.specs.Meanings.{IsInfallible};
-ghost use Rattle.grep_searcher.specs.Asking.{is_across, IsLawfulFor};
-ghost use Rattle.grep_searcher.specs.Parties.{refusal_of};
+ghost use Rattle.grep_searcher.specs.Asking.{is_across, IsLawful, refusal_of};
 ghost use Rattle.uses.specs.MatchedLines.{first_selected};
 
 use grep_searcher::laws::{first_match_is_first, reader_searches_run, runs_fold_matches};
@@ -33,19 +32,19 @@ pub fn first_match<M: Matcher + Drop, R: Source>(
     reader: &mut R,
 ) -> Result<Option<(u64, u64)>, SearchError>
     requires { searcher.old.settings.line_number ≡ true }
-    ensures first { IsLawfulFor searcher.old.settings (M.meaning matcher) (M.is_lawful matcher)
-        → is_across searcher.old.settings (M.meaning matcher) ≡ false
+    ensures first { IsLawful (M.facts matcher) searcher.old.settings
+        → is_across searcher.old.settings (M.facts matcher).meaning ≡ false
         → searcher.old.settings.binary_detection ≡ BinaryDetection.None
         → IfOk result (λ found. (taken : Taken R.remaining R.step reader.old reader.new)
         × ((bytes : List ℕ) → IsInput searcher.old.settings taken.ended taken.pieces bytes
-        → found ≡ first_selected searcher.old.settings (M.meaning matcher) bytes)) }
+        → found ≡ first_selected searcher.old.settings (M.facts matcher).meaning bytes)) }
     ensures settings { searcher.new.settings ≡ searcher.old.settings }
     ensures buffers { searcher.old.has_buffers ≡ true → searcher.new.has_buffers ≡ true }
-    ensures error { IsInfallible (M.fails matcher)
-        → IsLawfulFor searcher.old.settings (M.meaning matcher) (M.is_lawful matcher)
-        → refusal_of searcher.old.settings (M.meaning matcher) ≡ None
+    ensures error { IsInfallible (M.facts matcher).fails
+        → IsLawful (M.facts matcher) searcher.old.settings
+        → refusal_of searcher.old.settings (M.facts matcher).meaning ≡ None
         → IfErr result (λ e. (begun : Bool) × (seen : List ℕ) × (error : Error)
-        × IsUnread R.remaining R.step searcher.old (M.meaning matcher)
+        × IsUnread R.remaining R.step searcher.old (M.facts matcher).meaning
         reader.old begun seen error reader.new
         × (e ≡ SearchError.Io error)) }
 {

@@ -1,7 +1,7 @@
 //! The numbers and the texts of all matches, by a closure.
 ghost use Rattle.std.specs.Prelude.{◌≡◌, ◌++◌, ◌∷◌, [], true, false, IfOk};
-ghost use Rattle.grep_searcher.specs.Readings.{searched_bytes};
-ghost use Rattle.grep_searcher.specs.Asking.{is_across, IsLawfulFor};
+ghost use Rattle.grep_searcher.specs.Inputs.{searched_bytes};
+ghost use Rattle.grep_searcher.specs.Asking.{is_across, IsLawful};
 ghost use Rattle.uses.specs.NumberedTexts.{texts_of};
 ghost use Rattle.uses.specs.MatchedLines.{numbered_lines_of};
 
@@ -29,11 +29,11 @@ pub fn numbered_lines<M: Matcher + Drop>(
     matcher: M,
     bytes: &[u8],
 ) -> io::Result<Vec<(u64, String)>>
-    ensures lines { IsLawfulFor searcher.old.settings (M.meaning matcher) (M.is_lawful matcher)
-        → is_across searcher.old.settings (M.meaning matcher) ≡ false
+    ensures lines { IsLawful (M.facts matcher) searcher.old.settings
+        → is_across searcher.old.settings (M.facts matcher).meaning ≡ false
         → searcher.old.settings.binary_detection ≡ BinaryDetection.None
         → IfOk result (λ lines. texts_of lines.items
-        ≡ numbered_lines_of searcher.old.settings (M.meaning matcher)
+        ≡ numbered_lines_of searcher.old.settings (M.facts matcher).meaning
         (searched_bytes searcher.old.settings bytes.now)) }
     ensures settings { searcher.new.settings ≡ searcher.old.settings }
     ensures buffers { searcher.old.has_buffers ≡ true → searcher.new.has_buffers ≡ true }

@@ -2,10 +2,9 @@
 ghost use Rattle.std.specs.Prelude.{◌≡◌, ◌-◌, ◌^◌, ℕ, List, Some, None, true, false, min, IfOk};
 ghost use Rattle.std.specs.Prelude.{IfErr};
 ghost use Rattle.std.specs.declared.io.Error.{Error};
-ghost use Rattle.grep_searcher.specs.Readings.{searched_bytes};
+ghost use Rattle.grep_searcher.specs.Inputs.{searched_bytes};
 ghost use Rattle.grep_searcher.specs.Meanings.{IsInfallible};
-ghost use Rattle.grep_searcher.specs.Asking.{is_across, IsLawfulFor};
-ghost use Rattle.grep_searcher.specs.Parties.{refusal_of};
+ghost use Rattle.grep_searcher.specs.Asking.{is_across, IsLawful, refusal_of};
 ghost use Rattle.uses.specs.MatchedLines.{matched_count};
 
 use crate::count::MatchCount;
@@ -31,19 +30,19 @@ pub fn count_in_path<R: Files, M: Matcher + Drop, P: AsPath>(
     matcher: M,
     path: P,
 ) -> Result<u64, SearchError>
-    ensures count { IsLawfulFor searcher.old.settings (M.meaning matcher) (M.is_lawful matcher)
-        → is_across searcher.old.settings (M.meaning matcher) ≡ false
+    ensures count { IsLawful (M.facts matcher) searcher.old.settings
+        → is_across searcher.old.settings (M.facts matcher).meaning ≡ false
         → searcher.old.settings.binary_detection ≡ BinaryDetection.None
         → IfOk result (λ count. (file : R.File) × ((input : List ℕ)
         → R.File.remaining file ≡ Some input → count
-        ≡ min (matched_count searcher.old.settings (M.meaning matcher)
+        ≡ min (matched_count searcher.old.settings (M.facts matcher).meaning
         (searched_bytes searcher.old.settings input))
         (2 ^ 64 - 1))) }
     ensures settings { searcher.new.settings ≡ searcher.old.settings }
     ensures buffers { searcher.old.has_buffers ≡ true → searcher.new.has_buffers ≡ true }
-    ensures error { IsInfallible (M.fails matcher)
-        → IsLawfulFor searcher.old.settings (M.meaning matcher) (M.is_lawful matcher)
-        → refusal_of searcher.old.settings (M.meaning matcher) ≡ None
+    ensures error { IsInfallible (M.facts matcher).fails
+        → IsLawful (M.facts matcher) searcher.old.settings
+        → refusal_of searcher.old.settings (M.facts matcher).meaning ≡ None
         → IfErr result (λ e. (error : Error) × (e ≡ SearchError.Io error)) }
 {
     let mut matches = MatchCount { count: 0 };

@@ -1,6 +1,6 @@
 //! A whole search with a sink of its own: the example of the README.
 ghost use Rattle.std.specs.Prelude.{◌≡◌, ◌⊎◌, IfOk, IfErr};
-ghost use Rattle.grep_searcher.specs.Readings.{searched_bytes};
+ghost use Rattle.grep_searcher.specs.Inputs.{searched_bytes};
 ghost use Rattle.grep_searcher.specs.Literals.{literal_meaning};
 ghost use Rattle.grep_searcher.specs.SearchErrors.{IsOutOfMemory};
 ghost use Rattle.grep_searcher.specs.SearchLaws.{line_plan};

@@ -1,14 +1,14 @@
 //! Searches of files.
 ghost use Rattle.std.specs.Prelude.{◌≡◌, true, ℕ, Bool, List, None, IfErr, OnOk};
 ghost use Rattle.std.specs.declared.io.Error.{Error};
-ghost use Rattle.grep_definitions.specs.Asking.{IsLawfulFor};
+ghost use Rattle.grep_definitions.specs.Asking.{IsLawful, refusal_of};
 ghost use Rattle.grep_definitions.specs.FileSearches.{IsFileRead, IsFileSearched, IsPathInOrder};
 ghost use Rattle.grep_definitions.specs.FileSearches.{IsPathSearched};
-ghost use Rattle.grep_definitions.specs.Parties.{errors_by, facts_by, refusal_of};
-ghost use Rattle.grep_definitions.specs.PlannedSearches.{IsInOrder};
+ghost use Rattle.grep_definitions.specs.Searches.{IsInOrder};
 ghost use Rattle.grep_definitions.specs.Plans.{NeverFails};
-ghost use Rattle.grep_definitions.specs.Readings.{IsReadingError, IsUnread};
+ghost use Rattle.grep_definitions.specs.Inputs.{IsReadingError, IsUnread};
 ghost use Rattle.grep_matcher.specs.Meanings.{IsInfallible};
+ghost use Rattle.grep_report.specs.ErrorMakers.{makers_of};
 
 use crate::searcher::Searcher;
 use crate::sink::Sink;
@@ -45,21 +45,19 @@ impl<A: Allocator + Copy> Searcher<A> {
         ensures buffers { self.old.has_buffers ≡ true → self.new.has_buffers ≡ true }
         ensures gets { OnOk result (self.new.has_buffers ≡ true) }
         ensures searched { IsFileSearched F.remaining S.step
-            (errors_by S.Error.is_message S.Error.is_io S.Error.is_config)
-            (facts_by M.meaning M.fails M.is_lawful M.Error.output matcher)
+            (makers_of M.Error.output S.Error.makers) (M.facts matcher)
             self.old file.old sink.old result file.new sink.new }
-        ensures in_order { refusal_of self.old.settings (M.meaning matcher) ≡ None
+        ensures in_order { refusal_of self.old.settings (M.facts matcher).meaning ≡ None
             → IsInOrder S.step
-            (errors_by S.Error.is_message S.Error.is_io S.Error.is_config)
-            (facts_by M.meaning M.fails M.is_lawful M.Error.output matcher) self.old.settings
+            (makers_of M.Error.output S.Error.makers) (M.facts matcher) self.old.settings
             (IsReadingError F.remaining (IsFileRead F.remaining) file.old file.new)
             sink.old result sink.new }
-        ensures succeeds { NeverFails S.step S.may_call → IsInfallible (M.fails matcher)
-            → IsLawfulFor self.old.settings (M.meaning matcher) (M.is_lawful matcher)
-            → refusal_of self.old.settings (M.meaning matcher) ≡ None
+        ensures succeeds { NeverFails S.step S.may_call → IsInfallible (M.facts matcher).fails
+            → IsLawful (M.facts matcher) self.old.settings
+            → refusal_of self.old.settings (M.facts matcher).meaning ≡ None
             → IfErr result (λ e. (begun : Bool) × (seen : List ℕ) × (error : Error)
-            × IsUnread F.remaining (IsFileRead F.remaining) self.old (M.meaning matcher)
-            file.old begun seen error file.new × S.Error.is_io error e) }
+            × IsUnread F.remaining (IsFileRead F.remaining) self.old (M.facts matcher).meaning
+            file.old begun seen error file.new × S.Error.makers.is_io error e) }
         ensures may_call { S.may_call sink.new }
     {
         self.search_reader(matcher, &mut Opened { file }, sink)
@@ -86,18 +84,16 @@ impl<A: Allocator + Copy> Searcher<A> {
         ensures buffers { self.old.has_buffers ≡ true → self.new.has_buffers ≡ true }
         ensures gets { OnOk result (self.new.has_buffers ≡ true) }
         ensures searched { IsPathSearched R.File.remaining S.step
-            (errors_by S.Error.is_message S.Error.is_io S.Error.is_config)
-            (facts_by M.meaning M.fails M.is_lawful M.Error.output matcher)
+            (makers_of M.Error.output S.Error.makers) (M.facts matcher)
             self.old sink.old result sink.new }
-        ensures in_order { refusal_of self.old.settings (M.meaning matcher) ≡ None
+        ensures in_order { refusal_of self.old.settings (M.facts matcher).meaning ≡ None
             → IsPathInOrder R.File.remaining S.step
-            (errors_by S.Error.is_message S.Error.is_io S.Error.is_config)
-            (facts_by M.meaning M.fails M.is_lawful M.Error.output matcher)
+            (makers_of M.Error.output S.Error.makers) (M.facts matcher)
             self.old.settings sink.old result sink.new }
-        ensures succeeds { NeverFails S.step S.may_call → IsInfallible (M.fails matcher)
-            → IsLawfulFor self.old.settings (M.meaning matcher) (M.is_lawful matcher)
-            → refusal_of self.old.settings (M.meaning matcher) ≡ None
-            → IfErr result (λ e. (error : Error) × S.Error.is_io error e) }
+        ensures succeeds { NeverFails S.step S.may_call → IsInfallible (M.facts matcher).fails
+            → IsLawful (M.facts matcher) self.old.settings
+            → refusal_of self.old.settings (M.facts matcher).meaning ≡ None
+            → IfErr result (λ e. (error : Error) × S.Error.makers.is_io error e) }
         ensures may_call { S.may_call sink.new }
     {
         match File::open(rt, path) {

@@ -43,7 +43,7 @@ impl<A: Allocator + Copy> Searcher<A> {
     pub fn multi_line_with_matcher<M: Matcher>(&self, matcher: M) -> bool
     where
         M: Drop,
-        ensures { result ≡ is_across self.now.settings (M.meaning matcher) }
+        ensures { result ≡ is_across self.now.settings (M.facts matcher).meaning }
     {
         self.config.is_across(&matcher)
     }

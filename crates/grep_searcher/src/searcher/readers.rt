@@ -2,13 +2,13 @@
 ghost use Rattle.std.specs.Prelude.{◌≡◌, ℕ, Bool, true, false, List, None, IfErr, OnOk};
 ghost use Rattle.std.specs.declared.io.Error.{Error};
 ghost use Rattle.grep_matcher.specs.Meanings.{IsInfallible};
-ghost use Rattle.grep_definitions.specs.Asking.{IsLawfulFor};
+ghost use Rattle.grep_definitions.specs.Asking.{IsLawful, refusal_of};
 ghost use Rattle.grep_definitions.specs.BinaryBytes.{look_of};
-ghost use Rattle.grep_definitions.specs.Parties.{errors_by, facts_by, refusal_of};
-ghost use Rattle.grep_definitions.specs.PlannedSearches.{IsInOrder, IsRead, IsReaderSearched};
+ghost use Rattle.grep_definitions.specs.Searches.{IsInOrder, IsRead, IsReaderSearched};
 ghost use Rattle.grep_definitions.specs.Plans.{NeverFails};
-ghost use Rattle.grep_definitions.specs.Readings.{IsReadingError, IsUnread};
+ghost use Rattle.grep_definitions.specs.Inputs.{IsReadingError, IsUnread};
 ghost use Rattle.grep_definitions.specs.Reports.{is_at};
+ghost use Rattle.grep_report.specs.ErrorMakers.{makers_of};
 
 use crate::searcher::Searcher;
 use crate::searcher::sink_calls::SinkCalls;
@@ -68,21 +68,19 @@ impl<A: Allocator + Copy> Searcher<A> {
         ensures buffers { self.old.has_buffers ≡ true → self.new.has_buffers ≡ true }
         ensures gets { OnOk result (self.new.has_buffers ≡ true) }
         ensures searched { IsReaderSearched R.remaining R.step S.step
-            (errors_by S.Error.is_message S.Error.is_io S.Error.is_config)
-            (facts_by M.meaning M.fails M.is_lawful M.Error.output matcher)
+            (makers_of M.Error.output S.Error.makers) (M.facts matcher)
             self.old reader.old sink.old result reader.new sink.new }
-        ensures in_order { refusal_of self.old.settings (M.meaning matcher) ≡ None
+        ensures in_order { refusal_of self.old.settings (M.facts matcher).meaning ≡ None
             → IsInOrder S.step
-            (errors_by S.Error.is_message S.Error.is_io S.Error.is_config)
-            (facts_by M.meaning M.fails M.is_lawful M.Error.output matcher) self.old.settings
+            (makers_of M.Error.output S.Error.makers) (M.facts matcher) self.old.settings
             (IsReadingError R.remaining R.step reader.old reader.new) sink.old result sink.new }
-        ensures succeeds { NeverFails S.step S.may_call → IsInfallible (M.fails matcher)
-            → IsLawfulFor self.old.settings (M.meaning matcher) (M.is_lawful matcher)
-            → refusal_of self.old.settings (M.meaning matcher) ≡ None
+        ensures succeeds { NeverFails S.step S.may_call → IsInfallible (M.facts matcher).fails
+            → IsLawful (M.facts matcher) self.old.settings
+            → refusal_of self.old.settings (M.facts matcher).meaning ≡ None
             → IfErr result (λ e. (begun : Bool) × (seen : List ℕ) × (error : Error)
             × IsUnread R.remaining R.step self.old
-            (M.meaning matcher) reader.old begun seen error reader.new
-            × S.Error.is_io error e) }
+            (M.facts matcher).meaning reader.old begun seen error reader.new
+            × S.Error.makers.is_io error e) }
         ensures may_call { S.may_call sink.new }
     {
         if let Some(refusal) = self.config.refusal(&matcher) {
@@ -106,23 +104,20 @@ impl<A: Allocator + Copy> Searcher<A> {
         ensures settings { self.new.settings ≡ self.old.settings }
         ensures buffers { self.old.has_buffers ≡ true → self.new.has_buffers ≡ true }
         ensures gets { OnOk result (self.new.has_buffers ≡ true) }
-        ensures searched { IsLawfulFor self.old.settings (M.meaning matcher.now)
-            (M.is_lawful matcher.now)
+        ensures searched { IsLawful (M.facts matcher.now) self.old.settings
             → IsRead R.remaining R.step S.step
-            (errors_by S.Error.is_message S.Error.is_io S.Error.is_config)
-            (facts_by M.meaning M.fails M.is_lawful M.Error.output matcher.now)
-            self.old (look_of self.old.settings (M.meaning matcher.now) false)
+            (makers_of M.Error.output S.Error.makers) (M.facts matcher.now)
+            self.old (look_of self.old.settings (M.facts matcher.now).meaning false)
             reader.old sink.old result reader.new sink.new }
         ensures in_order { IsInOrder S.step
-            (errors_by S.Error.is_message S.Error.is_io S.Error.is_config)
-            (facts_by M.meaning M.fails M.is_lawful M.Error.output matcher.now) self.old.settings
+            (makers_of M.Error.output S.Error.makers) (M.facts matcher.now) self.old.settings
             (IsReadingError R.remaining R.step reader.old reader.new) sink.old result sink.new }
-        ensures succeeds { NeverFails S.step S.may_call → IsInfallible (M.fails matcher.now)
-            → IsLawfulFor self.old.settings (M.meaning matcher.now) (M.is_lawful matcher.now)
+        ensures succeeds { NeverFails S.step S.may_call → IsInfallible (M.facts matcher.now).fails
+            → IsLawful (M.facts matcher.now) self.old.settings
             → IfErr result (λ e. (begun : Bool) × (seen : List ℕ) × (error : Error)
             × IsUnread R.remaining R.step self.old
-            (M.meaning matcher.now) reader.old begun seen error reader.new
-            × S.Error.is_io error e) }
+            (M.facts matcher.now).meaning reader.old begun seen error reader.new
+            × S.Error.makers.is_io error e) }
         ensures may_call { S.may_call sink.new }
     {
         let mut buffers = match self.take_buffers() {

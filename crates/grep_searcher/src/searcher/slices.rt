@@ -2,13 +2,14 @@
 ghost use Rattle.std.specs.Prelude.{◌≡◌, ℕ, Bool, true, false, List, None, IfErr, IsOk};
 ghost use Rattle.std.specs.declared.io.Error.{Error};
 ghost use Rattle.grep_matcher.specs.Meanings.{IsInfallible};
-ghost use Rattle.grep_definitions.specs.Asking.{IsLawfulFor};
-ghost use Rattle.grep_definitions.specs.Parties.{errors_by, facts_by, refusal_of};
-ghost use Rattle.grep_definitions.specs.PlannedSearches.{IsInOrder};
+ghost use Rattle.grep_definitions.specs.Asking.{IsLawful, refusal_of};
+ghost use Rattle.grep_definitions.specs.Searches.{IsInOrder};
 ghost use Rattle.grep_definitions.specs.Plans.{NeverFails};
-ghost use Rattle.grep_definitions.specs.Readings.{IsOwnError, is_searched_unchanged};
+ghost use Rattle.grep_definitions.specs.Inputs.{IsOwnError};
+ghost use Rattle.grep_definitions.specs.SliceSearches.{is_searched_unchanged, IsSliceSearched};
+ghost use Rattle.grep_definitions.specs.SliceSearches.{IsUndecoded};
 ghost use Rattle.grep_definitions.specs.Reports.{is_at};
-ghost use Rattle.grep_definitions.specs.SliceSearches.{IsSliceSearched, IsUndecoded};
+ghost use Rattle.grep_report.specs.ErrorMakers.{makers_of};
 
 use crate::searcher::Searcher;
 use crate::searcher::sink_calls::SinkCalls;
@@ -62,25 +63,23 @@ impl<A: Allocator + Copy> Searcher<A> {
         ensures same { is_searched_unchanged self.old.settings bytes.now ≡ true
             → self.new ≡ self.old }
         ensures searched { IsSliceSearched S.step
-            (errors_by S.Error.is_message S.Error.is_io S.Error.is_config)
-            (facts_by M.meaning M.fails M.is_lawful M.Error.output matcher)
+            (makers_of M.Error.output S.Error.makers) (M.facts matcher)
             self.old bytes.now sink.old result sink.new }
-        ensures in_order { refusal_of self.old.settings (M.meaning matcher) ≡ None
+        ensures in_order { refusal_of self.old.settings (M.facts matcher).meaning ≡ None
             → IsInOrder S.step
-            (errors_by S.Error.is_message S.Error.is_io S.Error.is_config)
-            (facts_by M.meaning M.fails M.is_lawful M.Error.output matcher) self.old.settings
+            (makers_of M.Error.output S.Error.makers) (M.facts matcher) self.old.settings
             (λ error. (is_searched_unchanged self.old.settings bytes.now ≡ false)
             × IsOwnError error)
             sink.old result sink.new }
-        ensures completes { NeverFails S.step S.may_call → IsInfallible (M.fails matcher)
-            → refusal_of self.old.settings (M.meaning matcher) ≡ None
+        ensures completes { NeverFails S.step S.may_call → IsInfallible (M.facts matcher).fails
+            → refusal_of self.old.settings (M.facts matcher).meaning ≡ None
             → is_searched_unchanged self.old.settings bytes.now ≡ true → IsOk result }
-        ensures succeeds { NeverFails S.step S.may_call → IsInfallible (M.fails matcher)
-            → IsLawfulFor self.old.settings (M.meaning matcher) (M.is_lawful matcher)
-            → refusal_of self.old.settings (M.meaning matcher) ≡ None
+        ensures succeeds { NeverFails S.step S.may_call → IsInfallible (M.facts matcher).fails
+            → IsLawful (M.facts matcher) self.old.settings
+            → refusal_of self.old.settings (M.facts matcher).meaning ≡ None
             → IfErr result (λ e. (begun : Bool) × (seen : List ℕ) × (error : Error)
-            × IsUndecoded self.old (M.meaning matcher) bytes.now begun seen error
-            × S.Error.is_io error e) }
+            × IsUndecoded self.old (M.facts matcher).meaning bytes.now begun seen error
+            × S.Error.makers.is_io error e) }
         ensures may_call { S.may_call sink.new }
     {
         unchanged_is_searched();
@@ -105,24 +104,22 @@ impl<A: Allocator + Copy> Searcher<A> {
         ensures buffers { self.old.has_buffers ≡ true → self.new.has_buffers ≡ true }
         ensures same { is_searched_unchanged self.old.settings input.now ≡ true
             → self.new ≡ self.old }
-        ensures searched { refusal_of self.old.settings (M.meaning matcher.now) ≡ None
+        ensures searched { refusal_of self.old.settings (M.facts matcher.now).meaning ≡ None
             → IsSliceSearched S.step
-            (errors_by S.Error.is_message S.Error.is_io S.Error.is_config)
-            (facts_by M.meaning M.fails M.is_lawful M.Error.output matcher.now)
+            (makers_of M.Error.output S.Error.makers) (M.facts matcher.now)
             self.old input.now sink.old result sink.new }
         ensures in_order { IsInOrder S.step
-            (errors_by S.Error.is_message S.Error.is_io S.Error.is_config)
-            (facts_by M.meaning M.fails M.is_lawful M.Error.output matcher.now) self.old.settings
+            (makers_of M.Error.output S.Error.makers) (M.facts matcher.now) self.old.settings
             (λ error. (is_searched_unchanged self.old.settings input.now ≡ false)
             × IsOwnError error)
             sink.old result sink.new }
-        ensures completes { NeverFails S.step S.may_call → IsInfallible (M.fails matcher.now)
+        ensures completes { NeverFails S.step S.may_call → IsInfallible (M.facts matcher.now).fails
             → is_searched_unchanged self.old.settings input.now ≡ true → IsOk result }
-        ensures succeeds { NeverFails S.step S.may_call → IsInfallible (M.fails matcher.now)
-            → IsLawfulFor self.old.settings (M.meaning matcher.now) (M.is_lawful matcher.now)
+        ensures succeeds { NeverFails S.step S.may_call → IsInfallible (M.facts matcher.now).fails
+            → IsLawful (M.facts matcher.now) self.old.settings
             → IfErr result (λ e. (begun : Bool) × (seen : List ℕ) × (error : Error)
-            × IsUndecoded self.old (M.meaning matcher.now) input.now begun seen error
-            × S.Error.is_io error e) }
+            × IsUndecoded self.old (M.facts matcher.now).meaning input.now begun seen error
+            × S.Error.makers.is_io error e) }
         ensures may_call { S.may_call sink.new }
     {
         unchanged_is_searched();

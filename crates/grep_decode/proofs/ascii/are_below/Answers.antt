@@ -1,6 +1,6 @@
 use Rattle.std.proofs.Common.{◌+◌, ltb, ap, sym, ◌∙◌, arith, w8}
 use Rattle.std.proofs.lemmas.Simd.{bitmask_splat}
-use Rattle.grep_decode.proofs.BlockLemmas.{all-below, doubled, is-equal}
+use Rattle.grep_decode.proofs.AsciiBlockLemmas.{all-below, doubled, is-equal}
 use Rattle.grep_decode.proofs.ascii.are_below.Goals as goal
 
 pub returns : goal.returns

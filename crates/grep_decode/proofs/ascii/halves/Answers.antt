@@ -1,5 +1,5 @@
 use Rattle.std.proofs.Common.{◌++◌, length-append, ◌≡◌, length, refl, arith}
-use Rattle.grep_decode.proofs.BlockLemmas.{picked-evens, picked-odds}
+use Rattle.grep_decode.proofs.AsciiBlockLemmas.{picked-evens, picked-odds}
 use Rattle.grep_decode.proofs.ascii.halves.Goals as goal
 
 pub returns-clause-firsts : goal.returns-clause-firsts

@@ -1,4 +1,4 @@
-use Rattle.grep_decode.proofs.BlockLemmas.{little-block, big-block}
+use Rattle.grep_decode.proofs.AsciiBlockLemmas.{little-block, big-block}
 use Rattle.grep_decode.proofs.ascii.put_ascii.Goals as goal
 
 pub returns-in-Little-clause-text : goal.returns-in-Little-clause-text

@@ -1,4 +1,4 @@
-use Rattle.grep_decode.proofs.DecodedLemmas.{unchanged-decoded}
+use Rattle.grep_decode.proofs.DecodedTextLemmas.{unchanged-decoded}
 use Rattle.grep_decode.proofs.laws.unchanged_is_decoded.Goals as goal
 
 pub returns : goal.returns

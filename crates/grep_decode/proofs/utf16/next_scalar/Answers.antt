@@ -1,8 +1,8 @@
 use Rattle.std.proofs.Common.{◌⊎◌, ◌<◌, ◌≤◌, drop, inl, inr, ap, ◌∙◌, ◌++◌, encode_utf8, arith}
 use Rattle.grep_decode.specs.Decoded.{utf16_text}
-use Rattle.grep_decode.proofs.UnitLemmas.{high_is, low_is, not_low, not_high, alone-plain, alone-surrogate, text-alone}
-use Rattle.grep_decode.proofs.UnitLemmas.{text-high}
-use Rattle.grep_decode.proofs.UnitLemmas.{unfinished-few, unfinished-pair, text-pair, text-waiting, text-odd}
+use Rattle.grep_decode.proofs.Utf16Lemmas.{high_is, low_is, not_low, not_high, alone-plain, alone-surrogate, text-alone}
+use Rattle.grep_decode.proofs.Utf16Lemmas.{text-high}
+use Rattle.grep_decode.proofs.Utf16Lemmas.{unfinished-few, unfinished-pair, text-pair, text-waiting, text-odd}
 use Rattle.grep_decode.proofs.utf16.next_scalar.Goals as goal
 use Rattle.grep_decode.proofs.utf16.next_scalar.Goals.{then-unit-lt55296-via-then-unit-lt55296}
 use Rattle.grep_decode.proofs.utf16.next_scalar.Goals.{then-unit-lt55296-via-else-unit-lt55296+then-unit-ge57344}

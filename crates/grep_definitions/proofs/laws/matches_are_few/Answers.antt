@@ -1,8 +1,8 @@
 use Rattle.std.proofs.Common.{length, ap, arith}
-use Rattle.grep_matcher.specs.Terminators.{byte_of}
+use Rattle.grep_matcher.specs.Lines.{byte_of}
 use Rattle.grep_definitions.specs.LineSearch.{turn_count}
 use Rattle.grep_definitions.specs.SearchLaws.{is_matched, match_calls}
-use Rattle.grep_definitions.proofs.ModeLemmas.{plan-by_line}
+use Rattle.grep_definitions.proofs.SearchModeLemmas.{plan-by_line}
 use Rattle.grep_definitions.proofs.MatchCallLemmas.{length-match_calls, count_below-few}
 use Rattle.grep_definitions.proofs.SearchLawLemmas.{turn_count-le}
 use Rattle.grep_definitions.proofs.laws.matches_are_few.Goals as goal

@@ -1,6 +1,6 @@
 use Rattle.std.proofs.Common.{ap, ◌∙◌}
 use Rattle.grep_definitions.specs.SearchLaws.{match_calls}
-use Rattle.grep_definitions.proofs.ModeLemmas.{plan-by_line}
+use Rattle.grep_definitions.proofs.SearchModeLemmas.{plan-by_line}
 use Rattle.grep_definitions.proofs.MatchCallLemmas.{match_calls-turns}
 use Rattle.grep_definitions.proofs.laws.matches_are_matched_lines.Goals as goal
 

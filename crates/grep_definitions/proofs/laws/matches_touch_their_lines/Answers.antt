@@ -1,4 +1,4 @@
-use Rattle.grep_matcher.specs.Terminators.{byte_of}
+use Rattle.grep_matcher.specs.Lines.{byte_of}
 use Rattle.grep_definitions.proofs.TouchLemmas.{is_within-some, is_within-holds, holds-is_within}
 use Rattle.grep_definitions.proofs.laws.matches_touch_their_lines.Goals as goal
 

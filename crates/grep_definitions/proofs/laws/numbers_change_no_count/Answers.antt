@@ -1,4 +1,4 @@
-use Rattle.grep_definitions.proofs.CountLemmas.{numbers-no_bytes, numbers-no_count}
+use Rattle.grep_definitions.proofs.MatchCountLemmas.{numbers-no_bytes, numbers-no_count}
 use Rattle.grep_definitions.proofs.laws.numbers_change_no_count.Goals as goal
 
 pub returns-clause-count : goal.returns-clause-count

@@ -14,5 +14,7 @@ returns-in-Ok-clause-reads g c =
       ahead = λ passing. rw len (made.ahead passing);
       passing = made.passing;
       done = λ none. made.done (sym len ∙ ap (λ l. length l) none) (omega arith);
+      begins = λ nothing. made.begins nothing (omega arith);
+      last = made.last;
       end = λ none. made.end (sym len ∙ ap (λ l. length l) none) (omega arith);
     }

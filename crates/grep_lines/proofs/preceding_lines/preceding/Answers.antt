@@ -1,5 +1,5 @@
 use Rattle.std.proofs.Common.{arith}
-use Rattle.grep_lines.proofs.PositionLemmas.{last_line}
+use Rattle.grep_lines.proofs.LinePositionLemmas.{last_line}
 use Rattle.grep_lines.proofs.preceding_lines.preceding.Goals as goal
 
 pub returns-clause-line : goal.returns-clause-line

@@ -1,6 +1,6 @@
 use Rattle.std.proofs.Common.{◌≡◌, ◌+◌, ◌-◌, arith, sym, subst, ⊎_elim}
 use Rattle.std.proofs.lemmas.Bool.{cases_lt}
-use Rattle.grep_lines.proofs.PositionLemmas.{IsBack, IsBack-first, IsBack-more, IsBack-zero}
+use Rattle.grep_lines.proofs.LinePositionLemmas.{IsBack, IsBack-first, IsBack-more, IsBack-zero}
 use Rattle.grep_lines.proofs.preceding_lines.preceding_by_pos.Goals as goal
 
 pub loop-left-init : goal.loop-left-init

@@ -1,5 +1,5 @@
 use Rattle.std.proofs.Common.{◌≡◌, ◌-◌, ◌<◌, ◌≤◌, slice_index}
-use Rattle.grep_lines.proofs.PositionLemmas.{IsBack}
+use Rattle.grep_lines.proofs.LinePositionLemmas.{IsBack}
 use Rattle.grep_lines.proofs.preceding_lines.preceding_by_pos.Given as goal
 
 abbrev pub invariant-loop-left : goal.invariant-loop-left

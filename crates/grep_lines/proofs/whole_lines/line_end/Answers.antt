@@ -1,5 +1,5 @@
 use Rattle.std.proofs.lemmas.List.{take_rest}
-use Rattle.grep_lines.proofs.PositionLemmas.{end-found, end-none}
+use Rattle.grep_lines.proofs.LinePositionLemmas.{end-found, end-none}
 use Rattle.grep_lines.proofs.whole_lines.line_end.Goals as goal
 
 pub returns-in-Some-clause-end : goal.returns-in-Some-clause-end

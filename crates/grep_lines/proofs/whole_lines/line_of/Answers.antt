@@ -1,6 +1,6 @@
 use Rattle.std.proofs.Common.{refl, ◌≢◌, ◌∙◌, ◌≤◌, ◌<◌, ◌+◌, ℕ, ap₂, arith, slice_index}
 use Rattle.std.proofs.lemmas.Bool.{eqb-true, eq-eqb}
-use Rattle.grep_lines.proofs.PositionLemmas.{block_end-open, block_start-is, end-count}
+use Rattle.grep_lines.proofs.LinePositionLemmas.{block_end-open, block_start-is, end-count}
 use Rattle.grep_lines.proofs.whole_lines.line_of.Goals as goal
 
 -- a line by its start and its end

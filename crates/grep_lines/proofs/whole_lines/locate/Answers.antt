@@ -4,7 +4,7 @@ use Rattle.std.proofs.lemmas.Bool.{cases_lt}
 use Rattle.std.specs.Prelude.{IsTrue}
 use Rattle.grep_matcher.specs.Lines.{line_start}
 use Rattle.grep_lines.specs.Blocks.{lines_before}
-use Rattle.grep_lines.proofs.PositionLemmas.{block_start-is, block_end-closed, block_end-open}
+use Rattle.grep_lines.proofs.LinePositionLemmas.{block_start-is, block_end-closed, block_end-open}
 use Rattle.grep_lines.proofs.whole_lines.locate.Goals as goal
 use Rattle.grep_lines.proofs.whole_lines.locate.Goals.{else-not-is_empty-via-then-not-is_empty+else-bytes-end}
 use Rattle.grep_lines.proofs.whole_lines.locate.Goals.{else-not-is_empty-via-else-not-is_empty}

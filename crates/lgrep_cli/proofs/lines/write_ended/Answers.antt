@@ -1,6 +1,6 @@
 use Rattle.std.proofs.Common.{rules, ◌≡◌, ◌∷◌, ◌++◌, []}
 use Rattle.std.proofs.lemmas.Result.{err_from_is_err_and}
-use Rattle.lgrep_cli.specs.Texts.{ended}
+use Rattle.lgrep_cli.specs.PrintedTexts.{ended}
 use Rattle.lgrep_cli.proofs.PrintLemmas as print
 use Rattle.lgrep_cli.proofs.lines.write_ended.Goals as goal
 

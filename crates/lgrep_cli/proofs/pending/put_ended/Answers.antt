@@ -1,5 +1,5 @@
 use Rattle.std.proofs.Common.{◌≡◌, ◌+◌, ◌-◌, [], ◌∷◌, ◌++◌, length, take, arith, rules, sym, ap, ◌∙◌}
-use Rattle.lgrep_cli.specs.Texts.{ended}
+use Rattle.lgrep_cli.specs.PrintedTexts.{ended}
 use Rattle.lgrep_cli.proofs.PutLemmas.{ended-put}
 use Rattle.lgrep_cli.proofs.pending.put_ended.Goals as goal
 

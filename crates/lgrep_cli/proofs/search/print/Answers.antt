@@ -13,7 +13,7 @@ searched-whole : (g : Over) (c : Joined-searcher-2 g)
     c.search_reader.new.reader c.args.printer.now c.search_reader.new.sink c.requires.pending c.search_reader.result
 searched-whole g c = reader-searched g.R.Source.remaining g.R.Source.step g.W.Output.step
     c.matches_are_matched_lines.ensures c.args.options.now c.requires.count c.args.reader.now
-    c.search_reader.new.reader c.args.printer.now c.search_reader.new.sink c.requires.pending _ _ _
+    c.search_reader.new.reader c.args.printer.now c.search_reader.new.sink c.requires.pending _ _
     c.in_ok-searcher.searcher
     c.in_ok-matcher.matcher c.search_reader.result c.in_ok-searcher.ensures.settings c.in_ok-matcher.ensures.literal
     c.requires.found
@@ -25,7 +25,7 @@ searched-unwritten : (g : Over) (c : Joined-searcher-3 g)
     c.search_reader.new.reader c.args.printer.now c.search_reader.new.sink c.requires.pending c.search_reader.result
 searched-unwritten g c = reader-searched g.R.Source.remaining g.R.Source.step g.W.Output.step
     c.matches_are_matched_lines.ensures c.args.options.now c.requires.count c.args.reader.now
-    c.search_reader.new.reader c.args.printer.now c.search_reader.new.sink c.requires.pending _ _ _
+    c.search_reader.new.reader c.args.printer.now c.search_reader.new.sink c.requires.pending _ _
     c.in_ok-searcher.searcher
     c.in_ok-matcher.matcher c.search_reader.result c.in_ok-searcher.ensures.settings c.in_ok-matcher.ensures.literal
     c.requires.found
@@ -37,7 +37,7 @@ searched-cut : (g : Over) (c : Joined-searcher-4 g)
     c.search_reader.new.reader c.args.printer.now c.search_reader.new.sink c.requires.pending c.search_reader.result
 searched-cut g c = reader-searched g.R.Source.remaining g.R.Source.step g.W.Output.step
     c.matches_are_matched_lines.ensures c.args.options.now c.requires.count c.args.reader.now
-    c.search_reader.new.reader c.args.printer.now c.search_reader.new.sink c.requires.pending _ _ _
+    c.search_reader.new.reader c.args.printer.now c.search_reader.new.sink c.requires.pending _ _
     c.in_ok-searcher.searcher
     c.in_ok-matcher.matcher c.search_reader.result c.in_ok-searcher.ensures.settings c.in_ok-matcher.ensures.literal
     c.requires.found
@@ -49,7 +49,7 @@ searched-read : (g : Over) (c : Joined-searcher-5 g)
     c.search_reader.new.reader c.args.printer.now c.search_reader.new.sink c.requires.pending c.search_reader.result
 searched-read g c = reader-searched g.R.Source.remaining g.R.Source.step g.W.Output.step
     c.matches_are_matched_lines.ensures c.args.options.now c.requires.count c.args.reader.now
-    c.search_reader.new.reader c.args.printer.now c.search_reader.new.sink c.requires.pending _ _ _
+    c.search_reader.new.reader c.args.printer.now c.search_reader.new.sink c.requires.pending _ _
     c.in_ok-searcher.searcher
     c.in_ok-matcher.matcher c.search_reader.result c.in_ok-searcher.ensures.settings c.in_ok-matcher.ensures.literal
     c.requires.found
@@ -61,7 +61,7 @@ searched-unread : (g : Over) (c : Joined-searcher-6 g)
     c.search_reader.new.reader c.args.printer.now c.search_reader.new.sink c.requires.pending c.search_reader.result
 searched-unread g c = reader-searched g.R.Source.remaining g.R.Source.step g.W.Output.step
     c.matches_are_matched_lines.ensures c.args.options.now c.requires.count c.args.reader.now
-    c.search_reader.new.reader c.args.printer.now c.search_reader.new.sink c.requires.pending _ _ _
+    c.search_reader.new.reader c.args.printer.now c.search_reader.new.sink c.requires.pending _ _
     c.in_ok-searcher.searcher
     c.in_ok-matcher.matcher c.search_reader.result c.in_ok-searcher.ensures.settings c.in_ok-matcher.ensures.literal
     c.requires.found

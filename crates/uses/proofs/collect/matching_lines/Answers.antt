@@ -2,7 +2,7 @@ use Rattle.std.proofs.lemmas.Result.{err_from_is_err_and}
 use Rattle.std.proofs.Common.{inl, inr, true, ◌∙◌}
 use Rattle.grep_searcher.specs.SearchLaws.{match_calls, matched_lines}
 use Rattle.grep_searcher.specs.Asking.{search_plan}
-use Rattle.grep_searcher.specs.Readings.{searched_bytes}
+use Rattle.grep_searcher.specs.Inputs.{searched_bytes}
 use Rattle.uses.specs.MatchSinks.{joined}
 use Rattle.uses.proofs.FoldLemmas.{fold_while-matched}
 use Rattle.uses.proofs.collect.matching_lines.Goals as goal
@@ -10,7 +10,7 @@ use Rattle.uses.proofs.collect.matching_lines.Goals as goal
 pub returns-clause-lines : goal.returns-clause-lines
 returns-clause-lines g c = λ lawful by_line none.
     let settings = c.args.searcher.now.settings in
-    let meaning = g.M.Matcher.meaning c.args.matcher in
+    let meaning = (g.M.Matcher.facts c.args.matcher).meaning in
     let bytes = searched_bytes settings c.args.bytes.now in
     let folded = c.runs_fold_matches.ensures (λ _ _. true) joined (λ _ _ _ _ _ h. h) _ _ _ _
     (c.searches_run.ensures c.args.matcher c.args.searcher.now c.args.bytes.now _ _ none lawful

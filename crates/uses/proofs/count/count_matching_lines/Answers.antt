@@ -2,7 +2,7 @@ use Rattle.std.proofs.lemmas.Result.{err_from_is_err_and}
 use Rattle.std.proofs.Common.{◌≡◌, ◌-◌, ◌^◌, min, true, ap, arith, subst, ◌∙◌}
 use Rattle.grep_searcher.specs.Asking.{search_plan}
 use Rattle.grep_searcher.specs.SearchLaws.{match_calls}
-use Rattle.grep_searcher.specs.Readings.{searched_bytes}
+use Rattle.grep_searcher.specs.Inputs.{searched_bytes}
 use Rattle.uses.specs.MatchSinks.{counted}
 use Rattle.uses.specs.MatchedLines.{matched_count}
 use Rattle.uses.proofs.FoldLemmas.{fold_while-counted_all}
@@ -11,7 +11,7 @@ use Rattle.uses.proofs.count.count_matching_lines.Goals as goal
 pub returns-clause-decoded : goal.returns-clause-decoded
 returns-clause-decoded g c = λ lawful by_line none.
     let settings = c.args.searcher.now.settings in
-    let meaning = g.M.Matcher.meaning c.args.matcher in
+    let meaning = (g.M.Matcher.facts c.args.matcher).meaning in
     let bytes = searched_bytes settings c.args.bytes.now in
     let folded = c.runs_fold_matches.ensures (λ _ _. true) counted (λ _ _ _ _ _ h. h) _ _ _ _
     (c.searches_run.ensures c.args.matcher c.args.searcher.now c.args.bytes.now _ _ none lawful
@@ -23,7 +23,7 @@ returns-clause-decoded g c = λ lawful by_line none.
 pub returns-clause-count : goal.returns-clause-count
 returns-clause-count g c = λ lawful by_line none unchanged.
     let settings = c.args.searcher.now.settings in
-    let meaning = g.M.Matcher.meaning c.args.matcher in
+    let meaning = (g.M.Matcher.facts c.args.matcher).meaning in
     let input = c.args.bytes.now in
     let count : c.search_slice.new.sink.count ≡ min (matched_count settings meaning input) (2 ^ 64 - 1) =
     subst (λ bytes. c.search_slice.new.sink.count ≡ min (matched_count settings meaning bytes) (2 ^ 64 - 1))

@@ -1,12 +1,12 @@
 use Rattle.std.proofs.Common.{rules, arith, ap, refl}
-use Rattle.grep_searcher.specs.Readings.{searched_bytes}
+use Rattle.grep_searcher.specs.Inputs.{searched_bytes}
 use Rattle.uses.specs.NumberedTexts.{texts_of}
 use Rattle.uses.proofs.numbered.numbered_lines.Goals as goal
 
 pub returns-clause-lines : goal.returns-clause-lines
 returns-clause-lines g c = λ lawful by_line none.
     let settings = c.args.searcher.now.settings in
-    let meaning = g.M.Matcher.meaning c.args.matcher in
+    let meaning = (g.M.Matcher.facts c.args.matcher).meaning in
     let kept = c.closures_keep_calls.ensures (λ f. f.0.ghost_name) (λ f. texts_of f.0.now.items)
     (λ old number text b new h. search rules) settings meaning (searched_bytes settings c.args.bytes.now) by_line _ refl
     _ _

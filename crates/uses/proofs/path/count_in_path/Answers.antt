@@ -1,7 +1,7 @@
 use Rattle.std.proofs.Common.{◌-◌, ◌^◌, min, true, ap, ◌∙◌, inl, inr}
 use Rattle.grep_searcher.specs.Asking.{search_plan}
 use Rattle.grep_searcher.specs.SearchLaws.{match_calls}
-use Rattle.grep_searcher.specs.Readings.{searched_bytes}
+use Rattle.grep_searcher.specs.Inputs.{searched_bytes}
 use Rattle.uses.specs.MatchSinks.{counted}
 use Rattle.uses.proofs.FoldLemmas.{fold_while-counted_all}
 use Rattle.uses.proofs.path.count_in_path.Goals as goal
@@ -9,7 +9,7 @@ use Rattle.uses.proofs.path.count_in_path.Goals as goal
 pub returns-clause-count : goal.returns-clause-count
 returns-clause-count g c = λ lawful by_line none.
     let settings = c.args.searcher.now.settings in
-    let meaning = g.M.Matcher.meaning c.args.matcher in
+    let meaning = (g.M.Matcher.facts c.args.matcher).meaning in
     elim c.in_ok-search_path.ensures.searched [
       | inl unopened ↦ absurd (let never = unopened.2 in cc)
       | inr opened ↦ (

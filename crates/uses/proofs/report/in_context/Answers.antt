@@ -1,12 +1,11 @@
 use Rattle.std.proofs.lemmas.Result.{err_from_is_err_and}
 use Rattle.std.proofs.Common.{◌≡◌, inl, inr, None, true, ap, subst, ◌∙◌}
-use Rattle.grep_searcher.specs.Asking.{search_plan}
-use Rattle.grep_searcher.specs.Parties.{refusal_of}
+use Rattle.grep_searcher.specs.Asking.{search_plan, refusal_of}
 use Rattle.grep_searcher.specs.SliceSearches.{IsUndecoded}
 use Rattle.grep_searcher.specs.Literals.{literal_meaning}
 use Rattle.grep_searcher.specs.Settings.{Settings, SearcherState}
 use Rattle.grep_searcher.specs.BuiltSettings.{built}
-use Rattle.grep_searcher.specs.Readings.{searched_bytes}
+use Rattle.grep_searcher.specs.Inputs.{searched_bytes}
 use Rattle.uses.specs.MatchSinks.{one_before, reporter, reported, report_of}
 use Rattle.uses.proofs.FoldLemmas.{reported-run}
 use Rattle.uses.proofs.report.in_context.Goals as goal

@@ -2,8 +2,8 @@ use Rattle.std.proofs.Common.{rules, ◌≡◌, false, true}
 use Rattle.std.proofs.lemmas.Result.{err_from_is_err_and}
 use Rattle.grep_definitions.specs.Plans.{stopped, counted}
 use Rattle.grep_walk.proofs.AcrossEndLemmas as ends
-use Rattle.grep_definitions.specs.Searches.{errors_by, facts_by}
 use Rattle.grep_definitions.proofs.CallOrderLemmas as order
+use Rattle.grep_report.specs.ErrorMakers.{makers_of}
 use Rattle.grep_core.proofs.search.Search.match_across.Goals as goal
 
 pub returns-in_err-begin-clause-fault : goal.returns-in_err-begin-clause-fault
@@ -16,7 +16,7 @@ pub returns-then-not-branch-clause-reported : goal.returns-then-not-branch-claus
 returns-then-not-branch-clause-reported g c =
     let unbegun : c.in_ok-begin.field-0 ≡ false = search rules in (
       stopped (counted 0),
-      ends.counted-unbegun c.args.self.now.config (g.M.Matcher.meaning c.args.matcher.now) c.args.bytes.now
+      ends.counted-unbegun c.args.self.now.config (g.M.Matcher.facts c.args.matcher.now).meaning c.args.bytes.now
           g.C.Calls.step
           c.args.sink.now _ (rw unbegun at c.in_ok-begin.ensures.step),
     )
@@ -35,7 +35,7 @@ pub returns-clause-in_order : goal.returns-clause-in_order
 returns-clause-in_order g c =
     let goes : c.in_ok-begin.field-0 ≡ true = search rules in
     order.order-begun g.C.Calls.step c.args.self.now.config
-    (errors_by g.C.Error.SinkError.is_message g.C.Error.SinkError.is_io g.C.Error.SinkError.is_config)
-    (facts_by g.M.Matcher.meaning g.M.Matcher.fails g.M.Matcher.is_lawful g.M.Error.Display.output c.args.matcher.now)
+    (makers_of g.M.Error.Display.output g.C.Error.SinkError.makers)
+    (g.M.Matcher.facts c.args.matcher.now)
     c.args.sink.now c.begin.new.sink c.search_across.result c.search_across.new.sink
     (rw goes at c.in_ok-begin.ensures.step) c.search_across.ensures.in_order

@@ -1,13 +1,13 @@
 use Rattle.std.proofs.Common.{rules, ◌≡◌, ◌∙◌, [], arith, sym, true, false}
 use Rattle.std.proofs.lemmas.Result.{err_from_is_err_and}
-use Rattle.grep_matcher.specs.Terminators.{byte_of}
+use Rattle.grep_matcher.specs.Lines.{byte_of}
 use Rattle.grep_definitions.specs.Plans.{all_true, stopped, counted}
 use Rattle.grep_walk.proofs.WalkLemmas as walks
 use Rattle.grep_walk.proofs.WindowLemmas.{own-window}
 use Rattle.grep_walk.proofs.WindowSearchLemmas as search
-use Rattle.grep_definitions.specs.Searches.{errors_by, facts_by}
 use Rattle.grep_definitions.proofs.CallOrderLemmas as order
 use Rattle.grep_walk.specs.Origins.{fresh}
+use Rattle.grep_report.specs.ErrorMakers.{makers_of}
 use Rattle.grep_core.proofs.search.Search.match_by_line.Goals as goal
 
 pub returns-in_err-begin-clause-fault : goal.returns-in_err-begin-clause-fault
@@ -22,7 +22,7 @@ returns-then-not-branch-clause-reported g c = λ lawful.
     let unbegun : c.in_ok-begin.field-0 ≡ false = search rules in (
       stopped (counted 0),
       walks.counted-fresh g.C.Calls.step c.args.self.now.config c.args.sink.now _ _ _ _ _
-          (walks.counted-unbegun c.args.self.now.config (g.M.Matcher.meaning c.args.matcher.now) c.args.bytes.now
+          (walks.counted-unbegun c.args.self.now.config (g.M.Matcher.facts c.args.matcher.now).meaning c.args.bytes.now
           g.C.Calls.step c.args.sink.now _ (rw unbegun at c.in_ok-begin.ensures.step)),
     )
 
@@ -32,9 +32,9 @@ returns-then-reports_nothing-clause-reported g c = λ lawful.
     let goes : c.in_ok-begin.field-0 ≡ true = search rules in (
       all_true,
       walks.counted-fresh g.C.Calls.step c.args.self.now.config c.args.sink.now _ _ _ _ _
-          (walks.counted-idle c.args.self.now.config (g.M.Matcher.meaning c.args.matcher.now) c.args.bytes.now
+          (walks.counted-idle c.args.self.now.config (g.M.Matcher.facts c.args.matcher.now).meaning c.args.bytes.now
           g.C.Calls.step (fresh c.args.sink.now) _ (sym idle ∙ c.if-reports_nothing.true)
-          (walks.reported-begin c.args.self.now.config (g.M.Matcher.meaning c.args.matcher.now) c.args.bytes.now
+          (walks.reported-begin c.args.self.now.config (g.M.Matcher.facts c.args.matcher.now).meaning c.args.bytes.now
           g.C.Calls.step c.args.sink.now _ (rw goes at c.in_ok-begin.ensures.step))),
     )
 
@@ -48,7 +48,7 @@ returns-in_err-search_window-clause-fault g c =
     rw (p.1, p.2) (λ lawful. walks.fault-by_line g.C.Calls.step _ _ c.args.self.now.config c.args.bytes.now
     c.args.sink.now _ _
     (c.in_err-search_window.ensures.fault lawful [] c.args.bytes.now (fresh c.args.sink.now)
-    (search.searched-start g.C.Calls.step c.args.self.now.config (g.M.Matcher.meaning c.args.matcher.now)
+    (search.searched-start g.C.Calls.step c.args.self.now.config (g.M.Matcher.facts c.args.matcher.now).meaning
     c.args.bytes.now c.args.bytes.now
     c.args.sink.now c.begin.new.sink (own-window (byte_of c.args.self.now.config.line_terminator) c.args.bytes.now)
     (sym idle ∙ c.if-reports_nothing.false) begun)))
@@ -58,23 +58,13 @@ returns-clause-reported g c = λ lawful.
     let idle = c.reports_nothing.ensures in
     let goes : c.in_ok-begin.field-0 ≡ true = search rules in
     let begun = rw goes at c.in_ok-begin.ensures.step in
-    let start = search.searched-start g.C.Calls.step c.args.self.now.config (g.M.Matcher.meaning c.args.matcher.now)
+    let start = search.searched-start g.C.Calls.step c.args.self.now.config (g.M.Matcher.facts c.args.matcher.now).meaning
     c.args.bytes.now
     c.args.bytes.now c.args.sink.now c.begin.new.sink (own-window (byte_of c.args.self.now.config.line_terminator)
     c.args.bytes.now) (sym idle ∙ c.if-reports_nothing.false) begun in
     let counted = search.counted-either g.C.Calls.step
-    (record {
-      is_message = g.C.Error.SinkError.is_message;
-      is_io = g.C.Error.SinkError.is_io;
-      is_config =
-          g.C.Error.SinkError.is_config;
-    })
-    (record {
-      meaning = g.M.Matcher.meaning c.args.matcher.now;
-      fails = g.M.Matcher.fails c.args.matcher.now;
-      is_lawful = g.M.Matcher.is_lawful c.args.matcher.now;
-      text_of = g.M.Error.Display.output;
-    })
+    (makers_of g.M.Error.Display.output g.C.Error.SinkError.makers)
+    (g.M.Matcher.facts c.args.matcher.now)
     c.args.self.now.config [] c.args.bytes.now c.args.bytes.now (fresh c.args.sink.now)
     c.in_ok-search_window.field-0 c.search_window.new.walk c.search_window.new.sink
     (λ on. c.in_ok-search_window.ensures.goes_on lawful on [] c.args.bytes.now (fresh c.args.sink.now) start)
@@ -112,6 +102,6 @@ returns-clause-in_order g c =
     let goes : c.in_ok-begin.field-0 ≡ true = search rules in
     order.begun-to g.C.Calls.step c.args.self.now.config c.args.sink.now _ _ _ (rw goes at c.in_ok-begin.ensures.step)
     (order.called-to g.C.Calls.step c.args.self.now.config
-    (errors_by g.C.Error.SinkError.is_message g.C.Error.SinkError.is_io g.C.Error.SinkError.is_config)
-    (facts_by g.M.Matcher.meaning g.M.Matcher.fails g.M.Matcher.is_lawful g.M.Error.Display.output c.args.matcher.now)
+    (makers_of g.M.Error.Display.output g.C.Error.SinkError.makers)
+    (g.M.Matcher.facts c.args.matcher.now)
     c.begin.new.sink _ c.in_ok-search_window.field-0 _ c.in_ok-search_window.ensures.in_order)

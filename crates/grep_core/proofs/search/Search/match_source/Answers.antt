@@ -1,29 +1,18 @@
-use Rattle.std.proofs.Common.{arith}
-use Rattle.std.proofs.Common.{◌∙◌, sym, false, inl, refl}
+use Rattle.std.proofs.Common.{arith, ◌∙◌, sym, false, true, inl, refl}
+use Rattle.std.proofs.lemmas.Bool.{false≢true}
 use Rattle.grep_definitions.specs.BinaryBytes.{is_detecting}
-use Rattle.grep_definitions.specs.ReaderSearches.{reports_nothing}
+use Rattle.grep_definitions.specs.Inputs.{reports_nothing, IsReadingError}
 use Rattle.std.proofs.lemmas.Result.{err_from_is_err_and}
-use Rattle.grep_definitions.specs.Searches.{ErrorMakers, MatcherFacts, errors_by, facts_by}
 use Rattle.grep_core.proofs.StreamBeginLemmas as streams
 use Rattle.grep_core.proofs.StreamBeginLemmas.{idle-unread}
-use Rattle.grep_definitions.specs.CallOrder.{IsReadingError}
 use Rattle.grep_definitions.proofs.CallOrderLemmas as order
+use Rattle.grep_report.specs.ErrorMakers.{makers_of}
 use Rattle.grep_core.proofs.search.Search.match_source.Goals as goal
 
 pub returns-in_err-begin-clause-fault : goal.returns-in_err-begin-clause-fault
 returns-in_err-begin-clause-fault g c =
-    let maker = g.C.Error.SinkError in
-    let matcher = g.M.Matcher in
-    let errors : ErrorMakers g.row.C-Error.Denot =
-    record { is_message = maker.is_message; is_io = maker.is_io; is_config = maker.is_config } in
-    let facts : MatcherFacts g.row.M-Error.Denot =
-    record {
-      meaning = matcher.meaning c.args.matcher.now;
-      fails = matcher.fails c.args.matcher.now;
-      is_lawful = matcher.is_lawful c.args.matcher.now;
-      text_of = g.M.Error.Display.output;
-    }
-    in
+    let errors = makers_of g.M.Error.Display.output g.C.Error.SinkError.makers in
+    let facts = g.M.Matcher.facts c.args.matcher.now in
     let p = err_from_is_err_and c.from_residual.result c.from_residual.ensures.1 in
     rw (p.1, p.2) (λ lawful has_buffers. inl (streams.fault-begin g.R.Source.remaining g.R.Source.step g.C.Calls.step
     errors facts
@@ -33,7 +22,7 @@ returns-in_err-begin-clause-fault g c =
 pub returns-then-not-branch-clause-counted : goal.returns-then-not-branch-clause-counted
 returns-then-not-branch-clause-counted g c = λ lawful.
     rw c.new.ensures (streams.counted-unbegun g.R.Source.remaining g.R.Source.step g.C.Calls.step c.args.self.now.config
-    (g.M.Matcher.meaning c.args.matcher.now) c.requires.by_line c.lines_join.ensures c.lines_append.ensures
+    (g.M.Matcher.facts c.args.matcher.now).meaning c.requires.by_line c.lines_join.ensures c.lines_append.ensures
     c.args.reader.now
     c.args.sink.now c.begin.new.sink
     (rw c.if-not-branch.true at c.in_ok-begin.ensures.step))
@@ -44,6 +33,16 @@ returns-then-not-branch-clause-begun g c = record {
   first = c.begin.new.sink;
   begin = rw c.if-not-branch.true at c.in_ok-begin.ensures.step;
   unread = λ e. refl;
+  once = λ reads. absurd (false≢true reads);
+}
+
+pub returns-then-not-reads_lines-clause-begun : goal.returns-then-not-reads_lines-clause-begun
+returns-then-not-reads_lines-clause-begun g c = record {
+  begun = true;
+  first = c.begin.new.sink;
+  begin = rw c.if-not-branch.false at c.in_ok-begin.ensures.step;
+  unread = λ e. refl;
+  once = λ reads. absurd (false≢true (sym c.if-not-reads_lines.true ∙ (c.reads_lines.ensures ∙ reads)));
 }
 
 pub returns-then-not-reads_lines-clause-counted : goal.returns-then-not-reads_lines-clause-counted
@@ -51,7 +50,7 @@ returns-then-not-reads_lines-clause-counted g c = λ lawful.
     let reads = c.reads_lines.ensures in
     rw c.new-then-not-reads_lines.ensures (streams.counted-idle g.R.Source.remaining g.R.Source.step g.C.Calls.step
     c.args.self.now.config
-    (g.M.Matcher.meaning c.args.matcher.now) c.requires.by_line c.lines_join.ensures c.lines_append.ensures
+    (g.M.Matcher.facts c.args.matcher.now).meaning c.requires.by_line c.lines_join.ensures c.lines_append.ensures
     c.args.reader.now
     c.args.sink.now c.begin.new.sink
     (idle-unread (reports_nothing c.args.self.now.config) (is_detecting c.args.self.now.config.binary_detection)
@@ -82,8 +81,8 @@ returns-then-not-branch-clause-in_order g c =
 pub returns-in-Err-clause-broken : goal.returns-in-Err-clause-broken
 returns-in-Err-clause-broken g c =
     order.order-read g.C.Calls.step c.args.self.now.config
-    (errors_by g.C.Error.SinkError.is_message g.C.Error.SinkError.is_io g.C.Error.SinkError.is_config)
-    (facts_by g.M.Matcher.meaning g.M.Matcher.fails g.M.Matcher.is_lawful g.M.Error.Display.output c.args.matcher.now)
+    (makers_of g.M.Error.Display.output g.C.Error.SinkError.makers)
+    (g.M.Matcher.facts c.args.matcher.now)
     (IsReadingError g.R.Source.remaining g.R.Source.step c.args.reader.now c.read_by_line.new.reader)
     c.args.sink.now _ c.in-Err.error _ (rw c.if-not-branch.false at c.in_ok-begin.ensures.step)
     c.in-Err.ensures.in_order

@@ -1,23 +1,25 @@
 use Rattle.std.proofs.Common.{rules, subst, false, inl, inr, None, Err, Bool, [], ap, arith, length, refl, sym, ◌∙◌}
 use Rattle.std.proofs.Common.{◌≡◌, ◌++◌, true, ℕ, Option}
+use Rattle.std.proofs.lemmas.Bool.{false≢true}
 use Rattle.std.proofs.lemmas.Option.{none-some}
 use Rattle.std.proofs.lemmas.Result.{err_from_is_err_and}
-use Rattle.grep_matcher.specs.Terminators.{byte_of}
-use Rattle.grep_definitions.specs.Searches.{errors_by, facts_by}
+use Rattle.grep_matcher.specs.Lines.{byte_of}
 use Rattle.grep_core.proofs.CutLemmas as cuts
 use Rattle.grep_core.proofs.HeldLemmas as holding
 use Rattle.grep_core.proofs.RollingLemmas as rolling
 use Rattle.grep_core.proofs.NotedLemmas as noting
+use Rattle.grep_core.proofs.ReadingLemmas as reading
 use Rattle.grep_core.proofs.UnreadLemmas as unread
 use Rattle.grep_core.specs.BinaryCalls.{FailsAtBinary, Noted, PassesBinary}
 use Rattle.grep_core.specs.Rolls.{IsTold}
 use Rattle.grep_line_buffer.specs.Fills.{FailsToFill, IfRead}
 use Rattle.grep_definitions.specs.BinaryBytes.{is_detecting}
 use Rattle.grep_definitions.specs.CallOrder.{of_call}
-use Rattle.grep_definitions.specs.Plans.{all_true, failed}
+use Rattle.grep_definitions.specs.Plans.{all_true}
 use Rattle.grep_walk.specs.Origins.{fresh}
 use Rattle.grep_definitions.proofs.CallOrderLemmas as order
 use Rattle.grep_core.proofs.OrderLemmas as passed
+use Rattle.grep_report.specs.ErrorMakers.{makers_of}
 use Rattle.grep_core.proofs.search.Search.read_by_line.Goals as goal
 
 -- a sink's state, with the offset of the byte that it was told of
@@ -37,12 +39,13 @@ fills-init g c =
       detects = ap (λ b. b.detection) empty;
       clear = λ _. ap (λ b. b.binary) empty;
       noted_detects = λ offset is. absurd (none-some offset (sym c.requires.binary ∙ is));
+      fresh = λ idle. (refl, refl, refl);
       calls = order.called-none g.C.Calls.step c.args.self.now.config c.args.sink.now;
       noted = λ lawful. c.requires.binary ∙ sym (ap (λ b. b.binary) empty);
       rolling = λ lawful first begun.
           let rolls_on = rolling.rolling-start g.R.Source.remaining g.R.Source.step c.lines_join.ensures
           c.lines_append.ensures
-          g.C.Calls.step c.args.self.now.config (g.M.Matcher.meaning c.args.matcher.now)
+          g.C.Calls.step c.args.self.now.config (g.M.Matcher.facts c.args.matcher.now).meaning
           c.lines_are_numbered.ensures
           c.lines_are_few.ensures c.args.decoder.now c.args.reader.now first c.args.sink.now c.args.lines.now
           (ap (λ b. b.shown) empty) (ap (λ b. b.rest) empty) (ap (λ b. b.offset) empty) (ap (λ b. b.has_ended) empty)
@@ -52,7 +55,7 @@ fills-init g c =
           record {
             start = fresh first;
             rolling = rolls_on;
-            told = subst (λ found. IsTold g.C.Calls.step c.args.self.now.config (g.M.Matcher.meaning c.args.matcher.now)
+            told = subst (λ found. IsTold g.C.Calls.step c.args.self.now.config (g.M.Matcher.facts c.args.matcher.now).meaning
                 rolls_on.given 0 first found (fresh first)) (sym c.requires.binary) refl;
           };
     }
@@ -62,11 +65,10 @@ returns-in-Err-clause-fault g c = λ lawful first begun has_buffers.
     let on = c.fills.invariant.rolling lawful first begun in
     let so_far = on.rolling in
     let k = c.args.self.now.config in
-    let meaning = g.M.Matcher.meaning c.args.matcher.now in
+    let meaning = (g.M.Matcher.facts c.args.matcher.now).meaning in
     let fill = c.in-Err.ensures in
-    let errors = errors_by g.C.Error.SinkError.is_message g.C.Error.SinkError.is_io g.C.Error.SinkError.is_config in
-    let facts = facts_by g.M.Matcher.meaning g.M.Matcher.fails g.M.Matcher.is_lawful g.M.Error.Display.output
-    c.args.matcher.now in
+    let errors = makers_of g.M.Error.Display.output g.C.Error.SinkError.makers in
+    let facts = g.M.Matcher.facts c.args.matcher.now in
     let short = unread.short-filled g.R.Source.remaining g.R.Source.step c.lines_join.ensures c.lines_append.ensures
     g.C.Calls.step k meaning
     c.args.decoder.now.capacity c.args.reader.now c.args.decoder.now c.requires.started on.start c.fills.lines
@@ -95,7 +97,7 @@ returns-in-Err-clause-succeeds g c = λ _ _ lawful first begun has_buffers.
     let on = c.fills.invariant.rolling lawful first begun in
     let so_far = on.rolling in
     let k = c.args.self.now.config in
-    let meaning = g.M.Matcher.meaning c.args.matcher.now in
+    let meaning = (g.M.Matcher.facts c.args.matcher.now).meaning in
     let fill = c.in-Err.ensures in
     let short = unread.short-filled g.R.Source.remaining g.R.Source.step c.lines_join.ensures c.lines_append.ensures
     g.C.Calls.step k meaning
@@ -126,7 +128,7 @@ returns-in_err-passes_binary-clause-fault g c =
     let on = c.fills.invariant.rolling lawful first begun in
     let so_far = on.rolling in
     let k = c.args.self.now.config in
-    let meaning = g.M.Matcher.meaning c.args.matcher.now in
+    let meaning = (g.M.Matcher.facts c.args.matcher.now).meaning in
     let fill = c.in_default.ensures in
     let same = c.fill.ensures.same in
     let ends_at = c.fills.invariant.fitting.terminator in
@@ -134,9 +136,8 @@ returns-in_err-passes_binary-clause-fault g c =
     let held_now = holding.held-next g.R.Source.remaining g.R.Source.step c.fills_continue.ensures.fills c.fills.lines
     c.fill.new.self c.args.decoder.now c.fills.decoder c.fill.new.decoder c.args.reader.now c.fills.reader
     c.fill.new.reader so_far.gone so_far.given so_far.between.offset so_far.uncut so_far.holds fill.reads in
-    let errors = errors_by g.C.Error.SinkError.is_message g.C.Error.SinkError.is_io g.C.Error.SinkError.is_config in
-    let facts = facts_by g.M.Matcher.meaning g.M.Matcher.fails g.M.Matcher.is_lawful g.M.Error.Display.output
-    c.args.matcher.now in
+    let errors = makers_of g.M.Error.Display.output g.C.Error.SinkError.makers in
+    let facts = g.M.Matcher.facts c.args.matcher.now in
     inl (cuts.fault-cut g.R.Source.remaining g.R.Source.step c.lines_join.ensures c.lines_append.ensures g.C.Calls.step
     k
     meaning c.requires.by_line (λ passthru. (c.requires.configured.bare passthru).1)
@@ -157,7 +158,7 @@ returns-then-not-branch-clause-counted g c = λ lawful first begun.
     let on = c.fills.invariant.rolling lawful first begun in
     let so_far = on.rolling in
     let k = c.args.self.now.config in
-    let meaning = g.M.Matcher.meaning c.args.matcher.now in
+    let meaning = (g.M.Matcher.facts c.args.matcher.now).meaning in
     let fill = c.in_default.ensures in
     let same = c.fill.ensures.same in
     let ends_at = c.fills.invariant.fitting.terminator in
@@ -187,7 +188,7 @@ returns-in_err-search_shown-clause-fault g c =
     let on = c.fills.invariant.rolling lawful first begun in
     let so_far = on.rolling in
     let k = c.args.self.now.config in
-    let meaning = g.M.Matcher.meaning c.args.matcher.now in
+    let meaning = (g.M.Matcher.facts c.args.matcher.now).meaning in
     let fill = c.in_default.ensures in
     let same = c.fill.ensures.same in
     let ends_at = c.fills.invariant.fitting.terminator in
@@ -203,9 +204,8 @@ returns-in_err-search_shown-clause-fault g c =
     (c.fills.invariant.noted lawful) c.binary_byte_offset.result exact
     c.in_ok-passes_binary.field-0 (search rules) c.in_ok-passes_binary.ensures.passes in
     let busy = (sym c.reports_nothing.ensures ∙ c.if-reports_nothing.false) in
-    let errors = errors_by g.C.Error.SinkError.is_message g.C.Error.SinkError.is_io g.C.Error.SinkError.is_config in
-    let facts = facts_by g.M.Matcher.meaning g.M.Matcher.fails g.M.Matcher.is_lawful g.M.Error.Display.output
-    c.args.matcher.now in
+    let errors = makers_of g.M.Error.Display.output g.C.Error.SinkError.makers in
+    let facts = g.M.Matcher.facts c.args.matcher.now in
     inl (cuts.fault-shown g.R.Source.remaining g.R.Source.step c.lines_join.ensures c.lines_append.ensures
     g.C.Calls.step k
     meaning c.requires.by_line (λ passthru. (c.requires.configured.bare passthru).1)
@@ -223,7 +223,7 @@ returns-then-reports_nothing-clause-counted g c = λ lawful first begun.
     let on = c.fills.invariant.rolling lawful first begun in
     let so_far = on.rolling in
     let k = c.args.self.now.config in
-    let meaning = g.M.Matcher.meaning c.args.matcher.now in
+    let meaning = (g.M.Matcher.facts c.args.matcher.now).meaning in
     let fill = c.in_default.ensures in
     let same = c.fill.ensures.same in
     let ends_at = c.fills.invariant.fitting.terminator in
@@ -252,7 +252,7 @@ returns-then-not-branch-2-clause-counted g c = λ lawful first begun.
     let on = c.fills.invariant.rolling lawful first begun in
     let so_far = on.rolling in
     let k = c.args.self.now.config in
-    let meaning = g.M.Matcher.meaning c.args.matcher.now in
+    let meaning = (g.M.Matcher.facts c.args.matcher.now).meaning in
     let fill = c.in_default.ensures in
     let same = c.fill.ensures.same in
     let ends_at = c.fills.invariant.fitting.terminator in
@@ -320,6 +320,7 @@ fills-preserved g c =
       detects = c.in_ok-search_shown.ensures.detection ∙ (same.detection ∙ c.fills.invariant.detects);
       clear = λ none. c.in_ok-search_shown.ensures.binary ∙ unfound none;
       noted_detects = detects;
+      fresh = λ idle. absurd (false≢true (sym c.if-reports_nothing.false ∙ (c.reports_nothing.ensures ∙ idle)));
       calls = order.called-then g.C.Calls.step k c.args.sink.now c.passes_binary.new.sink all_true
           c.search_shown.new.sink first later;
       noted = λ lawful. (noting.noted-passed g.C.Calls.step k c.fills.lines.binary c.fill.new.self.binary _ (noted
@@ -330,7 +331,7 @@ fills-preserved g c =
       rolling = λ lawful first begun.
           let on = c.fills.invariant.rolling lawful first begun in
           let so_far = on.rolling in
-          let meaning = g.M.Matcher.meaning c.args.matcher.now in
+          let meaning = (g.M.Matcher.facts c.args.matcher.now).meaning in
           let ends_at = c.fills.invariant.fitting.terminator in
           let exact = c.binary_byte_offset.ensures.exact fill.fits in
           let there = cuts.goes-on g.R.Source.remaining g.R.Source.step c.lines_join.ensures c.lines_append.ensures
@@ -507,9 +508,8 @@ returns-in_err-search_shown-clause-in_order g c =
     c.args.sink.now c.fills.invariant.calls passes in
     let most = order.called-most step k (passed.once c.passes_binary.new.binary) c.args.sink.now all_true
     c.passes_binary.new.sink first in
-    let errors = errors_by g.C.Error.SinkError.is_message g.C.Error.SinkError.is_io g.C.Error.SinkError.is_config in
-    let facts = facts_by g.M.Matcher.meaning g.M.Matcher.fails g.M.Matcher.is_lawful g.M.Error.Display.output
-    c.args.matcher.now in
+    let errors = makers_of g.M.Error.Display.output g.C.Error.SinkError.makers in
+    let facts = g.M.Matcher.facts c.args.matcher.now in
     rw (p.1, p.2) (inl (order.failed-then step k errors facts c.args.sink.now c.passes_binary.new.sink
     _
     c.search_shown.new.sink most
@@ -563,3 +563,21 @@ returns-then-not-branch-2-clause-noted g c =
     true
     c.fills.invariant.noted_detects passes in
     passed.undetected-none step k (noted c.passes_binary.new.sink c.passes_binary.new.binary) detects
+
+pub returns-then-not-branch-clause-once : goal.returns-then-not-branch-clause-once
+returns-then-not-branch-clause-once g c = λ idle.
+    reading.read-once g.R.Source.remaining g.R.Source.step c.args.self.now.config c.args.decoder.now.capacity
+    c.done_gives_nothing.ensures c.reads_continue.ensures.more c.args.lines.now c.requires.fitting c.requires.empty
+    c.args.decoder.now c.requires.started c.args.reader.now c.fills.lines c.fills.decoder c.fills.reader
+    c.fill.new.reader (c.fills.invariant.fresh idle) c.in_default.ensures.begins
+
+pub returns-then-reports_nothing-clause-once : goal.returns-then-reports_nothing-clause-once
+returns-then-reports_nothing-clause-once g c = λ idle.
+    reading.read-once g.R.Source.remaining g.R.Source.step c.args.self.now.config c.args.decoder.now.capacity
+    c.done_gives_nothing.ensures c.reads_continue.ensures.more c.args.lines.now c.requires.fitting c.requires.empty
+    c.args.decoder.now c.requires.started c.args.reader.now c.fills.lines c.fills.decoder c.fills.reader
+    c.fill.new.reader (c.fills.invariant.fresh idle) c.in_default.ensures.begins
+
+pub returns-then-not-branch-2-clause-once : goal.returns-then-not-branch-2-clause-once
+returns-then-not-branch-2-clause-once g c = λ idle.
+    absurd (false≢true (sym c.if-reports_nothing.false ∙ (c.reports_nothing.ensures ∙ idle)))

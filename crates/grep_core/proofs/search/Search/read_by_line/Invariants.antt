@@ -1,11 +1,12 @@
 use Rattle.std.proofs.Common.{◌≡◌, ◌+◌, ◌-◌, ◌<◌, ◌^◌, Ok, None, true, false, ℕ, List, length}
 use Rattle.grep_decode.specs.DecoderStates.{Decodes}
-use Rattle.grep_matcher.specs.Terminators.{byte_of}
+use Rattle.grep_matcher.specs.Lines.{byte_of}
 use Rattle.grep_definitions.specs.BinaryBytes.{is_detecting}
 use Rattle.grep_definitions.specs.CallOrder.{HasCalled}
+use Rattle.grep_definitions.specs.Inputs.{reports_nothing}
 use Rattle.grep_definitions.specs.Plans.{all_true, begins}
 use Rattle.grep_core.proofs.OrderLemmas.{DetectsNoted, told_once}
-use Rattle.grep_definitions.specs.Questions.{IsLawfulFor}
+use Rattle.grep_definitions.specs.Asking.{IsLawful}
 use Rattle.grep_core.specs.Rolls.{IsReadingOn}
 use Rattle.grep_core.specs.SearchBuffers.{IsFitting, detection_of}
 use Rattle.grep_walk.specs.Walks.{IsOrdered}
@@ -23,12 +24,14 @@ invariant-fills g l = record {
   detects : l.lines.detection ≡ detection_of l.self.config.binary_detection;
   clear : is_detecting l.self.config.binary_detection ≡ false → l.lines.binary ≡ None;
   noted_detects : DetectsNoted g.C.Calls.step l.self.config (record { sink = l.sink; binary = l.binary });
+  fresh : reports_nothing l.self.config ≡ true
+      → (l.lines ≡ l.fn.lines) × (l.decoder ≡ l.fn.decoder) × (l.reader ≡ l.fn.reader);
   calls : HasCalled g.C.Calls.step l.self.config (told_once l.binary) l.fn.sink all_true l.sink;
-  noted : IsLawfulFor l.self.config (g.M.Matcher.meaning l.matcher) (g.M.Matcher.is_lawful l.matcher)
+  noted : IsLawful (g.M.Matcher.facts l.matcher) l.self.config
       → l.binary ≡ l.lines.binary;
-  rolling : IsLawfulFor l.self.config (g.M.Matcher.meaning l.matcher) (g.M.Matcher.is_lawful l.matcher)
+  rolling : IsLawful (g.M.Matcher.facts l.matcher) l.self.config
       → (first : g.row.C-Sink.Denot) → g.C.Calls.step first l.self.config begins (Ok true) l.fn.sink
-      → IsReadingOn g.C.Calls.step l.self.config (g.M.Matcher.meaning l.matcher) g.R.Source.remaining g.R.Source.step
+      → IsReadingOn g.C.Calls.step l.self.config (g.M.Matcher.facts l.matcher).meaning g.R.Source.remaining g.R.Source.step
       l.fn.decoder l.fn.reader first l.lines l.decoder l.reader l.walk
       (record { sink = l.sink; binary = l.binary });
 }

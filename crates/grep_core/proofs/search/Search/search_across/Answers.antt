@@ -1,8 +1,9 @@
 use Rattle.std.proofs.Common.{rules, ◌≡◌, ◌==◌, arith, sym, subst, refl, true, false, [], ◌-◌, drop, length-take}
 use Rattle.std.proofs.Common.{length-drop}
 use Rattle.std.proofs.lemmas.Result.{err_from_is_err_and}
-use Rattle.grep_matcher.specs.Terminators.{byte_of}
-use Rattle.grep_lines.specs.Positions.{slice, IsLineStart}
+use Rattle.grep_matcher.specs.Lines.{byte_of}
+use Rattle.std.specs.Prelude.{slice_range}
+use Rattle.grep_lines.specs.Positions.{IsLineStart}
 use Rattle.grep_definitions.specs.Settings.{Settings}
 use Rattle.grep_definitions.specs.Plans.{all_true, failed, stopped, counted}
 use Rattle.grep_walk.specs.Walks.{line_end}
@@ -35,7 +36,7 @@ returns-in-Err-unit_at-clause-fault g c =
 pub returns-then-next-bytes-clause-reported : goal.returns-then-next-bytes-clause-reported
 returns-then-next-bytes-clause-reported g c = λ first begun.
     let k = c.args.self.now.config in
-    let meaning = g.M.Matcher.meaning c.args.matcher.now in
+    let meaning = (g.M.Matcher.facts c.args.matcher.now).meaning in
     let ready = c.in-Ok-unit_at.ensures.ready in
     let ahead = c.in-Ok-unit_at.ensures.ahead in
     let chosen = c.next_chosen-next.ensures in
@@ -57,7 +58,7 @@ returns-then-next-bytes-clause-reported g c = λ first begun.
 pub lines-preserved-then-walk-eq0 : goal.lines-preserved-then-walk-eq0
 lines-preserved-then-walk-eq0 g c =
     let k = c.args.self.now.config in
-    let meaning = g.M.Matcher.meaning c.args.matcher.now in
+    let meaning = (g.M.Matcher.facts c.args.matcher.now).meaning in
     let ready = c.in-Ok-unit_at.ensures.ready in
     let ahead = c.in-Ok-unit_at.ensures.ahead in
     let chosen = c.next_chosen-next.ensures in
@@ -97,7 +98,7 @@ lines-preserved-then-walk-eq0 g c =
 pub returns-in_err-sink_line-clause-fault : goal.returns-in_err-sink_line-clause-fault
 returns-in_err-sink_line-clause-fault g c =
     let k = c.args.self.now.config in
-    let meaning = g.M.Matcher.meaning c.args.matcher.now in
+    let meaning = (g.M.Matcher.facts c.args.matcher.now).meaning in
     let ready = c.in-Ok-unit_at.ensures.ready in
     let ahead = c.in-Ok-unit_at.ensures.ahead in
     let chosen = c.next_chosen-next.ensures in
@@ -122,7 +123,7 @@ returns-in_err-sink_line-clause-fault g c =
 pub returns-then-not-branch-clause-reported : goal.returns-then-not-branch-clause-reported
 returns-then-not-branch-clause-reported g c = λ first begun.
     let k = c.args.self.now.config in
-    let meaning = g.M.Matcher.meaning c.args.matcher.now in
+    let meaning = (g.M.Matcher.facts c.args.matcher.now).meaning in
     let ready = c.in-Ok-unit_at.ensures.ready in
     let ahead = c.in-Ok-unit_at.ensures.ahead in
     let chosen = c.next_chosen-next.ensures in
@@ -137,7 +138,7 @@ returns-then-not-branch-clause-reported g c = λ first begun.
     c.lines.walk c.in-Ok-unit_at.unit c.unit_at.new.blocks c.lines.invariant.walk c.lines.invariant.same ready
     ahead chosen c.end_across-end.ensures.low c.end_across-end.ensures.within
     (c.lines.start == c.next_chosen-next.result) refl unit line in
-    let stop = line_end c.lines.walk (slice c.args.bytes.now c.lines.start c.end_across-end.result) in (
+    let stop = line_end c.lines.walk (slice_range c.args.bytes.now c.lines.start c.end_across-end.result) in (
       stopped (counted stop),
       ends.counted-stopped k meaning c.args.bytes.now g.C.Calls.step first _ stop c.end_across-end.result _
           turned.across
@@ -152,7 +153,7 @@ returns-then-not-branch-clause-reported g c = λ first begun.
 pub lines-preserved : goal.lines-preserved
 lines-preserved g c =
     let k = c.args.self.now.config in
-    let meaning = g.M.Matcher.meaning c.args.matcher.now in
+    let meaning = (g.M.Matcher.facts c.args.matcher.now).meaning in
     let ready = c.in-Ok-unit_at.ensures.ready in
     let ahead = c.in-Ok-unit_at.ensures.ahead in
     let chosen = c.next_chosen-next.ensures in
@@ -189,7 +190,7 @@ lines-preserved g c =
 pub returns-clause-reported : goal.returns-clause-reported
 returns-clause-reported g c = λ first begun.
     let k = c.args.self.now.config in
-    let meaning = g.M.Matcher.meaning c.args.matcher.now in (
+    let meaning = (g.M.Matcher.facts c.args.matcher.now).meaning in (
       all_true,
       ends.counted-end k meaning c.args.bytes.now g.C.Calls.step first c.lines.walk c.lines.sink c.lines.invariant.walk
           (omega (arith, c.lines.invariant.within, c.lines.invariant.same, c.lines-test.false))

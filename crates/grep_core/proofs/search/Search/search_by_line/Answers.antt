@@ -1,25 +1,16 @@
 use Rattle.std.proofs.Common.{arith}
 use Rattle.std.proofs.lemmas.Result.{err_from_is_err_and}
-use Rattle.grep_definitions.specs.Searches.{ErrorMakers, MatcherFacts}
+use Rattle.grep_report.specs.ErrorMakers.{ErrorMakers}
+use Rattle.grep_matcher.specs.Meanings.{MatcherFacts}
 use Rattle.grep_core.proofs.StreamFinishLemmas.{stream-finished}
-use Rattle.grep_definitions.specs.Searches.{errors_by, facts_by}
 use Rattle.grep_definitions.proofs.CallOrderLemmas.{order-finished}
+use Rattle.grep_report.specs.ErrorMakers.{makers_of}
 use Rattle.grep_core.proofs.search.Search.search_by_line.Goals as goal
 
 pub returns-clause-searched : goal.returns-clause-searched
 returns-clause-searched g c =
-    let maker = g.C.Error.SinkError in
-    let matcher = g.M.Matcher in
-    let errors : ErrorMakers g.row.C-Error.Denot =
-    record { is_message = maker.is_message; is_io = maker.is_io; is_config = maker.is_config } in
-    let facts : MatcherFacts g.row.M-Error.Denot =
-    record {
-      meaning = matcher.meaning c.args.matcher.now;
-      fails = matcher.fails c.args.matcher.now;
-      is_lawful = matcher.is_lawful c.args.matcher.now;
-      text_of = g.M.Error.Display.output;
-    }
-    in
+    let errors = makers_of g.M.Error.Display.output g.C.Error.SinkError.makers in
+    let facts = g.M.Matcher.facts c.args.matcher.now in
     λ lawful has_buffers.
     stream-finished g.C.Calls.step errors facts g.R.Source.remaining g.R.Source.step c.args.self.now.config has_buffers
     c.requires.by_line c.args.reader.now c.args.sink.now c.match_source.new.reader
@@ -39,8 +30,8 @@ returns-in_err-finish-clause-searched g c =
 pub returns-clause-in_order : goal.returns-clause-in_order
 returns-clause-in_order g c =
     order-finished g.C.Calls.step c.args.self.now.config
-    (errors_by g.C.Error.SinkError.is_message g.C.Error.SinkError.is_io g.C.Error.SinkError.is_config)
-    (facts_by g.M.Matcher.meaning g.M.Matcher.fails g.M.Matcher.is_lawful g.M.Error.Display.output c.args.matcher.now) _
+    (makers_of g.M.Error.Display.output g.C.Error.SinkError.makers)
+    (g.M.Matcher.facts c.args.matcher.now) _
     (omega arith)
     c.args.sink.now c.match_source.new.sink c.in_ok-finish.finish.byte_count c.in_ok-finish.finish.binary_byte_offset
     c.finish.result

@@ -1,28 +1,20 @@
-use Rattle.std.proofs.Common.{arith}
-use Rattle.std.proofs.Common.{◌∙◌, sym, subst, refl, Err, None}
+use Rattle.std.proofs.Common.{arith, ◌∙◌, sym, subst, refl, Err, None}
 use Rattle.std.proofs.lemmas.Result.{err_from_is_err_and}
-use Rattle.grep_definitions.specs.Searches.{ErrorMakers, MatcherFacts}
+use Rattle.grep_report.specs.ErrorMakers.{ErrorMakers}
+use Rattle.grep_matcher.specs.Meanings.{MatcherFacts}
 use Rattle.grep_core.specs.InputSearches.{IsBytesSearched}
 use Rattle.grep_walk.proofs.FinishLemmas.{searched-finish}
 use Rattle.grep_core.proofs.LookLemmas.{look-detects, look-plain, searched-at, slice-search}
 use Rattle.grep_core.proofs.search.Search.search_bytes.Given.{Over}
 use Rattle.grep_definitions.proofs.CallOrderLemmas as order
+use Rattle.grep_report.specs.ErrorMakers.{makers_of}
 use Rattle.grep_core.proofs.search.Search.search_bytes.Goals as goal
 
-abbrev errors-of : (g : Over) → ErrorMakers g.row.C-Error.Denot
-errors-of g =
-    let maker = g.C.Error.SinkError in
-    record { is_message = maker.is_message; is_io = maker.is_io; is_config = maker.is_config }
+abbrev errors-of : (g : Over) → ErrorMakers g.row.M-Error.Denot g.row.C-Error.Denot
+errors-of g = makers_of g.M.Error.Display.output g.C.Error.SinkError.makers
 
 abbrev facts-of : (g : Over) → g.row.M.Denot → MatcherFacts g.row.M-Error.Denot
-facts-of g matcher =
-    let meant = g.M.Matcher in
-    record {
-      meaning = meant.meaning matcher;
-      fails = meant.fails matcher;
-      is_lawful = meant.is_lawful matcher;
-      text_of = g.M.Error.Display.output;
-    }
+facts-of g matcher = g.M.Matcher.facts matcher
 
 pub returns-in-Some-clause-searched : goal.returns-in-Some-clause-searched
 returns-in-Some-clause-searched g c = λ lawful.

@@ -1,49 +1,42 @@
-use Rattle.std.proofs.Common.{arith}
-use Rattle.std.proofs.Common.{ℕ, Bool, List, true, None, length, ◌∙◌, subst, sym, refl, inl, ap, Err}
+use Rattle.std.proofs.Common.{arith, ℕ, Bool, List, true, None, length, ◌∙◌, subst, sym, refl, inl, ap, Err}
 use Rattle.std.proofs.lemmas.Bool.{true≢false}
 use Rattle.std.proofs.lemmas.Result.{err_from_is_err_and}
 use Rattle.std.specs.Prelude.{vec_capacity}
 use Rattle.grep_line_buffer.specs.Contents.{FailsAfter, IsBelow, ContentsFail}
 use Rattle.grep_line_buffer.specs.Fills.{IfRead}
 use Rattle.grep_definitions.specs.BinaryBytes.{view_of}
-use Rattle.grep_definitions.specs.ReaderSearches.{IsUnreadIn}
-use Rattle.grep_definitions.specs.Searches.{ErrorMakers, MatcherFacts, IsFaultIn}
+use Rattle.grep_definitions.specs.ReaderRuns.{IsUnreadIn}
+use Rattle.grep_report.specs.ErrorMakers.{ErrorMakers}
+use Rattle.grep_matcher.specs.Meanings.{MatcherFacts}
+use Rattle.grep_definitions.specs.ContentsSearches.{IsFaultIn}
 use Rattle.grep_definitions.specs.SearchTurns.{calls_across}
 use Rattle.grep_core.specs.InputSearches.{IsAcrossSearched}
 use Rattle.grep_core.proofs.ContentsSearchLemmas as whole
 use Rattle.grep_core.proofs.LookLemmas.{look-detects, look-plain, look-quit}
 use Rattle.grep_core.proofs.search.Search.search_contents.Given.{Over}
-use Rattle.grep_definitions.specs.PlannedSearches.{read_in_order}
+use Rattle.grep_definitions.specs.Searches.{read_in_order}
 use Rattle.grep_definitions.proofs.CallOrderLemmas as order
 use Rattle.grep_core.proofs.OrderLemmas.{failed-read, reading-error}
+use Rattle.grep_report.specs.ErrorMakers.{makers_of}
 use Rattle.grep_core.proofs.search.Search.search_contents.Goals as goal
 
-abbrev errors-of : (g : Over) → ErrorMakers g.row.C-Error.Denot
-errors-of g =
-    let maker = g.C.Error.SinkError in
-    record { is_message = maker.is_message; is_io = maker.is_io; is_config = maker.is_config }
+abbrev errors-of : (g : Over) → ErrorMakers g.row.M-Error.Denot g.row.C-Error.Denot
+errors-of g = makers_of g.M.Error.Display.output g.C.Error.SinkError.makers
 
 abbrev facts-of : (g : Over) → g.row.M.Denot → MatcherFacts g.row.M-Error.Denot
-facts-of g matcher =
-    let meant = g.M.Matcher in
-    record {
-      meaning = meant.meaning matcher;
-      fails = meant.fails matcher;
-      is_lawful = meant.is_lawful matcher;
-      text_of = g.M.Error.Display.output;
-    }
+facts-of g matcher = g.M.Matcher.facts matcher
 
 -- why not all was read
 unread : (g : Over) (c : goal.After-error_io g) (has_buffers : Bool) (view : List ℕ → List ℕ)
     → IsUnreadIn g.R.Source.remaining g.R.Source.step true view
     (record { settings = c.args.self.now.config; has_buffers = has_buffers })
-    (g.M.Matcher.meaning c.args.matcher.now) c.args.reader.now None c.io_error.result c.read_contents.new.reader
+    (g.M.Matcher.facts c.args.matcher.now).meaning c.args.reader.now None c.io_error.result c.read_contents.new.reader
 unread g c has_buffers view =
     whole.unread-read g.R.Source.remaining g.R.Source.step c.args.self.now.config c.args.decoder.now.capacity
     c.args.decoder.now
     c.requires.started c.args.reader.now c.read_contents.new.contents.items c.read_contents.new.decoder
     c.read_contents.new.reader
-    c.done_gives_nothing.ensures view has_buffers (g.M.Matcher.meaning c.args.matcher.now)
+    c.done_gives_nothing.ensures view has_buffers (g.M.Matcher.facts c.args.matcher.now).meaning
     c.in-Err.error c.io_error.result c.io_error.ensures (vec_capacity c.args.contents.now)
     (subst (λ limit. ContentsFail limit (vec_capacity c.args.contents.now) c.read_contents.new.contents.items
     c.in-Err.error)
@@ -106,7 +99,7 @@ returns-in_err-count-clause-searched g c = λ has_buffers.
     c.read_contents.new.reader reads c.done_gives_nothing.ensures c.lines_join.ensures c.in_default.ensures.done
     below g.C.Calls.step (errors-of g) (facts-of g c.args.matcher.now) has_buffers c.args.sink.now
     error.0 c.match_across.new.sink (subst (λ e. IsFaultIn g.C.Calls.step (errors-of g) (facts-of g c.args.matcher.now)
-    (calls_across c.args.self.now.config (g.M.Matcher.meaning c.args.matcher.now)) c.args.self.now.config
+    (calls_across c.args.self.now.config (g.M.Matcher.facts c.args.matcher.now).meaning) c.args.self.now.config
     c.read_contents.new.contents.items c.args.sink.now e c.match_across.new.sink) (sym error.2) fault)))
 
 pub returns-clause-searched : goal.returns-clause-searched

@@ -1,30 +1,23 @@
-use Rattle.std.proofs.Common.{arith}
-use Rattle.std.proofs.Common.{◌∙◌, refl, sym, subst}
+use Rattle.std.proofs.Common.{arith, ◌∙◌, refl, sym, subst}
 use Rattle.std.proofs.lemmas.Bool.{false≢true}
 use Rattle.std.proofs.lemmas.Result.{err_from_is_err_and}
-use Rattle.grep_definitions.specs.Searches.{ErrorMakers, MatcherFacts, IsFaultIn}
+use Rattle.grep_report.specs.ErrorMakers.{ErrorMakers}
+use Rattle.grep_matcher.specs.Meanings.{MatcherFacts}
+use Rattle.grep_definitions.specs.ContentsSearches.{IsFaultIn}
 use Rattle.grep_definitions.specs.SearchTurns.{calls_if}
 use Rattle.grep_core.proofs.UntilLemmas.{fault-until, until-finished}
 use Rattle.grep_core.proofs.search.Search.search_quitting.Given.{Over}
 use Rattle.grep_core.specs.QuittingSinks.{Quits, count_to}
 use Rattle.grep_core.proofs.OrderLemmas as passed
 use Rattle.grep_definitions.proofs.CallOrderLemmas as order
+use Rattle.grep_report.specs.ErrorMakers.{makers_of}
 use Rattle.grep_core.proofs.search.Search.search_quitting.Goals as goal
 
-abbrev errors-of : (g : Over) → ErrorMakers g.row.C-Error.Denot
-errors-of g =
-    let maker = g.C.Error.SinkError in
-    record { is_message = maker.is_message; is_io = maker.is_io; is_config = maker.is_config }
+abbrev errors-of : (g : Over) → ErrorMakers g.row.M-Error.Denot g.row.C-Error.Denot
+errors-of g = makers_of g.M.Error.Display.output g.C.Error.SinkError.makers
 
 abbrev facts-of : (g : Over) → g.row.M.Denot → MatcherFacts g.row.M-Error.Denot
-facts-of g matcher =
-    let meant = g.M.Matcher in
-    record {
-      meaning = meant.meaning matcher;
-      fails = meant.fails matcher;
-      is_lawful = meant.is_lawful matcher;
-      text_of = g.M.Error.Display.output;
-    }
+facts-of g matcher = g.M.Matcher.facts matcher
 
 pub returns-in_err-count-clause-searched : goal.returns-in_err-count-clause-searched
 returns-in_err-count-clause-searched g c = λ lawful.
@@ -34,7 +27,7 @@ returns-in_err-count-clause-searched g c = λ lawful.
     c.args.sink.now.byte c.args.bytes.now c.requires.none c.args.sink.now refl c.requires.has_break c.requires.found
     c.args.is_across error.0 c.match_bytes.new.sink
     (subst (λ e. IsFaultIn (Quits g.C.Calls.step g.C.Calls.may_call) (errors-of g) (facts-of g c.args.matcher.now)
-    (calls_if c.args.self.now.config (g.M.Matcher.meaning c.args.matcher.now) c.args.is_across) c.args.self.now.config
+    (calls_if c.args.self.now.config (g.M.Matcher.facts c.args.matcher.now).meaning c.args.is_across) c.args.self.now.config
     c.args.bytes.now
     c.args.sink.now e c.match_bytes.new.sink) (sym error.2) (c.in_err-count.ensures.fault lawful)))
 

@@ -1,26 +1,19 @@
 use Rattle.std.proofs.Common.{Bool, true, sym, ◌∙◌}
-use Rattle.grep_definitions.specs.Searches.{ErrorMakers, MatcherFacts}
+use Rattle.grep_report.specs.ErrorMakers.{ErrorMakers}
+use Rattle.grep_matcher.specs.Meanings.{MatcherFacts}
 use Rattle.grep_definitions.specs.Settings.{SearcherState, Settings}
 use Rattle.grep_definitions.proofs.PlannedUnreadLemmas.{unread-planned}
 use Rattle.grep_core.proofs.ResultLemmas.{if_err-each}
-use Rattle.grep_core.proofs.ModeLemmas.{read-across, read-by_line}
+use Rattle.grep_core.proofs.ReaderModeLemmas.{read-across, read-by_line}
 use Rattle.grep_core.proofs.search.Search.search_reader.Given.{Over}
+use Rattle.grep_report.specs.ErrorMakers.{makers_of}
 use Rattle.grep_core.proofs.search.Search.search_reader.Goals as goal
 
-abbrev errors-of : (g : Over) → ErrorMakers g.row.C-Error.Denot
-errors-of g =
-    let maker = g.C.Error.SinkError in
-    record { is_message = maker.is_message; is_io = maker.is_io; is_config = maker.is_config }
+abbrev errors-of : (g : Over) → ErrorMakers g.row.M-Error.Denot g.row.C-Error.Denot
+errors-of g = makers_of g.M.Error.Display.output g.C.Error.SinkError.makers
 
 abbrev facts-of : (g : Over) → g.row.M.Denot → MatcherFacts g.row.M-Error.Denot
-facts-of g matcher =
-    let meant = g.M.Matcher in
-    record {
-      meaning = meant.meaning matcher;
-      fails = meant.fails matcher;
-      is_lawful = meant.is_lawful matcher;
-      text_of = g.M.Error.Display.output;
-    }
+facts-of g matcher = g.M.Matcher.facts matcher
 
 abbrev state-of : Settings → Bool → SearcherState
 state-of settings has_buffers = record { settings = settings; has_buffers = has_buffers }
@@ -41,7 +34,7 @@ returns-then-is_across-clause-succeeds g c = λ never infallible lawful.
     (λ e unread has_buffers.
     let why = unread has_buffers in
     let planned = unread-planned g.R.Source.remaining g.R.Source.step (state-of c.args.self.now.config has_buffers)
-    (g.M.Matcher.meaning c.args.matcher.now) c.args.reader.now why.1 true mode why.0 c.search_contents.new.reader why.2
+    (g.M.Matcher.facts c.args.matcher.now).meaning c.args.reader.now why.1 true mode why.0 c.search_contents.new.reader why.2
     in
     (planned.0, planned.1, why.1, planned.2, why.3))
     (c.search_contents.ensures.succeeds never infallible)

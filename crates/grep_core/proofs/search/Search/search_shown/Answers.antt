@@ -1,7 +1,7 @@
 use Rattle.std.proofs.Common.{rules, ◌≡◌, ◌∙◌, ◌-◌, ap, sym, subst, arith, length, true}
 use Rattle.std.proofs.lemmas.Result.{err_from_is_err_and}
-use Rattle.grep_definitions.specs.InputFronts.{IsClosed}
-use Rattle.grep_matcher.specs.Terminators.{byte_of}
+use Rattle.grep_definitions.specs.Inputs.{IsClosed}
+use Rattle.grep_matcher.specs.Lines.{byte_of}
 use Rattle.grep_core.proofs.RollLemmas as rolls
 use Rattle.grep_definitions.specs.Plans.{all_true}
 use Rattle.grep_definitions.proofs.CallOrderLemmas.{called-none}
@@ -11,7 +11,7 @@ pub returns-then-start-window-clause-ends : goal.returns-then-start-window-claus
 returns-then-start-window-clause-ends g c = λ lawful _.
     let shown = c.buffer-window.ensures in
     rolls.ended-nothing c.lines_join.ensures c.lines_append.ensures g.C.Calls.step c.args.self.now.config
-    (g.M.Matcher.meaning c.args.matcher.now) c.args.lines.now c.args.walk.now c.args.sink.now
+    (g.M.Matcher.facts c.args.matcher.now).meaning c.args.lines.now c.args.walk.now c.args.sink.now
     (ap (λ o. c.args.walk.now.offset - o) (sym c.absolute_byte_offset.ensures)
     ∙ (c.if-start-window.true ∙ ap (λ xs. length xs) shown.value))
     c.requires.low
@@ -29,7 +29,7 @@ returns-then-not-branch-clause-ends g c = λ lawful _.
     let searched = c.in_ok-search_window.ensures in
     let ends = searched.ends lawful c.if-not-branch.true in
     rolls.ended-within c.lines_join.ensures c.lines_append.ensures g.C.Calls.step c.args.self.now.config
-    (g.M.Matcher.meaning c.args.matcher.now) c.args.lines.now c.args.walk.now c.args.sink.now
+    (g.M.Matcher.facts c.args.matcher.now).meaning c.args.lines.now c.args.walk.now c.args.sink.now
     c.buffer-window.result.now (c.args.walk.now.offset - c.absolute_byte_offset.result) shown.value
     (ap (λ o. c.args.walk.now.offset - o) c.absolute_byte_offset.ensures)
     c.search_window.new.walk c.search_window.new.sink searched.ahead
@@ -43,7 +43,7 @@ returns-then-not-is_terminated-clause-ends g c = λ lawful _.
     let goes : c.in_ok-search_window.field-0 ≡ true = search rules in
     let opens = c.if-not-is_terminated.ensures in
     rolls.ended-broken c.lines_join.ensures c.lines_append.ensures g.C.Calls.step c.args.self.now.config
-    (g.M.Matcher.meaning c.args.matcher.now) c.args.lines.now c.args.walk.now c.args.sink.now
+    (g.M.Matcher.facts c.args.matcher.now).meaning c.args.lines.now c.args.walk.now c.args.sink.now
     c.buffer-window.result.now (c.args.walk.now.offset - c.absolute_byte_offset.result) shown.value
     (ap (λ o. c.args.walk.now.offset - o) c.absolute_byte_offset.ensures)
     c.search_window.new.walk c.search_window.new.sink searched.ahead
@@ -77,7 +77,7 @@ returns-clause-goes_on g c = λ lawful _.
       closed = closed;
       few = first.few;
       next = rolls.next-rolled c.lines_join.ensures c.lines_append.ensures g.C.Calls.step c.args.self.now.config
-          (g.M.Matcher.meaning c.args.matcher.now) c.args.lines.now c.args.walk.now c.args.sink.now
+          (g.M.Matcher.facts c.args.matcher.now).meaning c.args.lines.now c.args.walk.now c.args.sink.now
           c.buffer-window.result.now (c.args.walk.now.offset - c.absolute_byte_offset.result) shown.value
           (ap (λ o. c.args.walk.now.offset - o) c.absolute_byte_offset.ensures)
           c.search_window.new.walk c.search_window.new.sink searched.ahead

@@ -1,27 +1,20 @@
 use Rattle.std.proofs.Common.{◌∙◌, None, Some, sym, subst}
-use Rattle.grep_definitions.specs.Searches.{ErrorMakers, MatcherFacts}
+use Rattle.grep_report.specs.ErrorMakers.{ErrorMakers}
+use Rattle.grep_matcher.specs.Meanings.{MatcherFacts}
 use Rattle.grep_definitions.specs.SearchTurns.{calls_if}
 use Rattle.grep_core.specs.InputSearches.{IsSearchedUntil}
 use Rattle.grep_core.proofs.UntilLemmas.{first-found, quit-searched}
 use Rattle.grep_core.proofs.search.Search.search_until.Given.{Over}
-use Rattle.grep_definitions.specs.PlannedSearches.{IsInOrder}
+use Rattle.grep_definitions.specs.Searches.{IsInOrder}
 use Rattle.grep_core.proofs.OrderLemmas.{quit-in-order}
+use Rattle.grep_report.specs.ErrorMakers.{makers_of}
 use Rattle.grep_core.proofs.search.Search.search_until.Goals as goal
 
-abbrev errors-of : (g : Over) → ErrorMakers g.row.C-Error.Denot
-errors-of g =
-    let maker = g.C.Error.SinkError in
-    record { is_message = maker.is_message; is_io = maker.is_io; is_config = maker.is_config }
+abbrev errors-of : (g : Over) → ErrorMakers g.row.M-Error.Denot g.row.C-Error.Denot
+errors-of g = makers_of g.M.Error.Display.output g.C.Error.SinkError.makers
 
 abbrev facts-of : (g : Over) → g.row.M.Denot → MatcherFacts g.row.M-Error.Denot
-facts-of g matcher =
-    let meant = g.M.Matcher in
-    record {
-      meaning = meant.meaning matcher;
-      fails = meant.fails matcher;
-      is_lawful = meant.is_lawful matcher;
-      text_of = g.M.Error.Display.output;
-    }
+facts-of g matcher = g.M.Matcher.facts matcher
 
 pub search_quitting-requires-clause-none : goal.search_quitting-requires-clause-none
 search_quitting-requires-clause-none g c =
@@ -39,7 +32,7 @@ returns-in-Some-clause-searched g c = λ lawful.
 pub returns-in-None-clause-searched : goal.returns-in-None-clause-searched
 returns-in-None-clause-searched g c = λ lawful.
     subst (λ s. IsSearchedUntil g.C.Calls.step (errors-of g) (facts-of g c.args.matcher.now)
-    (calls_if c.args.self.now.config (g.M.Matcher.meaning c.args.matcher.now) c.args.is_across) c.args.byte
+    (calls_if c.args.self.now.config (g.M.Matcher.facts c.args.matcher.now).meaning c.args.is_across) c.args.byte
     c.args.self.now.config
     c.args.bytes.now c.args.sink.now c.search_quitting.result s)
     (sym (c.sink-1.given.1 (sym (c.search_quitting.ensures.same_sink ∙ c.new-quitting.ensures.same_sink))))

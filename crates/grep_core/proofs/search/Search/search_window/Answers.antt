@@ -2,9 +2,11 @@ use Rattle.std.proofs.Common.{rules, ◌≡◌, ◌∙◌, ℕ, length, refl, ap
 use Rattle.std.proofs.Common.{length-drop, ◌-◌, drop, ◌+◌}
 use Rattle.std.proofs.lemmas.Bool.{false≢true}
 use Rattle.std.proofs.lemmas.Result.{err_from_is_err_and}
-use Rattle.grep_lines.specs.Positions.{slice, IsLineStart}
+use Rattle.std.specs.Prelude.{slice_range}
+use Rattle.grep_lines.specs.Positions.{IsLineStart}
 use Rattle.grep_matcher.specs.Lines.{lines}
-use Rattle.grep_definitions.specs.Searches.{ErrorMakers, MatcherFacts}
+use Rattle.grep_report.specs.ErrorMakers.{ErrorMakers}
+use Rattle.grep_matcher.specs.Meanings.{MatcherFacts}
 use Rattle.grep_definitions.specs.Settings.{Settings}
 use Rattle.grep_definitions.specs.Plans.{all_true, failed, stopped, counted}
 use Rattle.grep_walk.specs.Walks.{chooses, trails, is_over, line_end, after_line}
@@ -15,26 +17,18 @@ use Rattle.grep_walk.proofs.UncountedLemmas as uncounted
 use Rattle.grep_core.proofs.search.Search.search_window.Given.{Over}
 use Rattle.grep_definitions.specs.CallOrder.{of_call, of_question}
 use Rattle.grep_definitions.proofs.CallOrderLemmas.{called-none, called-then}
+use Rattle.grep_report.specs.ErrorMakers.{makers_of}
 use Rattle.grep_core.proofs.search.Search.search_window.Goals as goal
 
 -- under passthru there are no contexts
 abbrev Bare : Settings → Type 0
 Bare settings = settings.passthru ≡ true → (settings.after_context ≡ 0) × (settings.before_context ≡ 0)
 
-abbrev errors : (g : Over) → ErrorMakers g.row.C-Error.Denot
-errors g = record {
-  is_message = g.C.Error.SinkError.is_message;
-  is_io = g.C.Error.SinkError.is_io;
-  is_config = g.C.Error.SinkError.is_config;
-}
+abbrev errors : (g : Over) → ErrorMakers g.row.M-Error.Denot g.row.C-Error.Denot
+errors g = makers_of g.M.Error.Display.output g.C.Error.SinkError.makers
 
 abbrev facts : (g : Over) → g.row.M.Denot → MatcherFacts g.row.M-Error.Denot
-facts g matcher = record {
-  meaning = g.M.Matcher.meaning matcher;
-  fails = g.M.Matcher.fails matcher;
-  is_lawful = g.M.Matcher.is_lawful matcher;
-  text_of = g.M.Error.Display.output;
-}
+facts g matcher = g.M.Matcher.facts matcher
 
 pub lines-init : goal.lines-init
 lines-init g c = record {
@@ -44,7 +38,7 @@ lines-init g c = record {
   ordered = c.requires.ordered;
   bounded = record { ordered = omega arith; within = omega arith };
   known = λ lawful gone input first so_far. skips.known-nothing c.args.self.now.config
-      (g.M.Matcher.meaning c.args.matcher.now)
+      (g.M.Matcher.facts c.args.matcher.now).meaning
       c.args.window.now c.args.start;
   searched = λ lawful gone input first so_far. so_far;
   called = called-none g.C.Calls.step c.args.self.now.config c.args.sink.now;
@@ -134,7 +128,7 @@ returns-then-not-branch-clause-ends g c = λ lawful ends.
     let stops : c.in_ok-sink_line.field-0 ≡ false = search rules in
     let reported = rw stops at c.in_ok-sink_line.ensures.reported in (
       stopped (counted (line_end c.skip_unmatched-start.new.walk
-          (slice c.args.window.now c.skip_unmatched-start.result c.in-Some.end))),
+          (slice_range c.args.window.now c.skip_unmatched-start.result c.in-Some.end))),
       λ gone input first so_far.
           let bare = c.requires.configured.bare in
           let now = c.lines.invariant.searched lawful gone input first so_far in
@@ -163,7 +157,7 @@ returns-then-is_over-clause-ends g c = λ lawful ends.
     let chosen = c.is_chosen-chosen.ensures in
     let next = c.after_line.ensures
     ∙ ap (after_line c.args.self.now.config c.skip_unmatched-start.new.walk
-    (slice c.args.window.now c.skip_unmatched-start.result c.in-Some.end)) chosen in
+    (slice_range c.args.window.now c.skip_unmatched-start.result c.in-Some.end)) chosen in
     let over_is = c.is_over.ensures in
     let goes : c.in_ok-sink_line.field-0 ≡ true = search rules in
     let reported = rw goes at c.in_ok-sink_line.ensures.reported in
@@ -199,7 +193,7 @@ lines-preserved g c =
     let chosen = c.is_chosen-chosen.ensures in
     let next = c.after_line.ensures
     ∙ ap (after_line c.args.self.now.config c.skip_unmatched-start.new.walk
-    (slice c.args.window.now c.skip_unmatched-start.result c.in-Some.end)) chosen in
+    (slice_range c.args.window.now c.skip_unmatched-start.result c.in-Some.end)) chosen in
     let over_is = c.is_over.ensures in
     let goes : c.in_ok-sink_line.field-0 ≡ true = search rules in
     let reported = rw goes at c.in_ok-sink_line.ensures.reported in
@@ -227,7 +221,7 @@ lines-preserved g c =
       bounded = c.in-Ok.ensures.bounded;
       known = λ lawful gone input first so_far.
           let now = c.lines.invariant.searched lawful gone input first so_far in
-          skips.known-later c.args.self.now.config (g.M.Matcher.meaning c.args.matcher.now) c.args.window.now
+          skips.known-later c.args.self.now.config (g.M.Matcher.facts c.args.matcher.now).meaning c.args.window.now
           c.lines.start
           c.in-Some.end c.in-Ok.ahead (omega (arith, c.skip_unmatched-start.ensures.low, c.in-Some.ensures.within.0))
           (learns lawful _ now.walked.inside.line.begins (c.lines.invariant.known lawful gone input first so_far));
@@ -275,7 +269,7 @@ returns-then-not-branch-clause-in_order g c =
     let here = rw stops at c.in_ok-sink_line.ensures.called in
     record {
       outcome = stopped (counted (c.skip_unmatched-start.new.walk.offset + length
-          (slice c.args.window.now c.skip_unmatched-start.result c.in-Some.end)));
+          (slice_range c.args.window.now c.skip_unmatched-start.result c.in-Some.end)));
       ends = refl;
       called = called-then g.C.Calls.step c.args.self.now.config c.args.sink.now c.lines.sink (stopped _)
           c.sink_line.new.sink

@@ -1,7 +1,7 @@
 use Rattle.std.proofs.Common.{◌≡◌, ◌≤◌, ◌+◌, ◌-◌, ℕ, List, length}
 use Rattle.grep_definitions.specs.CallOrder.{HasCalled}
 use Rattle.grep_definitions.specs.Plans.{all_true}
-use Rattle.grep_definitions.specs.Questions.{IsLawfulFor}
+use Rattle.grep_definitions.specs.Asking.{IsLawful}
 use Rattle.grep_walk.specs.LookAheads.{IsBounded, IsKnown}
 use Rattle.grep_walk.specs.Origins.{Origin}
 use Rattle.grep_walk.specs.Walks.{IsOrdered}
@@ -15,16 +15,16 @@ invariant-lines g l = record {
   ahead : l.fn.start ≤ l.start;
   ordered : IsOrdered l.walk;
   bounded : IsBounded l.window l.ahead;
-  known : IsLawfulFor l.self.config (g.M.Matcher.meaning l.matcher) (g.M.Matcher.is_lawful l.matcher)
+  known : IsLawful (g.M.Matcher.facts l.matcher) l.self.config
       → (gone input : List ℕ) (first : Origin g.row.C-Sink.Denot)
-      → HasSearched g.C.Calls.step l.self.config (g.M.Matcher.meaning l.matcher) gone l.window input first l.fn.start
+      → HasSearched g.C.Calls.step l.self.config (g.M.Matcher.facts l.matcher).meaning gone l.window input first l.fn.start
       l.fn.walk l.fn.sink
-      → IsKnown l.self.config (g.M.Matcher.meaning l.matcher) l.window l.start l.ahead;
-  searched : IsLawfulFor l.self.config (g.M.Matcher.meaning l.matcher) (g.M.Matcher.is_lawful l.matcher)
+      → IsKnown l.self.config (g.M.Matcher.facts l.matcher).meaning l.window l.start l.ahead;
+  searched : IsLawful (g.M.Matcher.facts l.matcher) l.self.config
       → (gone input : List ℕ) (first : Origin g.row.C-Sink.Denot)
-      → HasSearched g.C.Calls.step l.self.config (g.M.Matcher.meaning l.matcher) gone l.window input first l.fn.start
+      → HasSearched g.C.Calls.step l.self.config (g.M.Matcher.facts l.matcher).meaning gone l.window input first l.fn.start
       l.fn.walk l.fn.sink
-      → HasSearched g.C.Calls.step l.self.config (g.M.Matcher.meaning l.matcher) gone l.window input first l.start
+      → HasSearched g.C.Calls.step l.self.config (g.M.Matcher.facts l.matcher).meaning gone l.window input first l.start
       l.walk l.sink;
   called : HasCalled g.C.Calls.step l.self.config 0 l.fn.sink all_true l.sink;
   may_call : g.C.Calls.may_call l.sink;

@@ -1,6 +1,5 @@
 use Rattle.std.proofs.Common.{◌-◌, ◌∙◌, ◌≡◌, length, sym, subst, arith}
-use Rattle.grep_matcher.specs.Terminators.{byte_of}
-use Rattle.grep_matcher.specs.Lines.{lines}
+use Rattle.grep_matcher.specs.Lines.{byte_of, lines}
 use Rattle.grep_lines.specs.Positions.{IsLineStart}
 use Rattle.grep_walk.specs.Windows.{IsLineIn}
 use Rattle.grep_walk.proofs.BeforeContextLemmas as before

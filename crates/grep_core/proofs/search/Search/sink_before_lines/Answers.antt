@@ -4,7 +4,7 @@ use Rattle.grep_definitions.specs.LineTurns.{number_of, pending_turns}
 use Rattle.grep_definitions.specs.Plans.{AreMade, all_true, stopped, failed, counted}
 use Rattle.grep_walk.proofs.BeforeContextLemmas as before
 use Rattle.grep_walk.proofs.WindowLemmas as windows
-use Rattle.grep_lines.specs.Positions.{slice}
+use Rattle.std.specs.Prelude.{slice_range}
 use Rattle.grep_definitions.proofs.CallOrderLemmas.{called-before, called-then}
 use Rattle.grep_core.proofs.search.Search.sink_before_lines.Goals as goal
 
@@ -87,7 +87,7 @@ loop-at-preserved g c =
       called = called-then g.C.Calls.step k c.args.sink.now c.loop-at.sink all_true c.sink_before_line.new.sink
           c.loop-at.invariant.called (called-before g.C.Calls.step k w.next_unreported c.loop-at.at w.line
           (number_of k c.loop-at.at)
-          c.loop-at.offset 0 (slice window c.loop-at.position c.in-Some.next) c.loop-at.sink all_true
+          c.loop-at.offset 0 (slice_range window c.loop-at.position c.in-Some.next) c.loop-at.sink all_true
           c.sink_before_line.new.sink
           (here 0));
       may_call = c.in_ok-sink_before_line.ensures.may_call;
@@ -100,7 +100,7 @@ returns-in_err-sink_before_line-clause-called g c =
     c.sink_before_line.new.sink c.loop-at.invariant.called (called-before g.C.Calls.step c.args.self.now.config
     c.args.walk.now.next_unreported c.loop-at.at c.args.walk.now.line (number_of c.args.self.now.config c.loop-at.at)
     c.loop-at.offset
-    end (slice c.args.window.now c.loop-at.position c.in-Some.next) c.loop-at.sink _ c.sink_before_line.new.sink
+    end (slice_range c.args.window.now c.loop-at.position c.in-Some.next) c.loop-at.sink _ c.sink_before_line.new.sink
     (c.in_err-sink_before_line.ensures.reported end)))
 
 pub returns-then-not-branch-clause-called : goal.returns-then-not-branch-clause-called
@@ -111,5 +111,5 @@ returns-then-not-branch-clause-called g c = λ end.
     c.sink_before_line.new.sink c.loop-at.invariant.called (called-before g.C.Calls.step c.args.self.now.config
     c.args.walk.now.next_unreported c.loop-at.at c.args.walk.now.line (number_of c.args.self.now.config c.loop-at.at)
     c.loop-at.offset
-    end (slice c.args.window.now c.loop-at.position c.in-Some.next) c.loop-at.sink (stopped (counted end))
+    end (slice_range c.args.window.now c.loop-at.position c.in-Some.next) c.loop-at.sink (stopped (counted end))
     c.sink_before_line.new.sink (here end))

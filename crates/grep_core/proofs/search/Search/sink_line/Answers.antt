@@ -1,6 +1,6 @@
 use Rattle.std.proofs.Common.{rules, ◌≡◌, ◌-◌, true, false, refl}
 use Rattle.std.proofs.lemmas.Result.{err_from_is_err_and}
-use Rattle.grep_lines.specs.Positions.{slice}
+use Rattle.std.specs.Prelude.{slice_range}
 use Rattle.grep_definitions.specs.LineTurns.{pending_turns, match_turns}
 use Rattle.grep_definitions.specs.Plans.{failed, stopped, counted}
 use Rattle.grep_definitions.specs.SinkRuns.{outcome_of}
@@ -13,7 +13,7 @@ pub returns-in_err-sink_before_context-clause-reported : goal.returns-in_err-sin
 returns-in_err-sink_before_context-clause-reported g c =
     let w = c.args.walk.now in
     let chosen : chooses c.args.verdict ≡ true = search rules in
-    let here = slice c.args.window.now c.args.start c.args.end in
+    let here = slice_range c.args.window.now c.args.start c.args.end in
     let stop = line_end w here in
     let p = err_from_is_err_and c.from_residual.result c.from_residual.ensures.1 in
     rw (p.1, p.2, chosen) (λ gone input inside. AreMade-ended g.C.Calls.step c.args.self.now.config
@@ -27,7 +27,7 @@ pub returns-then-not-branch-clause-reported : goal.returns-then-not-branch-claus
 returns-then-not-branch-clause-reported g c =
     let w = c.args.walk.now in
     let chosen : chooses c.args.verdict ≡ true = search rules in
-    let here = slice c.args.window.now c.args.start c.args.end in
+    let here = slice_range c.args.window.now c.args.start c.args.end in
     let stop = line_end w here in
     let stops : c.in_ok-sink_before_context.field-0 ≡ false = search rules in
     let reported = rw stops at c.in_ok-sink_before_context.ensures.reported in
@@ -42,7 +42,7 @@ pub returns-then-is_chosen-clause-reported : goal.returns-then-is_chosen-clause-
 returns-then-is_chosen-clause-reported g c =
     let w = c.args.walk.now in
     let chosen : chooses c.args.verdict ≡ true = search rules in
-    let here = slice c.args.window.now c.args.start c.args.end in
+    let here = slice_range c.args.window.now c.args.start c.args.end in
     let stop = line_end w here in
     let goes : c.in_ok-sink_before_context.field-0 ≡ true = search rules in
     let reported = rw goes at c.in_ok-sink_before_context.ensures.reported in
@@ -67,7 +67,7 @@ returns-then-is_chosen-clause-called g c = λ stop.
     called-then g.C.Calls.step c.args.self.now.config c.args.sink.now c.sink_before_context.new.sink
     (outcome_of stop c.sink_matched.result)
     c.sink_matched.new.sink (first stop) (called-match g.C.Calls.step c.args.self.now.config w.next_unreported w.line
-    w.offset stop (slice c.args.window.now c.args.start c.args.end) c.sink_before_context.new.sink
+    w.offset stop (slice_range c.args.window.now c.args.start c.args.end) c.sink_before_context.new.sink
     (outcome_of stop c.sink_matched.result)
     c.sink_matched.new.sink (c.sink_matched.ensures.reported stop))
 

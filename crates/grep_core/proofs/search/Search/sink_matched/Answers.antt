@@ -1,6 +1,5 @@
 use Rattle.std.proofs.Common.{rules, ◌≡◌, ◌&&◌, true, false}
-use Rattle.std.specs.Prelude.{nat_lt}
-use Rattle.grep_lines.specs.Positions.{slice}
+use Rattle.std.specs.Prelude.{nat_lt, slice_range}
 use Rattle.grep_definitions.specs.Plans.{matches, stopped, counted}
 use Rattle.grep_definitions.specs.LineTurns.{number_of, is_gap}
 use Rattle.grep_definitions.proofs.SinkRunLemmas.{AreMade-broken, AreMade-unbroken}
@@ -14,7 +13,7 @@ returns-then-not-branch-clause-reported g c =
     let reported = rw (stops, gap) at c.in_ok-sink_break.ensures.reported in
     λ stop. AreMade-unbroken g.C.Calls.step c.args.self.now.config
     (nat_lt 0 c.args.self.now.config.after_context && is_gap c.args.self.now.config w.next_unreported w.line w.line)
-    (matches (number_of c.args.self.now.config w.line) w.offset (slice c.args.window.now c.args.start c.args.end)) stop
+    (matches (number_of c.args.self.now.config w.line) w.offset (slice_range c.args.window.now c.args.start c.args.end)) stop
     c.args.sink.now (stopped (counted stop)) c.sink_break.new.sink (λ x. cc) (reported stop)
 
 pub returns-clause-reported : goal.returns-clause-reported
@@ -27,5 +26,5 @@ returns-clause-reported g c =
     let step = rw (c.new-found.ensures, number) at c.matched.ensures.step in
     λ stop. AreMade-broken g.C.Calls.step c.args.self.now.config
     (nat_lt 0 c.args.self.now.config.after_context && is_gap c.args.self.now.config w.next_unreported w.line w.line)
-    (matches (number_of c.args.self.now.config w.line) w.offset (slice c.args.window.now c.args.start c.args.end)) stop
+    (matches (number_of c.args.self.now.config w.line) w.offset (slice_range c.args.window.now c.args.start c.args.end)) stop
     c.args.sink.now c.sink_break.new.sink c.matched.result c.matched.new.sink (reported stop) step

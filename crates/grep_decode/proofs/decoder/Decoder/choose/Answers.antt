@@ -1,7 +1,6 @@
 use Rattle.std.proofs.Common.{◌≡◌, ◌++◌, ◌≤◌, ◌⊎◌, true, ℕ, List, length, drop, ap, subst, sym, ◌∙◌}
-use Rattle.grep_decode.specs.DecoderStates.{DecoderState, LooksForMark, decode_by, mode_of}
+use Rattle.grep_decode.specs.DecoderStates.{DecoderState, LooksForMark, decode_by, mode_of, mark_length}
 use Rattle.grep_decode.specs.Decoded.{found_mark}
-use Rattle.grep_decode.specs.Marks.{mark_length}
 use Rattle.grep_decode.proofs.DecoderLemmas.{fits-fresh}
 use Rattle.grep_decode.proofs.MarkLemmas.{chosen}
 use Rattle.grep_decode.proofs.PieceLemmas.{dropped, dropped-twice}

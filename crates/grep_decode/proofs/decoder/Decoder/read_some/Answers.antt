@@ -1,8 +1,9 @@
-use Rattle.std.proofs.Common.{◌≡◌, [], ap, sym, ◌∙◌}
+use Rattle.std.proofs.Common.{◌≡◌, ◌⊎◌, [], ap, inl, inr, refl, sym, ◌∙◌, ⊎_elim}
+use Rattle.std.specs.Prelude.{OnOk}
 use Rattle.grep_decode.specs.declared.mode.Mode.TheVariants.{Fresh, Passing}
-use Rattle.grep_decode.specs.DecoderStates.{Decodes, HasNoMark, TakesAtMost, runs_ahead}
+use Rattle.grep_decode.specs.DecoderStates.{Decodes, HasWaited, HasNoMark, TakesAtMost, runs_ahead}
 use Rattle.grep_decode.proofs.DecoderLemmas.{Decodes-none, first-passes, fits-fresh, looks-fresh, result-decodes}
-use Rattle.grep_decode.proofs.DecoderLemmas.{result-fails}
+use Rattle.grep_decode.proofs.DecoderLemmas.{looks-or, result-begins, result-fails, result-waited, unsettled-fresh}
 use Rattle.grep_decode.proofs.DecoderLemmas.{result-first, result-ahead, takes-none}
 use Rattle.grep_decode.proofs.decoder.Decoder.read_some.Goals as goal
 use Rattle.grep_decode.proofs.decoder.Decoder.read_some.Goals.{in-Fresh+in-Ok, in_default}
@@ -76,3 +77,47 @@ returns-clause-first g c = λ none unended looks.
           let fresh = looks-fresh c.args.self.now.mode looks in
           absurd (w.in_default.not-Fresh fresh.0 fresh.1 (ap (λ s. s.mode) c.self.view_is ∙ fresh.2))
     ]
+
+pub returns-clause-last : goal.returns-clause-last
+returns-clause-last g c =
+    let remaining = g.R.Source.remaining in
+    let step = g.R.Source.step in
+    let begun : Decodes remaining step c.args.self.now c.args.reader.now [] c.match-self.self c.match-self.reader =
+    elim c.match-self.branch [
+      | in-Fresh+in-Ok w ↦ rw (w.self-is, w.reader-is) w.in-Ok.ensures.decodes
+      | in_default w ↦ rw (w.self-is, w.reader-is) (Decodes-none remaining step c.args.self.now c.args.reader.now)
+    ] in
+    let first : (c.match-self.reader ≡ c.args.reader.now)
+    ⊎ HasWaited remaining step c.args.self.now c.args.reader.now c.match-self.reader = elim c.match-self.branch [
+      | in-Fresh+in-Ok w ↦ rw w.reader-is w.in-Ok.ensures.last
+      | in_default w ↦ rw w.reader-is (inl refl)
+    ] in
+    result-waited remaining step c.args.self.now c.match-self.self c.args.reader.now c.match-self.reader
+    c.read_on.new.reader c.read_on.result begun first c.read_on.ensures.last
+
+pub returns-clause-begins : goal.returns-clause-begins
+returns-clause-begins g c = λ nothing some.
+    let remaining = g.R.Source.remaining in
+    let step = g.R.Source.step in
+    let begun : Decodes remaining step c.args.self.now c.args.reader.now [] c.match-self.self c.match-self.reader =
+    elim c.match-self.branch [
+      | in-Fresh+in-Ok w ↦ rw (w.self-is, w.reader-is) w.in-Ok.ensures.decodes
+      | in_default w ↦ rw (w.self-is, w.reader-is) (Decodes-none remaining step c.args.self.now c.args.reader.now)
+    ] in
+    let first : HasWaited remaining step c.args.self.now c.args.reader.now c.match-self.reader
+    ⊎ OnOk c.read_on.result (HasWaited remaining step c.match-self.self c.match-self.reader c.read_on.new.reader) =
+    elim c.match-self.branch [
+      | in-Fresh+in-Ok w ↦ ⊎_elim
+          (λ looks. inl (rw w.reader-is (w.in-Ok.ensures.begins nothing.held nothing.unended looks)))
+          (λ unlooked.
+          let unread = w.in-Ok.ensures.unread unlooked in
+          inr (c.read_on.ensures.begins (ap (λ s. s.mode) w.self-is ∙ unread.1)
+          (ap (λ s. s.ready) w.self-is ∙ (unread.2 ∙ nothing.held))
+          (ap (λ s. s.has_ended) w.self-is ∙ (unread.3 ∙ nothing.unended))))
+          (looks-or c.args.self.now.mode)
+      | in_default w ↦
+          let fresh = unsettled-fresh c.args.self.now.mode nothing.fresh in
+          absurd (w.in_default.not-Fresh fresh.0 fresh.1 (ap (λ s. s.mode) c.self.view_is ∙ fresh.2))
+    ] in
+    result-begins remaining step c.args.self.now c.match-self.self c.args.reader.now c.match-self.reader
+    c.read_on.new.reader c.read_on.result begun first c.read_on.ensures.last

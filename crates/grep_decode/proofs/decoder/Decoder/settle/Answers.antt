@@ -1,14 +1,16 @@
-use Rattle.std.proofs.Common.{◌≡◌, ◌⊎◌, ◌≤◌, ◌||◌, true, [], ap, is_some, length, ◌∙◌, subst, sym, arith}
+use Rattle.std.proofs.Common.{◌++◌, ◌≡◌, ◌⊎◌, ◌≤◌, ◌||◌, true, [], ap, is_some, length, ◌∙◌, subst, sym, arith}
 use Rattle.std.proofs.lemmas.Bool.{false≢true}
 use Rattle.grep_decode.specs.declared.mode.Mode.TheVariants.{Fresh, Passing}
 use Rattle.grep_decode.specs.Decoded.{found_mark}
-use Rattle.grep_decode.specs.DecoderStates.{Decodes, IsSettled, LooksForMark}
+use Rattle.grep_decode.specs.DecoderStates.{Decodes, IsSettled, LooksForMark, mode_after, unread}
 use Rattle.grep_decode.specs.UndecodedBytes.{holding}
 use Rattle.grep_decode.proofs.DecoderLemmas.{Decodes-append, Decodes-held, Decodes-none, Decodes-within, Decodes-yet}
-use Rattle.grep_decode.proofs.DecoderLemmas.{fits-fresh}
+use Rattle.grep_decode.proofs.DecoderLemmas.{fits-fresh, mode-settled, mode-unlooked}
 use Rattle.grep_decode.proofs.MarkLemmas.{first-by, first-ready}
 use Rattle.grep_decode.proofs.decoder.Decoder.settle.Goals as goal
 use Rattle.grep_decode.proofs.decoder.Decoder.settle.Goals.{then-sniff+in-Ok, else-sniff+else-is_some}
+use Rattle.grep_decode.proofs.decoder.Decoder.settle.Goals.{then-sniff-via-then-sniff}
+use Rattle.grep_decode.proofs.decoder.Decoder.settle.Goals.{then-sniff-via-else-sniff+then-is_some}
 
 pub returns-clause-decodes : goal.returns-clause-decodes
 returns-clause-decodes g c =
@@ -77,4 +79,31 @@ returns-clause-first g c = λ none unended looks.
           let unlooked : (c.args.sniff || is_some c.args.label) ≡ is_some c.args.label =
           ap (λ b. b || is_some c.args.label) w.if-sniff.false in
           absurd (false≢true (sym w.if-is_some.false ∙ (w.is_some.ensures ∙ (sym unlooked ∙ looked))))
+    ]
+
+pub returns-clause-unread : goal.returns-clause-unread
+returns-clause-unread g c = λ unlooked.
+    let unseen = subst (λ m. LooksForMark m → ⊥) c.requires unlooked in
+    let made = mode-unlooked c.args.label c.args.sniff in
+    elim c.if-sniff.branch [
+      | then-sniff+in-Ok w ↦ elim w.then-sniff.branch [
+        | then-sniff-via-then-sniff w' ↦ absurd (unseen (ap (λ b. b || is_some c.args.label) w'.if-sniff.true))
+        | then-sniff-via-else-sniff+then-is_some w' ↦ absurd
+            (unseen (ap (λ b. b || is_some c.args.label) w'.if-sniff.false
+            ∙ (sym w'.is_some.ensures ∙ w'.if-is_some.true)))
+      ]
+      | else-sniff+else-is_some w ↦
+          let now = c.if-sniff.self in
+          let same_mode : now.mode ≡ Fresh c.args.label c.args.sniff = ap (λ s. s.mode) w.self-is ∙ c.requires in
+          let input = now.held ++ unread now.has_ended [] in
+          let passing : c.choose.new.self.mode ≡ Passing =
+          sym (mode-settled c.choose.new.self.mode
+          (c.choose.new.self.held ++ unread c.choose.new.self.has_ended []) c.choose.ensures.settled)
+          ∙ (sym (c.choose.ensures.next [])
+          ∙ (ap (λ m. mode_after m input) same_mode ∙ (made input unseen).1)) in (
+            w.reader-is,
+            passing,
+            c.choose.ensures.ready (made now.held unseen).0 passing ∙ ap (λ s. s.held) w.self-is,
+            c.choose.ensures.ended ∙ ap (λ s. s.has_ended) w.self-is,
+          )
     ]

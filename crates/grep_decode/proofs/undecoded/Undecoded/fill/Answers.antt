@@ -1,7 +1,9 @@
 use Rattle.std.proofs.Common.{◌≡◌, ◌≤◌, ◌<◌, ◌+◌, ◌-◌, ◌++◌, [], refl, length, ap, ◌∙◌, length-append, sym, subst}
-use Rattle.std.proofs.Common.{arith}
+use Rattle.std.proofs.Common.{arith, inl, inr, ⊎_elim}
+use Rattle.std.proofs.lemmas.Bool.{false≢true}
 use Rattle.std.proofs.KnownBytes.{Consumes-nil, Consumes-trans}
-use Rattle.grep_decode.proofs.DecoderLemmas.{Decodes-none, Grows-smaller, hold-more}
+use Rattle.grep_decode.proofs.DecoderLemmas.{Decodes-none, Grows-smaller, few-wait, hold-more}
+use Rattle.grep_decode.specs.UndecodedBytes.{holding}
 use Rattle.grep_decode.proofs.undecoded.Undecoded.fill.Goals as goal
 
 pub loop-self-smaller : goal.loop-self-smaller
@@ -15,6 +17,7 @@ loop-self-init g c = record {
   capacity = refl;
   few = c.requires.few;
   decodes = λ mode. Decodes-none g.R.Source.remaining g.R.Source.step _ _;
+  last = λ mode looks. inl (refl, refl);
   came = ([], omega arith, Consumes-nil _);
 }
 
@@ -34,9 +37,45 @@ loop-self-preserved g c =
           c.args.reader.now
           c.loop-self.reader c.pull.new.reader c.in-Ok.field-0 (sym c.if-not-has_ended.ensures)
           (c.loop-self.invariant.decodes mode) grows;
+      last = λ mode looks. inr (record {
+        waiting = holding mode now;
+        mid = c.loop-self.reader;
+        decodes = c.loop-self.invariant.decodes mode;
+        unended = sym c.if-not-has_ended.ensures;
+        empty = refl;
+        waits = few-wait mode now.bytes looks
+            (subst (λ l. length l < 3) c.bytes.ensures c.loop-self-test.true);
+        piece = grows.piece;
+        called = grows.called;
+      });
       came = (
         came.0 ++ grows.piece,
         omega (arith, all, came.1, length-append came.0 grows.piece),
         Consumes-trans _ _ _ came.0 grows.piece came.2 grows.takes,
       );
     }
+
+pub returns-after-loop-self-clause-last : goal.returns-after-loop-self-clause-last
+returns-after-loop-self-clause-last g c = λ mode looks.
+    ⊎_elim (λ same. inl same.1) (λ waited. inr waited) (c.loop-self.invariant.last mode looks)
+
+pub returns-else-not-has_ended-clause-last : goal.returns-else-not-has_ended-clause-last
+returns-else-not-has_ended-clause-last g c = λ mode looks.
+    ⊎_elim (λ same. inl same.1) (λ waited. inr waited) (c.loop-self.invariant.last mode looks)
+
+pub returns-after-loop-self-clause-begins : goal.returns-after-loop-self-clause-begins
+returns-after-loop-self-clause-begins g c = λ few unended mode looks.
+    ⊎_elim (λ same. absurd (omega (
+      arith,
+      few,
+      ap (λ u. length u.bytes) same.0,
+      ap length c.bytes.ensures,
+      c.loop-self-test.false,
+    )))
+    (λ waited. waited) (c.loop-self.invariant.last mode looks)
+
+pub returns-else-not-has_ended-clause-begins : goal.returns-else-not-has_ended-clause-begins
+returns-else-not-has_ended-clause-begins g c = λ few unended mode looks.
+    ⊎_elim (λ same. absurd (false≢true (sym unended ∙ (sym (ap (λ u. u.has_ended) same.0)
+    ∙ (sym c.has_ended.ensures ∙ c.if-not-has_ended.false)))))
+    (λ waited. waited) (c.loop-self.invariant.last mode looks)

@@ -1,5 +1,7 @@
-use Rattle.std.proofs.Common.{take, ap, refl, sym, ◌∙◌, arith}
+use Rattle.std.proofs.Common.{inr, take, ap, refl, sym, ◌∙◌, arith}
 use Rattle.std.proofs.lemmas.List.{places}
+use Rattle.grep_decode.specs.declared.mode.Mode.TheVariants.{Passing}
+use Rattle.grep_decode.specs.UndecodedBytes.{holding}
 use Rattle.grep_decode.proofs.DecoderLemmas.{Decodes-none, Decodes-pass, FailsToDecode-now}
 use Rattle.grep_decode.proofs.undecoded.Undecoded.pass.Goals as goal
 
@@ -19,3 +21,19 @@ returns-in-Ok-clause-decodes g c =
     (take c.in-Ok.count c.pull.new.buffer) empty empty c.if-self.false refl (sym c.in-Ok.ensures.bound.1)
     c.in-Ok.ensures.step
     c.in-Ok.ensures.bytes.0 (λ none. c.in-Ok.ensures.bytes.1 none (grind (arith, places))))
+
+pub returns-in-Ok-clause-begins : goal.returns-in-Ok-clause-begins
+returns-in-Ok-clause-begins g c = λ unended. record {
+  waiting = holding Passing c.args.self.now;
+  mid = c.args.reader.now;
+  decodes = Decodes-none g.R.Source.remaining g.R.Source.step _ _;
+  unended = unended;
+  empty = refl;
+  waits = c.requires.empty;
+  piece = take c.in-Ok.count c.pull.new.buffer;
+  called = c.in-Ok.ensures.step;
+}
+
+pub returns-in-Ok-clause-last : goal.returns-in-Ok-clause-last
+returns-in-Ok-clause-last g c = inr (returns-in-Ok-clause-begins g c
+    (sym (ap (λ u. u.has_ended) c.self.view_is) ∙ c.if-self.false))

@@ -1,4 +1,4 @@
-use Rattle.std.proofs.Common.{[], take, refl, ◌∙◌, sym, subst, arith}
+use Rattle.std.proofs.Common.{inl, inr, [], take, refl, ◌∙◌, sym, subst, arith}
 use Rattle.grep_decode.specs.declared.mode.Mode.TheVariants.{Decoding}
 use Rattle.grep_decode.specs.DecoderStates.{Decodes}
 use Rattle.grep_decode.specs.UndecodedBytes.{UndecodedBytes, holding}
@@ -10,6 +10,7 @@ loop-label-init g c = record {
   capacity = refl;
   room = c.requires.room;
   decodes = Decodes-none g.R.Source.remaining g.R.Source.step _ _;
+  last = inl refl;
 }
 
 pub loop-label-preserved : goal.loop-label-preserved
@@ -29,6 +30,16 @@ loop-label-preserved g c =
           c.loop-label.reader
           c.pull.new.reader c.in-Ok.field-0 (sym c.if-has_ended.ensures)
           (subst P (sym same) c.loop-label.invariant.decodes) grows;
+      last = inr (record {
+        waiting = holding mode mid;
+        mid = c.loop-label.reader;
+        decodes = subst P (sym same) c.loop-label.invariant.decodes;
+        unended = sym c.if-has_ended.ensures;
+        empty = refl;
+        waits = c.decode-count.ensures.unfinished (omega (arith, c.if-count-gt0.false));
+        piece = grows.piece;
+        called = grows.called;
+      });
     }
 
 pub returns-then-count-gt0-clause-decodes : goal.returns-then-count-gt0-clause-decodes

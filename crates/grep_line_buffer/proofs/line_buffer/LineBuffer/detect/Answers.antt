@@ -1,17 +1,16 @@
 use borrow.Rule.Slice.PartMut.{put_mid}
-use Rattle.std.proofs.Common.{◌≡◌, if◌then◌else◌, ◌==◌, ◌+◌, ◌-◌, ◌≤◌, ◌++◌, ◌∙◌, ◌&&◌, false, None, Some}
-use Rattle.std.proofs.Common.{length, take, refl, sym, ap, subst, arith}
+use Rattle.std.proofs.Common.{◌≡◌, if◌then◌else◌, ◌==◌, ◌+◌, ◌-◌, ◌≤◌, ◌++◌, ◌∙◌, ◌&&◌, false, None, Some, length, take}
+use Rattle.std.proofs.Common.{refl, sym, ap, subst, arith}
 use Rattle.std.specs.Option.{option_map, is_some}
 use Rattle.std.proofs.lemmas.List.{length-map, with_items_is}
-use Rattle.grep_lines.specs.Positions.{slice}
+use Rattle.std.specs.Prelude.{slice_range}
 use Rattle.grep_lines.proofs.ReplaceLemmas.{position-found}
 use Rattle.grep_line_buffer.specs.declared.detection.Detection.TheVariants.{Convert}
 use Rattle.grep_line_buffer.specs.BufferStates.{BufferState, is_cut}
 use Rattle.grep_line_buffer.specs.Detections.{detected, found_in, first_of, byte_offset, is_quit}
 use Rattle.grep_line_buffer.proofs.BufferStateLemmas.{window-same}
 use Rattle.grep_line_buffer.proofs.DetectLemmas.{Detects-made, found-at, found-first, length-cut, nothing-found}
-use Rattle.grep_line_buffer.proofs.DetectLemmas.{quit-at}
-use Rattle.grep_line_buffer.proofs.DetectLemmas.{is-changed, length-held, length-last, quit-none, slice-before}
+use Rattle.grep_line_buffer.proofs.DetectLemmas.{quit-at, is-changed, length-held, length-last, quit-none, slice-before}
 use Rattle.grep_line_buffer.proofs.DetectLemmas.{split-rest}
 use Rattle.grep_line_buffer.proofs.SliceLemmas.{length-slice}
 use Rattle.grep_line_buffer.proofs.line_buffer.LineBuffer.detect.Goals as goal
@@ -26,8 +25,8 @@ returns-in-Some g c =
     let high : b.line_end ≤ b.end = omega arith in
     let within : b.end ≤ length bs = omega arith in
     let read : n ≤ b.end - b.line_end = omega (arith, fits, length-slice bs b.line_end b.end (omega arith)) in
-    let last = slice bs (b.end - n) b.end in
-    let front = slice bs b.line_end (b.end - n) in
+    let last = slice_range bs (b.end - n) b.end in
+    let front = slice_range bs b.line_end (b.end - n) in
     let split = split-rest b.start b.line_end b.end n bs low high within read in
     let counted = length-last b.start b.line_end b.end n bs low high within read in
     let at = c.in-Some.at in
@@ -42,14 +41,14 @@ returns-in-Some g c =
     found-first _ (subst (λ D. (is_quit D && is_some (option_map byte_offset b.binary)) ≡ false) c.in-Quit.is uncut) in
     let all = length-held b.start b.line_end b.end n bs low high within read in
     let sum : b.offset + ((b.end - n + at) - b.start)
-    ≡ b.offset + (length (slice bs b.start b.line_end ++ slice bs b.line_end b.end) - n) + at = omega (arith, all) in
+    ≡ b.offset + (length (slice_range bs b.start b.line_end ++ slice_range bs b.line_end b.end) - n) + at = omega (arith, all) in
     let joined = slice-before b.start b.line_end b.end n bs low high within read at part in
     record {
       detects = rw (← c.self.view_is) (Detects-made n _ _ front last (take at last) (length bs - (b.end - n + at))
           (Some (b.offset + ((b.end - n + at) - b.start))) split counted made
           (window-same _ _ _ _ _ _ _ _ _ _ _ _ _ _ refl joined refl refl)
           (ap Some sum ∙ found-at (option_map byte_offset b.binary) (found_in b.detection b.terminator last)
-          (λ i. b.offset + (length (slice bs b.start b.line_end ++ slice bs b.line_end b.end) - n) + i) at first found)
+          (λ i. b.offset + (length (slice_range bs b.start b.line_end ++ slice_range bs b.line_end b.end) - n) + i) at first found)
           (omega (arith, all, length-cut b.start b.line_end b.end n bs low high within read at part)));
     }
 
@@ -63,8 +62,8 @@ returns-in_default g c =
     let high : b.line_end ≤ b.end = omega arith in
     let within : b.end ≤ length bs = omega arith in
     let read : n ≤ b.end - b.line_end = omega (arith, fits, length-slice bs b.line_end b.end (omega arith)) in
-    let last = slice bs (b.end - n) b.end in
-    let front = slice bs b.line_end (b.end - n) in
+    let last = slice_range bs (b.end - n) b.end in
+    let front = slice_range bs b.line_end (b.end - n) in
     let split = split-rest b.start b.line_end b.end n bs low high within read in
     let counted = length-last b.start b.line_end b.end n bs low high within read in
     let missing = position-found c.in-Quit.byte last None (rw c.deref.ensures.value at c.in_default.ensures) in
@@ -75,7 +74,7 @@ returns-in_default g c =
       detects = rw (← c.self.view_is) (Detects-made n _ _ front last last (length bs - b.end)
           (option_map byte_offset b.binary) split counted same
           (window-same _ _ _ _ _ _ _ _ _ _ _ _ _ _ refl split refl refl) (nothing-found _ _ _ none)
-          (ap (λ l. length bs - b.end + length (slice bs b.start b.line_end ++ l)) (sym split)));
+          (ap (λ l. length bs - b.end + length (slice_range bs b.start b.line_end ++ l)) (sym split)));
     }
 
 pub returns-in-Some-replace_bytes : goal.returns-in-Some-replace_bytes
@@ -88,8 +87,8 @@ returns-in-Some-replace_bytes g c =
     let high : b.line_end ≤ b.end = omega arith in
     let within : b.end ≤ length bs = omega arith in
     let read : n ≤ b.end - b.line_end = omega (arith, fits, length-slice bs b.line_end b.end (omega arith)) in
-    let last = slice bs (b.end - n) b.end in
-    let front = slice bs b.line_end (b.end - n) in
+    let last = slice_range bs (b.end - n) b.end in
+    let front = slice_range bs b.line_end (b.end - n) in
     let split = split-rest b.start b.line_end b.end n bs low high within read in
     let counted = length-last b.start b.line_end b.end n bs low high within read in
     let now = put_mid (b.end - n) (b.end - (b.end - n)) c.deref_mut.result.now c.replace_bytes.new.bytes in
@@ -104,13 +103,13 @@ returns-in-Some-replace_bytes g c =
     moved in
     let whole : length now ≡ b.bytes.len = omega (arith, after.size) in
     let all = length-held b.start b.line_end b.end n bs low high within read in
-    let shown = slice bs b.start b.line_end in
+    let shown = slice_range bs b.start b.line_end in
     let at = c.in-Some-replace_bytes.at in
     let found : found_in b.detection b.terminator last ≡ Some at =
     rw c.in-Convert.is (sym (rw c.deref_mut.ensures.value at c.in-Some-replace_bytes.ensures.first)) in
     let before = option_map byte_offset b.binary in
     let place : b.offset + ((b.end - n) - b.start + at)
-    ≡ b.offset + (length (shown ++ slice bs b.line_end b.end) - n) + at =
+    ≡ b.offset + (length (shown ++ slice_range bs b.line_end b.end) - n) + at =
     omega (arith, all) in
     record {
       detects = rw (← c.self.view_is) (Detects-made n _ _ front last c.replace_bytes.new.bytes (length bs - b.end)
@@ -118,7 +117,7 @@ returns-in-Some-replace_bytes g c =
           (c.note.ensures ∙ (rw (with_items_is b.bytes now whole) (window-same _ _ _ _ _ _ _ _ _ _ _ _ _ _
           after.shown after.rest after.size (ap (λ k. k - b.end) after.size))))
           (ap (first_of before) (ap Some place
-          ∙ sym (ap (option_map (λ i. b.offset + (length (shown ++ slice bs b.line_end b.end) - n) + i)) found)))
+          ∙ sym (ap (option_map (λ i. b.offset + (length (shown ++ slice_range bs b.line_end b.end) - n) + i)) found)))
           after.sum);
     }
 
@@ -132,8 +131,8 @@ returns-in_default-replace_bytes g c =
     let high : b.line_end ≤ b.end = omega arith in
     let within : b.end ≤ length bs = omega arith in
     let read : n ≤ b.end - b.line_end = omega (arith, fits, length-slice bs b.line_end b.end (omega arith)) in
-    let last = slice bs (b.end - n) b.end in
-    let front = slice bs b.line_end (b.end - n) in
+    let last = slice_range bs (b.end - n) b.end in
+    let front = slice_range bs b.line_end (b.end - n) in
     let split = split-rest b.start b.line_end b.end n bs low high within read in
     let counted = length-last b.start b.line_end b.end n bs low high within read in
     let now = put_mid (b.end - n) (b.end - (b.end - n)) c.deref_mut.result.now c.replace_bytes.new.bytes in

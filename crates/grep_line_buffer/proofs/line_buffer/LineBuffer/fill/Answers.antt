@@ -1,4 +1,4 @@
-use Rattle.std.proofs.Common.{◌≡◌, ◌<◌, Bool, length, true, false, refl, sym, ap, ◌∙◌, rules, arith}
+use Rattle.std.proofs.Common.{◌≡◌, ◌<◌, inl, Bool, length, true, false, refl, sym, ap, ◌∙◌, rules, arith}
 use Rattle.std.proofs.lemmas.Bool.{false≢true}
 use Rattle.std.proofs.lemmas.List.{nil_from_length}
 use Rattle.grep_line_buffer.specs.BufferStates.{held, is_cut, HasNoLine}
@@ -8,7 +8,7 @@ use Rattle.grep_line_buffer.proofs.FillLemmas.{Comes-detected, IsFilling-byte, I
 use Rattle.grep_line_buffer.proofs.FillLemmas.{IsFilling-more, IsFilling-none, IsFilling-past}
 use Rattle.grep_line_buffer.proofs.FillLemmas.{HasNone-first, HasNone-room, HasNone-fault, HasNone-end, HasNone-more}
 use Rattle.grep_line_buffer.proofs.FillLemmas.{HasNone-full, filled-before, unless-read, if-read-full, ended_of}
-use Rattle.grep_line_buffer.proofs.FillLemmas.{size_of}
+use Rattle.grep_line_buffer.proofs.FillLemmas.{HasNone-begun, HasNone-waited, size_of}
 use Rattle.grep_line_buffer.proofs.line_buffer.LineBuffer.fill.Goals as goal
 
 pub returns-then-has_ended : goal.returns-then-has_ended
@@ -33,6 +33,8 @@ returns-then-has_ended g c =
       fault = tt;
       uncut = tt;
       fits = search rules;
+      begins = λ unended going nothing. absurd (false≢true (sym unended ∙ was));
+      last = inl refl;
       done = λ before ended going. before was going;
       end = λ before ended going. before was going;
       ended = λ ended. (refl, refl, refl, refl);
@@ -72,6 +74,8 @@ returns-then-not-has_offsets g c =
       fault = tt;
       uncut = tt;
       fits = tt;
+      begins = λ _ _ _. tt;
+      last = tt;
       done = λ unended ended going. absurd (false≢true (sym was ∙ ended));
       end = λ unended ended going. absurd (false≢true (sym was ∙ ended));
       ended = λ ended. absurd (false≢true (sym was ∙ ended));
@@ -107,6 +111,8 @@ returns-in-Err g c =
       fault = if-read-full Bool c.reads.self.limit c.reads.self.size c.in-Err.e _ full.2;
       uncut = if-read-full Bool c.reads.self.limit c.reads.self.size c.in-Err.e _ full.2;
       fits = tt;
+      begins = λ _ _ _. tt;
+      last = tt;
       done = λ _ ended going. absurd (false≢true (sym unended ∙ ended));
       end = λ _ ended going. absurd (false≢true (sym unended ∙ ended));
       ended = λ ended. absurd (false≢true (sym was ∙ ended));
@@ -144,6 +150,8 @@ returns-in-Err-read g c =
       fault = c.reads_fail.ensures _ _ _ _ _ _ _ _ room.filling.read.decodes failed.failed;
       uncut = out.uncut;
       fits = tt;
+      begins = λ _ _ _. tt;
+      last = tt;
       done = λ _ ended going. absurd (false≢true (sym out.unended ∙ ended));
       end = λ _ ended going. absurd (false≢true (sym out.unended ∙ ended));
       ended = λ ended. absurd (false≢true (sym was ∙ ended));
@@ -182,6 +190,10 @@ returns-then-count-eq0 g c =
       fault = tt;
       uncut = tt;
       fits = search rules;
+      begins = λ _ _. HasNone-begun g.R.Source.remaining g.R.Source.step _ _ _ _ _ _ _ room
+          c.in_default.ensures.ok came.reads.begins came.reads.last;
+      last = HasNone-waited g.R.Source.remaining g.R.Source.step _ _ _ _ _ _ _ room
+          c.in_default.ensures.ok came.reads.last;
       done = λ _ _ going. came.reads.done none;
       end = λ _ _ going. came.reads.end none;
       ended = λ ended. absurd (false≢true (sym was ∙ ended));
@@ -219,6 +231,8 @@ returns-then-not-has_offsets-2 g c =
       fault = tt;
       uncut = tt;
       fits = tt;
+      begins = λ _ _ _. tt;
+      last = tt;
       done = λ _ ended going. absurd (false≢true (sym next.unended ∙ ended));
       end = λ _ ended going. absurd (false≢true (sym next.unended ∙ ended));
       ended = λ ended. absurd (false≢true (sym was ∙ ended));
@@ -259,6 +273,10 @@ returns-then-show_lines g c =
       fault = tt;
       uncut = tt;
       fits = search rules;
+      begins = λ _ _. HasNone-begun g.R.Source.remaining g.R.Source.step _ _ _ _ _ _ _ room
+          c.in_default.ensures.ok came.reads.begins came.reads.last;
+      last = HasNone-waited g.R.Source.remaining g.R.Source.step _ _ _ _ _ _ _ room
+          c.in_default.ensures.ok came.reads.last;
       done = λ _ ended going. absurd (false≢true (sym unended ∙ ended));
       end = λ _ ended going. absurd (false≢true (sym unended ∙ ended));
       ended = λ ended. absurd (false≢true (sym was ∙ ended));
@@ -289,6 +307,9 @@ reads-preserved g c =
     let shows = c.if-show_lines.ensures in
     HasNone-more _ _ _ _ _ _ _ _ _ _ _ _ _ _ room comes came.counted going next shows.1 c.if-not-has_offsets-2.ensures
     shows.0
+    (HasNone-begun g.R.Source.remaining g.R.Source.step _ _ _ _ _ _ _ room c.in_default.ensures.ok came.reads.begins
+    came.reads.last)
+    (HasNone-waited g.R.Source.remaining g.R.Source.step _ _ _ _ _ _ _ room c.in_default.ensures.ok came.reads.last)
 
 pub returns-then-is_cut-2 : goal.returns-then-is_cut-2
 returns-then-is_cut-2 g c =
@@ -319,6 +340,10 @@ returns-then-is_cut-2 g c =
       fault = tt;
       uncut = tt;
       fits = search rules;
+      begins = λ _ _. HasNone-begun g.R.Source.remaining g.R.Source.step _ _ _ _ _ _ _ room
+          c.in_default.ensures.ok came.reads.begins came.reads.last;
+      last = HasNone-waited g.R.Source.remaining g.R.Source.step _ _ _ _ _ _ _ room
+          c.in_default.ensures.ok came.reads.last;
       done = λ _ _ going. absurd (false≢true (sym going ∙ still));
       end = λ _ _ going. absurd (false≢true (sym going ∙ still));
       ended = λ ended. absurd (false≢true (sym was ∙ ended));

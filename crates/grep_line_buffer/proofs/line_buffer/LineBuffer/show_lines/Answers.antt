@@ -1,5 +1,5 @@
 use Rattle.std.proofs.Common.{◌+◌, ◌-◌, ◌<◌, ◌≤◌, ℕ, length, drop, length-append, subst, refl, arith}
-use Rattle.grep_lines.specs.Positions.{slice}
+use Rattle.std.specs.Prelude.{slice_range}
 use Rattle.grep_line_buffer.specs.BufferStates.{Lacks}
 use Rattle.grep_line_buffer.proofs.SliceLemmas.{length-slice}
 use Rattle.grep_line_buffer.proofs.BufferStateLemmas.{last_read, length-last_read, drop-last_read, held-same}
@@ -45,7 +45,7 @@ returns g c =
     let m = (b.end - n) + r in
     let shown = length-slice bs b.start m (omega arith) in
     let before = length-slice bs b.start b.line_end (omega arith) in
-    let all = length-append (slice bs b.start b.line_end) (slice bs b.line_end b.end) in
+    let all = length-append (slice_range bs b.start b.line_end) (slice_range bs b.line_end b.end) in
     rw (← c.self.view_is) (record {
       whole = held-same b.start b.line_end b.end n r b.terminator bs low high within read part;
       ends = EndsWith-shown b.start b.line_end b.end n r b.terminator bs low high within read some part

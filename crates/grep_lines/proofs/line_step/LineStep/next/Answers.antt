@@ -1,5 +1,5 @@
 use Rattle.std.proofs.Common.{arith}
-use Rattle.grep_lines.proofs.WalkLemmas.{IsAt-start, all_passed, slice-first, IsLine-slice}
+use Rattle.grep_lines.proofs.LineStepLemmas.{IsAt-start, all_passed, slice-first, IsLine-slice}
 use Rattle.grep_lines.proofs.line_step.LineStep.next.Goals as goal
 
 pub returns-then-self-clause-last : goal.returns-then-self-clause-last

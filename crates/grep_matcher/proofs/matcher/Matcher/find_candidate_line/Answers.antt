@@ -1,6 +1,6 @@
 use Rattle.std.proofs.Common.{arith}
-use Rattle.grep_matcher.specs.Terminators.{byte_of}
-use Rattle.grep_matcher.proofs.LineLemmas.{line-is}
+use Rattle.grep_matcher.specs.Lines.{byte_of}
+use Rattle.grep_matcher.proofs.StrippedLineLemmas.{line-is}
 use Rattle.grep_matcher.proofs.matcher.Matcher.find_candidate_line.Goals as goal
 
 -- no line ends at 0 or before it, and nothing is confirmed

@@ -1,19 +1,18 @@
 use Rattle.std.proofs.Common.{◌∙◌, refl, sym, Bor, List, ℕ, Some}
 use Rattle.std.proofs.Math.Logic.{⊎_elim}
-use Rattle.grep_definitions.specs.Parties.{errors_by, facts_by}
 use Rattle.grep_definitions.specs.SliceSearches.{IsSliceRead}
 use Rattle.grep_definitions.proofs.CallOrderLemmas.{in_order-each}
 use Rattle.grep_definitions.proofs.ReaderViewLemmas.{IsReaderSearched-seen, IsUnread-seen}
 use Rattle.grep_searcher.proofs.InputSearchLemmas.{slice-decoded, slice-read, slice-unchanged}
 use Rattle.grep_searcher.proofs.SourceSearchLemmas.{if_err-each, not-refused}
 use Rattle.grep_searcher.proofs.ViewLemmas.{settings_is}
+use Rattle.grep_report.specs.ErrorMakers.{makers_of}
 use Rattle.grep_searcher.proofs.searcher.Searcher.search_input.Goals as goal
 
 pub returns-then-is_searched_unchanged-clause-searched : goal.returns-then-is_searched_unchanged-clause-searched
 returns-then-is_searched_unchanged-clause-searched g c = λ allowed.
-    let errors = errors_by g.S.Error.SinkError.is_message g.S.Error.SinkError.is_io g.S.Error.SinkError.is_config in
-    let facts = facts_by g.M.Matcher.meaning g.M.Matcher.fails g.M.Matcher.is_lawful g.M.Error.Display.output
-    c.args.matcher.now in
+    let errors = makers_of g.M.Error.Display.output g.S.Error.SinkError.makers in
+    let facts = g.M.Matcher.facts c.args.matcher.now in
     let unchanged =
     rw (settings_is c.self.view_is) at (sym c.is_searched_unchanged.ensures ∙ c.if-is_searched_unchanged.true) in
     let searched = rw (sym c.search.ensures.configured.same) at c.search_bytes.ensures.searched in
@@ -22,9 +21,8 @@ returns-then-is_searched_unchanged-clause-searched g c = λ allowed.
 
 pub returns-clause-searched : goal.returns-clause-searched
 returns-clause-searched g c = λ allowed.
-    let errors = errors_by g.S.Error.SinkError.is_message g.S.Error.SinkError.is_io g.S.Error.SinkError.is_config in
-    let facts = facts_by g.M.Matcher.meaning g.M.Matcher.fails g.M.Matcher.is_lawful g.M.Error.Display.output
-    c.args.matcher.now in
+    let errors = makers_of g.M.Error.Display.output g.S.Error.SinkError.makers in
+    let facts = g.M.Matcher.facts c.args.matcher.now in
     let changed =
     rw (settings_is c.self.view_is) at (sym c.is_searched_unchanged.ensures ∙ c.if-is_searched_unchanged.false) in
     slice-decoded g.S.Sink.step errors facts c.args.self.now c.args.input.now changed c.args.sink.now
@@ -49,7 +47,7 @@ returns-clause-succeeds g c = λ never infallible lawful.
         c.search_source.new.reader.now,
         IsUnread-seen (λ (slice : Bor (List ℕ)). slice.now) (λ slice. tt) (λ all. Some all) _ IsSliceRead slice-read
             c.args.self.now _ c.search_source.new.reader c.search_source.new.reader.now (λ same. refl)
-            (g.M.Matcher.meaning c.args.matcher.now) unread.0 unread.1 unread.2 unread.3,
+            (g.M.Matcher.facts c.args.matcher.now).meaning unread.0 unread.1 unread.2 unread.3,
       ),
       unread.4,
     ))
@@ -57,18 +55,16 @@ returns-clause-succeeds g c = λ never infallible lawful.
 
 pub returns-then-is_searched_unchanged-clause-in_order : goal.returns-then-is_searched_unchanged-clause-in_order
 returns-then-is_searched_unchanged-clause-in_order g c =
-    let errors = errors_by g.S.Error.SinkError.is_message g.S.Error.SinkError.is_io g.S.Error.SinkError.is_config in
-    let facts = facts_by g.M.Matcher.meaning g.M.Matcher.fails g.M.Matcher.is_lawful g.M.Error.Display.output
-    c.args.matcher.now in
+    let errors = makers_of g.M.Error.Display.output g.S.Error.SinkError.makers in
+    let facts = g.M.Matcher.facts c.args.matcher.now in
     let here = rw (sym c.search.ensures.configured.same) at c.search_bytes.ensures.in_order in
     in_order-each g.S.Sink.step c.args.self.now.settings errors facts (λ _. ⊥) _ (λ error never. absurd never)
     c.args.sink.now c.search_bytes.result c.search_bytes.new.sink here
 
 pub returns-clause-in_order : goal.returns-clause-in_order
 returns-clause-in_order g c =
-    let errors = errors_by g.S.Error.SinkError.is_message g.S.Error.SinkError.is_io g.S.Error.SinkError.is_config in
-    let facts = facts_by g.M.Matcher.meaning g.M.Matcher.fails g.M.Matcher.is_lawful g.M.Error.Display.output
-    c.args.matcher.now in
+    let errors = makers_of g.M.Error.Display.output g.S.Error.SinkError.makers in
+    let facts = g.M.Matcher.facts c.args.matcher.now in
     let changed =
     rw (settings_is c.self.view_is) at (sym c.is_searched_unchanged.ensures ∙ c.if-is_searched_unchanged.false) in
     in_order-each g.S.Sink.step c.args.self.now.settings errors facts _ _

@@ -10,7 +10,7 @@ pub returns-in_err-found-clause-fault : goal.returns-in_err-found-clause-fault
 returns-in_err-found-clause-fault g c =
     let p = err_from_is_err_and c.from_residual.result c.from_residual.ensures.1 in
     let settings = c.args.self.now in
-    let meaning = g.M.Matcher.meaning c.args.matcher.now in
+    let meaning = (g.M.Matcher.facts c.args.matcher.now).meaning in
     let bytes = c.args.bytes.now in
     let fault = c.in_err-found.ensures.fault [] (none_found settings meaning bytes c.match_limit.result
     c.match_limit.ensures) in
@@ -19,7 +19,7 @@ returns-in_err-found-clause-fault g c =
 pub returns-in_default-clause-left : goal.returns-in_default-clause-left
 returns-in_default-clause-left g c =
     let settings = c.args.self.now in
-    let meaning = g.M.Matcher.meaning c.args.matcher.now in
+    let meaning = (g.M.Matcher.facts c.args.matcher.now).meaning in
     let bytes = c.args.bytes.now in
     let now = c.next_match.new.blocks in
     left-start-none settings meaning bytes c.match_limit.result c.match_limit.ensures now
@@ -30,7 +30,7 @@ returns-in_default-clause-left g c =
 pub returns-clause-left : goal.returns-clause-left
 returns-clause-left g c =
     let settings = c.args.self.now in
-    let meaning = g.M.Matcher.meaning c.args.matcher.now in
+    let meaning = (g.M.Matcher.facts c.args.matcher.now).meaning in
     let bytes = c.args.bytes.now in
     let now = c.next_match.new.blocks in
     left-start settings meaning bytes c.match_limit.result c.match_limit.ensures now c.in-Some.found c.block_from.result

@@ -1,5 +1,5 @@
 use Rattle.std.proofs.Common.{◌∙◌, sym, arith}
-use Rattle.grep_matcher.specs.Terminators.{byte_of}
+use Rattle.grep_matcher.specs.Lines.{byte_of}
 use Rattle.grep_walk.specs.Walks.{recounted}
 use Rattle.grep_walk.proofs.UncountedLemmas.{near-same}
 use Rattle.grep_walk.proofs.WindowLemmas.{gone-closed, rolled, rest-few}

@@ -1,5 +1,5 @@
 use Rattle.std.proofs.Common.{rules}
-use Rattle.grep_definitions.specs.DecodedInputs.{is_searched_unchanged}
+use Rattle.grep_definitions.specs.SliceSearches.{is_searched_unchanged}
 use Rattle.grep_walk.proofs.config.Config.is_searched_unchanged.Goals as goal
 
 pub returns-then-is_some : goal.returns-then-is_some

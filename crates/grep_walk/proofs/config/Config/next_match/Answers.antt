@@ -1,6 +1,6 @@
 use Rattle.std.proofs.Common.{◌≡◌, ◌∙◌, ◌-◌, ℕ, List, Some, None, length, drop, sym, subst, arith, take, take_all}
 use Rattle.std.proofs.Common.{length-drop}
-use Rattle.grep_matcher.specs.Matching.{IsWithin}
+use Rattle.grep_matcher.specs.FindResults.{IsWithin}
 use Rattle.grep_definitions.proofs.SuccessiveMatchLemmas.{matches_left-end, matches_left-full}
 use Rattle.grep_walk.proofs.FoundMatchLemmas.{no-more, no-more-missed, found-next, asked-next}
 use Rattle.grep_walk.proofs.config.Config.next_match.Goals as goal
@@ -13,7 +13,7 @@ rest-is bytes position =
 pub returns-then-blocks-bytes-clause-none : goal.returns-then-blocks-bytes-clause-none
 returns-then-blocks-bytes-clause-none g c =
     let b = c.args.blocks.now in
-    let meaning = g.M.Matcher.meaning c.args.matcher.now in
+    let meaning = (g.M.Matcher.facts c.args.matcher.now).meaning in
     no-more c.args.self.now meaning c.args.bytes.now b
     (elim c.then-blocks-bytes.branch [
       | goal.then-blocks-bytes-via-then-blocks-bytes w ↦
@@ -26,7 +26,7 @@ pub returns-in_default-clause-none : goal.returns-in_default-clause-none
 returns-in_default-clause-none g c =
     let b = c.args.blocks.now in
     let bytes = c.args.bytes.now in
-    let meaning = g.M.Matcher.meaning c.args.matcher.now in
+    let meaning = (g.M.Matcher.facts c.args.matcher.now).meaning in
     let none : meaning.first (take (length bytes - b.position) (drop b.position bytes)) ≡ None =
     sym c.in-Ok.ensures.value ∙ c.in_default.is in
     no-more-missed c.args.self.now meaning bytes b
@@ -36,7 +36,7 @@ pub returns-clause-some : goal.returns-clause-some
 returns-clause-some g c =
     let b = c.args.blocks.now in
     let bytes = c.args.bytes.now in
-    let meaning = g.M.Matcher.meaning c.args.matcher.now in
+    let meaning = (g.M.Matcher.facts c.args.matcher.now).meaning in
     let whole = rest-is bytes b.position in
     let some : meaning.first (take (length bytes - b.position) (drop b.position bytes)) ≡ Some c.in-Some.found =
     sym c.in-Ok.ensures.value ∙ c.in-Some.is in
@@ -53,10 +53,10 @@ pub returns-in-Err-clause-fault : goal.returns-in-Err-clause-fault
 returns-in-Err-clause-fault g c = λ asked so_far.
     let b = c.args.blocks.now in
     let bytes = c.args.bytes.now in
-    let meaning = g.M.Matcher.meaning c.args.matcher.now in (
+    let meaning = (g.M.Matcher.facts c.args.matcher.now).meaning in (
       drop b.position bytes,
       asked-next c.args.self.now meaning bytes b.position b.left asked so_far
           (omega (arith, c.if-blocks-bytes.false)) (sym c.has_room.ensures ∙ c.if-not-has_room.false),
-      subst (λ rest. g.M.Matcher.fails c.args.matcher.now rest c.in-Err.error) (rest-is bytes b.position)
+      subst (λ rest. (g.M.Matcher.facts c.args.matcher.now).fails rest c.in-Err.error) (rest-is bytes b.position)
           c.in-Err.ensures.error,
     )

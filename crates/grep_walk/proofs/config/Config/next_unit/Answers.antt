@@ -20,7 +20,7 @@ returns-in_err-found-clause-fault g c =
     let fault = c.in_err-found.ensures.fault reached.asked reached.found in
     rw (p.1, p.2) (λ i at. (
       fault.0,
-      asked-unit c.args.self.now (g.M.Matcher.meaning c.args.matcher.now) c.args.bytes.now c.args.blocks.now.end
+      asked-unit c.args.self.now (g.M.Matcher.facts c.args.matcher.now).meaning c.args.bytes.now c.args.blocks.now.end
           c.matches.blocks.position reached.asked c.matches.unit reached.touched c.in_err-found.ensures.inside i at
           fault.0 fault.1,
       fault.2,

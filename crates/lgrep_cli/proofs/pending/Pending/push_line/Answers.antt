@@ -1,6 +1,6 @@
 use Rattle.std.proofs.Common.{◌≡◌, [], sym, ◌∙◌, subst}
 use Rattle.std.proofs.lemmas.Result.{err_from_is_err_and}
-use Rattle.lgrep_cli.specs.Texts.{numbered}
+use Rattle.lgrep_cli.specs.PrintedTexts.{numbered}
 use Rattle.lgrep_cli.specs.PendingTexts.{Puts}
 use Rattle.lgrep_cli.proofs.OutputLemmas.{Writes-cut}
 use Rattle.lgrep_cli.proofs.PendingLemmas.{Puts-through}

@@ -1,30 +1,28 @@
 -- What a search of a reader does: it makes the calls for the decoded bytes of what the reader
 -- gives. By line it reads no more than it needs, and across lines all. What it promises holds
 -- whatever would follow what it read.
-use Rattle.std.specs.Prelude.{◌≡◌, ◌⊎◌, ◌≤◌, ◌+◌, ◌&&◌, ℕ, Bool, true, false, List, length}
-use Rattle.std.specs.Prelude.{Option, Some, None, Result, Ok, Err}
+use Rattle.std.specs.Prelude.{◌≡◌, ◌⊎◌, ◌≤◌, ◌+◌, ◌&&◌, ℕ, Bool, true, false, List, length, Option}
+use Rattle.std.specs.Prelude.{Some, None, Result, Ok, Err}
 use Rattle.std.specs.List.{concat}
 use Rattle.std.specs.IoError.{error_kind}
 use Rattle.std.specs.declared.io.Error.{Error}
 use Rattle.std.specs.declared.io.ErrorKind.TheVariants.{OutOfMemory}
 use Rattle.grep_decode.specs.Source.{ReadResult}
-use Rattle.grep_matcher.specs.Lines.{lines}
-use Rattle.grep_matcher.specs.Matching.{Meaning}
-use Rattle.grep_matcher.specs.Terminators.{byte_of}
+use Rattle.grep_matcher.specs.Lines.{lines, byte_of}
+use Rattle.grep_matcher.specs.Meanings.{Meaning, MatcherFacts}
 use Rattle.grep_definitions.specs.BinaryBytes.{before_quit, view_of}
-use Rattle.grep_definitions.specs.DecodedInputs.{IsDecodedSoFar, IsInput, passes_unchanged}
-use Rattle.grep_definitions.specs.InputFronts.{GoesOnAfter, HasOpenLine, IsFront}
-use Rattle.grep_definitions.specs.ReadingFaults.{CutsShort, CutsContents, IsBelowLimit}
-use Rattle.grep_definitions.specs.Searches.{ErrorMakers, MatcherFacts, IsFaultIn, HasReportedIn}
-use Rattle.grep_definitions.specs.Searches.{IsQuitFault, IsRunUntil}
-use Rattle.grep_definitions.specs.SearchTurns.{SearchCalls, search_calls}
-use Rattle.grep_definitions.specs.SearchTurns.{calls_across}
+use Rattle.grep_definitions.specs.DecodedInputs.{IsDecodedSoFar, passes_unchanged}
+use Rattle.grep_definitions.specs.Inputs.{IsInput, GoesOnAfter, HasOpenLine, IsFront, CutsShort}
+use Rattle.grep_definitions.specs.Inputs.{CutsContents, IsBelowLimit}
+use Rattle.grep_report.specs.ErrorMakers.{ErrorMakers}
+use Rattle.grep_definitions.specs.ContentsSearches.{IsFaultIn, HasReportedIn, IsQuitFault}
+use Rattle.grep_definitions.specs.ContentsSearches.{IsRunUntil}
+use Rattle.grep_definitions.specs.SearchTurns.{SearchCalls, search_calls, calls_across}
 use Rattle.grep_definitions.specs.Settings.{Settings, SearcherState}
 use Rattle.grep_definitions.specs.Plans.{begins, Steps, Outcome, all_true, AreMade, IsFinished}
-use Rattle.grep_definitions.specs.Plans.{IsRun}
-use Rattle.grep_definitions.specs.Plans.{counted, finish_after}
+use Rattle.grep_definitions.specs.Plans.{IsRun, counted, finish_after}
 use Rattle.grep_definitions.specs.SinkRuns.{plan_of}
-pub use Rattle.grep_definitions.specs.Readings.{reads_lines, reports_nothing, Taken}
+use Rattle.grep_definitions.specs.Inputs.{reads_lines, Taken}
 
 module _ {R : Type 0} (remaining : R → Option (List ℕ))
     (read_step : R → ReadResult → R → Type 0) where
@@ -71,7 +69,7 @@ module _ {R : Type 0} (remaining : R → Option (List ℕ))
     of_buffers : {error : Error} → state.has_buffers ≡ false → error_kind error ≡ OutOfMemory
         → IsUnreadIn across view state meaning reader None error reader
 
-  module _ {S E F : Type 0} (step : Steps S E) (errors : ErrorMakers E)
+  module _ {S E F : Type 0} (step : Steps S E) (errors : ErrorMakers F E)
       (matcher : MatcherFacts F) where
     -- A search with these calls that ended in `Ok`: they were made over the lines that were seen,
     -- up to the first false or the last, and `finish` followed. Whatever follows what was taken,
@@ -144,7 +142,7 @@ module _ {R : Type 0} (remaining : R → Option (List ℕ))
 
 -- how a search of a reader under binary detection ends
 module _ {R : Type 0} (remaining : R → Option (List ℕ)) (read_step : R → ReadResult → R → Type 0)
-    {S E F : Type 0} (step : Steps S E) (errors : ErrorMakers E) (matcher : MatcherFacts F) where
+    {S E F : Type 0} (step : Steps S E) (errors : ErrorMakers F E) (matcher : MatcherFacts F) where
   -- across lines under `Quit`: all was read, it is shorter than the heap limit, and that is what
   -- the search of it comes to
   pub record IsContentsRun (settings : Settings) (reader reader' : R)

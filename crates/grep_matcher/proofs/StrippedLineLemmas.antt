@@ -1,7 +1,7 @@
 -- Where the lines of some bytes occur in them, and a line without its terminator in the line.
 use Rattle.std.proofs.Common.{◌≡◌, ℕ, zero, suc, ◌+◌, ◌-◌, ◌<◌, List, [], ◌∷◌, length, take, slice_index}
-use Rattle.std.proofs.Common.{slice_index_or, add-one, refl, ap}
-use Rattle.std.proofs.Common.{sym, subst, inl, inr, arith, ⊎_elim, ◌++◌, ◌⊎◌, length-append}
+use Rattle.std.proofs.Common.{slice_index_or, add-one, refl, ap, sym, subst, inl, inr, arith, ⊎_elim, ◌++◌, ◌⊎◌}
+use Rattle.std.proofs.Common.{length-append}
 use Rattle.std.proofs.lemmas.Bool.{cases_eq, cases_Bool, eq-eqb, ne_eqb}
 use Rattle.std.proofs.lemmas.Bool.Decides.{Decides-eqb}
 use Rattle.std.proofs.lemmas.List.{get_or_append_left}
@@ -10,8 +10,7 @@ use Rattle.std.specs.List.{concat, ends_with}
 use Rattle.std.specs.Prelude.{nat_eq}
 use Rattle.memchr.specs.Find.{OccursAt}
 use Rattle.grep_matcher.specs.declared.line_terminator.LineTerminator.{LineTerminator}
-use Rattle.grep_matcher.specs.Lines.{lines, line_start, onto_first, strip}
-use Rattle.grep_matcher.specs.Terminators.{bytes_of}
+use Rattle.grep_matcher.specs.Lines.{lines, line_start, onto_first, strip, bytes_of}
 
 -- a line of the bytes from one position up to another: it has bytes, and each line but the last ends in t
 pub record IsLine (t : ℕ) (bytes line : List ℕ) (start end : ℕ) : Type 0 where

@@ -1,8 +1,7 @@
 -- The lines one after another, by the positions at which they start.
 use Rattle.std.proofs.Common.{◌≡◌, ℕ, zero, suc, ◌+◌, ◌-◌, ◌<◌, ◌≤◌, ◌==◌, cond, List, [], ◌∷◌, ◌++◌, length, take}
-use Rattle.std.proofs.Common.{drop, slice_index}
-use Rattle.std.proofs.Common.{get_or, refl, sym, ◌∙◌, ap, subst, arith, ⊎_elim, length-append, length-take, length-drop}
-use Rattle.std.proofs.Common.{take_all, ap₂}
+use Rattle.std.proofs.Common.{drop, slice_index, get_or, refl, sym, ◌∙◌, ap, subst, arith, ⊎_elim, length-append}
+use Rattle.std.proofs.Common.{length-take, length-drop, take_all, ap₂}
 use Rattle.std.proofs.lemmas.Bool.{cases_lt}
 use Rattle.std.proofs.lemmas.List.{take_more, drop_more, drop_all, take-take, drop-take, drop-drop, get_or-drop}
 use Rattle.std.proofs.lemmas.List.Folds.{concat-append}
@@ -11,7 +10,8 @@ use Rattle.std.proofs.Math.Seq.{take-add}
 use Rattle.std.specs.List.{concat}
 use Rattle.grep_matcher.specs.Lines.{lines, line_start}
 use Rattle.grep_lines.specs.FirstLine.{IsFirstLine, IsLastStart}
-use Rattle.grep_lines.specs.Positions.{slice, IsLineStart, IsLine}
+use Rattle.std.specs.Prelude.{slice_range}
+use Rattle.grep_lines.specs.Positions.{IsLineStart, IsLine}
 use Rattle.grep_lines.proofs.LineLemmas.{count, first_line, lines-first, count-first_line}
 
 -- the element of a list at a position, if the rest of the list is known
@@ -38,7 +38,7 @@ pub record IsStep (t : ℕ) (bytes : List ℕ) (position end i : ℕ) : Type 0 w
   pub above : position < end
   pub is_first : IsFirstLine t (drop position bytes) (end - position)
   pub inside : i < length (lines t bytes)
-  pub line : get_or (lines t bytes) i [] ≡ slice bytes position end
+  pub line : get_or (lines t bytes) i [] ≡ slice_range bytes position end
   pub next : IsAt t bytes end (i + 1)
 
 -- line 0 starts at 0
@@ -63,7 +63,7 @@ IsStep-first t bytes position end i walked above within is_first =
     ∙ ap (λ n. drop n bytes) sum in
     let here = drop-here (lines t bytes) i _ _ [] (walked.rest
     ∙ (lines-first t (drop position bytes) (end - position) is_first
-    ∙ ap (λ bs. slice bytes position end ∷ lines t bs) later)) in
+    ∙ ap (λ bs. slice_range bytes position end ∷ lines t bs) later)) in
     let begin : line_start t bytes (i + 1) ≡ end =
     rw (
       take_more (lines t bytes) i [] here.0,
@@ -74,8 +74,8 @@ IsStep-first t bytes position end i walked above within is_first =
     (omega (
       arith,
       walked.start,
-      length-append (concat (take i (lines t bytes))) (slice bytes position end ++ []),
-      length-append (slice bytes position end) [],
+      length-append (concat (take i (lines t bytes))) (slice_range bytes position end ++ []),
+      length-append (slice_range bytes position end) [],
       length-take (end - position) (drop position bytes),
       length-drop position bytes,
     )) in
@@ -91,7 +91,7 @@ IsStep-first t bytes position end i walked above within is_first =
         start = begin;
         counted = λ below.
             let cut : take end bytes ≡ take position bytes
-            ++ slice bytes position end = ap (λ n. take n bytes) (sym sum)
+            ++ slice_range bytes position end = ap (λ n. take n bytes) (sym sum)
             ∙ take-add position (end - position) bytes in
             let one = count-first_line t (drop position bytes) (end - position) is_first
             (omega (arith, length-drop position bytes)) in
@@ -198,8 +198,8 @@ IsLastStart-line t bytes i position inside low high =
     }
 
 -- the first line of the bytes from a position up to another
-pub slice-first : (t : ℕ) (bytes : List ℕ) (start end e : ℕ) → IsFirstLine t (slice bytes start end) e
-    → lines t (slice bytes start end) ≡ slice bytes start (start + e) ∷ lines t (slice bytes (start + e) end)
+pub slice-first : (t : ℕ) (bytes : List ℕ) (start end e : ℕ) → IsFirstLine t (slice_range bytes start end) e
+    → lines t (slice_range bytes start end) ≡ slice_range bytes start (start + e) ∷ lines t (slice_range bytes (start + e) end)
 slice-first t bytes start end e is_first =
     let short : e ≤ end - start = omega (arith, is_first.within, length-take (end - start) (drop start bytes)) in
     let size : (start + e) - start ≡ e = omega arith in
@@ -207,14 +207,14 @@ slice-first t bytes start end e is_first =
     let line = take-take e (end - start) (drop start bytes) short ∙ ap (λ n. take n (drop start bytes)) (sym size) in
     let later = ap (λ n. drop e (take n (drop start bytes))) rest ∙ (drop-take e (end - (start + e)) (drop start bytes)
     ∙ ap (take (end - (start + e))) (drop-drop e start bytes)) in
-    lines-first t (slice bytes start end) e is_first ∙ ap₂ ◌∷◌ line (ap (lines t) later)
+    lines-first t (slice_range bytes start end) e is_first ∙ ap₂ ◌∷◌ line (ap (lines t) later)
 
 -- the line that starts at a position, by the first line of the bytes from there on
 pub IsLine-slice : (t : ℕ) (bytes : List ℕ) (start end e i : ℕ) → end ≡ length bytes
-    → IsFirstLine t (slice bytes start end) e
+    → IsFirstLine t (slice_range bytes start end) e
     → IsLineStart t bytes start i → IsLine t bytes i start (start + e)
 IsLine-slice t bytes start end e i all is_first here =
-    let same : slice bytes start end ≡ drop start bytes =
+    let same : slice_range bytes start end ≡ drop start bytes =
     take_all (end - start) (drop start bytes) (omega (arith, length-drop start bytes)) in
     let size : e ≡ (start + e) - start = omega arith in
     let first : IsFirstLine t (drop start bytes) ((start + e) - start) =

@@ -2,8 +2,8 @@
 use Rattle.std.specs.Prelude.{ℕ, ◌+◌, ◌-◌, ◌^◌, min, Bool, false, ◌||◌, ◌==◌, if◌then◌else◌, List}
 use Rattle.std.specs.Prelude.{[], ◌∷◌, ◌++◌, length, slice_index, decimal, Option, Some, None}
 use Rattle.grep_matcher.specs.Lines.{lines}
-use Rattle.grep_searcher.specs.Plans.{Call, begins, matches, context, breaks, binary_data}
-use Rattle.grep_searcher.specs.Plans.{finishes, Planned}
+use Rattle.grep_searcher.specs.Plans.{Call, matches, context, breaks}
+use Rattle.grep_searcher.specs.Plans.{Planned}
 use Rattle.grep_searcher.specs.SearchLaws.{is_match, match_calls}
 
 -- a line with a line feed at its end, which is added if there is none
@@ -28,12 +28,10 @@ match_text number (line ∷ later) = numbered number 58 line ++ match_text (next
 
 -- the text of a call; a break is two dashes
 abbrev pub call_text : Call → List ℕ
-call_text begins = []
 call_text (matches number offset bytes) = match_text number (lines 10 bytes)
 call_text (context kind number offset line) = numbered number 45 line
 call_text breaks = 45 ∷ 45 ∷ 10 ∷ []
-call_text (binary_data offset) = []
-call_text (finishes count binary) = []
+call_text _ = []
 
 -- the text of some calls, in order
 abbrev pub text : List Planned → List ℕ

@@ -1,7 +1,6 @@
 -- How many matches are reported, whether lines are numbered or not.
 use Rattle.std.proofs.Common.{◌≡◌, ℕ, zero, suc, ◌+◌, Bool, true, false, List, [], ◌∷◌, ◌++◌, length, refl, ◌∙◌, ap}
-use Rattle.std.proofs.Common.{Option, Some, None}
-use Rattle.std.proofs.Common.{if◌then◌else◌}
+use Rattle.std.proofs.Common.{Option, Some, None, if◌then◌else◌}
 use Rattle.std.proofs.lemmas.List.{map-append, length-append}
 use Rattle.std.proofs.lemmas.List.Elements.{filter-append}
 use Rattle.std.specs.Prelude.{map}
@@ -9,11 +8,11 @@ use Rattle.grep_matcher.specs.Meanings.{Meaning}
 use Rattle.grep_definitions.specs.Asking.{is_across, selection_in}
 use Rattle.grep_definitions.specs.CountLaws.{NumbersChangeNoBytes, NumbersChangeNoCount}
 use Rattle.grep_definitions.specs.Plans.{Planned, breaks, planned}
-use Rattle.grep_definitions.specs.Readings.{searched_bytes}
+use Rattle.grep_definitions.specs.Inputs.{searched_bytes}
 use Rattle.grep_definitions.specs.Reports.{Kind, matched, in_context, Selection, breaks_before, calls_at, continues}
 use Rattle.grep_definitions.specs.Reports.{joined_from, kind, line_count, report, reports_plan}
 use Rattle.grep_definitions.specs.SearchLaws.{is_match, match_calls}
-use Rattle.grep_definitions.specs.SelectedLines.{line_end, selected_lines, touched_lines}
+use Rattle.grep_definitions.specs.SelectedLines.{reports_end, selected_lines, touched_lines}
 use Rattle.grep_definitions.specs.Settings.{Settings}
 
 -- how many of some calls report a match
@@ -67,7 +66,7 @@ module _ (k : Settings) (numbered : Bool) (meaning : Meaning) (bytes : List ℕ)
   mode-count : (across : Bool) → match_count (reports_plan other bytes (selection_in other meaning bytes across)).calls
       ≡ match_count (reports_plan k bytes (selection_in k meaning bytes across)).calls
   mode-count true = match_count-joined _ _ (line-count (touched_lines k meaning bytes)) 0 (line_count k bytes)
-  mode-count false = match_count-joined _ _ (line-count (selected_lines k meaning bytes)) 0 (line_end k meaning bytes)
+  mode-count false = match_count-joined _ _ (line-count (selected_lines k meaning bytes)) 0 (reports_end k meaning bytes)
 
 pub numbers-no_count : NumbersChangeNoCount
 numbers-no_count k numbered meaning bytes = mode-count k numbered meaning bytes (is_across k meaning)

@@ -1,9 +1,8 @@
 -- What is read for a search, which lines of it are seen, and why reading ends before the search
 -- does.
 use Rattle.std.specs.Prelude.{◌≡◌, ◌≢◌, ◌⊎◌, ℕ, ◌+◌, ◌-◌, ◌^◌, ◌<◌, ◌≤◌, ◌==◌, ◌&&◌, ◌||◌, Bool}
-use Rattle.std.specs.Prelude.{true, false, not}
-use Rattle.std.specs.Prelude.{List, [], ◌++◌, length, slice_index, All, Option, None, Some, is_some}
-use Rattle.std.specs.Prelude.{IfSome, Ok, Err}
+use Rattle.std.specs.Prelude.{true, false, not, List, [], ◌++◌, length, slice_index, All, Option}
+use Rattle.std.specs.Prelude.{None, Some, is_some, IfSome, Ok, Err}
 use Rattle.std.specs.List.{concat}
 use Rattle.std.specs.Io.KnownBytes.{Consumes, IsAtEnd}
 use Rattle.std.specs.IoError.{error_kind}
@@ -11,25 +10,20 @@ use Rattle.std.specs.declared.io.Error.{Error}
 use Rattle.std.specs.declared.io.ErrorKind.TheVariants.{InvalidData, Other, OutOfMemory}
 use Rattle.grep_decode.specs.declared.label.Label.{Label}
 use Rattle.grep_decode.specs.declared.label.Label.TheVariants.{Utf8, Utf16Le, Utf16Be}
-use Rattle.grep_decode.specs.Decoded.{IsUnfinished, by_label, decoded, found_mark, is_unchanged}
+use Rattle.grep_decode.specs.Decoded.{IsUnfinished, by_label, decoded, found_mark}
 use Rattle.grep_decode.specs.Source.{ReadResult, Pulls}
-use Rattle.grep_matcher.specs.LineLists.{lines}
+use Rattle.grep_matcher.specs.Lines.{byte_of, lines}
 use Rattle.grep_matcher.specs.Meanings.{Meaning}
-use Rattle.grep_matcher.specs.Terminators.{byte_of}
-use Rattle.grep_definitions.specs.Reports.{is_at, line, line_count, start}
+use Rattle.grep_definitions.specs.Asking.{is_across}
 use Rattle.grep_definitions.specs.BinaryBytes.{Look, nowhere, in_contents, on_stream, before_quit}
 use Rattle.grep_definitions.specs.BinaryBytes.{is_detecting, view_of}
-use Rattle.grep_definitions.specs.SelectedLines.{line_end}
-use Rattle.grep_definitions.specs.Asking.{is_across}
+use Rattle.grep_definitions.specs.Reports.{is_at, line, line_count, start}
+use Rattle.grep_definitions.specs.SelectedLines.{reports_end}
 use Rattle.grep_definitions.specs.Settings.{Settings, SearcherState}
 
 -- the bytes that are searched: the input, decoded as the settings say
 unfoldable pub searched_bytes : Settings → List ℕ → List ℕ
 searched_bytes settings input = decoded settings.encoding settings.bom_sniffing input
-
--- no label is set and no mark is found, so that the input is searched as it is
-unfoldable pub is_searched_unchanged : Settings → List ℕ → Bool
-is_searched_unchanged settings input = is_unchanged settings.encoding settings.bom_sniffing input
 
 -- whether a mark is looked for
 abbrev pub looks_for_mark : Settings → Bool
@@ -47,8 +41,7 @@ unfoldable pub encoding_of : Settings → List ℕ → Option Label
 encoding_of settings input =
     encoding_after (found_mark settings.encoding settings.bom_sniffing input) settings.encoding
 
--- bytes that wait for more: the beginning of a character that more could complete, or none, and
--- none if they pass unchanged
+-- bytes that wait for more: the beginning of a character, and none if they pass unchanged
 abbrev pub AreWaiting : Option Label → List ℕ → Type 0
 AreWaiting None bytes = bytes ≡ []
 AreWaiting (Some label) bytes = IsUnfinished label bytes
@@ -59,12 +52,11 @@ IsInput settings ended pieces bytes =
     (more : List ℕ) × (ended ≡ true → more ≡ [])
     × (bytes ≡ searched_bytes settings (concat pieces ++ more))
 
--- what is decoded of an input of which these pieces came, whatever else would come
+-- What is decoded of an input of which these pieces came, whatever else would come: nothing while a
+-- mark is looked for in fewer than three bytes; else all but the last bytes that came if they wait,
+-- and the text goes on with theirs and what follows. Of bytes that pass unchanged it is all.
 pub record IsComeSoFar (settings : Settings) (pieces : List (List ℕ)) (came : List ℕ)
     : Type 0 where
-  -- nothing while a mark is looked for in fewer than three bytes. Else all but the last bytes that
-  -- came if they wait: whatever else comes, the text goes on with theirs and its own. Of bytes that
-  -- pass unchanged it is all
   pub none : looks_for_mark settings ≡ true → length (concat pieces) < 3 → came ≡ []
   pub all : (looks_for_mark settings ≡ true → 3 ≤ length (concat pieces))
       → (front waiting : List ℕ) × (concat pieces ≡ front ++ waiting)
@@ -76,8 +68,7 @@ pub record IsComeSoFar (settings : Settings) (pieces : List (List ℕ)) (came : 
 abbrev pub IsClosed : ℕ → List ℕ → Type 0
 IsClosed t bytes = 0 < length bytes → slice_index bytes (length bytes - 1) ≡ t
 
--- a buffer of so many bytes can't hold a line that is longer, or one that fills it and is
--- unterminated
+-- a buffer of so many bytes can't hold a line that is longer, or an unterminated one that fills it
 abbrev pub IsTooLong : ℕ → ℕ → List ℕ → Type 0
 IsTooLong t size line =
     (size < length line) ⊎ ((length line ≡ size) × (slice_index line (size - 1) ≢ t))
@@ -93,9 +84,8 @@ pub record IsFront (settings : Settings) (input seen : List ℕ) : Type 0 where
 
 -- what is searched of decoded bytes that are read
 abbrev pub view_in : Settings → Look → List ℕ → List ℕ
-view_in settings nowhere bytes = bytes
-view_in settings (in_contents b) bytes = bytes
 view_in settings on_stream bytes = view_of settings bytes
+view_in settings _ bytes = bytes
 
 -- which lines of them are seen: all across lines if a byte may end the search
 abbrev pub IsSeenOf : Settings → Look → List ℕ → List ℕ → Type 0
@@ -103,8 +93,8 @@ IsSeenOf settings nowhere bytes seen = IsFront settings bytes seen
 IsSeenOf settings (in_contents b) bytes seen = seen ≡ bytes
 IsSeenOf settings on_stream bytes seen = IsFront settings (view_of settings bytes) seen
 
--- after the lines that were seen came bytes that end no line, and fewer of them than the heap
--- limit. No byte that came ends the search
+-- after the lines that were seen came bytes that end no line, and fewer than the heap limit; and no
+-- byte that came ends the search
 pub record HasOpenLine (settings : Settings) (came seen : List ℕ) : Type 0 where
   pub rest : List ℕ
   pub whole : came ≡ seen ++ rest
@@ -113,18 +103,17 @@ pub record HasOpenLine (settings : Settings) (came seen : List ℕ) : Type 0 whe
   pub unquit : before_quit settings.binary_detection came ≡ came
 
 module _ (settings : Settings) (meaning : Meaning) (input seen : List ℕ) where
-  -- how many lines were seen
   abbrev pub seen_count : ℕ
   seen_count = length (lines (byte_of settings.line_terminator) seen)
 
   -- a search goes on after whole lines at the front of an input: the next line, if there is one,
-  -- has a turn. Under detection the first bytes may be read in any case
+  -- may be reported. Under detection the first bytes may be read in any case
   pub record GoesOnAfter : Type 0 where
     pub front : IsFront settings input seen
     pub closed : IsClosed (byte_of settings.line_terminator) seen
     pub has_turn : (is_detecting settings.binary_detection && seen_count == 0) ≡ false
         → seen_count < line_count settings input
-        → seen_count < line_end settings meaning input
+        → seen_count < reports_end settings meaning input
 
   -- a buffer of so many bytes can't hold the next line and the lines before it that are kept, at
   -- most as many as are reported before a match. If none is kept, that line alone is too long
@@ -146,21 +135,18 @@ pub data CutsShort (settings : Settings) (meaning : Meaning) (input seen : List 
     → Type 0 where
   -- a buffer of the heap limit can't hold the next line, and those that are kept before it
   of_limit : {error : Error} (limit : ℕ) → settings.heap_limit ≡ Some limit
-      → error_kind error ≡ Other
-      → IsCrowded settings meaning input seen limit
+      → error_kind error ≡ Other → IsCrowded settings meaning input seen limit
       → CutsShort settings meaning input seen error
   -- the offset of the end is above 2^64 - 1
   of_offset : {error : Error} → error_kind error ≡ InvalidData → 2 ^ 64 ≤ length input
       → CutsShort settings meaning input seen error
-  -- the buffer may grow and there was no memory: as large as it is at first, it can't hold these
-  -- lines
+  -- the buffer may grow, and there was no memory: as large as it is at first, it can't hold these
   of_memory : {error : Error} → error_kind error ≡ OutOfMemory
       → IfSome settings.heap_limit (λ limit. buffer_capacity < limit)
       → IsCrowded settings meaning input seen buffer_capacity
       → CutsShort settings meaning input seen error
 
--- an error of reading that isn't a reader's: of the heap limit, of offsets above 2^64 - 1, or of
--- being out of memory
+-- an error of reading that isn't a reader's: of the heap limit, of offsets, or of memory
 abbrev pub IsOwnError : Error → Type 0
 IsOwnError error =
     (error_kind error ≡ Other) ⊎ ((error_kind error ≡ InvalidData)
@@ -174,17 +160,15 @@ IsBelowLimit settings input = (limit : ℕ) → settings.heap_limit ≡ Some lim
 -- have come as the heap limit, or there was no memory for them
 pub data CutsContents (settings : Settings) (input : List ℕ) : Error → Type 0 where
   of_full : {error : Error} (limit : ℕ) → settings.heap_limit ≡ Some limit
-      → error_kind error ≡ Other
-      → limit ≤ length input → CutsContents settings input error
+      → error_kind error ≡ Other → limit ≤ length input → CutsContents settings input error
   of_no_memory : {error : Error} → error_kind error ≡ OutOfMemory
       → CutsContents settings input error
 
--- whether no line may have a turn
+-- whether no line may be reported
 abbrev pub reports_nothing : Settings → Bool
 reports_nothing settings = not settings.passthru && is_at 0 settings.max_matches
 
--- whether a search by line may read after `begin`: a line may have a turn, or it looks for a binary
--- byte
+-- whether a search by line may read after `begin`: a line may be reported, or it looks for a byte
 abbrev pub reads_lines : Settings → Bool
 reads_lines settings = not (reports_nothing settings) || is_detecting settings.binary_detection
 
@@ -204,6 +188,18 @@ module _ {R : Type 0} (remaining : R → Option (List ℕ))
     pub pieces : List (List ℕ)
     pub calls : Reads ended old pieces new
     pub takes : Consumes (remaining old) (remaining new) (concat pieces)
+
+  -- A reader is called until a line has come: of what was decoded before its last call, no byte ends
+  -- a line or the search.
+  pub record IsReadForLine (settings : Settings) (old new : R) : Type 0 where
+    pub mid : R
+    pub before : Taken old mid
+    pub unended : before.ended ≡ false
+    pub piece : List ℕ
+    pub last : read_step mid (Ok piece) new
+    pub came : List ℕ
+    pub so_far : IsComeSoFar settings before.pieces came
+    pub open_line : HasOpenLine settings (view_of settings came) []
 
   module _ (state : SearcherState) (meaning : Meaning) (old mid new : R) (taken : Taken old mid)
       (seen : List ℕ) where
@@ -229,14 +225,12 @@ module _ {R : Type 0} (remaining : R → Option (List ℕ))
           → ((bytes : List ℕ) → IsTakenOf bytes → CutsShort state.settings meaning
           (before_quit state.settings.binary_detection (view_of state.settings bytes)) seen error)
           → IsCut true error
-      -- of what was decoded before, all lines that came whole were seen, fewer bytes than the heap
-      -- limit came after them, and none ends the search
+      -- all lines that came whole were seen
       of_reader : {error : Error} → StopsInLines → HasFailed error
           → (came : List ℕ) → IsComeSoFar state.settings taken.pieces came
           → HasOpenLine state.settings (view_of state.settings came) seen
           → IsCut true error
-      -- across lines all is read before `begin`, and fewer bytes than the heap limit were decoded
-      -- before a failure
+      -- across lines all is read before `begin`
       of_contents : {error : Error} → is_across state.settings meaning ≡ true → mid ≡ new
           → ((bytes : List ℕ) → IsTakenOf bytes → CutsContents state.settings bytes error)
           → IsCut false error
@@ -248,15 +242,14 @@ module _ {R : Type 0} (remaining : R → Option (List ℕ))
       of_buffers : {error : Error} → state.has_buffers ≡ false → error_kind error ≡ OutOfMemory
           → new ≡ old → IsCut false error
 
-  -- why an input wasn't searched to its end, of which so much was taken: after the lines that were
-  -- seen, or before `begin`
+  -- so it is, of what was taken of a reader
   abbrev pub IsUnread : SearcherState → Meaning → R → Bool → List ℕ → Error → R → Type 0
   IsUnread state meaning old begun seen error new =
       (mid : R) × (taken : Taken old mid)
       × IsCut state meaning old mid new taken seen begun error
 
-  -- an error of reading, whatever the search: that of the last call of the reader, or one that
-  -- isn't a reader's
+  -- an error of reading, whatever the search: that of the reader's last call, or one that isn't a
+  -- reader's
   abbrev pub HasFailedRead : R → Error → R → Type 0
   HasFailedRead old error new =
       (mid : R) × (taken : Taken old mid) × (taken.ended ≡ false) × read_step mid (Err error) new

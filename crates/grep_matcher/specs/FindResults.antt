@@ -1,9 +1,8 @@
--- What a matcher means.
+-- What the calls of a matcher may return, by what it means.
 use Rattle.std.specs.Prelude.{◌≡◌, ℕ, ◌<◌, ◌≤◌, Bool, false, List, length, Option, None, Some}
 use Rattle.std.specs.Prelude.{IfSome, is_some, slice_index}
-use Rattle.grep_matcher.specs.declared.line_terminator.LineTerminator.{LineTerminator}
 use Rattle.grep_matcher.specs.ByteSets.{holds}
-pub use Rattle.grep_matcher.specs.Meanings.{Meaning, IsInfallible}
+use Rattle.grep_matcher.specs.Meanings.{Meaning}
 
 -- a match lies within its haystack
 abbrev pub IsWithin : List ℕ → Option (ℕ × ℕ) → Type 0

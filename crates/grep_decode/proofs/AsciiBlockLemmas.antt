@@ -9,9 +9,9 @@ use Rattle.std.specs.Simd.Lanes.{chunk, mask_l}
 use Rattle.grep_decode.specs.declared.byte_order.ByteOrder.{ByteOrder}
 use Rattle.grep_decode.specs.declared.byte_order.ByteOrder.TheVariants.{Little, Big}
 use Rattle.grep_decode.specs.Decoded.{utf16_text, unit_of}
-use Rattle.grep_decode.specs.Blocks.{AreBelow, evens, odds}
+use Rattle.grep_decode.specs.UnitBytes.{AreBelow, evens, odds}
 use Rattle.grep_decode.proofs.EncodeLemmas.{encode-one}
-use Rattle.grep_decode.proofs.UnitLemmas.{text-alone, alone-plain, not_high}
+use Rattle.grep_decode.proofs.Utf16Lemmas.{text-alone, alone-plain, not_high}
 
 -- two to this power
 abbrev pub doubled : ℕ → ℕ

@@ -4,21 +4,21 @@ use Rattle.grep_decode.specs.Source.{ReadResult}
 use Rattle.grep_report.specs.declared.binary_detection.BinaryDetection.{BinaryDetection}
 use Rattle.grep_report.specs.declared.binary_detection.BinaryDetection.TheVariants.{None as no_detection, Quit, Convert}
 use Rattle.grep_definitions.specs.BinaryBytes.{on_stream, look_at, look_of}
-use Rattle.grep_definitions.specs.Modes.{is_across}
-use Rattle.grep_definitions.specs.ReaderSearches.{IsPlainlySearched}
-use Rattle.grep_definitions.specs.Searches.{ErrorMakers, MatcherFacts}
+use Rattle.grep_definitions.specs.Asking.{is_across}
+use Rattle.grep_definitions.specs.ReaderRuns.{IsPlainlySearched}
+use Rattle.grep_report.specs.ErrorMakers.{ErrorMakers}
+use Rattle.grep_matcher.specs.Meanings.{MatcherFacts}
 use Rattle.grep_definitions.specs.SearchTurns.{calls_if}
 use Rattle.grep_definitions.specs.Settings.{SearcherState}
 use Rattle.grep_definitions.specs.Plans.{Steps}
-use Rattle.grep_definitions.specs.PlannedSearches.{IsRead}
-use Rattle.grep_definitions.proofs.BoolLemmas.{clash}
+use Rattle.grep_definitions.specs.Searches.{IsRead}
 use Rattle.grep_definitions.proofs.PlannedReaderLemmas.{contents-planned, plain-planned}
 use Rattle.grep_core.proofs.UndetectedLemmas.{undetected-read}
 use Rattle.grep_core.specs.InputSearches.{IsAcrossSearched, IsSourceSearchedIn}
 
 module _ {R : Type 0} (remaining : R → Option (List ℕ)) (read_step : R → ReadResult → R → Type 0)
     (state : SearcherState) where
-  module _ {S E F : Type 0} (step : Steps S E) (errors : ErrorMakers E) (matcher : MatcherFacts F) (reader : R)
+  module _ {S E F : Type 0} (step : Steps S E) (errors : ErrorMakers F E) (matcher : MatcherFacts F) (reader : R)
       (old : S)
       (result : Result (Unit {0}) E) (reader' : R) (new : S) where
     -- along the calls of that mode
@@ -57,11 +57,11 @@ module _ {R : Type 0} (remaining : R → Option (List ℕ)) (read_step : R → R
             new
             → IsRead remaining read_step step errors matcher state (look_at d false) reader old result reader' new
         go no_detection is searched = plain-planned remaining read_step step errors matcher state
-            (λ by_line. absurd (clash across by_line)) reader old result reader' new (plainly-in true across searched)
+            across reader old result reader' new (plainly-in true across searched)
         go (Quit b) is searched = contents-planned remaining read_step step errors matcher b state is across reader old
             result reader' new searched
         go (Convert b) is searched = plain-planned remaining read_step step errors matcher state
-            (λ by_line. absurd (clash across by_line)) reader old result reader' new (plainly-in true across searched)
+            across reader old result reader' new (plainly-in true across searched)
 
     -- a search by line looks on the stream, or nowhere
     pub read-by_line : is_across state.settings matcher.meaning ≡ false
