@@ -1,48 +1,55 @@
--- A part of a haystack between line feeds, and the part alone: a local pattern matches in both alike.
-use Rattle.std.proofs.Common.{◌≡◌, ℕ, zero, suc, ◌+◌, ◌-◌, ◌<◌, ◌≤◌, ◌⊎◌, ◌||◌, ◌&&◌, Bool, true}
-use Rattle.std.proofs.Common.{false, cond, List}
-use Rattle.std.proofs.Common.{◌++◌, length, take, drop, get_or, slice_get, slice_index, Option}
-use Rattle.std.proofs.Common.{Some, None, nat_le}
-use Rattle.std.proofs.Common.{◌==◌, refl, sym, ap, ◌∙◌, subst, inl, inr, ⊎_elim, arith}
-use Rattle.std.proofs.Common.{length-append, length-drop}
-use Rattle.std.proofs.Common.{drop-drop, append_assoc, get_or-drop, le-leb, eq-eqb, encode_utf8}
+-- A part of a haystack between line terminators, and the part alone: a local pattern matches in both alike.
+use Rattle.std.proofs.Common.{◌≡◌, ℕ, zero, suc, ◌+◌, ◌-◌, ◌<◌, ◌≤◌, ◌⊎◌, ◌||◌, ◌&&◌, Bool, true, false, cond, List}
+use Rattle.std.proofs.Common.{◌++◌, length, take, drop, get_or, slice_get, slice_index, Option, Some, None, nat_le}
+use Rattle.std.proofs.Common.{◌==◌, refl, sym, ap, ◌∙◌, subst, inl, inr, ⊎_elim, arith, length-append, length-drop}
+use Rattle.std.proofs.Common.{drop-drop, append_assoc, get_or-drop, le-leb, eq-eqb, encode_utf8, lit<, true≢false}
 use Rattle.std.proofs.lemmas.Bool.{cases_lt, cases_eq, and_parts, and_from, cond-true}
 use Rattle.std.proofs.lemmas.Bool.Decides.{nat_tests}
-use Rattle.std.proofs.lemmas.List.{take-append-drop, take-append-le, drop-append-le}
-use Rattle.std.proofs.lemmas.List.{get_or_append_left}
+use Rattle.std.proofs.lemmas.List.{take-append-drop, take-append-le, drop-append-le, get_or_append_left}
 use Rattle.std.proofs.Math.Seq.{take-append_seam}
-use Rattle.std.proofs.lemmas.Option.{none-some, same_Some, slice_get_within, slice_get_past}
-use Rattle.std.proofs.lemmas.Option.{slice_get-get_or}
+use Rattle.std.proofs.lemmas.Option.{none-some, same_Some, slice_get_within, slice_get_past, slice_get-get_or}
 use Rattle.std.proofs.lemmas.Option.{get_or_from_slice_get}
 use Rattle.std.proofs.lemmas.Str.{length-encode, len_utf8_ascii, encode_ascii}
 use Rattle.std.specs.Char.{len_utf8}
-use Rattle.regex_hir.specs.Text.{is_some_and, byte_before, has_bytes_at, char_at}
-use Rattle.regex_hir.specs.Text.{char_of_len_before, char_before}
-use Rattle.regex_hir.specs.Looks.{Side, side_before, side_after, holds_between, holds, is_word}
-use Rattle.regex_hir.specs.Looks.{is_ascii_word, is_whole}
-use Rattle.regex_hir.specs.Looks.{is_edge, is_lf}
+use Rattle.regex_hir.specs.Text.{is_some_and, byte_before, has_bytes_at, char_at, char_of_len_before, char_before}
+use Rattle.regex_hir.specs.Looks.{Side, side_before, side_after, holds_between, holds, is_word, is_ascii_word, is_whole}
+use Rattle.regex_hir.specs.Looks.{is_edge, is_lf, is_cr}
 use Rattle.regex_hir.specs.declared.look.Look.{Look}
-use Rattle.regex_hir.specs.declared.look.Look.TheVariants.{Start, End, StartLf, EndLf, StartCrlf}
-use Rattle.regex_hir.specs.declared.look.Look.TheVariants.{EndCrlf, WordAscii}
-use Rattle.regex_hir.specs.declared.look.Look.TheVariants.{WordAsciiNegate, WordUnicode}
-use Rattle.regex_hir.specs.declared.look.Look.TheVariants.{WordUnicodeNegate}
-use Rattle.regex_hir.specs.declared.look.Look.TheVariants.{WordStartAscii, WordEndAscii}
-use Rattle.regex_hir.specs.declared.look.Look.TheVariants.{WordStartUnicode}
-use Rattle.regex_hir.specs.declared.look.Look.TheVariants.{WordEndUnicode, WordStartHalfAscii}
-use Rattle.regex_hir.specs.declared.look.Look.TheVariants.{WordEndHalfAscii}
+use Rattle.regex_hir.specs.declared.look.Look.TheVariants.{Start, End, StartLf, EndLf, StartCrlf, EndCrlf, WordAscii}
+use Rattle.regex_hir.specs.declared.look.Look.TheVariants.{WordAsciiNegate, WordUnicode, WordUnicodeNegate}
+use Rattle.regex_hir.specs.declared.look.Look.TheVariants.{WordStartAscii, WordEndAscii, WordStartUnicode}
+use Rattle.regex_hir.specs.declared.look.Look.TheVariants.{WordEndUnicode, WordStartHalfAscii, WordEndHalfAscii}
 use Rattle.regex_hir.specs.declared.look.Look.TheVariants.{WordStartHalfUnicode, WordEndHalfUnicode}
 use Rattle.regex_hir.specs.Re.{Re, empty, literal, byte_in, char_in, look, cat, alt, group, plus}
 use Rattle.regex_hir.specs.Matches.{Matches, Rounds, one_round, next_round}
 use Rattle.regex_hir.proofs.MatchesLemmas.{Matches-IsSpan}
 use Rattle.regex_hir.proofs.OptionLemmas.{none_of_no_value, option_cases}
-use Rattle.regex_hir.proofs.TextLemmas.{byte_before-zero, byte_before-add-one, byte_before_some}
-use Rattle.regex_hir.proofs.TextLemmas.{has_bytes_at_parts}
-use Rattle.regex_hir.proofs.TextLemmas.{has_bytes_at_from, char_at_parts, char_at_from}
-use Rattle.regex_hir.proofs.TextLemmas.{char_at_fits, char_at_ascii}
+use Rattle.regex_hir.proofs.TextLemmas.{byte_before-zero, byte_before-add-one, byte_before_some, has_bytes_at_parts}
+use Rattle.regex_hir.proofs.TextLemmas.{has_bytes_at_from, char_at_parts, char_at_from, char_at_fits, char_at_ascii}
 use Rattle.regex_hir.proofs.TextLemmas.{char_before_ascii, char_at_past, char_before-zero}
 use Rattle.regex_hir.proofs.Utf8Lemmas.{char_at_cases, encode_two, encode_three, encode_four}
 use Rattle.ucd_perl.proofs.PerlLemmas.{is_word_char-ascii}
-use Rattle.grep_regex.specs.Locality.{is_local, is_local_look}
+use Rattle.ucd_perl.specs.Perl.{is_word_byte}
+use Rattle.grep_matcher.specs.Lines.{byte_of}
+use Rattle.grep_matcher.specs.declared.line_terminator.LineTerminator.{LineTerminator}
+use Rattle.grep_matcher.specs.declared.line_terminator.LineTerminator.TheVariants.{Byte, Crlf}
+use Rattle.grep_regex.specs.Locality.{is_local, is_local_look, is_crlf}
+
+-- ---- terminators
+
+-- the terminator's bytes are ASCII and in no word
+pub record IsSeparated (terminator : LineTerminator) : Type 0 where
+  pub low : byte_of terminator < 128
+  pub apart : is_word_byte (byte_of terminator) ≡ false
+
+-- the byte before which a line without its terminator ends
+abbrev pub first_byte : LineTerminator → ℕ
+first_byte (Byte b) = b
+first_byte Crlf = 13
+
+first-low : (terminator : LineTerminator) → IsSeparated terminator → first_byte terminator < 128
+first-low (Byte b) sep = sep.low
+first-low Crlf sep = lit< tt
 
 -- ---- two sides that no local assertion tells apart
 
@@ -50,75 +57,139 @@ record IsAlike (a b : Side) : Type 0 where
   word : is_word a ≡ is_word b
   ascii : is_ascii_word a ≡ is_ascii_word b
   whole : is_whole a ≡ is_whole b
-  line : (is_edge a || is_lf a) ≡ (is_edge b || is_lf b)
+
+record AreBefore (terminator : LineTerminator) (a b : Side) : Type 0 where
+  alike : IsAlike a b
+  line : is_local_look terminator StartLf ≡ true → (is_edge a || is_lf a) ≡ (is_edge b || is_lf b)
+  crlf : is_crlf terminator ≡ true → (is_edge a || is_lf a) ≡ (is_edge b || is_lf b)
+  cr : is_crlf terminator ≡ true → is_cr a ≡ is_cr b
+
+record AreAfter (terminator : LineTerminator) (a b : Side) : Type 0 where
+  alike : IsAlike a b
+  line : is_local_look terminator EndLf ≡ true → (is_edge a || is_lf a) ≡ (is_edge b || is_lf b)
+  crlf : is_crlf terminator ≡ true → (is_edge a || is_cr a) ≡ (is_edge b || is_cr b)
+  lf : is_crlf terminator ≡ true → is_lf a ≡ is_lf b
 
 alike-same : {a b : Side} → a ≡ b → IsAlike a b
-alike-same e = record {
-  word = ap is_word e;
-  ascii = ap is_ascii_word e;
-  whole = ap is_whole e;
-  line = ap
-      (λ s. is_edge s || is_lf s) e;
+alike-same e = record { word = ap is_word e; ascii = ap is_ascii_word e; whole = ap is_whole e }
+
+before-same : (terminator : LineTerminator) {a b : Side} → a ≡ b → AreBefore terminator a b
+before-same terminator e = record {
+  alike = alike-same e;
+  line = λ ok. ap (λ s. is_edge s || is_lf s) e;
+  crlf = λ ok. ap (λ s. is_edge s || is_lf s) e;
+  cr = λ ok. ap is_cr e;
+}
+
+after-same : (terminator : LineTerminator) {a b : Side} → a ≡ b → AreAfter terminator a b
+after-same terminator e = record {
+  alike = alike-same e;
+  line = λ ok. ap (λ s. is_edge s || is_lf s) e;
+  crlf = λ ok. ap (λ s. is_edge s || is_cr s) e;
+  lf = λ ok. ap is_lf e;
 }
 
 abbrev edge : Side
 edge = record { byte = None; char = None }
 
-abbrev feed : Side
-feed = record { byte = Some 10; char = Some 10 }
+-- an ASCII byte
+abbrev only : ℕ → Side
+only b = record { byte = Some b; char = Some b }
 
-alike-feed : IsAlike edge feed
-alike-feed = record { word = sym (is_word_char-ascii 10 (omega arith)); ascii = refl; whole = refl; line = refl }
+alike-edge : (b : ℕ) → b < 128 → is_word_byte b ≡ false → IsAlike edge (only b)
+alike-edge b low apart = record {
+  word = sym (is_word_char-ascii b low ∙ apart);
+  ascii = sym apart;
+  whole = refl;
+}
+
+before-edge : (terminator : LineTerminator) → IsSeparated terminator
+    → AreBefore terminator edge (only (byte_of terminator))
+before-edge (Byte b) sep = record {
+  alike = alike-edge b sep.low sep.apart;
+  line = λ ok. sym ok;
+  crlf = λ no. absurd (true≢false (sym no));
+  cr = λ no. absurd (true≢false (sym no));
+}
+before-edge Crlf sep = record {
+  alike = alike-edge 10 (lit< tt) refl;
+  line = λ ok. refl;
+  crlf = λ ok. refl;
+  cr = λ ok. refl;
+}
+
+after-edge : (terminator : LineTerminator) → IsSeparated terminator
+    → AreAfter terminator edge (only (first_byte terminator))
+after-edge (Byte b) sep = record {
+  alike = alike-edge b sep.low sep.apart;
+  line = λ ok. sym ok;
+  crlf = λ no. absurd (true≢false (sym no));
+  lf = λ no. absurd (true≢false (sym no));
+}
+after-edge Crlf sep = record {
+  alike = alike-edge 13 (lit< tt) refl;
+  line = λ no. absurd (true≢false (sym no));
+  crlf = λ ok. refl;
+  lf = λ ok. refl;
+}
 
 side-is : (s : Side) (b c : Option ℕ) → s.byte ≡ b → s.char ≡ c → s ≡ record { byte = b; char = c }
 side-is s b c p q = λ i. record { byte = p i; char = q i }
 
-alike-holds : (l : Look) (s s2 t t2 : Side) → is_local_look l ≡ true → IsAlike s s2 → IsAlike t t2 → holds_between l s t
-    ≡ holds_between l s2 t2
+alike-holds : (terminator : LineTerminator) (l : Look) (s s2 t t2 : Side) → is_local_look terminator l ≡ true
+    → AreBefore terminator s s2 → AreAfter terminator t t2 → holds_between l s t ≡ holds_between l s2 t2
 unfolding holds_between
-alike-holds Start s s2 t t2 ok a b = absurd (cc)
-alike-holds End s s2 t t2 ok a b = absurd (cc)
-alike-holds StartCrlf s s2 t t2 ok a b = absurd (cc)
-alike-holds EndCrlf s s2 t t2 ok a b = absurd (cc)
-alike-holds StartLf s s2 t t2 ok a b = a.line
-alike-holds EndLf s s2 t t2 ok a b = b.line
-alike-holds WordAscii s s2 t t2 ok a b = cc (a.ascii, b.ascii)
-alike-holds WordAsciiNegate s s2 t t2 ok a b = cc (a.ascii, b.ascii)
-alike-holds WordUnicode s s2 t t2 ok a b = cc (a.word, b.word)
-alike-holds WordUnicodeNegate s s2 t t2 ok a b = cc (a.whole, b.whole, a.word, b.word)
-alike-holds WordStartAscii s s2 t t2 ok a b = cc (a.ascii, b.ascii)
-alike-holds WordEndAscii s s2 t t2 ok a b = cc (a.ascii, b.ascii)
-alike-holds WordStartUnicode s s2 t t2 ok a b = cc (a.word, b.word)
-alike-holds WordEndUnicode s s2 t t2 ok a b = cc (a.word, b.word)
-alike-holds WordStartHalfAscii s s2 t t2 ok a b = cc (a.ascii)
-alike-holds WordEndHalfAscii s s2 t t2 ok a b = cc (b.ascii)
-alike-holds WordStartHalfUnicode s s2 t t2 ok a b = cc (a.whole, a.word)
-alike-holds WordEndHalfUnicode s s2 t t2 ok a b = cc (b.whole, b.word)
+alike-holds terminator Start s s2 t t2 ok a b = absurd (cc)
+alike-holds terminator End s s2 t t2 ok a b = absurd (cc)
+alike-holds terminator StartLf s s2 t t2 ok a b = a.line ok
+alike-holds terminator EndLf s s2 t t2 ok a b = b.line ok
+alike-holds terminator StartCrlf s s2 t t2 ok a b = cc (a.crlf ok, a.cr ok, b.lf ok)
+alike-holds terminator EndCrlf s s2 t t2 ok a b = cc (b.crlf ok, b.lf ok, a.cr ok)
+alike-holds terminator WordAscii s s2 t t2 ok a b = cc (a.alike.ascii, b.alike.ascii)
+alike-holds terminator WordAsciiNegate s s2 t t2 ok a b = cc (a.alike.ascii, b.alike.ascii)
+alike-holds terminator WordUnicode s s2 t t2 ok a b = cc (a.alike.word, b.alike.word)
+alike-holds terminator WordUnicodeNegate s s2 t t2 ok a b = cc (
+  a.alike.whole,
+  b.alike.whole,
+  a.alike.word,
+  b.alike.word,
+)
+alike-holds terminator WordStartAscii s s2 t t2 ok a b = cc (a.alike.ascii, b.alike.ascii)
+alike-holds terminator WordEndAscii s s2 t t2 ok a b = cc (a.alike.ascii, b.alike.ascii)
+alike-holds terminator WordStartUnicode s s2 t t2 ok a b = cc (a.alike.word, b.alike.word)
+alike-holds terminator WordEndUnicode s s2 t t2 ok a b = cc (a.alike.word, b.alike.word)
+alike-holds terminator WordStartHalfAscii s s2 t t2 ok a b = cc (a.alike.ascii)
+alike-holds terminator WordEndHalfAscii s s2 t t2 ok a b = cc (b.alike.ascii)
+alike-holds terminator WordStartHalfUnicode s s2 t t2 ok a b = cc (a.alike.whole, a.alike.word)
+alike-holds terminator WordEndHalfUnicode s s2 t t2 ok a b = cc (b.alike.whole, b.alike.word)
 
--- ---- characters and line feeds
+-- ---- characters and ASCII bytes
 
--- a byte at q that is no less than 128 is no line feed
-high : (hay : List ℕ) (p k q x : ℕ) → slice_index hay (p + k) ≡ 128 + x → q ≡ p + k → slice_get hay q ≡ Some 10 → ⊥
-high hay p k q x is same found =
-    let ten : slice_index hay q ≡ 10 = get_or_from_slice_get hay q 10 0 found in
+-- a byte at q that is no less than 128 is no ASCII byte
+high : (hay : List ℕ) (p k q x b : ℕ) → b < 128 → slice_index hay (p + k) ≡ 128 + x → q ≡ p + k
+    → slice_get hay q ≡ Some b → ⊥
+high hay p k q x b low is same found =
+    let here : slice_index hay q ≡ b = get_or_from_slice_get hay q b 0 found in
     let eq : slice_index hay q ≡ 128 + x = ap (slice_index hay) same ∙ is in
-    omega (arith, ten, eq)
+    omega (arith, here, eq)
 
--- no character lies over a line feed
-over : (hay : List ℕ) (p q c : ℕ) → char_at hay p ≡ Some c → p < q → q < p + len_utf8 c → slice_get hay q ≡ Some 10 → ⊥
-over hay p q c found after below feeds = elim (char_at_cases hay p c found).1 [
+-- no character lies over an ASCII byte
+over : (hay : List ℕ) (p q c b : ℕ) → b < 128 → char_at hay p ≡ Some c → p < q → q < p + len_utf8 c
+    → slice_get hay q ≡ Some b → ⊥
+over hay p q c b low found after below there = elim (char_at_cases hay p c found).1 [
   | inl one ↦ omega (arith, ap length (encode_ascii c one.0), length-encode c)
-  | inr (inl two) ↦ high hay p 1 q _ two.4 (omega (arith, ap length (encode_two c two.0 two.1), length-encode c)) feeds
+  | inr (inl two) ↦ high hay p 1 q _ b low two.4 (omega (arith, ap length (encode_two c two.0 two.1), length-encode c))
+      there
   | inr (inr (inl three)) ↦
       let size = ap length (encode_three c three.0 three.1) in
-      ⊎_elim (λ at. high hay p 1 q _ three.4 at feeds)
-      (λ other. high hay p 2 q _ three.5 (omega (arith, size, length-encode c, other)) feeds)
+      ⊎_elim (λ at. high hay p 1 q _ b low three.4 at there)
+      (λ other. high hay p 2 q _ b low three.5 (omega (arith, size, length-encode c, other)) there)
       (cases_eq q (p + 1))
   | inr (inr (inr four)) ↦
       let size = ap length (encode_four c four.0) in
-      ⊎_elim (λ at. high hay p 1 q _ four.3 at feeds)
-      (λ other. ⊎_elim (λ at. high hay p 2 q _ four.4 at feeds)
-      (λ another. high hay p 3 q _ four.5 (omega (arith, size, length-encode c, other, another)) feeds)
+      ⊎_elim (λ at. high hay p 1 q _ b low four.3 at there)
+      (λ other. ⊎_elim (λ at. high hay p 2 q _ b low four.4 at there)
+      (λ another. high hay p 3 q _ b low four.5 (omega (arith, size, length-encode c, other, another)) there)
       (cases_eq q (p + 2)))
       (cases_eq q (p + 1))
 ]
@@ -131,12 +202,16 @@ split-front xs ys bs r e fits =
     ∙ ap (λ l. l ++ drop (length bs) xs) (sym (take-append-le (length bs) xs ys fits)
     ∙ (ap (take (length bs)) e ∙ take-append_seam bs r))
 
--- what stands at n is the part and then the rest; before it and after it is a line feed, or nothing
-pub record IsPart (hay kept post : List ℕ) (n : ℕ) : Type 0 where
+-- What comes at n is the part and then the rest; before it is the end of a line, or nothing. The part is looked at up
+-- to `top`: there the haystack ends, or the part does and a terminator comes, or the part has the byte that ends it.
+pub record IsPart (terminator : LineTerminator) (hay kept post : List ℕ) (n top : ℕ) : Type 0 where
   pub front : drop n hay ≡ kept ++ post
   pub within : n ≤ length hay
-  pub before : (n ≡ 0) ⊎ (byte_before hay n ≡ Some 10)
-  pub after : (length hay ≡ n + length kept) ⊎ (slice_get hay (n + length kept) ≡ Some 10)
+  pub fits : top ≤ length kept
+  pub before : (n ≡ 0) ⊎ (byte_before hay n ≡ Some (byte_of terminator))
+  pub after : (length hay ≡ n + top)
+      ⊎ ((top ≡ length kept) × (slice_get hay (n + top) ≡ Some (first_byte terminator)))
+      ⊎ ((top < length kept) × (slice_get hay (n + top) ≡ Some (byte_of terminator)))
 
 char_of_len_parts : (hay : List ℕ) (m i c : ℕ) → char_of_len_before hay m i ≡ Some c →
     (m ≤ i) × (char_at hay (i - m) ≡ Some c) × (len_utf8 c ≡ m)
@@ -157,7 +232,8 @@ char_of_len_from hay m i c le found len =
     cond-true _ _ None (and_from _ _ (le-leb m i le)
     (ap (λ o. is_some_and o (λ x. len_utf8 x == m)) found ∙ eq-eqb _ _ len)) ∙ found
 
-module _ (hay kept post : List ℕ) (n : ℕ) (part : IsPart hay kept post n) where
+module _ (terminator : LineTerminator) (sep : IsSeparated terminator) (hay kept post : List ℕ) (n top : ℕ)
+    (part : IsPart terminator hay kept post n top) where
   from : (i : ℕ) → i ≤ length kept → drop (n + i) hay ≡ drop i kept ++ post
   from i h = sym (drop-drop i n hay) ∙ (ap (drop i) part.front ∙ drop-append-le i kept post h)
 
@@ -195,34 +271,66 @@ module _ (hay kept post : List ℕ) (n : ℕ) (part : IsPart hay kept post n) wh
       (split-front (drop i kept) post (encode_utf8 c) _ (sym (from i (omega arith)) ∙ p.1)
       (omega (arith, length-drop i kept, length-encode c)))
 
-  char-same : (i : ℕ) → i < length kept → char_at kept i ≡ char_at hay (n + i)
+  -- an ASCII byte is at the top, unless the haystack ends there
+  at-top : (length hay ≡ n + top) ⊎ ((b : ℕ) × (b < 128) × (slice_get hay (n + top) ≡ Some b))
+  at-top = elim part.after [
+    | inl ends ↦ inl ends
+    | inr (inl stops) ↦ inr (first_byte terminator, first-low terminator sep, stops.1)
+    | inr (inr inner) ↦ inr (byte_of terminator, sep.low, inner.1)
+  ]
+
+  char-same : (i : ℕ) → i < top → char_at kept i ≡ char_at hay (n + i)
   char-same i h = ⊎_elim
       (λ none. none ∙ sym (none_of_no_value _ (λ c e. ⊎_elim
       (λ (past : length kept < i + len_utf8 c). ⊎_elim
-      (λ (ends : length hay ≡ n + length kept). omega (arith, char_at_fits hay (n + i) c e))
-      (λ feeds. over hay (n + i) (n + length kept) c e (omega arith) (omega arith) feeds)
-      part.after)
+      (λ (ends : length hay ≡ n + top). omega (arith, char_at_fits hay (n + i) c e, part.fits))
+      (λ there. over hay (n + i) (n + top) c there.0 there.1 e (omega arith) (omega (arith, part.fits)) there.2)
+      at-top)
       (λ (fits : i + len_utf8 c ≤ length kept). none-some c (sym none ∙ char-out i c fits e))
       (cases_lt (length kept) (i + len_utf8 c)))))
       (λ some. some.1 ∙ sym (char-in i some.0 some.1))
       (option_cases (char_at kept i))
 
-  after-alike : (i : ℕ) → i ≤ length kept → IsAlike (side_after kept i) (side_after hay (n + i))
+  side-ends : (length hay ≡ n + top) → side_after kept top ≡ side_after hay (n + top)
+  side-ends ends =
+      let whole : length kept ≤ top = omega (arith, size) in
+      side-is (side_after kept top) None None (slice_get_past kept top whole) (char_at_past kept top whole)
+      ∙ sym (side-is (side_after hay (n + top)) None None (slice_get_past hay (n + top) (omega arith))
+      (char_at_past hay (n + top) (omega arith)))
+
+  side-inner : top < length kept → slice_get hay (n + top) ≡ Some (byte_of terminator)
+      → side_after kept top ≡ side_after hay (n + top)
+  side-inner inside there =
+      let here = byte-same top inside ∙ there in
+      side-is (side_after kept top) _ _ here (char_at_ascii kept top _ here sep.low)
+      ∙ sym (side-is (side_after hay (n + top)) _ _ there (char_at_ascii hay (n + top) _ there sep.low))
+
+  side-stops : top ≡ length kept → slice_get hay (n + top) ≡ Some (first_byte terminator)
+      → AreAfter terminator (side_after kept top) (side_after hay (n + top))
+  side-stops whole there =
+      let past : length kept ≤ top = omega arith in
+      subst (λ s. AreAfter terminator s (side_after hay (n + top)))
+      (sym (side-is (side_after kept top) None None (slice_get_past kept top past) (char_at_past kept top past)))
+      (subst (AreAfter terminator edge)
+      (sym (side-is (side_after hay (n + top)) _ _ there
+      (char_at_ascii hay (n + top) _ there (first-low terminator sep))))
+      (after-edge terminator sep))
+
+  top-alike : AreAfter terminator (side_after kept top) (side_after hay (n + top))
+  top-alike = elim part.after [
+    | inl ends ↦ after-same terminator (side-ends ends)
+    | inr (inl stops) ↦ side-stops stops.0 stops.1
+    | inr (inr inner) ↦ after-same terminator (side-inner inner.0 inner.1)
+  ]
+
+  after-alike : (i : ℕ) → i ≤ top → AreAfter terminator (side_after kept i) (side_after hay (n + i))
   after-alike i h = ⊎_elim
-      (λ inside. alike-same (side-is _ _ _ (byte-same i inside) (char-same i inside)))
-      (λ (past : length kept ≤ i).
-      let at : n + length kept ≡ n + i = omega arith in
-      let here = side-is (side_after kept i) None None (slice_get_past kept i past) (char_at_past kept i past) in
-      ⊎_elim
-      (λ (ends : length hay ≡ n + length kept). alike-same (here ∙ sym (side-is (side_after hay (n + i)) None None
-      (slice_get_past hay (n + i) (omega arith)) (char_at_past hay (n + i) (omega arith)))))
-      (λ feeds.
-      let there = subst (λ k. slice_get hay k ≡ Some 10) at feeds in
-      subst (λ s. IsAlike s (side_after hay (n + i))) (sym here)
-      (subst (IsAlike edge) (sym (side-is (side_after hay (n + i)) _ _ there
-      (char_at_ascii hay (n + i) 10 there (omega arith)))) alike-feed))
-      part.after)
-      (cases_lt i (length kept))
+      (λ (inside : i < top). after-same terminator
+      (side-is _ _ _ (byte-same i (omega (arith, part.fits))) (char-same i inside)))
+      (λ (past : top ≤ i).
+      let at : top ≡ i = omega arith in
+      subst (λ k. AreAfter terminator (side_after kept k) (side_after hay (n + k))) at top-alike)
+      (cases_lt i top)
 
   char_of_len-same : (m i : ℕ) → 0 < i → i ≤ length kept → char_of_len_before kept m i
       ≡ char_of_len_before hay m (n + i)
@@ -233,14 +341,15 @@ module _ (hay kept post : List ℕ) (n : ℕ) (part : IsPart hay kept post n) wh
       (λ (outside : i < m). ⊎_elim
       (λ (zeroth : n ≡ 0). omega (arith, p.0))
       (λ fed.
-      let last = byte_before_some hay n 10 fed in
+      let last = byte_before_some hay n (byte_of terminator) fed in
       ⊎_elim
-      (λ (sooner : n + i - m < n - 1). over hay (n + i - m) (n - 1) c p.1 sooner (omega (arith, p.2, last.0)) last.1)
+      (λ (sooner : n + i - m < n - 1).
+      over hay (n + i - m) (n - 1) c _ sep.low p.1 sooner (omega (arith, p.2, last.0)) last.1)
       (λ (there : n - 1 ≤ n + i - m).
       let same : n - 1 ≡ n + i - m = omega (arith, p.0, last.0) in
-      let ten = char_at_ascii hay (n - 1) 10 last.1 (omega arith) in
-      let is : c ≡ 10 = same_Some _ _ (sym p.1 ∙ (ap (char_at hay) (sym same) ∙ ten)) in
-      omega (arith, p.2, ap len_utf8 is, len_utf8_ascii 10 (omega arith)))
+      let only = char_at_ascii hay (n - 1) (byte_of terminator) last.1 sep.low in
+      let is : c ≡ byte_of terminator = same_Some _ _ (sym p.1 ∙ (ap (char_at hay) (sym same) ∙ only)) in
+      omega (arith, p.2, ap len_utf8 is, len_utf8_ascii (byte_of terminator) sep.low))
       (cases_lt (n + i - m) (n - 1)))
       part.before)
       (λ (inside : m ≤ i).
@@ -272,42 +381,42 @@ module _ (hay kept post : List ℕ) (n : ℕ) (part : IsPart hay kept post n) wh
       ap (byte_before kept) here ∙ (byte_before-add-one kept i ∙ (byte-same i (omega arith)
       ∙ (sym (byte_before-add-one hay (n + i)) ∙ ap (byte_before hay) (sym there))))
 
-  before-alike : (i : ℕ) → i ≤ length kept → IsAlike (side_before kept i) (side_before hay (n + i))
+  before-alike : (i : ℕ) → i ≤ length kept → AreBefore terminator (side_before kept i) (side_before hay (n + i))
   before-alike i h = ⊎_elim
-      (λ (some : 0 < i). alike-same (side-is _ _ _ (byte_before-same i some h) (char_before-same i some h)))
+      (λ (some : 0 < i). before-same terminator (side-is _ _ _ (byte_before-same i some h) (char_before-same i some h)))
       (λ (none : i ≤ 0).
       let zeroth : 0 ≡ i = omega arith in
       let at : n ≡ n + i = omega arith in
       let here : side_before kept i ≡ edge = ap (side_before kept) (sym zeroth)
       ∙ side-is _ _ _ (byte_before-zero kept) (char_before-zero kept) in
-      subst (λ s. IsAlike s (side_before hay (n + i))) (sym here)
-      (subst (λ k. IsAlike edge (side_before hay k)) at (⊎_elim
-      (λ (first : n ≡ 0). alike-same (sym (ap (side_before hay) first
+      subst (λ s. AreBefore terminator s (side_before hay (n + i))) (sym here)
+      (subst (λ k. AreBefore terminator edge (side_before hay k)) at (⊎_elim
+      (λ (first : n ≡ 0). before-same terminator (sym (ap (side_before hay) first
       ∙ side-is _ _ _ (byte_before-zero hay) (char_before-zero hay))))
-      (λ fed. subst (IsAlike edge) (sym (side-is (side_before hay n) _ _ fed
-      (char_before_ascii hay n 10 fed (omega arith)))) alike-feed)
+      (λ fed. subst (AreBefore terminator edge) (sym (side-is (side_before hay n) _ _ fed
+      (char_before_ascii hay n (byte_of terminator) fed sep.low))) (before-edge terminator sep))
       part.before)))
       (cases_lt 0 i)
 
-  look-same : (l : Look) (i : ℕ) → is_local_look l ≡ true → i ≤ length kept → holds l kept i ≡ holds l hay (n + i)
+  look-same : (l : Look) (i : ℕ) → is_local_look terminator l ≡ true → i ≤ top → holds l kept i ≡ holds l hay (n + i)
   unfolding holds
-  look-same l i ok h = alike-holds l _ _ _ _ ok (before-alike i h) (after-alike i h)
+  look-same l i ok h =
+      alike-holds terminator l _ _ _ _ ok (before-alike i (omega (arith, part.fits))) (after-alike i h)
 
   -- ---- matches
 
-  rounds-in : (a : Re) → ((i j : ℕ) → i ≤ length kept → Matches kept a i j → Matches hay a (n + i) (n + j)) → (i j : ℕ)
-      → i ≤ length kept →
-      Rounds (Matches kept a) i j → Rounds (Matches hay a) (n + i) (n + j)
+  rounds-in : (a : Re) → ((i j : ℕ) → j ≤ top → Matches kept a i j → Matches hay a (n + i) (n + j)) → (i j : ℕ)
+      → j ≤ top → Rounds (Matches kept a) i j → Rounds (Matches hay a) (n + i) (n + j)
   rounds-in a each i j h (one_round _ r) = one_round (n + j) (each i j h r)
   rounds-in a each i j h (next_round l _ earlier r) =
-      let span = Matches-IsSpan kept (plus true a) i l earlier in
-      next_round (n + l) (n + j) (rounds-in a each i l h earlier) (each l j (omega arith) r)
+      let span = Matches-IsSpan kept a l j r in
+      next_round (n + l) (n + j) (rounds-in a each i l (omega arith) earlier) (each l j h r)
 
   -- a match of the part alone is one of the haystack
-  pub matches-in : (re : Re) → is_local re ≡ true → (i j : ℕ) → i ≤ length kept → Matches kept re i j
+  pub matches-in : (re : Re) → is_local terminator re ≡ true → (i j : ℕ) → j ≤ top → Matches kept re i j
       → Matches hay re (n + i) (n + j)
   matches-in empty ok i j h m = ap (λ k. n + k) m
-  matches-in (literal bs) ok i j h m = (has-in i bs h m.0, omega (arith, m.1))
+  matches-in (literal bs) ok i j h m = (has-in i bs (omega (arith, m.1, part.fits)) m.0, omega (arith, m.1))
   matches-in (byte_in rs) ok i j h m = (
     m.0,
     sym (byte-same i (slice_get_within kept i m.0 m.1))
@@ -315,12 +424,17 @@ module _ (hay kept post : List ℕ) (n : ℕ) (part : IsPart hay kept post n) wh
     m.2,
     omega (arith, m.3),
   )
-  matches-in (char_in rs) ok i j h m = (m.0, char-in i m.0 m.1, m.2, omega (arith, m.3))
-  matches-in (look l) ok i j h m = (sym (look-same l i ok h) ∙ m.0, ap (λ k. n + k) m.1)
+  matches-in (char_in rs) ok i j h m = (
+    m.0,
+    char-in i m.0 m.1,
+    m.2,
+    omega (arith, m.3),
+  )
+  matches-in (look l) ok i j h m = (sym (look-same l i ok (omega (arith, m.1))) ∙ m.0, ap (λ k. n + k) m.1)
   matches-in (cat a b) ok i j h m =
       let both = and_parts _ _ ok in
-      let span = Matches-IsSpan kept a i m.0 m.1 in
-      (n + m.0, matches-in a both.0 i m.0 h m.1, matches-in b both.1 m.0 j (omega arith) m.2)
+      let span = Matches-IsSpan kept b m.0 j m.2 in
+      (n + m.0, matches-in a both.0 i m.0 (omega arith) m.1, matches-in b both.1 m.0 j h m.2)
   matches-in (alt a b) ok i j h m =
       let both = and_parts _ _ ok in
       ⊎_elim (λ x. inl (matches-in a both.0 i j h x)) (λ x. inr (matches-in b both.1 i j h x)) m
@@ -328,40 +442,42 @@ module _ (hay kept post : List ℕ) (n : ℕ) (part : IsPart hay kept post n) wh
   matches-in (plus greedy a) ok i j h m = rounds-in a (matches-in a ok) i j h m
 
   abbrev end : ℕ
-  end = n + length kept
+  end = n + top
 
   rounds-out : (a : Re) → ((x y : ℕ) → n ≤ x → y ≤ end → Matches hay a x y → Matches kept a (x - n) (y - n)) → (x y : ℕ)
       → n ≤ x → y ≤ end →
       Rounds (Matches hay a) x y → Rounds (Matches kept a) (x - n) (y - n)
-  rounds-out a each x y low top (one_round _ r) = one_round (y - n) (each x y low top r)
-  rounds-out a each x y low top (next_round l _ earlier r) =
+  rounds-out a each x y low high (one_round _ r) = one_round (y - n) (each x y low high r)
+  rounds-out a each x y low high (next_round l _ earlier r) =
       let first = Matches-IsSpan hay (plus true a) x l earlier in
       let second = Matches-IsSpan hay a l y r in
-      next_round (l - n) (y - n) (rounds-out a each x l low (omega arith) earlier) (each l y (omega arith) top r)
+      next_round (l - n) (y - n) (rounds-out a each x l low (omega arith) earlier) (each l y (omega arith) high r)
 
   -- a match of the haystack within the part is one of the part alone
-  pub matches-out : (re : Re) → is_local re ≡ true → (x y : ℕ) → n ≤ x → y ≤ end → Matches hay re x y
+  pub matches-out : (re : Re) → is_local terminator re ≡ true → (x y : ℕ) → n ≤ x → y ≤ end → Matches hay re x y
       → Matches kept re (x - n) (y - n)
-  matches-out empty ok x y low top m = ap (λ k. k - n) m
-  matches-out (literal bs) ok x y low top m =
+  matches-out empty ok x y low high m = ap (λ k. k - n) m
+  matches-out (literal bs) ok x y low high m =
       let back : n + (x - n) ≡ x = omega arith in
-      (has-out (x - n) bs (omega (arith, m.1)) (rw back m.0), omega (arith, m.1))
-  matches-out (byte_in rs) ok x y low top m =
+      (has-out (x - n) bs (omega (arith, m.1, part.fits)) (rw back m.0), omega (arith, m.1))
+  matches-out (byte_in rs) ok x y low high m =
       let back : n + (x - n) ≡ x = omega arith in
-      (m.0, byte-same (x - n) (omega (arith, m.3)) ∙ (ap (slice_get hay) back ∙ m.1), m.2, omega (arith, m.3))
-  matches-out (char_in rs) ok x y low top m =
+      let here = byte-same (x - n) (omega (arith, m.3, part.fits)) in
+      (m.0, here ∙ (ap (slice_get hay) back ∙ m.1), m.2, omega (arith, m.3))
+  matches-out (char_in rs) ok x y low high m =
       let back : n + (x - n) ≡ x = omega arith in
-      (m.0, char-out (x - n) m.0 (omega (arith, m.3)) (ap (char_at hay) back ∙ m.1), m.2, omega (arith, m.3))
-  matches-out (look l) ok x y low top m =
+      let here = char-out (x - n) m.0 (omega (arith, m.3, part.fits)) (ap (char_at hay) back ∙ m.1) in
+      (m.0, here, m.2, omega (arith, m.3))
+  matches-out (look l) ok x y low high m =
       let back : n + (x - n) ≡ x = omega arith in
       (look-same l (x - n) ok (omega (arith, m.1)) ∙ (ap (holds l hay) back ∙ m.0), ap (λ k. k - n) m.1)
-  matches-out (cat a b) ok x y low top m =
+  matches-out (cat a b) ok x y low high m =
       let both = and_parts _ _ ok in
       let first = Matches-IsSpan hay a x m.0 m.1 in
       let second = Matches-IsSpan hay b m.0 y m.2 in
-      (m.0 - n, matches-out a both.0 x m.0 low (omega arith) m.1, matches-out b both.1 m.0 y (omega arith) top m.2)
-  matches-out (alt a b) ok x y low top m =
+      (m.0 - n, matches-out a both.0 x m.0 low (omega arith) m.1, matches-out b both.1 m.0 y (omega arith) high m.2)
+  matches-out (alt a b) ok x y low high m =
       let both = and_parts _ _ ok in
-      ⊎_elim (λ v. inl (matches-out a both.0 x y low top v)) (λ v. inr (matches-out b both.1 x y low top v)) m
-  matches-out (group k a) ok x y low top m = matches-out a ok x y low top m
-  matches-out (plus greedy a) ok x y low top m = rounds-out a (matches-out a ok) x y low top m
+      ⊎_elim (λ v. inl (matches-out a both.0 x y low high v)) (λ v. inr (matches-out b both.1 x y low high v)) m
+  matches-out (group k a) ok x y low high m = matches-out a ok x y low high m
+  matches-out (plus greedy a) ok x y low high m = rounds-out a (matches-out a ok) x y low high m

@@ -2,12 +2,13 @@ pub mod LocalityLemmas
 pub mod EngineLemmas
 pub mod OptionsLemmas
 pub mod WrittenLemmas
+pub mod ReadsLemmas
 pub mod RefusalLemmas
 pub mod ClearLemmas
 pub mod StrippedLemmas
 pub mod StrippedTreeLemmas
 pub mod FindLemmas
 pub mod EdgeLemmas
-pub mod LineLemmas
+pub mod MatchedLineLemmas
 pub mod TrustLemmas
 pub mod TextsLemmas

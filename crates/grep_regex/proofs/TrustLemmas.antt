@@ -1,32 +1,35 @@
 -- What a matcher finds in many lines can be trusted.
-use Rattle.std.proofs.Common.{◌≡◌, ◌≢◌, ℕ, ◌<◌, ◌≤◌, true, List, length, slice_index}
-use Rattle.std.proofs.Common.{Some, None, is_some, option_map, sym, ap, ap₂, ◌∙◌, subst, inl, inr}
-use Rattle.std.proofs.Common.{⊎_elim}
-use Rattle.std.proofs.Common.{arith, get_or, true≢false}
+use Rattle.std.proofs.Common.{◌≡◌, ◌≢◌, ℕ, ◌<◌, ◌≤◌, true, List, length, slice_index, Some, None, is_some, option_map}
+use Rattle.std.proofs.Common.{sym, ap, ap₂, ◌∙◌, subst, inl, inr, ⊎_elim, arith, get_or, true≢false, Option, nat_lt}
+use Rattle.std.proofs.Common.{lit<, refl}
+use Rattle.std.proofs.lemmas.Bool.{and_parts, not-true}
+use Rattle.std.proofs.lemmas.Bool.Decides.{nat_tests}
 use Rattle.std.proofs.lemmas.Option.{none-some, same_Some}
 use Rattle.regex_hir.specs.Find.{Match, find}
 use Rattle.regex_hir.specs.Re.{Re}
+use Rattle.regex_hir.specs.Reads.{always_reads}
 use Rattle.regex_hir.proofs.OptionLemmas.{option_cases}
 use Rattle.regex_vm.specs.Found.{span}
-use Rattle.grep_matcher.specs.Lawful.{IsLawfulResult, ExcludesTerminator, IsTrusted}
-use Rattle.grep_matcher.specs.Matching.{Meaning, IsWithin}
-use Rattle.grep_matcher.specs.Terminators.{byte_of}
-use Rattle.grep_matcher.specs.declared.line_match_kind.LineMatchKind.TheVariants.{Confirmed}
-use Rattle.grep_matcher.specs.declared.line_match_kind.LineMatchKind.TheVariants.{Candidate}
+use Rattle.grep_matcher.specs.Lawful.{IsLawfulResult, IsTrusted}
+use Rattle.grep_matcher.specs.Meanings.{ExcludesTerminator, Meaning}
+use Rattle.grep_matcher.specs.FindResults.{IsWithin}
+use Rattle.grep_matcher.specs.Lines.{byte_of}
+use Rattle.grep_matcher.specs.declared.line_match_kind.LineMatchKind.TheVariants.{Confirmed, Candidate}
 use Rattle.grep_matcher.specs.declared.line_terminator.LineTerminator.{LineTerminator}
-use Rattle.grep_matcher.specs.declared.line_terminator.LineTerminator.TheVariants.{Byte}
-use Rattle.grep_matcher.proofs.LineLemmas.{line-is}
+use Rattle.grep_matcher.specs.declared.line_match_kind.LineMatchKind.{LineMatchKind}
+use Rattle.grep_matcher.specs.declared.line_terminator.LineTerminator.TheVariants.{Byte, Crlf}
+use Rattle.grep_matcher.proofs.StrippedLineLemmas.{line-is}
 use Rattle.grep_regex.specs.Clear.{is_among}
-use Rattle.grep_regex.specs.Locality.{is_local}
+use Rattle.grep_regex.specs.Locality.{is_local, is_by_line, is_crlf, is_separator}
 use Rattle.grep_regex.specs.Patterns.{first_match, leftmost_match, excluded_bytes, written_re}
-use Rattle.grep_regex.specs.Views.{regex_first, regex_meaning, regex_options, regex_patterns}
-use Rattle.grep_regex.specs.Views.{program_re}
+use Rattle.grep_regex.specs.Views.{regex_first, regex_meaning, regex_options, regex_patterns, program_re}
 use Rattle.grep_regex.specs.declared.regex.Regex.{Regex}
 use Rattle.grep_regex.proofs.ClearLemmas.{clear-at}
+use Rattle.grep_regex.proofs.EdgeLemmas.{IsSeparated}
 use Rattle.grep_regex.proofs.EngineLemmas.{finds-of}
 use Rattle.grep_regex.proofs.FindLemmas.{clear-match}
-use Rattle.grep_regex.proofs.LineLemmas.{match-within, kept, IsListed, kept-small, missed-all}
-use Rattle.grep_regex.proofs.LineLemmas.{missed, matched}
+use Rattle.grep_regex.proofs.MatchedLineLemmas.{match-within, kept, IsListed, kept-small, missed-all, missed, matched}
+use Rattle.grep_regex.proofs.MatchedLineLemmas.{FindsClear}
 
 -- expressions with the same options and texts find the same
 pub first-same : (p q : Regex) → regex_options p ≡ regex_options q → regex_patterns p ≡ regex_patterns q
@@ -37,12 +40,6 @@ first-same p q options patterns hay = ap₂ (λ o texts. first_match o texts hay
 -- a match lies within its haystack
 pub first-within : (r : Regex) (hay : List ℕ) → ((k : ℕ) → get_or hay k 0 < 256) → IsWithin hay (regex_first r hay)
 first-within r hay bytes = subst (IsWithin hay) (finds-of r hay bytes) (match-within (program_re r) hay)
-
--- only the declared terminator is excluded
-only-declared : (r : Regex) → (regex_options r).line_terminator ≡ Some (Byte 10) → (terminator : LineTerminator) →
-    ExcludesTerminator terminator (regex_meaning r) → terminator ≡ Byte 10
-only-declared r is terminator (inl declared) = same_Some _ _ (sym declared ∙ is)
-only-declared r is terminator (inr absent) = absurd (true≢false (sym absent))
 
 none-of : (re : Re) (bytes : List ℕ) → leftmost_match re bytes ≡ None → find re bytes 0 ≡ None
 none-of re bytes e =
@@ -58,45 +55,86 @@ some-of re bytes a b e = ⊎_elim
     (some.0, some.1, ap (λ (x : ℕ × ℕ). x.0) same, ap (λ (x : ℕ × ℕ). x.1) same))
     (option_cases (find re bytes 0))
 
-module _ (r : Regex) (is_lawful : LineTerminator → Type 0) (bytes : List ℕ) where
-  module _ (is : (regex_options r).line_terminator ≡ Some (Byte 10)) (local : is_local (program_re r) ≡ true)
-      (small : (k : ℕ) → get_or bytes k 0 < 256) where
-    -- a line alone, by what was compiled
-    alone : (i : ℕ) → IsListed bytes i → is_some (regex_first r (kept bytes i))
-        ≡ is_some (leftmost_match (program_re r) (kept bytes i))
-    alone i listed = ap is_some (sym (finds-of r (kept bytes i) (kept-small bytes small i listed)))
+-- what a pattern that is found by line has
+record IsConfirmed (terminator : LineTerminator) (re : Re) : Type 0 where
+  sep : IsSeparated terminator
+  local : is_local terminator re ≡ true
+  reads : is_crlf terminator ≡ true → always_reads re ≡ true
 
-    -- no match holds a line feed
-    no-feed : (a b : ℕ) → regex_first r bytes ≡ Some (a, b) → (k : ℕ) → a ≤ k → k < b → slice_index bytes k ≢ 10
-    no-feed a b found k low high feed =
-        let inside : k < length bytes = omega (
-          arith,
-          high,
-          (subst (IsWithin bytes) found (first-within r bytes small)).1,
-        ) in
-        let clear = clear-match (excluded_bytes (regex_options r).line_terminator)
-        (written_re (regex_options r) (regex_patterns r)) bytes a b found in
-        let none = clear-at (excluded_bytes (regex_options r).line_terminator) bytes a b clear k low high inside in
-        true≢false (ap₂ is_among (sym (ap excluded_bytes is)) (sym feed) ∙ none)
+confirmed : (terminator : LineTerminator) (re : Re) → is_by_line (Some terminator) re ≡ true → IsConfirmed terminator re
+confirmed (Byte b) re by_line =
+    let both = and_parts (is_separator b) _ by_line in
+    let parts = and_parts (nat_lt b 128) _ both.0 in
+    record {
+      sep = record { low = grind (arith, nat_tests, parts.0); apart = not-true _ parts.1 };
+      local = both.1;
+      reads = λ no. absurd (true≢false (sym no));
+    }
+confirmed Crlf re by_line =
+    let both = and_parts (always_reads re) _ by_line in
+    record {
+      sep = record { low = lit< tt; apart = refl };
+      local = both.1;
+      reads = λ crlf. both.0;
+    }
+
+module _ (r : Regex) (is_lawful : LineTerminator → Type 0) (bytes : List ℕ)
+    (small : (k : ℕ) → get_or bytes k 0 < 256) where
+  -- what is found holds no byte of the terminator
+  finds-clear : (terminator : LineTerminator) → (regex_options r).line_terminator ≡ Some terminator → (hay : List ℕ)
+      → ((k : ℕ) → get_or hay k 0 < 256) → FindsClear terminator (program_re r) hay
+  finds-clear terminator is hay low m found k from to =
+      let first : regex_first r hay ≡ Some (m.start, m.trace.end) =
+      sym (finds-of r hay low) ∙ ap (option_map span) found in
+      let inside : k < length hay = omega (arith, to, (subst (IsWithin hay) first (first-within r hay low)).1) in
+      let clear = clear-match (excluded_bytes (regex_options r).line_terminator)
+      (written_re (regex_options r) (regex_patterns r)) hay m.start m.trace.end first in
+      ap (λ bytes. is_among bytes (slice_index hay k)) (sym (ap excluded_bytes is))
+      ∙ clear-at (excluded_bytes (regex_options r).line_terminator) hay m.start m.trace.end clear k from to inside
+
+  module _ (terminator : LineTerminator) (is : (regex_options r).line_terminator ≡ Some terminator)
+      (has : IsConfirmed terminator (program_re r)) where
+    -- a line alone, by what was compiled
+    alone : (i : ℕ) → IsListed terminator bytes i → is_some (regex_first r (kept terminator bytes i))
+        ≡ is_some (leftmost_match (program_re r) (kept terminator bytes i))
+    alone i listed =
+        ap is_some (sym (finds-of r (kept terminator bytes i) (kept-small terminator bytes small i listed)))
+
+    clear-alone : (i : ℕ) → IsListed terminator bytes i → FindsClear terminator (program_re r) (kept terminator bytes i)
+    clear-alone i listed = finds-clear terminator is (kept terminator bytes i)
+        (kept-small terminator bytes small i listed)
+
+    none-lawful : regex_first r bytes ≡ None → IsLawfulResult terminator (regex_meaning r) bytes None
+    none-lawful none i listed = alone i listed ∙ missed-all terminator has.sep bytes (program_re r) has.local has.reads
+        (none-of _ bytes (finds-of r bytes small ∙ none)) i listed (clear-alone i listed)
+
+    some-lawful : (a b : ℕ) → regex_first r bytes ≡ Some (a, b)
+        → IsLawfulResult terminator (regex_meaning r) bytes (Some (Confirmed a))
+    some-lawful a b found =
+        let m = some-of (program_re r) bytes a b (finds-of r bytes small ∙ found) in (
+          λ i listed ends. alone i listed ∙ missed terminator has.sep bytes (program_re r) has.local has.reads m.0 m.1
+              (regex_meaning r) i listed (clear-alone i listed) (rw m.2 ends),
+          λ i listed holds confirmed. alone i listed
+              ∙ matched terminator has.sep bytes (program_re r) has.local has.reads m.0 m.1 (regex_meaning r) i listed
+              (rw m.2 holds) (finds-clear terminator is bytes small m.0 m.1),
+        )
+
+  module _ (by_line : is_by_line (regex_options r).line_terminator (program_re r) ≡ true) where
+    -- what is lawful for the declared terminator can be trusted
+    trusted : (found : Option LineMatchKind)
+        → ((terminator : LineTerminator) → (regex_options r).line_terminator ≡ Some terminator
+        → IsConfirmed terminator (program_re r) → IsLawfulResult terminator (regex_meaning r) bytes found)
+        → IsTrusted (regex_meaning r) is_lawful bytes found
+    trusted found each other lawful (inl declared) = each other declared
+        (confirmed other (program_re r) (subst (λ o. is_by_line o (program_re r) ≡ true) declared by_line))
+    trusted found each other lawful (inr absent) = absurd (true≢false (sym absent))
 
     pub trusted-none : regex_first r bytes ≡ None → IsTrusted (regex_meaning r) is_lawful bytes None
-    trusted-none none terminator lawful excludes =
-        subst (λ t. IsLawfulResult t (regex_meaning r) bytes None) (sym (only-declared r is terminator excludes))
-        (λ i listed. alone i listed ∙ missed-all bytes (program_re r) local
-        (none-of _ bytes (finds-of r bytes small ∙ none)) i listed)
+    trusted-none none = trusted None (λ terminator is has. none-lawful terminator is has none)
 
     pub trusted-some : (a b : ℕ) → regex_first r bytes ≡ Some (a, b)
         → IsTrusted (regex_meaning r) is_lawful bytes (Some (Confirmed a))
-    trusted-some a b found terminator lawful excludes =
-        subst (λ t. IsLawfulResult t (regex_meaning r) bytes (Some (Confirmed a)))
-        (sym (only-declared r is terminator excludes))
-        (let m = some-of (program_re r) bytes a b (finds-of r bytes small ∙ found) in (
-          λ i listed ends. alone i listed ∙ missed bytes (program_re r) local m.0 m.1 (regex_meaning r) i listed
-              (rw m.2 ends),
-          λ i listed holds confirmed. alone i listed
-              ∙ matched bytes (program_re r) local m.0 m.1 (regex_meaning r) i listed (rw m.2 holds)
-              (λ k low high. no-feed a b found k (omega (arith, m.2)) (omega (arith, m.3))),
-        ))
+    trusted-some a b found = trusted (Some (Confirmed a)) (λ terminator is has. some-lawful terminator is has a b found)
 
 -- the first line as a candidate says nothing
 pub trusted-first : (meaning : Meaning) (is_lawful : LineTerminator → Type 0) (bytes : List ℕ) →

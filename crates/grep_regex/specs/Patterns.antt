@@ -1,22 +1,20 @@
 -- What patterns mean under their options.
 use Rattle.std.specs.Prelude.{◌≡◌, ◌<◌, ℕ, Bool, true, false, if◌then◌else◌, List, [], map, Option}
-use Rattle.std.specs.Prelude.{None, Some}
-use Rattle.std.specs.Prelude.{All, option_map, chars, encode_utf8_all}
+use Rattle.std.specs.Prelude.{None, Some, All, option_map, chars, encode_utf8_all}
 use Rattle.regex_hir.specs.Find.{find}
 use Rattle.regex_hir.specs.Meaning.{alt_all}
 use Rattle.regex_hir.specs.Re.{Re, empty, byte_in, look, cat}
 use Rattle.regex_hir.specs.declared.look.Look.{Look}
 use Rattle.regex_hir.specs.declared.look.Look.TheVariants.{StartLf, EndLf, StartCrlf, EndCrlf}
 use Rattle.regex_hir.specs.declared.look.Look.TheVariants.{WordStartHalfAscii, WordEndHalfAscii}
-use Rattle.regex_hir.specs.declared.look.Look.TheVariants.{WordStartHalfUnicode}
-use Rattle.regex_hir.specs.declared.look.Look.TheVariants.{WordEndHalfUnicode}
+use Rattle.regex_hir.specs.declared.look.Look.TheVariants.{WordStartHalfUnicode, WordEndHalfUnicode}
 use Rattle.regex_syntax.specs.Brackets.{Nested}
 use Rattle.regex_syntax.specs.Grammar.{Names, read}
 use Rattle.regex_syntax.specs.Verdict.{default_config, default_flags, escaped_text}
 use Rattle.regex_syntax.specs.declared.Config.{Config}
 use Rattle.regex_vm.specs.Found.{span}
-use Rattle.grep_matcher.specs.Matching.{Meaning}
-use Rattle.grep_matcher.specs.Terminators.{bytes_of}
+use Rattle.grep_matcher.specs.Meanings.{Meaning}
+use Rattle.grep_matcher.specs.Lines.{bytes_of}
 use Rattle.grep_matcher.specs.declared.line_terminator.LineTerminator.{LineTerminator}
 use Rattle.grep_regex.specs.Clear.{find_clear}
 use Rattle.grep_regex.specs.declared.options.Options.{Options}
@@ -57,10 +55,13 @@ config_of o = record default_config {
   nest_limit = o.nest_limit;
 }
 
+-- the escape of a literal
+abbrev pub escape_of : List ℕ → List ℕ
+escape_of literal = encode_utf8_all (escaped_text (chars literal))
+
 -- the text that is read: of a literal, its escape
 abbrev pub text_of : Options → List ℕ → List ℕ
-text_of o pattern =
-    if o.fixed_strings then encode_utf8_all (escaped_text (chars pattern)) else pattern
+text_of o pattern = if o.fixed_strings then escape_of pattern else pattern
 
 -- what the grammar reads in a text; nothing matches a text that is no pattern
 abbrev pub re_of : Option (Nested Re × Names) → Re

@@ -13,14 +13,14 @@ use Rattle.grep_regex.specs.declared.error.Error.TheVariants.{Syntax, NotAllowed
 use Rattle.grep_regex.specs.declared.error.Error.TheVariants.{InvalidLineTerminator, TooBig, Memory}
 use Rattle.grep_regex.specs.declared.options.Options.{Options}
 
--- the parser's error says of a text what the grammar says, where in the text, and isn't one of
--- memory
-pub record IsSyntax (config : Config) (text : List ℕ) (error : parser.Error) : Type 0 where
+-- the parser's error says of the text that is read what the grammar says, where in the pattern, and
+-- isn't one of memory
+pub record IsSyntax (config : Config) (text pattern : List ℕ) (error : parser.Error) : Type 0 where
   pub refused : Refuses config text error.kind
   pub kind : error.kind ≢ OutOfMemory
   pub ordered : error.span.start ≤ error.span.end
-  pub start : IsCharBoundary text error.span.start
-  pub end : IsCharBoundary text error.span.end
+  pub start : IsCharBoundary pattern error.span.start
+  pub end : IsCharBoundary pattern error.span.end
 
 -- the error for one of the parser at a pattern: of memory, or else that error at that pattern
 abbrev pub IsOfParser : ℕ → parser.Error → Error → Type 0
@@ -35,18 +35,19 @@ IsOfCompiler TooBig = Unit {0}
 IsOfCompiler Memory = Unit {0}
 IsOfCompiler _ = ⊥
 
--- the error of a text: it is no pattern, or nested too deep, or there is no memory
-abbrev pub IsTextError : Config → ℕ → List ℕ → Error → Type 0
-IsTextError config index text (Syntax pattern error) = (pattern ≡ index)
-    × IsSyntax config text error
-IsTextError config index text Memory = Unit {0}
-IsTextError config index text _ = ⊥
+-- the error of a pattern that is read as a text: it is no pattern, or nested too deep, or there is
+-- no memory
+abbrev pub IsTextError : Config → ℕ → List ℕ → List ℕ → Error → Type 0
+IsTextError config index text pattern (Syntax of error) = (of ≡ index)
+    × IsSyntax config text pattern error
+IsTextError config index text pattern Memory = Unit {0}
+IsTextError config index text pattern _ = ⊥
 
 -- the error of some texts: that of one of them, or there are too many groups
 abbrev pub IsTextsError : Options → List (List ℕ) → Error → Type 0
 IsTextsError o patterns (Syntax index error) =
     (pattern : List ℕ) × (slice_get patterns index ≡ Some pattern)
-    × IsSyntax (config_of o) (text_of o pattern) error
+    × IsSyntax (config_of o) (text_of o pattern) pattern error
 IsTextsError o patterns TooBig = Unit {0}
 IsTextsError o patterns Memory = Unit {0}
 IsTextsError o patterns _ = ⊥

@@ -5,7 +5,7 @@ use Rattle.regex_hir.specs.Meaning.{meaning}
 use Rattle.regex_hir.specs.Re.{Re}
 use Rattle.regex_meta.specs.declared.program.Program.{Program}
 use Rattle.regex_meta.specs.declared.searcher.Searcher.{Searcher}
-use Rattle.grep_matcher.specs.Matching.{Meaning}
+use Rattle.grep_matcher.specs.Meanings.{Meaning}
 use Rattle.grep_regex.specs.Patterns.{first_match, meaning_of}
 use Rattle.grep_regex.specs.declared.engine.Engine.{Engine}
 use Rattle.grep_regex.specs.declared.matcher.RegexMatcher.{RegexMatcher}

@@ -15,8 +15,8 @@ pub enum Error {
     Syntax {
         /// Which of the patterns, from 0.
         pattern: usize,
-        /// The parser's error: its kind, and its position in the text that is read, in bytes; of a
-        /// literal that is its escape.
+        /// The parser's error: its kind, and its position in the text, in bytes; of a literal that
+        /// is all of it.
         error: SyntaxError,
     },
     /// A literal of a pattern has this byte of the line terminator, or a class has no other member.

@@ -1,6 +1,6 @@
 //! The matcher of a regular expression.
 ghost use Rattle.std.specs.Prelude.{◌≡◌, is_some, IfOk};
-ghost use Rattle.grep_matcher.specs.Matching.{IsWithin};
+ghost use Rattle.grep_matcher.specs.FindResults.{IsWithin};
 ghost use Rattle.grep_regex.specs.Views.{regex_first};
 
 use crate::engine::Engine;
@@ -84,11 +84,11 @@ impl Matcher for RegexMatcher<'_> {
     ghost use Rattle.grep_matcher.specs.Lawful.{IsInside, IsTrusted};
     ghost use Rattle.grep_regex.specs.Views.{matcher_regex, regex_meaning};
 
-    ghost meaning = { λ m. regex_meaning (matcher_regex m) };
-
-    ghost fails = { λ _ _ _. Unit {0} };
-
-    ghost is_lawful = { λ _ _. Unit {0} };
+    ghost facts = { λ m. record {
+      meaning = regex_meaning (matcher_regex m);
+      fails = λ _ _. Unit {0};
+      is_lawful = λ _. Unit {0};
+    } };
 
     fn find(&self, haystack: &[u8]) -> Result<Option<Match>, AllocError> {
         match find_by(self.alloc, self.regex, &self.engine, haystack)? {
@@ -102,7 +102,7 @@ impl Matcher for RegexMatcher<'_> {
     }
 
     fn find_candidate_line(&self, haystack: &[u8]) -> Result<Option<LineMatchKind>, AllocError> {
-        if !self.regex.is_local() {
+        if !self.regex.is_by_line() {
             return Ok(Some(LineMatchKind::Candidate(0)));
         }
         match find_by(self.alloc, self.regex, &self.engine, haystack)? {

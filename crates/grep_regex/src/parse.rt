@@ -3,14 +3,14 @@ ghost use Rattle.std.specs.Prelude.{◌≡◌, IfOk, IfErr, map, option_map, str
 ghost use Rattle.regex_hir.specs.Meaning.{meaning, alt_all};
 ghost use Rattle.regex_syntax.specs.Captures.{SameCaptures};
 ghost use Rattle.regex_syntax.specs.Verdict.{Reads};
-ghost use Rattle.grep_regex.specs.Patterns.{config_of, text_of, read_re};
+ghost use Rattle.grep_regex.specs.Patterns.{config_of, escape_of, text_of, read_re};
 ghost use Rattle.grep_regex.specs.Alike.{AreAlike};
 ghost use Rattle.grep_regex.specs.Refusals.{IsTextError, IsTextsError};
 
 use crate::error::Error;
 use crate::options::Options;
 use regex_hir::Hir;
-use regex_syntax::{Config, Flags, Parsed};
+use regex_syntax::{Config, Error as SyntaxError, Flags, Parsed, Span};
 use std::alloc::Global;
 
 // The first of some patterns that works.
@@ -84,25 +84,41 @@ fn choice_of(mut hirs: Vec<Hir>) -> Hir
 fn read(alloc: Global, options: &Options, index: usize, pattern: &str) -> Result<Parsed, Error>
     ensures ok { IfOk result (λ p. Reads (config_of options.now) (text_of options.now pattern.now)
         p.hir (map (option_map string_bytes) p.names.items)) }
-    ensures error { IfErr result
-        (IsTextError (config_of options.now) index (text_of options.now pattern.now)) }
+    ensures error { IfErr result (IsTextError (config_of options.now) index
+        (text_of options.now pattern.now) pattern.now) }
 {
     let config = config_of(options);
     if options.fixed_strings {
-        let text = regex_syntax::escape(alloc, pattern)?;
-        return parse(alloc, &config, index, text.as_str());
+        return read_literal(alloc, &config, index, pattern);
     }
-    parse(alloc, &config, index, pattern)
-}
-
-fn parse(alloc: Global, config: &Config, index: usize, text: &str) -> Result<Parsed, Error>
-    ensures ok { IfOk result (λ p. Reads config.now text.now p.hir
-        (map (option_map string_bytes) p.names.items)) }
-    ensures error { IfErr result (IsTextError config.now index text.now) }
-{
-    match regex_syntax::parse(alloc, text, config) {
+    match regex_syntax::parse(alloc, pattern, &config) {
         Ok(parsed) => Ok(parsed),
         Err(error) => Err(Error::of_parser(index, error)),
+    }
+}
+
+// The same of a literal, whose escape is read. An error is one of the literal as a whole.
+fn read_literal(
+    alloc: Global,
+    config: &Config,
+    index: usize,
+    literal: &str,
+) -> Result<Parsed, Error>
+    ensures ok { IfOk result (λ p. Reads config.now (escape_of literal.now) p.hir
+        (map (option_map string_bytes) p.names.items)) }
+    ensures error { IfErr result
+        (IsTextError config.now index (escape_of literal.now) literal.now) }
+{
+    let text = regex_syntax::escape(alloc, literal)?;
+    match regex_syntax::parse(alloc, text.as_str(), config) {
+        Ok(parsed) => Ok(parsed),
+        Err(error) => {
+            let span = Span {
+                start: 0,
+                end: literal.len(),
+            };
+            Err(Error::of_parser(index, SyntaxError { span, ..error }))
+        }
     }
 }
 

@@ -1,16 +1,15 @@
 //! A compiled regular expression.
-ghost use Rattle.std.specs.Prelude.{◌≡◌, IfOk, IfErr, OnOk, IsTrue, true, None, Some};
+ghost use Rattle.std.specs.Prelude.{◌≡◌, IfOk, IfErr, OnOk, IsTrue};
 ghost use Rattle.std.specs.Prelude.{map};
 ghost use Rattle.regex_hir.specs.Meaning.{meaning};
-ghost use Rattle.grep_matcher.specs.declared.line_terminator.LineTerminator.TheVariants.{Byte};
-ghost use Rattle.grep_regex.specs.Locality.{is_local};
+ghost use Rattle.grep_regex.specs.Locality.{is_by_line};
 ghost use Rattle.grep_regex.specs.Patterns.{excluded_bytes, FindsAs};
 ghost use Rattle.grep_regex.specs.Refusals.{IsOfCompiler, IsTerminatorError};
 ghost use Rattle.grep_regex.specs.Stripped.{AreAscii};
 
 use crate::error::Error;
 use crate::frame::framed;
-use crate::locality::is_local;
+use crate::locality::is_by_line;
 use crate::matcher::RegexMatcher;
 use crate::options::Options;
 use crate::parse::{Choice, read_choice};
@@ -34,10 +33,10 @@ pub(crate) struct Shared {
     options: Options,
     patterns: Texts,
     program: Program,
-    local: bool,
+    by_line: bool,
     ghost finds: { ∥ FindsAs options patterns (meaning program.hir) ∥₁ },
-    ghost by_line: { ∥ (local ≡ true → (options.line_terminator ≡ Some (Byte 10))
-        × (is_local (meaning program.hir) ≡ true)) ∥₁ },
+    ghost confirms: { ∥ (IsTrue by_line →
+        IsTrue (is_by_line options.line_terminator (meaning program.hir))) ∥₁ },
 }
 
 // Written out, so that a caller's proof sees one call.
@@ -54,17 +53,17 @@ impl Drop for Shared {
             options: _options,
             patterns: _patterns,
             program: _program,
-            local: _local,
+            by_line: _by_line,
         } = self;
     }
 }
 
 impl Shared {
-    fn is_local(&self) -> bool
-        ensures terminator { IsTrue result → self.now.options.line_terminator ≡ Some (Byte 10) }
-        ensures local { IsTrue result → IsTrue (is_local (meaning self.now.program.hir)) }
+    fn is_by_line(&self) -> bool
+        ensures { IsTrue result →
+            IsTrue (is_by_line self.now.options.line_terminator (meaning self.now.program.hir)) }
     {
-        self.local
+        self.by_line
     }
 }
 
@@ -109,14 +108,14 @@ impl Regex {
         let Choice { hir, groups } = read_choice(alloc, &options, patterns)?;
         let whole = framed(alloc, &options, hir)?;
         let stripped = without_bytes(alloc, &whole, excluded_bytes(&options.line_terminator))?;
-        let local = is_by_line(options.line_terminator, &stripped);
+        let by_line = is_by_line(options.line_terminator, &stripped);
         let program = compiled(alloc, stripped, groups, options.size_limit)?;
         let patterns = Texts::new(alloc, patterns)?;
         let shared = Shared {
             options,
             patterns,
             program,
-            local,
+            by_line,
         };
         Ok(Regex {
             shared: Arc::new(alloc, shared)?,
@@ -138,14 +137,12 @@ impl Regex {
         self.shared.options
     }
 
-    // Whether its matches end at line feeds, and each assertion holds beside a line feed where it
-    // holds at the edge of a haystack.
-    pub(crate) fn is_local(&self) -> bool
-        ensures terminator { IsTrue result →
-            (regex_options self.now).line_terminator ≡ Some (Byte 10) }
-        ensures local { IsTrue result → IsTrue (is_local (program_re self.now)) }
+    // Whether what it finds in many lines it finds in one of them alone.
+    pub(crate) fn is_by_line(&self) -> bool
+        ensures { IsTrue result →
+            IsTrue (is_by_line (regex_options self.now).line_terminator (program_re self.now)) }
     {
-        self.shared.is_local()
+        self.shared.is_by_line()
     }
 
     // What searches for the expression.
@@ -184,25 +181,6 @@ fn excluded_bytes(terminator: &Option<LineTerminator>) -> &[u8]
         Some(terminator) => terminator.as_bytes(),
         None => &[],
     }
-}
-
-// Whether the terminator is a line feed.
-fn is_line_feed(terminator: Option<LineTerminator>) -> bool
-    ensures { IsTrue result → terminator ≡ Some (Byte 10) }
-{
-    match terminator {
-        Some(LineTerminator::Byte(byte)) => byte == b'\n',
-        _ => false,
-    }
-}
-
-// Whether lines end at line feeds, and each assertion holds beside one where it holds at the edge
-// of a haystack.
-fn is_by_line(terminator: Option<LineTerminator>, hir: &Hir) -> bool
-    ensures terminator { IsTrue result → terminator ≡ Some (Byte 10) }
-    ensures local { IsTrue result → IsTrue (is_local (meaning hir.now)) }
-{
-    is_line_feed(terminator) && is_local(hir)
 }
 
 // The program of a pattern.

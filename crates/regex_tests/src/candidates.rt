@@ -19,7 +19,16 @@ const ROWS: &[Row] = &[
     ("nm", r"a[^~]*~", b"a\nb~\na~\n", Some((5, true))),
     ("nmw", r"b", b"ab\nb", Some((3, true))),
     ("n", r"\Ab", b"a\nb\n", Some((0, false))),
-    ("rm", r"b$", b"a\r\nb\r\n", Some((0, false))),
+    ("rm", r"b$", b"a\r\nb\r\n", Some((3, true))),
+    ("rm", r"^b$", b"ab\r\nb\nb", Some((4, true))),
+    ("rmw", r"b", b"ab\nb\r\n", Some((3, true))),
+    ("rm", r"\Bb", b"b\r\nab\r\n", Some((4, true))),
+    ("rm", r"^$", b"a\r\n\r\n", Some((0, false))),
+    ("r", r"\B", b"a\r\nab\r\n", Some((0, false))),
+    ("z", r"b|\n", b"a\0\nb\0", Some((2, true))),
+    ("zmw", r"b", b"ab\0b", Some((3, true))),
+    ("zm", r"b$", b"a\0b\0", Some((0, false))),
+    ("k", r"b", b"a\nb\n", Some((0, false))),
     ("", r"b", b"a\nb\n", Some((0, false))),
 ];
 
@@ -44,4 +53,5 @@ fn terminators(rt: HostRuntime) {
     assert!(rt; declares(rt.alloc(), "", None));
     assert!(rt; declares(rt.alloc(), "n", Some(LineTerminator::byte(b'\n'))));
     assert!(rt; declares(rt.alloc(), "r", Some(LineTerminator::crlf())));
+    assert!(rt; declares(rt.alloc(), "z", Some(LineTerminator::byte(0))));
 }

@@ -16,9 +16,9 @@ pub struct Answer {
 }
 
 // The builder with the options that the letters name: case-insensitive, fixed strings, word, whole
-// lines (`x`), multi-line, `.` for line feeds (`s`), ASCII (`a`), a line feed as the terminator
-// (`n`) or CRLF (`r`), the byte 200 as the terminator (`T`), and a limit of 1,000 bytes (`L`).
-// Then those of `set_syntax`.
+// lines (`x`), multi-line, `.` for line feeds (`s`), ASCII (`a`), and a limit of 1,000 bytes (`L`);
+// as the terminator a line feed (`n`), CRLF (`r`), the byte 0 (`z`) or the byte 200 (`T`). Then
+// those of `set_syntax`.
 fn builder_of(letters: &str) -> RegexMatcherBuilder {
     let mut builder = RegexMatcherBuilder::default();
     builder.case_insensitive(letters.contains('i'));
@@ -32,6 +32,9 @@ fn builder_of(letters: &str) -> RegexMatcherBuilder {
     if letters.contains('n') {
         builder.line_terminator(Some(b'\n'));
     }
+    if letters.contains('z') {
+        builder.line_terminator(Some(0));
+    }
     if letters.contains('T') {
         builder.line_terminator(Some(200));
     }
@@ -43,7 +46,7 @@ fn builder_of(letters: &str) -> RegexMatcherBuilder {
 }
 
 // Sets what the letters name: CRLF with no terminator (`k`), swapped greed (`U`), white space that
-// is ignored (`v`), octal numbers (`o`), and two levels of nesting (`d`).
+// is ignored (`v`), octal numbers (`o`), and two levels of nesting (`d`) or none (`D`).
 fn set_syntax(builder: &mut RegexMatcherBuilder, letters: &str) {
     if letters.contains('k') {
         builder.crlf(true).line_terminator(None);
@@ -53,6 +56,9 @@ fn set_syntax(builder: &mut RegexMatcherBuilder, letters: &str) {
     builder.octal(letters.contains('o'));
     if letters.contains('d') {
         builder.nest_limit(2);
+    }
+    if letters.contains('D') {
+        builder.nest_limit(0);
     }
 }
 

@@ -1,5 +1,5 @@
 use Rattle.std.proofs.Common.{◌∙◌, sym, subst}
-use Rattle.grep_matcher.specs.Matching.{IsWithin}
+use Rattle.grep_matcher.specs.FindResults.{IsWithin}
 use Rattle.grep_regex.proofs.TrustLemmas.{first-same, first-within}
 use Rattle.grep_regex.proofs.matcher.find_by.Goals as goal
 

@@ -3,17 +3,16 @@ use Rattle.grep_regex.specs.Views.{matcher_regex, regex_meaning}
 use Rattle.grep_regex.proofs.TrustLemmas.{trusted-none, trusted-some, trusted-first}
 use Rattle.grep_regex.proofs.matcher.RegexMatcherMatcher.find_candidate_line.Goals as goal
 
-pub returns-then-not-is_local-clause-trusted : goal.returns-then-not-is_local-clause-trusted
-returns-then-not-is_local-clause-trusted c =
+pub returns-then-not-is_by_line-clause-trusted : goal.returns-then-not-is_by_line-clause-trusted
+returns-then-not-is_by_line-clause-trusted c =
     trusted-first (regex_meaning (matcher_regex c.args.self.now)) (λ _. Unit {0}) c.args.haystack.now
 
 pub returns-in-None-clause-trusted : goal.returns-in-None-clause-trusted
 returns-in-None-clause-trusted c = trusted-none (matcher_regex c.args.self.now) (λ _. Unit {0}) c.args.haystack.now
-    (c.is_local.ensures.terminator c.if-not-is_local.false) (c.is_local.ensures.local c.if-not-is_local.false)
-    (λ k. (c.type_inv.haystack k).fits) (sym c.in_ok-start.ensures.value ∙ c.in-None.is)
+    (λ k. (c.type_inv.haystack k).fits) (c.is_by_line.ensures c.if-not-is_by_line.false)
+    (sym c.in_ok-start.ensures.value ∙ c.in-None.is)
 
 pub returns-in-Some-clause-trusted : goal.returns-in-Some-clause-trusted
 returns-in-Some-clause-trusted c = trusted-some (matcher_regex c.args.self.now) (λ _. Unit {0}) c.args.haystack.now
-    (c.is_local.ensures.terminator c.if-not-is_local.false) (c.is_local.ensures.local c.if-not-is_local.false)
-    (λ k. (c.type_inv.haystack k).fits) c.in-Some.start c.in-Some.field-0-1
-    (sym c.in_ok-start.ensures.value ∙ c.in-Some.is)
+    (λ k. (c.type_inv.haystack k).fits) (c.is_by_line.ensures c.if-not-is_by_line.false)
+    c.in-Some.start c.in-Some.field-0-1 (sym c.in_ok-start.ensures.value ∙ c.in-Some.is)

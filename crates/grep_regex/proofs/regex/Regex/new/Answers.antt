@@ -1,6 +1,6 @@
 use Rattle.std.proofs.Common.{◌≡◌, true, subst, sym, map}
 use Rattle.regex_hir.specs.Meaning.{meaning}
-use Rattle.grep_regex.specs.Locality.{is_local}
+use Rattle.grep_regex.specs.Locality.{is_by_line}
 use Rattle.grep_regex.specs.Patterns.{FindsAs}
 use Rattle.grep_regex.specs.Stripped.{IsStripped}
 use Rattle.grep_regex.proofs.WrittenLemmas.{finds-as}
@@ -18,8 +18,6 @@ invariant_of-shared c = record {
       (subst (λ bytes. IsStripped bytes (meaning c.in_ok-whole.whole) (meaning c.in_ok-stripped.stripped))
       c.excluded_bytes.ensures
       c.in_ok-stripped.ensures.ok))) ∣₁;
-  by_line = ∣ (λ yes. (
-    c.is_by_line-local.ensures.terminator yes,
-    subst (λ h. is_local (meaning h) ≡ true) (sym c.in_ok-program.ensures.ok) (c.is_by_line-local.ensures.local yes),
-  )) ∣₁;
+  confirms = ∣ (λ yes. subst (λ h. is_by_line c.args.options.line_terminator (meaning h) ≡ true)
+      (sym c.in_ok-program.ensures.ok) (c.is_by_line-by_line.ensures yes)) ∣₁;
 }
