@@ -1,0 +1,2 @@
+pub mod StandardSteps
+pub mod StandardTexts

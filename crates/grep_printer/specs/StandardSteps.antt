@@ -1,0 +1,117 @@
+-- What a standard printer does at a call of a search.
+use Rattle.std.specs.Prelude.{◌≡◌, ◌⊎◌, ℕ, Bool, true, ◌||◌, List, ◌++◌, Result, Ok, Err, String}
+use Rattle.std.specs.Global.{Global}
+use Rattle.std.specs.declared.io.Error.{Error}
+use Rattle.lgrep_cli.specs.Outputs.{OutputCall, FailsToWrite, WritesAll}
+use Rattle.grep_searcher.specs.Meanings.{Meaning}
+use Rattle.grep_searcher.specs.Plans.{Call, reported_bytes}
+use Rattle.grep_searcher.specs.SearchErrors.{IsOutOfMemory}
+use Rattle.grep_searcher.specs.Settings.{Settings}
+use Rattle.grep_searcher.specs.declared.SearchError.{SearchError}
+use Rattle.grep_searcher.specs.declared.SearchError.TheVariants.{Io, Message}
+use Rattle.grep_printer.specs.StandardTexts.{asked_bytes, call_text, goes_on, is_text, opening_of}
+use Rattle.grep_printer.specs.StandardTexts.{progress_after, report_text}
+use Rattle.grep_printer.specs.declared.standard.Standard.{Standard}
+use Rattle.grep_printer.specs.declared.standard.StandardSink.{StandardSink}
+
+-- the matcher, the path and the settings of a sink stay, and so does the printer that it refers to
+pub record IsSameSink {M W : Type 0} (old new : StandardSink M W) : Type 0 where
+  pub printer : new.printer.ghost_name ≡ old.printer.ghost_name
+  pub matcher : new.matcher ≡ old.matcher
+  pub path : new.path ≡ old.path
+  pub config : new.printer.now.config ≡ old.printer.now.config
+
+-- a sink of which the text at hand alone has changed
+pub record IsComposing {M W : Type 0} (old new : StandardSink M W) : Type 0 where
+  pub same : IsSameSink old new
+  pub progress : new.progress ≡ old.progress
+  pub writer : new.printer.now.writer ≡ old.printer.now.writer
+  pub has_written : new.printer.now.has_written ≡ old.printer.now.has_written
+  pub has_failed : new.printer.now.has_failed ≡ old.printer.now.has_failed
+
+-- the text at hand was written
+pub record IsWritten {M W : Type 0} (write_step : W → OutputCall → W → Type 0)
+    (old new : StandardSink M W) : Type 0 where
+  pub same : IsSameSink old new
+  pub written : WritesAll write_step old.printer.now.writer old.printer.now.text.items
+      new.printer.now.writer
+  pub progress : new.progress ≡ record old.progress {
+    is_open = old.progress.is_open || is_text old.printer.now.text.items;
+  }
+  pub has_written : new.printer.now.has_written
+      ≡ (old.printer.now.has_written || is_text old.printer.now.text.items)
+  pub has_failed : new.printer.now.has_failed ≡ old.printer.now.has_failed
+
+-- the writer failed after some first bytes of it
+pub record FailsToBeWritten {M W : Type 0} (write_step : W → OutputCall → W → Type 0)
+    (old : StandardSink M W) (e : SearchError Global) (new : StandardSink M W) : Type 0 where
+  pub same : IsSameSink old new
+  pub error : Error
+  pub is_io : e ≡ Io error
+  pub has_failed : new.printer.now.has_failed ≡ true
+  pub failed : FailsToWrite write_step old.printer.now.writer old.printer.now.text.items error
+      new.printer.now.writer
+
+-- the text of a report of a sink that isn't hidden
+abbrev pub report_of : {M W : Type 0} → (M → Meaning) → StandardSink M W → Settings → Call → List ℕ
+report_of meaning sink settings call =
+    opening_of sink.printer.now.config sink.path settings (meaning sink.matcher)
+    sink.printer.now.has_written sink.progress
+    ++ report_text sink.printer.now.config sink.path settings (meaning sink.matcher) call
+
+-- the text of a call of a sink
+abbrev pub text_of : {M W : Type 0} → (M → Meaning) → StandardSink M W → Settings → Call → List ℕ
+text_of meaning sink settings call =
+    call_text sink.printer.now.config sink.path settings (meaning sink.matcher)
+    sink.printer.now.has_written sink.progress call
+
+-- the error is the matcher's, for the bytes of a report, as a message
+abbrev pub IsErrorAt : {M W F : Type 0} → (M → Meaning) → (M → List ℕ → F → Type 0)
+    → StandardSink M W → Settings → List ℕ → SearchError Global → Type 0
+IsErrorAt {M} {W} {F} meaning fails sink settings bytes e =
+    (error : F) × (text : String Global)
+    × fails sink.matcher (asked_bytes settings (meaning sink.matcher) bytes) error
+    × (e ≡ Message text)
+
+module _ {M W F : Type 0} (meaning : M → Meaning) (fails : M → List ℕ → F → Type 0)
+    (write_step : W → OutputCall → W → Type 0) where
+  -- a call succeeds: its text is written, and nothing else
+  pub record Prints (old : StandardSink M W) (settings : Settings) (call : Call) (goes : Bool)
+      (new : StandardSink M W) : Type 0 where
+    pub same : IsSameSink old new
+    pub goes_on : goes
+        ≡ goes_on old.printer.now.config old.path settings (meaning old.matcher) old.progress call
+    pub written : WritesAll write_step old.printer.now.writer (text_of meaning old settings call)
+        new.printer.now.writer
+    pub progress : new.progress ≡ progress_after old.progress call (text_of meaning old settings call)
+    pub has_written : new.printer.now.has_written
+        ≡ (old.printer.now.has_written || is_text (text_of meaning old settings call))
+    pub has_failed : new.printer.now.has_failed ≡ old.printer.now.has_failed
+
+  -- the writer failed after some first bytes of the text of a call
+  pub record FailsToWriteCall (old : StandardSink M W) (settings : Settings) (call : Call)
+      (e : SearchError Global) (new : StandardSink M W) : Type 0 where
+    pub error : Error
+    pub is_io : e ≡ Io error
+    pub failed : FailsToWrite write_step old.printer.now.writer (text_of meaning old settings call)
+        error new.printer.now.writer
+    pub has_failed : new.printer.now.has_failed ≡ true
+
+  -- the writer had no call, and there was no memory, or the matcher failed
+  pub record FailsBefore (old : StandardSink M W) (settings : Settings) (call : Call)
+      (e : SearchError Global) (new : StandardSink M W) : Type 0 where
+    pub unwritten : new.printer.now.writer ≡ old.printer.now.writer
+    pub has_failed : new.printer.now.has_failed ≡ old.printer.now.has_failed
+    pub cause : IsOutOfMemory e ⊎ IsErrorAt meaning fails old settings (reported_bytes call) e
+
+  -- a call fails
+  pub record FailsToPrint (old : StandardSink M W) (settings : Settings) (call : Call)
+      (e : SearchError Global) (new : StandardSink M W) : Type 0 where
+    pub same : IsSameSink old new
+    pub cause : FailsToWriteCall old settings call e new ⊎ FailsBefore old settings call e new
+
+  -- what a sink does at a call
+  abbrev pub PrintsCall : StandardSink M W → Settings → Call → Result Bool (SearchError Global)
+      → StandardSink M W → Type 0
+  PrintsCall old settings call (Ok goes) new = Prints old settings call goes new
+  PrintsCall old settings call (Err e) new = FailsToPrint old settings call e new

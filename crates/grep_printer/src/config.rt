@@ -1,0 +1,121 @@
+//! How a standard printer writes reports.
+ghost use Rattle.std.specs.Prelude.{◌≡◌, [], true, false, None};
+ghost use Rattle.grep_printer.specs.StandardTexts.{default_config};
+
+use crate::standard::Standard;
+use std::alloc::Global;
+use std::marker::Model;
+
+/// What is written between two searches of a printer, if both have written something.
+#[derive(Clone, Copy, Debug, PartialEq, Eq)]
+pub enum SearchSeparator {
+    /// Nothing.
+    Nothing,
+    /// An empty line, as between the matches of two files below their headings.
+    Blank,
+    /// A line with two dashes, as between two groups of lines of one file.
+    Dashes,
+}
+
+// How reports are written.
+#[derive(Clone, Copy, Debug)]
+pub(crate) struct Config {
+    pub(crate) heading: bool,
+    pub(crate) column: bool,
+    pub(crate) byte_offset: bool,
+    pub(crate) path_terminator: Option<u8>,
+    pub(crate) separator: SearchSeparator,
+}
+
+/// How a standard printer writes reports. Each setter changes its own setting alone, and returns
+/// the builder.
+#[derive(Debug, Drop)]
+pub struct StandardBuilder {
+    config: Config,
+}
+
+impl Model for StandardBuilder {
+    ghost use Rattle.grep_printer.specs.declared.config.Config.{Config};
+
+    ghost Value = { Config };
+
+    ghost view = { λ b. b.config };
+}
+
+impl StandardBuilder {
+    /// The default settings: a path is written before each line, and neither columns nor byte
+    /// offsets are; nothing is written between two searches.
+    pub fn new() -> StandardBuilder
+        ensures { result ≡ default_config }
+    {
+        StandardBuilder {
+            config: Config {
+                heading: false,
+                column: false,
+                byte_offset: false,
+                path_terminator: None,
+                separator: SearchSeparator::Nothing,
+            },
+        }
+    }
+
+    /// A printer with these settings, which writes to `writer` and has written nothing yet. It
+    /// takes memory from `alloc` when it writes.
+    pub fn build<W>(&self, alloc: Global, writer: W) -> Standard<W>
+        ensures writer { result.writer ≡ writer }
+        ensures config { result.config ≡ self.now }
+        ensures has_written { result.has_written ≡ false }
+        ensures has_failed { result.has_failed ≡ false }
+    {
+        Standard::new(alloc, self.config, writer)
+    }
+
+    /// Whether the path is written once, in a line above the reports of a search, and not before
+    /// each line; not by default.
+    pub fn heading(&mut self, yes: bool) -> &mut StandardBuilder
+        ensures reference { result.ghost_name ≡ self.entry.ghost_name }
+        ensures set { result.now ≡ record self.old { heading = yes } }
+    {
+        self.config.heading = yes;
+        self
+    }
+
+    /// Whether the column of the first match is written before each line of a match: its first
+    /// byte, counted from 1 at the start of the report; not by default.
+    pub fn column(&mut self, yes: bool) -> &mut StandardBuilder
+        ensures reference { result.ghost_name ≡ self.entry.ghost_name }
+        ensures set { result.now ≡ record self.old { column = yes } }
+    {
+        self.config.column = yes;
+        self
+    }
+
+    /// Whether the offset of a line in the decoded input is written before it, in bytes, counted
+    /// from 0; not by default.
+    pub fn byte_offset(&mut self, yes: bool) -> &mut StandardBuilder
+        ensures reference { result.ghost_name ≡ self.entry.ghost_name }
+        ensures set { result.now ≡ record self.old { byte_offset = yes } }
+    {
+        self.config.byte_offset = yes;
+        self
+    }
+
+    /// The byte after a path, in place of the mark or of the end of the heading's line, as NUL, if
+    /// there is one; by default there is none.
+    pub fn path_terminator(&mut self, terminator: Option<u8>) -> &mut StandardBuilder
+        ensures reference { result.ghost_name ≡ self.entry.ghost_name }
+        ensures set { result.now ≡ record self.old { path_terminator = terminator } }
+    {
+        self.config.path_terminator = terminator;
+        self
+    }
+
+    /// What is written between two searches that have both written something; nothing by default.
+    pub fn separator_search(&mut self, separator: SearchSeparator) -> &mut StandardBuilder
+        ensures reference { result.ghost_name ≡ self.entry.ghost_name }
+        ensures set { result.now ≡ record self.old { separator = separator } }
+    {
+        self.config.separator = separator;
+        self
+    }
+}

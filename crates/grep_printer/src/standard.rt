@@ -1,0 +1,457 @@
+//! The printer of lines.
+ghost use Rattle.std.specs.Prelude.{◌≡◌, ◌⊎◌, ◌+◌, ◌<◌, ◌^◌, ◌||◌, ◌∷◌, true, false, []};
+ghost use Rattle.std.specs.Prelude.{OnOk, is_ok, IfErr, MatchResult, length};
+ghost use Rattle.std.specs.Prelude.{if◌then◌else◌, ◌++◌, codes, decimal};
+ghost use Rattle.grep_report.specs.SinkReports.{match_bytes};
+ghost use Rattle.grep_searcher.specs.SearchErrors.{IsOutOfMemory};
+ghost use Rattle.grep_searcher.specs.SinkArguments.{context_call, match_call};
+ghost use Rattle.lgrep_cli.specs.Outputs.{Writes};
+ghost use Rattle.grep_printer.specs.StandardSteps.{IsComposing, IsErrorAt, IsWritten};
+ghost use Rattle.grep_printer.specs.StandardSteps.{FailsToBeWritten, report_of};
+ghost use Rattle.grep_printer.specs.StandardTexts.{asked_bytes, binary_message, column_of, is_hidden, is_text};
+ghost use Rattle.grep_printer.specs.StandardTexts.{layout_of, new_progress, opening_text, path_prefix};
+
+use crate::config::Config;
+use crate::fields::{Layout, Place, push_digits};
+use crate::writes::write_all;
+use grep_lines::without_terminator;
+use grep_searcher::{
+    BinaryDetection, Matcher, SearchError, Searcher, Sink, SinkContext, SinkError, SinkFinish,
+    SinkMatch,
+};
+use lgrep_cli::Output;
+use std::alloc::{AllocError, Allocator, Global};
+use std::io;
+
+// What is said of a binary byte, before its offset and what ends both messages.
+const STOPPED: &str =
+    "WARNING: stopped searching binary file after match (found \"\\0\" byte around offset ";
+
+const MATCHES: &str = "binary file matches (found \"\\0\" byte around offset ";
+
+/// A printer of lines: it writes each line that a search reports, after the fields that are asked
+/// for. `sink` gives the sink of one search after another.
+#[derive(Drop)]
+pub struct Standard<W> {
+    writer: W,
+    // The text of the call at hand.
+    text: Vec<u8>,
+    config: Config,
+    has_written: bool,
+    has_failed: bool,
+}
+
+impl<W> Standard<W> {
+    // A printer that has written nothing yet.
+    pub(crate) fn new(alloc: Global, config: Config, writer: W) -> Standard<W>
+        ensures writer { result.writer ≡ writer }
+        ensures config { result.config ≡ config }
+        ensures has_written { result.has_written ≡ false }
+        ensures has_failed { result.has_failed ≡ false }
+    {
+        Standard {
+            writer,
+            text: Vec::new(alloc),
+            config,
+            has_written: false,
+            has_failed: false,
+        }
+    }
+
+    /// The sink of a search: the matcher is that of the search, and the path, if there is one, is
+    /// written before each line or as a heading.
+    pub fn sink<'s, M: Matcher>(
+        &'s mut self,
+        matcher: M,
+        path: Option<&'s str>,
+    ) -> StandardSink<'s, M, W>
+        ensures printer { result.printer.ghost_name ≡ self.entry.ghost_name }
+        ensures now { result.printer.now ≡ self.old }
+        ensures matcher { result.matcher ≡ matcher }
+        ensures path { result.path ≡ path.entry }
+        ensures progress { result.progress ≡ new_progress }
+    {
+        StandardSink {
+            printer: self,
+            matcher,
+            path,
+            progress: Progress::new(),
+        }
+    }
+
+    /// Whether anything was written.
+    pub fn has_written(&self) -> bool
+        ensures { result ≡ self.now.has_written }
+    {
+        self.has_written
+    }
+
+    /// Whether the writer failed.
+    pub fn has_failed(&self) -> bool
+        ensures { result ≡ self.now.has_failed }
+    {
+        self.has_failed
+    }
+
+    /// The writer.
+    pub fn get_mut(&mut self) -> &mut W
+        ensures now { result.now ≡ self.old.writer }
+    {
+        &mut self.writer
+    }
+
+    // Begins a text, which is empty but for the opening of a search that has written nothing yet.
+    fn open(&mut self, layout: &Layout<'_>, is_open: bool) -> Result<(), AllocError>
+        ensures writer { self.new.writer ≡ self.old.writer }
+        ensures config { self.new.config ≡ self.old.config }
+        ensures has_written { self.new.has_written ≡ self.old.has_written }
+        ensures has_failed { self.new.has_failed ≡ self.old.has_failed }
+        ensures text { OnOk result (self.new.text.items
+            ≡ (if is_open then [] else opening_text layout.now self.old.has_written)) }
+    {
+        self.text.clear();
+        if is_open {
+            return Ok(());
+        }
+        layout.push_opening(&mut self.text, self.has_written)
+    }
+
+    // Makes a text of the line between two groups of lines.
+    fn compose_break(&mut self, terminator: u8) -> Result<(), AllocError>
+        ensures writer { self.new.writer ≡ self.old.writer }
+        ensures config { self.new.config ≡ self.old.config }
+        ensures has_written { self.new.has_written ≡ self.old.has_written }
+        ensures has_failed { self.new.has_failed ≡ self.old.has_failed }
+        ensures text { OnOk result (self.new.text.items ≡ 45 ∷ 45 ∷ terminator ∷ []) }
+    {
+        self.text.clear();
+        self.text.extend_from_slice(&[b'-', b'-', terminator])
+    }
+
+    // Makes a text of the message about a binary byte.
+    fn compose_message(
+        &mut self,
+        detection: BinaryDetection,
+        path: Option<&str>,
+        offset: u64,
+    ) -> Result<(), AllocError>
+        ensures writer { self.new.writer ≡ self.old.writer }
+        ensures config { self.new.config ≡ self.old.config }
+        ensures has_written { self.new.has_written ≡ self.old.has_written }
+        ensures has_failed { self.new.has_failed ≡ self.old.has_failed }
+        ensures text { OnOk result
+            (self.new.text.items ≡ binary_message detection path.entry offset) }
+    {
+        self.text.clear();
+        match detection {
+            BinaryDetection::None => Ok(()),
+            BinaryDetection::Quit(_) => push_message(&mut self.text, path, STOPPED, offset),
+            BinaryDetection::Convert(_) => push_message(&mut self.text, path, MATCHES, offset),
+        }
+    }
+
+    /// The writer back.
+    pub fn into_inner(self) -> W
+        ensures { result ≡ self.writer }
+    {
+        let Standard {
+            writer,
+            text: _,
+            config: _,
+            has_written: _,
+            has_failed: _,
+        } = self;
+        writer
+    }
+}
+
+impl<W: Output> Standard<W> {
+    // Writes the text at hand.
+    fn write_text(&mut self) -> io::Result<()>
+        ensures written { Writes W.step self.old.writer self.old.text.items result self.new.writer }
+        ensures text { self.new.text.items ≡ self.old.text.items }
+        ensures config { self.new.config ≡ self.old.config }
+        ensures has_written { OnOk result (self.new.has_written
+            ≡ (self.old.has_written || is_text self.old.text.items)) }
+        ensures has_failed { self.new.has_failed
+            ≡ (if is_ok result then self.old.has_failed else true) }
+    {
+        match write_all(&mut self.writer, &self.text) {
+            Ok(()) => {
+                self.has_written = self.has_written || !self.text.is_empty();
+                Ok(())
+            }
+            Err(error) => {
+                self.has_failed = true;
+                Err(error)
+            }
+        }
+    }
+}
+
+// Pushes a message about a binary byte at an offset, after the path if there is one.
+fn push_message(
+    text: &mut Vec<u8>,
+    path: Option<&str>,
+    message: &str,
+    offset: u64,
+) -> Result<(), AllocError>
+    ensures { OnOk result (text.new.items
+        ≡ text.old.items ++ (path_prefix path.entry
+        ++ (message.now ++ (decimal offset ++ codes ")\n")))) }
+{
+    push_prefix(text, path)?;
+    text.extend_from_slice(message.as_bytes())?;
+    push_digits(text, offset, b')')?;
+    text.extend_from_slice(b"\n")
+}
+
+// Pushes a path before a message, if there is one.
+fn push_prefix(text: &mut Vec<u8>, path: Option<&str>) -> Result<(), AllocError>
+    ensures { OnOk result (text.new.items ≡ text.old.items ++ path_prefix path.entry) }
+{
+    match path {
+        Some(path) => {
+            text.extend_from_slice(path.as_bytes())?;
+            text.extend_from_slice(b": ")
+        }
+        None => Ok(()),
+    }
+}
+
+// What was reported to a sink: whether a match was, whether it has written anything, and the offset
+// of a binary byte, if one was found.
+#[derive(Clone, Copy)]
+pub(crate) struct Progress {
+    pub(crate) has_match: bool,
+    pub(crate) is_open: bool,
+    pub(crate) binary: Option<u64>,
+}
+
+impl Progress {
+    // Nothing was reported yet.
+    fn new() -> Progress
+        ensures { result ≡ new_progress }
+    {
+        Progress {
+            has_match: false,
+            is_open: false,
+            binary: None,
+        }
+    }
+}
+
+/// The sink of one search, which writes each line that is reported.
+#[derive(Drop)]
+pub struct StandardSink<'s, M, W> {
+    printer: &'s mut Standard<W>,
+    matcher: M,
+    path: Option<&'s str>,
+    progress: Progress,
+}
+
+impl<'s, M: Matcher, W: Output> StandardSink<'s, M, W> {
+    /// Whether a match was reported.
+    pub fn has_match(&self) -> bool
+        ensures { result ≡ self.now.progress.has_match }
+    {
+        self.progress.has_match
+    }
+
+    // How the lines of the search are laid out.
+    fn layout<A: Allocator + Copy>(&self, searcher: &Searcher<A>) -> Layout<'s>
+        ensures { result
+            ≡ layout_of self.now.printer.now.config self.now.path searcher.now.settings }
+    {
+        Layout {
+            config: self.printer.config,
+            path: self.path,
+            terminator: searcher.line_terminator().as_byte(),
+        }
+    }
+
+    // Whether reports aren't written any more.
+    fn is_hidden<A: Allocator + Copy>(&self, searcher: &Searcher<A>) -> bool
+        ensures { result ≡ is_hidden self.now.printer.now.config self.now.path searcher.now.settings
+            (M.facts self.now.matcher).meaning self.now.progress }
+    {
+        self.progress.binary.is_some() && searcher.binary_detection().convert_byte().is_some()
+    }
+
+    // The column of the first match in a report, if columns are written.
+    fn column<A: Allocator + Copy>(
+        &self,
+        searcher: &Searcher<A>,
+        bytes: &[u8],
+    ) -> Result<Option<u64>, SearchError>
+        ensures { MatchResult result
+            (λ column. column ≡ column_of self.now.printer.now.config self.now.path
+            searcher.now.settings (M.facts self.now.matcher).meaning bytes.now)
+            (λ e. IsErrorAt (λ m. (M.facts m).meaning) (λ m. (M.facts m).fails) self.now searcher.now.settings bytes.now e) }
+    {
+        if !self.printer.config.column {
+            return Ok(None);
+        }
+        match self.matcher.find(self.asked(searcher, bytes)) {
+            Ok(Some(found)) => Ok(Some(found.start() as u64 + 1)),
+            Ok(None) => Ok(None),
+            Err(error) => {
+                let alloc = *self.printer.text.allocator();
+                Err(SearchError::error_message(alloc, error))
+            }
+        }
+    }
+
+    // The bytes of a report about which the matcher is asked.
+    fn asked<'b, A: Allocator + Copy>(&self, searcher: &Searcher<A>, bytes: &'b [u8]) -> &'b [u8]
+        ensures { result.now ≡ asked_bytes searcher.now.settings (M.facts self.now.matcher).meaning
+            bytes.now }
+    {
+        if searcher.multi_line_with_matcher(&self.matcher) {
+            return bytes;
+        }
+        without_terminator(bytes, searcher.line_terminator())
+    }
+
+    // Makes the text of a match.
+    fn compose_match<A: Allocator + Copy>(
+        &mut self,
+        searcher: &Searcher<A>,
+        found: &SinkMatch<'_>,
+    ) -> Result<(), SearchError>
+        requires { found.now.offset + length (match_bytes found.now) < 2 ^ 64 }
+        ensures composing { IsComposing self.old self.new }
+        ensures text { OnOk result (self.new.printer.now.text.items
+            ≡ report_of (λ m. (M.facts m).meaning) self.old searcher.now.settings (match_call found.now)) }
+        ensures error { IfErr result (λ e. IsOutOfMemory e
+            ⊎ IsErrorAt (λ m. (M.facts m).meaning) (λ m. (M.facts m).fails) self.old searcher.now.settings (match_bytes found.now) e) }
+    {
+        let column = match self.column(searcher, found.bytes()) {
+            Ok(column) => column,
+            Err(error) => return Err(error),
+        };
+        let layout = self.layout(searcher);
+        let place = Place {
+            number: found.line_number(),
+            column,
+            offset: found.absolute_byte_offset(),
+        };
+        self.printer.open(&layout, self.progress.is_open)?;
+        layout.push_lines(&mut self.printer.text, place, found.bytes())?;
+        Ok(())
+    }
+
+    // Makes the text of a line that isn't a match.
+    fn compose_context<A: Allocator + Copy>(
+        &mut self,
+        searcher: &Searcher<A>,
+        line: &SinkContext<'_>,
+    ) -> Result<(), AllocError>
+        ensures composing { IsComposing self.old self.new }
+        ensures text { OnOk result (self.new.printer.now.text.items
+            ≡ report_of (λ m. (M.facts m).meaning) self.old searcher.now.settings (context_call line.now)) }
+    {
+        let layout = self.layout(searcher);
+        let place = Place {
+            number: line.line_number(),
+            column: None,
+            offset: line.absolute_byte_offset(),
+        };
+        self.printer.open(&layout, self.progress.is_open)?;
+        layout.push_line(&mut self.printer.text, b'-', &place, line.bytes())
+    }
+
+    // Writes the text at hand.
+    fn write(&mut self) -> Result<bool, SearchError>
+        ensures { MatchResult result
+            (λ goes. (goes ≡ true) × IsWritten W.step self.old self.new)
+            (λ e. FailsToBeWritten W.step self.old e self.new) }
+    {
+        match self.printer.write_text() {
+            Ok(()) => {
+                self.progress.is_open = self.progress.is_open || !self.printer.text.is_empty();
+                Ok(true)
+            }
+            Err(error) => Err(SearchError::Io(error)),
+        }
+    }
+}
+
+impl<'s, M: Matcher, W: Output> Sink for StandardSink<'s, M, W> {
+    type Error = SearchError;
+
+    ghost use Rattle.grep_printer.specs.StandardSteps.{PrintsCall};
+
+    ghost step = { PrintsCall (λ m. (M.facts m).meaning) (λ m. (M.facts m).fails) W.step };
+
+    ghost may_call = { λ _. Unit {0} };
+
+    fn begin<A: Allocator + Copy>(&mut self, _searcher: &Searcher<A>) -> Result<bool, SearchError> {
+        Ok(true)
+    }
+
+    fn matched<A: Allocator + Copy>(
+        &mut self,
+        searcher: &Searcher<A>,
+        found: &SinkMatch<'_>,
+    ) -> Result<bool, SearchError> {
+        if self.is_hidden(searcher) {
+            self.progress.has_match = true;
+            return Ok(false);
+        }
+        match self.compose_match(searcher, found) {
+            Ok(()) => {
+                self.progress.has_match = true;
+                self.write()
+            }
+            Err(error) => Err(error),
+        }
+    }
+
+    fn context<A: Allocator + Copy>(
+        &mut self,
+        searcher: &Searcher<A>,
+        line: &SinkContext<'_>,
+    ) -> Result<bool, SearchError> {
+        if self.is_hidden(searcher) {
+            return Ok(false);
+        }
+        self.compose_context(searcher, line)?;
+        self.write()
+    }
+
+    fn context_break<A: Allocator + Copy>(
+        &mut self,
+        searcher: &Searcher<A>,
+    ) -> Result<bool, SearchError> {
+        self.printer
+            .compose_break(searcher.line_terminator().as_byte())?;
+        self.write()
+    }
+
+    fn binary_data<A: Allocator + Copy>(
+        &mut self,
+        _searcher: &Searcher<A>,
+        binary_byte_offset: u64,
+    ) -> Result<bool, SearchError> {
+        self.progress.binary = Some(binary_byte_offset);
+        Ok(true)
+    }
+
+    fn finish<A: Allocator + Copy>(
+        &mut self,
+        searcher: &Searcher<A>,
+        finish: &SinkFinish,
+    ) -> Result<(), SearchError> {
+        if !self.progress.has_match {
+            return Ok(());
+        }
+        let Some(offset) = finish.binary_byte_offset() else {
+            return Ok(());
+        };
+        self.printer
+            .compose_message(*searcher.binary_detection(), self.path, offset)?;
+        self.write()?;
+        Ok(())
+    }
+}

@@ -1,0 +1,106 @@
+//! Why the program ends before it has searched all.
+use std::alloc::{AllocError, AllocFailed, Global};
+use std::io;
+use std::process::ExitCode;
+
+const MORE: &str = "For more information, try 'linegrep --help'.";
+
+/// Why the program ends before it has searched all.
+#[derive(Drop)]
+pub enum Failure {
+    /// The arguments are wrong, or ask for help or the version.
+    Usage(clap::Error),
+    /// There is no pattern.
+    NoPattern,
+    /// A pattern can't be compiled: its text, and why.
+    Pattern(String, grep_regex::Error),
+    /// A setting can't be used, as a message.
+    Setting(String),
+    /// The file of patterns at a path can't be read.
+    Patterns(String, io::Error),
+    /// Standard output can't be written to.
+    Output(io::Error),
+    /// Anything else that the system refuses.
+    System(io::Error),
+}
+
+impl Failure {
+    /// Says what went wrong, and gives the status to exit with: 2, or 0 if help was asked for, or if
+    /// nobody reads the output any more.
+    pub fn report<T: Print + Eprint>(&self, rt: &T) -> ExitCode {
+        let _ = match self {
+            Failure::Usage(error) => error.print(rt),
+            Failure::NoPattern => eprintln!(rt; "linegrep: there is no pattern\n\n{MORE}"),
+            Failure::Pattern(text, error) => report_pattern(rt, text, error),
+            Failure::Setting(message) => eprintln!(rt; "linegrep: {message}"),
+            Failure::Patterns(path, error) => eprintln!(rt; "linegrep: {path}: {error}"),
+            Failure::Output(error) => report_output(rt, error),
+            Failure::System(error) => eprintln!(rt; "linegrep: {error}"),
+        };
+        ExitCode::from(self.status())
+    }
+
+    fn status(&self) -> u8 {
+        match self {
+            Failure::Usage(error) if !error.use_stderr() => 0,
+            Failure::Output(error) if error.kind() == io::ErrorKind::BrokenPipe => 0,
+            _ => 2,
+        }
+    }
+}
+
+// Says why nothing more can be written, unless nobody reads it.
+fn report_output<T: Eprint>(rt: &T, error: &io::Error) -> io::Result<()> {
+    if error.kind() == io::ErrorKind::BrokenPipe {
+        return Ok(());
+    }
+    eprintln!(rt; "linegrep: standard output: {error}")
+}
+
+// Says why a pattern can't be compiled, with a mark below the place if there is one.
+fn report_pattern<T: Eprint>(rt: &T, text: &str, error: &grep_regex::Error) -> io::Result<()> {
+    match error {
+        grep_regex::Error::Syntax { pattern: _, error } => {
+            let message = error.kind.message();
+            eprintln!(rt; "linegrep: {message}\n    {text}")?;
+            report_mark(rt, text, error.span.start)
+        }
+        other => eprintln!(rt; "linegrep: {other}\n    {text}"),
+    }
+}
+
+// Writes a mark below the character that begins at a position of a text, counted in bytes.
+fn report_mark<T: Eprint>(rt: &T, text: &str, start: usize) -> io::Result<()> {
+    eprint!(rt; "    ")?;
+    for (at, _) in text.char_indices() {
+        if at >= start {
+            break;
+        }
+        eprint!(rt; " ")?;
+    }
+    eprintln!(rt; "^")
+}
+
+impl From<clap::Error> for Failure {
+    fn from(error: clap::Error) -> Failure {
+        Failure::Usage(error)
+    }
+}
+
+impl From<AllocError> for Failure {
+    fn from(error: AllocError) -> Failure {
+        Failure::System(io::Error::from(error))
+    }
+}
+
+impl<T: Drop> From<AllocFailed<T>> for Failure {
+    fn from(_error: AllocFailed<T>) -> Failure {
+        Failure::System(io::Error::from(io::ErrorKind::OutOfMemory))
+    }
+}
+
+impl From<io::Error> for Failure {
+    fn from(error: io::Error) -> Failure {
+        Failure::System(error)
+    }
+}

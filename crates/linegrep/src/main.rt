@@ -1,0 +1,57 @@
+//! Searches files, or standard input, for lines that match a pattern, and writes them.
+#![tactic(auto)]
+
+mod command;
+mod failures;
+mod options;
+mod patterns;
+mod search;
+
+use crate::command::command;
+use crate::failures::Failure;
+use crate::options::{printer, searcher};
+use crate::patterns::Operands;
+use crate::search::search_all;
+use clap::ArgMatches;
+use grep_searcher::Reading;
+use lgrep_cli::Writing;
+use std::env;
+use std::io::{BufWriter, IsTerminal};
+use std::process::ExitCode;
+
+// For how many bytes of text there is room before they are written.
+const ROOM: usize = 64 * 1024;
+
+fn main(rt: HostRuntime) -> ExitCode {
+    match run(&rt) {
+        Ok(code) => code,
+        Err(failure) => failure.report(&rt),
+    }
+}
+
+// Does what the arguments ask for.
+fn run(rt: &HostRuntime) -> Result<ExitCode, Failure> {
+    let words: Vec<String> = env::args(rt)?.collect(rt.alloc())?;
+    let matches = command(rt.alloc())?.try_get_matches_from(words.as_slice())?;
+    let operands = Operands::read(rt, &matches)?;
+    search_operands(rt, &matches, &operands)
+}
+
+// Searches what the operands name. A terminal gets each text at once.
+fn search_operands(
+    rt: &HostRuntime,
+    matches: &ArgMatches<'_>,
+    operands: &Operands,
+) -> Result<ExitCode, Failure> {
+    let stdout = rt.stdout();
+    let is_terminal = stdout.is_terminal();
+    let searcher = searcher(rt.alloc(), matches, is_terminal)?;
+    let mut input = Reading::new(rt.stdin());
+    if is_terminal {
+        let printer = printer(rt.alloc(), matches, Writing::new(stdout));
+        return search_all(rt, matches, operands, searcher, printer, &mut input);
+    }
+    let buffered = BufWriter::with_capacity(rt.alloc(), ROOM, stdout)?;
+    let printer = printer(rt.alloc(), matches, Writing::new(buffered));
+    search_all(rt, matches, operands, searcher, printer, &mut input)
+}

@@ -1,0 +1,133 @@
+//! What the arguments ask for.
+use crate::failures::Failure;
+use clap::ArgMatches;
+use grep_printer::{SearchSeparator, Standard, StandardBuilder};
+use grep_searcher::{
+    BinaryDetection, ConfigError, Encoding, LineTerminator, Searcher, SearcherBuilder,
+};
+use std::alloc::{AllocError, Global};
+
+/// The searcher that the arguments ask for. Lines are numbered for a terminal, if nothing else is
+/// asked for. A failure is one of a setting, or of being out of memory.
+pub fn searcher(
+    alloc: Global,
+    matches: &ArgMatches<'_>,
+    is_terminal: bool,
+) -> Result<Searcher, Failure> {
+    let encoding = encoding(alloc, matches)?;
+    let mut builder = SearcherBuilder::new();
+    builder
+        .line_terminator(line_terminator(matches))
+        .invert_match(matches.get_flag("invert-match"))
+        .line_number(shows_numbers(matches, is_terminal))
+        .multi_line(matches.get_flag("multiline"))
+        .after_context(context(matches, "after-context"))
+        .before_context(context(matches, "before-context"))
+        .passthru(matches.get_flag("passthru"))
+        .max_matches(matches.get_one::<u64>("max-count"))
+        .encoding(encoding)
+        .binary_detection(binary_detection(matches));
+    match builder.build(alloc) {
+        Ok(searcher) => Ok(searcher),
+        Err(error) => Err(refused(alloc, error)),
+    }
+}
+
+/// The printer that the arguments ask for, which writes to `writer`.
+pub fn printer<W>(alloc: Global, matches: &ArgMatches<'_>, writer: W) -> Standard<W> {
+    let mut builder = StandardBuilder::new();
+    builder
+        .column(matches.get_flag("column"))
+        .byte_offset(matches.get_flag("byte-offset"))
+        .path_terminator(path_terminator(matches))
+        .separator_search(separator(matches));
+    builder.build(alloc, writer)
+}
+
+/// Whether paths are written: if they are asked for, or if there are several.
+pub fn shows_paths(matches: &ArgMatches<'_>, paths: &[String]) -> bool {
+    !matches.get_flag("no-filename") && (matches.get_flag("with-filename") || paths.len() > 1)
+}
+
+/// What ends a line.
+pub fn line_terminator(matches: &ArgMatches<'_>) -> LineTerminator {
+    if matches.get_flag("null-data") {
+        LineTerminator::byte(0)
+    } else if matches.get_flag("crlf") {
+        LineTerminator::crlf()
+    } else {
+        LineTerminator::byte(b'\n')
+    }
+}
+
+/// The values of an option or an operand, in order.
+pub fn texts(
+    alloc: Global,
+    matches: &ArgMatches<'_>,
+    name: &str,
+) -> Result<Vec<String>, AllocError> {
+    let mut texts = Vec::new(alloc);
+    if let Some(values) = matches.get_strs(name) {
+        for value in values {
+            texts.push(String::from_str(alloc, value)?)?;
+        }
+    }
+    Ok(texts)
+}
+
+fn shows_numbers(matches: &ArgMatches<'_>, is_terminal: bool) -> bool {
+    !matches.get_flag("no-line-number")
+        && (matches.get_flag("line-number") || matches.get_flag("column") || is_terminal)
+}
+
+// How many lines of context: by the option itself, or else by the one for both sides.
+fn context(matches: &ArgMatches<'_>, name: &str) -> usize {
+    let number = matches.get_one::<u64>(name);
+    let both = matches.get_one::<u64>("context");
+    number.or(both).unwrap_or(0) as usize
+}
+
+fn encoding(alloc: Global, matches: &ArgMatches<'_>) -> Result<Option<Encoding>, Failure> {
+    let label = matches.get_str("encoding").unwrap_or("auto");
+    if label == "auto" {
+        return Ok(None);
+    }
+    match Encoding::new(alloc, label) {
+        Ok(encoding) => Ok(Some(encoding)),
+        Err(error) => Err(refused(alloc, error)),
+    }
+}
+
+// A file with a NUL is binary, unless it is to be searched as text.
+fn binary_detection(matches: &ArgMatches<'_>) -> BinaryDetection {
+    if matches.get_flag("text") || matches.get_flag("null-data") {
+        BinaryDetection::none()
+    } else {
+        BinaryDetection::convert(0)
+    }
+}
+
+fn path_terminator(matches: &ArgMatches<'_>) -> Option<u8> {
+    if matches.get_flag("null") {
+        Some(0)
+    } else {
+        None
+    }
+}
+
+// Groups of lines of two files are set apart as those of one are.
+fn separator(matches: &ArgMatches<'_>) -> SearchSeparator {
+    if context(matches, "after-context") > 0 || context(matches, "before-context") > 0 {
+        SearchSeparator::Dashes
+    } else {
+        SearchSeparator::Nothing
+    }
+}
+
+// The failure of a setting that can't be used.
+fn refused(alloc: Global, error: ConfigError) -> Failure {
+    match format!(in alloc; "{error}") {
+        Ok(message) => Failure::Setting(message),
+        Err(error) => Failure::from(error),
+    }
+}
