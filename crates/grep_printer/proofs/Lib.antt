@@ -1,1 +1,3 @@
+pub mod PrintedRunLemmas
+pub mod SummaryLemmas
 pub mod TextLemmas

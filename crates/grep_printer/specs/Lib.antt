@@ -1,2 +1,4 @@
 pub mod StandardSteps
 pub mod StandardTexts
+pub mod SummarySteps
+pub mod SummaryTexts

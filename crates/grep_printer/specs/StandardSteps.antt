@@ -1,16 +1,16 @@
--- What a standard printer does at a call of a search.
+-- What a standard printer does at a call of a search, and in a whole search.
 use Rattle.std.specs.Prelude.{◌≡◌, ◌⊎◌, ℕ, Bool, true, ◌||◌, List, ◌++◌, Result, Ok, Err, String}
 use Rattle.std.specs.Global.{Global}
 use Rattle.std.specs.declared.io.Error.{Error}
 use Rattle.lgrep_cli.specs.Outputs.{OutputCall, FailsToWrite, WritesAll}
 use Rattle.grep_searcher.specs.Meanings.{Meaning}
-use Rattle.grep_searcher.specs.Plans.{Call, reported_bytes}
+use Rattle.grep_searcher.specs.Plans.{Call, Plan, IsRun, reported_bytes}
 use Rattle.grep_searcher.specs.SearchErrors.{IsOutOfMemory}
 use Rattle.grep_searcher.specs.Settings.{Settings}
 use Rattle.grep_searcher.specs.declared.SearchError.{SearchError}
 use Rattle.grep_searcher.specs.declared.SearchError.TheVariants.{Io, Message}
-use Rattle.grep_printer.specs.StandardTexts.{asked_bytes, call_text, goes_on, is_text, opening_of}
-use Rattle.grep_printer.specs.StandardTexts.{progress_after, report_text}
+use Rattle.grep_printer.specs.StandardTexts.{Frame, asked_bytes, call_text, goes_on, is_text}
+use Rattle.grep_printer.specs.StandardTexts.{opening_of, printed_of, progress_after, report_text}
 use Rattle.grep_printer.specs.declared.standard.Standard.{Standard}
 use Rattle.grep_printer.specs.declared.standard.StandardSink.{StandardSink}
 
@@ -35,9 +35,7 @@ pub record IsWritten {M W : Type 0} (write_step : W → OutputCall → W → Typ
   pub same : IsSameSink old new
   pub written : WritesAll write_step old.printer.now.writer old.printer.now.text.items
       new.printer.now.writer
-  pub progress : new.progress ≡ record old.progress {
-    is_open = old.progress.is_open || is_text old.printer.now.text.items;
-  }
+  pub progress : new.progress ≡ old.progress
   pub has_written : new.printer.now.has_written
       ≡ (old.printer.now.has_written || is_text old.printer.now.text.items)
   pub has_failed : new.printer.now.has_failed ≡ old.printer.now.has_failed
@@ -52,18 +50,25 @@ pub record FailsToBeWritten {M W : Type 0} (write_step : W → OutputCall → W 
   pub failed : FailsToWrite write_step old.printer.now.writer old.printer.now.text.items error
       new.printer.now.writer
 
+-- what the texts of a sink's calls depend on
+abbrev pub frame_of : {M W : Type 0} → (M → Meaning) → StandardSink M W → Settings → Frame
+frame_of meaning sink settings = record {
+  config = sink.printer.now.config;
+  path = sink.path;
+  settings = settings;
+  meaning = meaning sink.matcher;
+}
+
 -- the text of a report of a sink that isn't hidden
 abbrev pub report_of : {M W : Type 0} → (M → Meaning) → StandardSink M W → Settings → Call → List ℕ
 report_of meaning sink settings call =
-    opening_of sink.printer.now.config sink.path settings (meaning sink.matcher)
-    sink.printer.now.has_written sink.progress
-    ++ report_text sink.printer.now.config sink.path settings (meaning sink.matcher) call
+    opening_of (frame_of meaning sink settings) sink.progress
+    ++ report_text (frame_of meaning sink settings) call
 
 -- the text of a call of a sink
 abbrev pub text_of : {M W : Type 0} → (M → Meaning) → StandardSink M W → Settings → Call → List ℕ
 text_of meaning sink settings call =
-    call_text sink.printer.now.config sink.path settings (meaning sink.matcher)
-    sink.printer.now.has_written sink.progress call
+    call_text (frame_of meaning sink settings) sink.progress call
 
 -- the error is the matcher's, for the bytes of a report, as a message
 abbrev pub IsErrorAt : {M W F : Type 0} → (M → Meaning) → (M → List ℕ → F → Type 0)
@@ -79,11 +84,10 @@ module _ {M W F : Type 0} (meaning : M → Meaning) (fails : M → List ℕ → 
   pub record Prints (old : StandardSink M W) (settings : Settings) (call : Call) (goes : Bool)
       (new : StandardSink M W) : Type 0 where
     pub same : IsSameSink old new
-    pub goes_on : goes
-        ≡ goes_on old.printer.now.config old.path settings (meaning old.matcher) old.progress call
+    pub goes_on : goes ≡ goes_on (frame_of meaning old settings) old.progress call
     pub written : WritesAll write_step old.printer.now.writer (text_of meaning old settings call)
         new.printer.now.writer
-    pub progress : new.progress ≡ progress_after old.progress call (text_of meaning old settings call)
+    pub progress : new.progress ≡ progress_after old.progress call
     pub has_written : new.printer.now.has_written
         ≡ (old.printer.now.has_written || is_text (text_of meaning old settings call))
     pub has_failed : new.printer.now.has_failed ≡ old.printer.now.has_failed
@@ -115,3 +119,19 @@ module _ {M W F : Type 0} (meaning : M → Meaning) (fails : M → List ℕ → 
       → StandardSink M W → Type 0
   PrintsCall old settings call (Ok goes) new = Prints old settings call goes new
   PrintsCall old settings call (Err e) new = FailsToPrint old settings call e new
+
+  -- the text of a plan is written
+  pub record PrintsPlan (old : StandardSink M W) (settings : Settings) (plan : Plan)
+      (new : StandardSink M W) : Type 0 where
+    pub same : IsSameSink old new
+    pub written : WritesAll write_step old.printer.now.writer
+        (printed_of (frame_of meaning old settings) old.progress plan).text
+        new.printer.now.writer
+    pub progress : new.progress
+        ≡ (printed_of (frame_of meaning old settings) old.progress plan).progress
+
+  -- a run of the sink that ended in `Ok` has written the text of its plan
+  abbrev pub RunsPrint : Type 0
+  RunsPrint =
+      (settings : Settings) (old : StandardSink M W) (plan : Plan) (new : StandardSink M W)
+      → IsRun PrintsCall settings old plan (Ok tt) new → PrintsPlan old settings plan new

@@ -11,7 +11,9 @@ use Rattle.grep_searcher.specs.BinaryDetections.{convert_byte_of}
 use Rattle.grep_searcher.specs.Lines.{lines, strip}
 use Rattle.grep_searcher.specs.Meanings.{Meaning}
 use Rattle.grep_searcher.specs.Plans.{Call, begins, matches, context, breaks, binary_data, finishes}
+use Rattle.grep_searcher.specs.Plans.{Plan}
 use Rattle.grep_searcher.specs.Settings.{Settings}
+use Rattle.grep_searcher.specs.SinkFolds.{run_fold}
 use Rattle.grep_searcher.specs.declared.BinaryDetection.{BinaryDetection}
 use Rattle.grep_searcher.specs.declared.BinaryDetection.TheVariants.{None as no_detection, Quit}
 use Rattle.grep_searcher.specs.declared.BinaryDetection.TheVariants.{Convert}
@@ -32,9 +34,10 @@ default_config = record {
   separator = Nothing;
 }
 
--- nothing was reported yet
-abbrev pub new_progress : Progress
-new_progress = record { has_match = false; is_open = false; binary = None }
+-- nothing was reported yet; whether the printer has written anything before
+abbrev pub new_progress : Bool → Progress
+new_progress follows =
+    record { follows = follows; has_match = false; is_open = false; binary = None }
 
 -- a number and a mark, if there is a number
 abbrev pub number_field : ℕ → Option ℕ → List ℕ
@@ -127,94 +130,118 @@ abbrev pub message_text : BinaryDetection → Option (Bor (List ℕ)) → Option
 message_text detection path None = []
 message_text detection path (Some offset) = binary_message detection path offset
 
--- the bytes of a report about which the matcher is asked: a line without its terminator
+-- what the texts of a search's calls depend on: the settings of the printer, the path, those of the
+-- search, and what the matcher means
+pub record Frame : Type 0 where
+  pub config : Config
+  pub path : Option (Bor (List ℕ))
+  pub settings : Settings
+  pub meaning : Meaning
+
+-- the byte at which lines are split
+abbrev pub terminator_of : Frame → ℕ
+terminator_of frame = byte_of frame.settings.line_terminator
+
+-- how lines are laid out
+abbrev pub layout_of : Frame → Layout
+layout_of frame =
+    record { config = frame.config; path = frame.path; terminator = terminator_of frame }
+
+-- the bytes of a report about which the matcher is asked: a line without its terminator, or all of
+-- it in a search across lines
 abbrev pub asked_bytes : Settings → Meaning → List ℕ → List ℕ
 asked_bytes settings meaning bytes =
     if is_across settings meaning then bytes else strip settings.line_terminator bytes
 
--- how a search with these settings is laid out
-abbrev pub layout_of : Config → Option (Bor (List ℕ)) → Settings → Layout
-layout_of config path settings =
-    record { config = config; path = path; terminator = byte_of settings.line_terminator }
+-- the column of the first match in a report, counted from 1, if columns are written
+abbrev pub column_of : Frame → List ℕ → Option ℕ
+column_of frame bytes =
+    if frame.config.column
+    then option_map (λ m. m.0 + 1)
+    (frame.meaning.first (asked_bytes frame.settings frame.meaning bytes))
+    else None
 
-module _ (config : Config) (path : Option (Bor (List ℕ))) (settings : Settings)
-    (meaning : Meaning) where
-  -- the column of the first match in a report, counted from 1, if columns are written
-  abbrev pub column_of : List ℕ → Option ℕ
-  column_of bytes =
-      if config.column
-      then option_map (λ m. m.0 + 1) (meaning.first (asked_bytes settings meaning bytes))
-      else None
+-- the text of a report, or of a break between two groups of lines, as two dashes
+abbrev pub report_text : Frame → Call → List ℕ
+report_text frame begins = []
+report_text frame (matches number offset bytes) =
+    lines_text (layout_of frame)
+    (record { number = number; column = column_of frame bytes; offset = offset })
+    (lines (terminator_of frame) bytes)
+report_text frame (context kind number offset line) =
+    line_text (layout_of frame) 45 (record { number = number; column = None; offset = offset }) line
+report_text frame breaks = 45 ∷ 45 ∷ terminator_of frame ∷ []
+report_text frame (binary_data offset) = []
+report_text frame (finishes count binary) = []
 
-  -- the text of a report or a break
-  abbrev pub report_text : Call → List ℕ
-  report_text begins = []
-  report_text (matches number offset bytes) =
-      lines_text (layout_of config path settings)
-      (record { number = number; column = column_of bytes; offset = offset })
-      (lines (byte_of settings.line_terminator) bytes)
-  report_text (context kind number offset line) =
-      line_text (layout_of config path settings) 45
-      (record { number = number; column = None; offset = offset }) line
-  report_text breaks = 45 ∷ 45 ∷ byte_of settings.line_terminator ∷ []
-  report_text (binary_data offset) = []
-  report_text (finishes count binary) = []
+-- a report isn't written after a binary byte was found that is replaced: it may hold one
+abbrev pub is_hidden : Frame → Progress → Bool
+is_hidden frame progress =
+    is_some progress.binary && is_some (convert_byte_of frame.settings.binary_detection)
 
-  -- a report isn't written after a binary byte was found that is replaced: it may hold one
-  abbrev pub is_hidden : Progress → Bool
-  is_hidden progress =
-      is_some progress.binary && is_some (convert_byte_of settings.binary_detection)
+-- the opening, before the first report of the search
+abbrev pub opening_of : Frame → Progress → List ℕ
+opening_of frame progress =
+    if progress.is_open then [] else opening_text (layout_of frame) progress.follows
 
-  -- the opening, if the search has written nothing yet
-  abbrev pub opening_of : Bool → Progress → List ℕ
-  opening_of has_written progress =
-      if progress.is_open then [] else opening_text (layout_of config path settings) has_written
+-- the text of a call, by what was reported before
+abbrev pub call_text : Frame → Progress → Call → List ℕ
+call_text frame progress begins = []
+call_text frame progress (matches number offset bytes) =
+    if is_hidden frame progress then []
+    else opening_of frame progress ++ report_text frame (matches number offset bytes)
+call_text frame progress (context kind number offset line) =
+    if is_hidden frame progress then []
+    else opening_of frame progress ++ report_text frame (context kind number offset line)
+call_text frame progress breaks = report_text frame breaks
+call_text frame progress (binary_data offset) = []
+call_text frame progress (finishes count binary) =
+    if progress.has_match
+    then message_text frame.settings.binary_detection frame.path binary
+    else []
 
-  -- the text of a call, by whether the printer has written anything before, and by what was
-  -- reported before
-  abbrev pub call_text : Bool → Progress → Call → List ℕ
-  call_text has_written progress begins = []
-  call_text has_written progress (matches number offset bytes) =
-      if is_hidden progress then []
-      else opening_of has_written progress ++ report_text (matches number offset bytes)
-  call_text has_written progress (context kind number offset line) =
-      if is_hidden progress then []
-      else opening_of has_written progress ++ report_text (context kind number offset line)
-  call_text has_written progress breaks = report_text breaks
-  call_text has_written progress (binary_data offset) = []
-  call_text has_written progress (finishes count binary) =
-      if progress.has_match then message_text settings.binary_detection path binary else []
+-- whether the search goes on after a call
+abbrev pub goes_on : Frame → Progress → Call → Bool
+goes_on frame progress begins = true
+goes_on frame progress (matches number offset bytes) = not (is_hidden frame progress)
+goes_on frame progress (context kind number offset line) = not (is_hidden frame progress)
+goes_on frame progress breaks = true
+goes_on frame progress (binary_data offset) = true
+goes_on frame progress (finishes count binary) = true
 
-  -- whether the search goes on after a call
-  abbrev pub goes_on : Progress → Call → Bool
-  goes_on progress begins = true
-  goes_on progress (matches number offset bytes) = not (is_hidden progress)
-  goes_on progress (context kind number offset line) = not (is_hidden progress)
-  goes_on progress breaks = true
-  goes_on progress (binary_data offset) = true
-  goes_on progress (finishes count binary) = true
+-- what was reported, with a call
+abbrev pub progress_after : Progress → Call → Progress
+progress_after progress begins = progress
+progress_after progress (matches number offset bytes) =
+    record progress { has_match = true; is_open = true }
+progress_after progress (context kind number offset line) = record progress { is_open = true }
+progress_after progress breaks = progress
+progress_after progress (binary_data offset) = record progress { binary = Some offset }
+progress_after progress (finishes count binary) = progress
 
 -- whether there is any text
 abbrev pub is_text : List ℕ → Bool
 is_text bytes = not (length bytes == 0)
 
--- the progress after a call with a text
-abbrev pub progress_after : Progress → Call → List ℕ → Progress
-progress_after progress begins text =
-    record progress { is_open = progress.is_open || is_text text }
-progress_after progress (matches number offset bytes) text = record {
-  has_match = true;
-  is_open = progress.is_open || is_text text;
-  binary = progress.binary;
+-- what a printer makes of some calls: the text of all of them, and what was reported
+pub record Printed : Type 0 where
+  pub progress : Progress
+  pub text : List ℕ
+
+-- before any call
+abbrev pub nothing_printed : Progress → Printed
+nothing_printed progress = record { progress = progress; text = [] }
+
+-- with one more call
+abbrev pub printed_with : Frame → Printed → Call → Printed
+printed_with frame printed call = record {
+  progress = progress_after printed.progress call;
+  text = printed.text ++ call_text frame printed.progress call;
 }
-progress_after progress (context kind number offset line) text =
-    record progress { is_open = progress.is_open || is_text text }
-progress_after progress breaks text =
-    record progress { is_open = progress.is_open || is_text text }
-progress_after progress (binary_data offset) text = record {
-  has_match = progress.has_match;
-  is_open = progress.is_open || is_text text;
-  binary = Some offset;
-}
-progress_after progress (finishes count binary) text =
-    record progress { is_open = progress.is_open || is_text text }
+
+-- what it makes of a search along a plan: of the calls up to the first after which the search
+-- doesn't go on, and of `finish`
+abbrev pub printed_of : Frame → Progress → Plan → Printed
+printed_of frame progress plan =
+    run_fold (λ printed call. goes_on frame printed.progress call) (printed_with frame)
+    (nothing_printed progress) plan.calls plan.finish

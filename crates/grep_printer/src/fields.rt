@@ -123,7 +123,7 @@ pub(crate) fn push_digits(text: &mut Vec<u8>, number: u64, mark: u8) -> Result<(
 }
 
 // Pushes a path and a byte, if there is a path.
-fn push_path(text: &mut Vec<u8>, path: Option<&str>, mark: u8) -> Result<(), AllocError>
+pub(crate) fn push_path(text: &mut Vec<u8>, path: Option<&str>, mark: u8) -> Result<(), AllocError>
     ensures { OnOk result (text.new.items ≡ text.old.items ++ path_field mark path.entry) }
 {
     match path {

@@ -1,14 +1,18 @@
 //! Printers: sinks that write what a search reports to an output of bytes.
 //!
-//! `Standard` writes each reported line, as grep does. `specs/StandardTexts.antt` defines the text
-//! of each call of a search, and `CALLING.md` has an example. The printers follow those of
-//! ripgrep's crate grep-printer.
+//! `Standard` writes each reported line, as grep does, and `Summary` a count or a path for each
+//! search. `specs/StandardTexts.antt` and `specs/SummaryTexts.antt` define the text of each call of a
+//! search, and `CALLING.md` has an example. The printers follow those of ripgrep's crate
+//! grep-printer.
 #![tactic(auto)]
 
 mod config;
 mod fields;
+pub mod laws;
 mod standard;
+mod summary;
 mod writes;
 
 pub use config::{SearchSeparator, StandardBuilder};
 pub use standard::{Standard, StandardSink};
+pub use summary::{Summary, SummaryKind, SummarySink};

@@ -7,7 +7,7 @@ ghost use Rattle.grep_searcher.specs.SearchErrors.{IsOutOfMemory};
 ghost use Rattle.grep_searcher.specs.SinkArguments.{context_call, match_call};
 ghost use Rattle.lgrep_cli.specs.Outputs.{Writes};
 ghost use Rattle.grep_printer.specs.StandardSteps.{IsComposing, IsErrorAt, IsWritten};
-ghost use Rattle.grep_printer.specs.StandardSteps.{FailsToBeWritten, report_of};
+ghost use Rattle.grep_printer.specs.StandardSteps.{FailsToBeWritten, frame_of, report_of};
 ghost use Rattle.grep_printer.specs.StandardTexts.{asked_bytes, binary_message, column_of, is_hidden, is_text};
 ghost use Rattle.grep_printer.specs.StandardTexts.{layout_of, new_progress, opening_text, path_prefix};
 
@@ -69,13 +69,14 @@ impl<W> Standard<W> {
         ensures now { result.printer.now ≡ self.old }
         ensures matcher { result.matcher ≡ matcher }
         ensures path { result.path ≡ path.entry }
-        ensures progress { result.progress ≡ new_progress }
+        ensures progress { result.progress ≡ new_progress self.old.has_written }
     {
+        let progress = Progress::new(self.has_written);
         StandardSink {
             printer: self,
             matcher,
             path,
-            progress: Progress::new(),
+            progress,
         }
     }
 
@@ -100,20 +101,20 @@ impl<W> Standard<W> {
         &mut self.writer
     }
 
-    // Begins a text, which is empty but for the opening of a search that has written nothing yet.
-    fn open(&mut self, layout: &Layout<'_>, is_open: bool) -> Result<(), AllocError>
+    // Begins a text, which is empty but for the opening before the first report of a search.
+    fn open(&mut self, layout: &Layout<'_>, progress: &Progress) -> Result<(), AllocError>
         ensures writer { self.new.writer ≡ self.old.writer }
         ensures config { self.new.config ≡ self.old.config }
         ensures has_written { self.new.has_written ≡ self.old.has_written }
         ensures has_failed { self.new.has_failed ≡ self.old.has_failed }
         ensures text { OnOk result (self.new.text.items
-            ≡ (if is_open then [] else opening_text layout.now self.old.has_written)) }
+            ≡ (if progress.now.is_open then [] else opening_text layout.now progress.now.follows)) }
     {
         self.text.clear();
-        if is_open {
+        if progress.is_open {
             return Ok(());
         }
-        layout.push_opening(&mut self.text, self.has_written)
+        layout.push_opening(&mut self.text, progress.follows)
     }
 
     // Makes a text of the line between two groups of lines.
@@ -219,10 +220,11 @@ fn push_prefix(text: &mut Vec<u8>, path: Option<&str>) -> Result<(), AllocError>
     }
 }
 
-// What was reported to a sink: whether a match was, whether it has written anything, and the offset
-// of a binary byte, if one was found.
+// What was reported to a sink: whether the printer had written anything before, whether a match was
+// reported, whether anything was, and the offset of a binary byte, if one was found.
 #[derive(Clone, Copy)]
 pub(crate) struct Progress {
+    pub(crate) follows: bool,
     pub(crate) has_match: bool,
     pub(crate) is_open: bool,
     pub(crate) binary: Option<u64>,
@@ -230,10 +232,11 @@ pub(crate) struct Progress {
 
 impl Progress {
     // Nothing was reported yet.
-    fn new() -> Progress
-        ensures { result ≡ new_progress }
+    fn new(follows: bool) -> Progress
+        ensures { result ≡ new_progress follows }
     {
         Progress {
+            follows,
             has_match: false,
             is_open: false,
             binary: None,
@@ -260,8 +263,7 @@ impl<'s, M: Matcher, W: Output> StandardSink<'s, M, W> {
 
     // How the lines of the search are laid out.
     fn layout<A: Allocator + Copy>(&self, searcher: &Searcher<A>) -> Layout<'s>
-        ensures { result
-            ≡ layout_of self.now.printer.now.config self.now.path searcher.now.settings }
+        ensures { result ≡ layout_of (frame_of (λ m. (M.facts m).meaning) self.now searcher.now.settings) }
     {
         Layout {
             config: self.printer.config,
@@ -272,8 +274,8 @@ impl<'s, M: Matcher, W: Output> StandardSink<'s, M, W> {
 
     // Whether reports aren't written any more.
     fn is_hidden<A: Allocator + Copy>(&self, searcher: &Searcher<A>) -> bool
-        ensures { result ≡ is_hidden self.now.printer.now.config self.now.path searcher.now.settings
-            (M.facts self.now.matcher).meaning self.now.progress }
+        ensures { result
+            ≡ is_hidden (frame_of (λ m. (M.facts m).meaning) self.now searcher.now.settings) self.now.progress }
     {
         self.progress.binary.is_some() && searcher.binary_detection().convert_byte().is_some()
     }
@@ -285,8 +287,8 @@ impl<'s, M: Matcher, W: Output> StandardSink<'s, M, W> {
         bytes: &[u8],
     ) -> Result<Option<u64>, SearchError>
         ensures { MatchResult result
-            (λ column. column ≡ column_of self.now.printer.now.config self.now.path
-            searcher.now.settings (M.facts self.now.matcher).meaning bytes.now)
+            (λ column. column
+            ≡ column_of (frame_of (λ m. (M.facts m).meaning) self.now searcher.now.settings) bytes.now)
             (λ e. IsErrorAt (λ m. (M.facts m).meaning) (λ m. (M.facts m).fails) self.now searcher.now.settings bytes.now e) }
     {
         if !self.printer.config.column {
@@ -336,7 +338,7 @@ impl<'s, M: Matcher, W: Output> StandardSink<'s, M, W> {
             column,
             offset: found.absolute_byte_offset(),
         };
-        self.printer.open(&layout, self.progress.is_open)?;
+        self.printer.open(&layout, &self.progress)?;
         layout.push_lines(&mut self.printer.text, place, found.bytes())?;
         Ok(())
     }
@@ -357,7 +359,7 @@ impl<'s, M: Matcher, W: Output> StandardSink<'s, M, W> {
             column: None,
             offset: line.absolute_byte_offset(),
         };
-        self.printer.open(&layout, self.progress.is_open)?;
+        self.printer.open(&layout, &self.progress)?;
         layout.push_line(&mut self.printer.text, b'-', &place, line.bytes())
     }
 
@@ -368,10 +370,7 @@ impl<'s, M: Matcher, W: Output> StandardSink<'s, M, W> {
             (λ e. FailsToBeWritten W.step self.old e self.new) }
     {
         match self.printer.write_text() {
-            Ok(()) => {
-                self.progress.is_open = self.progress.is_open || !self.printer.text.is_empty();
-                Ok(true)
-            }
+            Ok(()) => Ok(true),
             Err(error) => Err(SearchError::Io(error)),
         }
     }
@@ -397,11 +396,13 @@ impl<'s, M: Matcher, W: Output> Sink for StandardSink<'s, M, W> {
     ) -> Result<bool, SearchError> {
         if self.is_hidden(searcher) {
             self.progress.has_match = true;
+            self.progress.is_open = true;
             return Ok(false);
         }
         match self.compose_match(searcher, found) {
             Ok(()) => {
                 self.progress.has_match = true;
+                self.progress.is_open = true;
                 self.write()
             }
             Err(error) => Err(error),
@@ -414,9 +415,11 @@ impl<'s, M: Matcher, W: Output> Sink for StandardSink<'s, M, W> {
         line: &SinkContext<'_>,
     ) -> Result<bool, SearchError> {
         if self.is_hidden(searcher) {
+            self.progress.is_open = true;
             return Ok(false);
         }
         self.compose_context(searcher, line)?;
+        self.progress.is_open = true;
         self.write()
     }
 

@@ -26,7 +26,7 @@ enum Kind {
     Texts,
 }
 
-const SWITCHES: [Switch; 18] = [
+const SWITCHES: [Switch; 25] = [
     Switch {
         name: "fixed-strings",
         letter: Some('F'),
@@ -116,6 +116,41 @@ const SWITCHES: [Switch; 18] = [
         name: "no-messages",
         letter: Some('s'),
         help: "Don't say which files can't be read",
+    },
+    Switch {
+        name: "smart-case",
+        letter: Some('S'),
+        help: "Letters match in either case if no pattern has a capital",
+    },
+    Switch {
+        name: "count",
+        letter: Some('c'),
+        help: "Write how many lines match, for each file",
+    },
+    Switch {
+        name: "files-with-matches",
+        letter: Some('l'),
+        help: "Write the paths of the files with a match",
+    },
+    Switch {
+        name: "files-without-match",
+        letter: Some('L'),
+        help: "Write the paths of the files without one",
+    },
+    Switch {
+        name: "quiet",
+        letter: Some('q'),
+        help: "Write nothing, and stop at the first match",
+    },
+    Switch {
+        name: "heading",
+        letter: None,
+        help: "Write the path once, above the lines of a file",
+    },
+    Switch {
+        name: "no-heading",
+        letter: None,
+        help: "Write the path before each line",
     },
 ];
 

@@ -1,5 +1,6 @@
 //! Why the program ends before it has searched all.
-use std::alloc::{AllocError, AllocFailed, Global};
+use std::alloc::{AllocError, AllocFailed};
+use std::fmt::Display;
 use std::io;
 use std::process::ExitCode;
 
@@ -27,13 +28,13 @@ pub enum Failure {
 impl Failure {
     /// Says what went wrong, and gives the status to exit with: 2, or 0 if help was asked for, or if
     /// nobody reads the output any more.
-    pub fn report<T: Print + Eprint>(&self, rt: &T) -> ExitCode {
+    pub fn report<T: Print + Eprint + AllocGlobal>(&self, rt: &T) -> ExitCode {
         let _ = match self {
             Failure::Usage(error) => error.print(rt),
             Failure::NoPattern => eprintln!(rt; "linegrep: there is no pattern\n\n{MORE}"),
             Failure::Pattern(text, error) => report_pattern(rt, text, error),
             Failure::Setting(message) => eprintln!(rt; "linegrep: {message}"),
-            Failure::Patterns(path, error) => eprintln!(rt; "linegrep: {path}: {error}"),
+            Failure::Patterns(path, error) => report_cause(rt, path, error),
             Failure::Output(error) => report_output(rt, error),
             Failure::System(error) => eprintln!(rt; "linegrep: {error}"),
         };
@@ -50,11 +51,25 @@ impl Failure {
 }
 
 // Says why nothing more can be written, unless nobody reads it.
-fn report_output<T: Eprint>(rt: &T, error: &io::Error) -> io::Result<()> {
+fn report_output<T: Eprint + AllocGlobal>(rt: &T, error: &io::Error) -> io::Result<()> {
     if error.kind() == io::ErrorKind::BrokenPipe {
         return Ok(());
     }
-    eprintln!(rt; "linegrep: standard output: {error}")
+    report_cause(rt, "standard output", error)
+}
+
+/// Says on standard error what can't be read or written, and why: the system's words, without the
+/// number of the error.
+pub fn report_cause<T: Eprint + AllocGlobal, E: Display>(
+    rt: &T,
+    name: &str,
+    error: &E,
+) -> io::Result<()> {
+    let cause = format!(in rt.alloc(); "{error}")?;
+    match cause.as_str().split_once(" (os error ") {
+        Some((words, _)) => eprintln!(rt; "linegrep: {name}: {words}"),
+        None => eprintln!(rt; "linegrep: {name}: {cause}"),
+    }
 }
 
 // Says why a pattern can't be compiled, with a mark below the place if there is one.

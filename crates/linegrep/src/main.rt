@@ -9,7 +9,7 @@ mod search;
 
 use crate::command::command;
 use crate::failures::Failure;
-use crate::options::{printer, searcher};
+use crate::options::{build_printer, searcher};
 use crate::patterns::Operands;
 use crate::search::search_all;
 use clap::ArgMatches;
@@ -48,10 +48,10 @@ fn search_operands(
     let searcher = searcher(rt.alloc(), matches, is_terminal)?;
     let mut input = Reading::new(rt.stdin());
     if is_terminal {
-        let printer = printer(rt.alloc(), matches, Writing::new(stdout));
+        let printer = build_printer(rt.alloc(), matches, is_terminal, Writing::new(stdout));
         return search_all(rt, matches, operands, searcher, printer, &mut input);
     }
     let buffered = BufWriter::with_capacity(rt.alloc(), ROOM, stdout)?;
-    let printer = printer(rt.alloc(), matches, Writing::new(buffered));
+    let printer = build_printer(rt.alloc(), matches, is_terminal, Writing::new(buffered));
     search_all(rt, matches, operands, searcher, printer, &mut input)
 }

@@ -1,7 +1,7 @@
 //! What the arguments ask for.
 use crate::failures::Failure;
 use clap::ArgMatches;
-use grep_printer::{SearchSeparator, Standard, StandardBuilder};
+use grep_printer::{SearchSeparator, Standard, StandardBuilder, Summary, SummaryKind};
 use grep_searcher::{
     BinaryDetection, ConfigError, Encoding, LineTerminator, Searcher, SearcherBuilder,
 };
@@ -33,19 +33,57 @@ pub fn searcher(
     }
 }
 
-/// The printer that the arguments ask for, which writes to `writer`.
-pub fn printer<W>(alloc: Global, matches: &ArgMatches<'_>, writer: W) -> Standard<W> {
+/// What writes what is found.
+#[derive(Drop)]
+pub enum Printer<W> {
+    /// Writes lines.
+    Lines(Standard<W>),
+    /// Writes a count or a path for each file, or nothing.
+    Summary(Summary<W>),
+}
+
+/// The printer that the arguments ask for, which writes to `writer`. A terminal gets headings.
+pub fn build_printer<W>(
+    alloc: Global,
+    matches: &ArgMatches<'_>,
+    is_terminal: bool,
+    writer: W,
+) -> Printer<W> {
+    let terminator = path_terminator(matches);
+    if let Some(kind) = summary_kind(matches) {
+        return Printer::Summary(Summary::new(alloc, kind, terminator, writer));
+    }
+    let heading = shows_headings(matches, is_terminal);
     let mut builder = StandardBuilder::new();
     builder
+        .heading(heading)
         .column(matches.get_flag("column"))
         .byte_offset(matches.get_flag("byte-offset"))
-        .path_terminator(path_terminator(matches))
-        .separator_search(separator(matches));
-    builder.build(alloc, writer)
+        .path_terminator(terminator)
+        .separator_search(separator(matches, heading));
+    Printer::Lines(builder.build(alloc, writer))
+}
+
+/// The kind of the summary that the arguments ask for, if they ask for one.
+pub fn summary_kind(matches: &ArgMatches<'_>) -> Option<SummaryKind> {
+    if matches.get_flag("quiet") {
+        Some(SummaryKind::Quiet)
+    } else if matches.get_flag("files-with-matches") {
+        Some(SummaryKind::PathWithMatch)
+    } else if matches.get_flag("files-without-match") {
+        Some(SummaryKind::PathWithoutMatch)
+    } else if matches.get_flag("count") {
+        Some(SummaryKind::Count)
+    } else {
+        None
+    }
 }
 
 /// Whether paths are written: if they are asked for, or if there are several.
 pub fn shows_paths(matches: &ArgMatches<'_>, paths: &[String]) -> bool {
+    if matches.get_flag("files-with-matches") || matches.get_flag("files-without-match") {
+        return true;
+    }
     !matches.get_flag("no-filename") && (matches.get_flag("with-filename") || paths.len() > 1)
 }
 
@@ -115,9 +153,16 @@ fn path_terminator(matches: &ArgMatches<'_>) -> Option<u8> {
     }
 }
 
-// Groups of lines of two files are set apart as those of one are.
-fn separator(matches: &ArgMatches<'_>) -> SearchSeparator {
-    if context(matches, "after-context") > 0 || context(matches, "before-context") > 0 {
+fn shows_headings(matches: &ArgMatches<'_>, is_terminal: bool) -> bool {
+    !matches.get_flag("no-heading") && (matches.get_flag("heading") || is_terminal)
+}
+
+// Headings are set apart by an empty line. Without them groups of lines of two files are set apart
+// as those of one are.
+fn separator(matches: &ArgMatches<'_>, heading: bool) -> SearchSeparator {
+    if heading {
+        SearchSeparator::Blank
+    } else if context(matches, "after-context") > 0 || context(matches, "before-context") > 0 {
         SearchSeparator::Dashes
     } else {
         SearchSeparator::Nothing

@@ -71,18 +71,18 @@ pub fn compile(
     for pattern in patterns {
         texts.push(pattern.as_str())?;
     }
-    match builder(matches).build_many(alloc, &texts) {
+    match builder(matches, patterns).build_many(alloc, &texts) {
         Ok(regex) => Ok(regex),
         Err(error) => Err(refused(alloc, error, &texts)),
     }
 }
 
 // How the patterns are compiled. Where a match may run over lines no terminator is declared.
-fn builder(matches: &ArgMatches<'_>) -> RegexMatcherBuilder {
+fn builder(matches: &ArgMatches<'_>, patterns: &[String]) -> RegexMatcherBuilder {
     let mut builder = RegexMatcherBuilder::new();
     builder
         .multi_line(true)
-        .case_insensitive(matches.get_flag("ignore-case"))
+        .case_insensitive(ignores_case(matches, patterns))
         .fixed_strings(matches.get_flag("fixed-strings"))
         .word(matches.get_flag("word-regexp"))
         .whole_line(matches.get_flag("line-regexp"));
@@ -98,6 +98,26 @@ fn builder(matches: &ArgMatches<'_>) -> RegexMatcherBuilder {
         builder.line_terminator(None);
     }
     builder
+}
+
+// Whether letters match in either case.
+fn ignores_case(matches: &ArgMatches<'_>, patterns: &[String]) -> bool {
+    if matches.get_flag("ignore-case") {
+        return true;
+    }
+    matches.get_flag("smart-case") && !patterns.iter().any(|text| has_capital(text.as_str()))
+}
+
+// Whether a pattern has a capital letter, but for the letters of escapes.
+fn has_capital(pattern: &str) -> bool {
+    let mut is_escaped = false;
+    for letter in pattern.chars() {
+        if !is_escaped && letter.is_uppercase() {
+            return true;
+        }
+        is_escaped = !is_escaped && letter == '\\';
+    }
+    false
 }
 
 // The failure of patterns, with the text of the one that is wrong, or of the first.

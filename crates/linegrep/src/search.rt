@@ -1,9 +1,9 @@
 //! The search of all that the arguments name.
-use crate::failures::Failure;
-use crate::options::shows_paths;
+use crate::failures::{Failure, report_cause};
+use crate::options::{Printer, shows_paths};
 use crate::patterns::{Operands, compile};
 use clap::ArgMatches;
-use grep_printer::Standard;
+use grep_printer::{Standard, Summary};
 use grep_searcher::{Matcher, SearchError, Searcher, Source};
 use lgrep_cli::Output;
 use std::io;
@@ -15,13 +15,14 @@ const STDIN: &str = "<stdin>";
 
 /// Searches the files at the paths, one after another, or what `input` gives if there is none, and
 /// writes what is found. The status is 0 if there is a match, 1 if there is none, and 2 if a file
-/// can't be read, of which standard error says why.
+/// can't be read, of which standard error says why. If nothing is to be written, the first match
+/// ends it with 0.
 pub fn search_all<T: Files + Eprint + AllocGlobal, R: Source, W: Output + Drop>(
     rt: &T,
     matches: &ArgMatches<'_>,
     operands: &Operands,
     searcher: Searcher,
-    printer: Standard<W>,
+    printer: Printer<W>,
     input: &mut R,
 ) -> Result<ExitCode, Failure> {
     let alloc = rt.alloc();
@@ -34,6 +35,7 @@ pub fn search_all<T: Files + Eprint + AllocGlobal, R: Source, W: Output + Drop>(
         printer,
         shows_paths: shows_paths(matches, &operands.paths),
         is_silent: matches.get_flag("no-messages"),
+        is_quiet: matches.get_flag("quiet"),
         has_match: false,
         has_error: false,
     };
@@ -47,14 +49,22 @@ struct Run<'r, T, M, W> {
     rt: &'r T,
     searcher: Searcher,
     matcher: M,
-    printer: Standard<W>,
+    printer: Printer<W>,
     shows_paths: bool,
     is_silent: bool,
+    is_quiet: bool,
     has_match: bool,
     has_error: bool,
 }
 
-impl<'r, T: Files + Eprint, M: Matcher, W: Output> Run<'r, T, M, W> {
+// What came of one search.
+#[derive(Drop)]
+struct Searched {
+    has_match: bool,
+    result: Result<(), SearchError>,
+}
+
+impl<'r, T: Files + Eprint + AllocGlobal, M: Matcher, W: Output> Run<'r, T, M, W> {
     // Searches the files at some paths, or the input if there is none.
     fn search_paths<R: Source>(&mut self, paths: &[String], input: &mut R) -> Result<(), Failure> {
         if paths.is_empty() {
@@ -66,35 +76,59 @@ impl<'r, T: Files + Eprint, M: Matcher, W: Output> Run<'r, T, M, W> {
             } else {
                 self.search_path(path.as_str())?;
             }
+            if self.is_quiet && self.has_match {
+                break;
+            }
         }
         Ok(())
     }
 
     // Searches the file at a path.
     fn search_path(&mut self, path: &str) -> Result<(), Failure> {
-        let mut sink = self
-            .printer
-            .sink(&self.matcher, shown(path, self.shows_paths));
-        let searched = self
-            .searcher
-            .search_path(self.rt, &self.matcher, path, &mut sink);
-        self.has_match = self.has_match || sink.has_match();
+        let shown = shown(path, self.shows_paths);
+        let searched = match &mut self.printer {
+            Printer::Lines(printer) => {
+                print_path(
+                    self.rt,
+                    &mut self.searcher,
+                    &self.matcher,
+                    printer,
+                    path,
+                    shown,
+                )
+            }
+            Printer::Summary(printer) => {
+                sum_up_path(
+                    self.rt,
+                    &mut self.searcher,
+                    &self.matcher,
+                    printer,
+                    path,
+                    shown,
+                )
+            }
+        };
         self.keep(path, searched)
     }
 
     // Searches standard input.
     fn search_input<R: Source>(&mut self, input: &mut R) -> Result<(), Failure> {
-        let mut sink = self
-            .printer
-            .sink(&self.matcher, shown(STDIN, self.shows_paths));
-        let searched = self.searcher.search_reader(&self.matcher, input, &mut sink);
-        self.has_match = self.has_match || sink.has_match();
+        let shown = shown(STDIN, self.shows_paths);
+        let searched = match &mut self.printer {
+            Printer::Lines(printer) => {
+                print_input(&mut self.searcher, &self.matcher, printer, input, shown)
+            }
+            Printer::Summary(printer) => {
+                sum_up_input(&mut self.searcher, &self.matcher, printer, input, shown)
+            }
+        };
         self.keep(STDIN, searched)
     }
 
     // Goes on after a search. An error of reading is reported; one of writing ends the run.
-    fn keep(&mut self, path: &str, searched: Result<(), SearchError>) -> Result<(), Failure> {
-        let Err(error) = searched else {
+    fn keep(&mut self, path: &str, searched: Searched) -> Result<(), Failure> {
+        self.has_match = self.has_match || searched.has_match;
+        let Err(error) = searched.result else {
             return Ok(());
         };
         if self.printer.has_failed() {
@@ -102,22 +136,97 @@ impl<'r, T: Files + Eprint, M: Matcher, W: Output> Run<'r, T, M, W> {
         }
         self.has_error = true;
         if !self.is_silent {
-            let rt = self.rt;
-            let _ = eprintln!(rt; "linegrep: {path}: {error}");
+            let _ = report_cause(self.rt, path, &error);
         }
         Ok(())
     }
 
     // Writes what is left, and gives the status.
     fn finish(&mut self) -> Result<ExitCode, Failure> {
-        if let Err(error) = self.printer.get_mut().flush() {
+        if let Err(error) = self.printer.flush() {
             return Err(Failure::Output(error));
         }
-        if self.has_error {
+        if self.has_error && !(self.is_quiet && self.has_match) {
             return Ok(ExitCode::from(2));
         }
         Ok(ExitCode::from(if self.has_match { 0 } else { 1 }))
     }
+}
+
+impl<W: Output> Printer<W> {
+    // Whether the writer failed.
+    fn has_failed(&self) -> bool {
+        match self {
+            Printer::Lines(printer) => printer.has_failed(),
+            Printer::Summary(printer) => printer.has_failed(),
+        }
+    }
+
+    // Writes what the writer keeps.
+    fn flush(&mut self) -> io::Result<()> {
+        match self {
+            Printer::Lines(printer) => printer.get_mut().flush(),
+            Printer::Summary(printer) => printer.get_mut().flush(),
+        }
+    }
+}
+
+// Searches the file at a path, and writes the lines that match.
+fn print_path<T: Files, M: Matcher, W: Output>(
+    rt: &T,
+    searcher: &mut Searcher,
+    matcher: &M,
+    printer: &mut Standard<W>,
+    path: &str,
+    shown: Option<&str>,
+) -> Searched {
+    let mut sink = printer.sink(matcher, shown);
+    let result = searcher.search_path(rt, matcher, path, &mut sink);
+    let has_match = sink.has_match();
+    Searched { has_match, result }
+}
+
+// Searches a reader, and writes the lines that match.
+fn print_input<R: Source, M: Matcher, W: Output>(
+    searcher: &mut Searcher,
+    matcher: &M,
+    printer: &mut Standard<W>,
+    input: &mut R,
+    shown: Option<&str>,
+) -> Searched {
+    let mut sink = printer.sink(matcher, shown);
+    let result = searcher.search_reader(matcher, input, &mut sink);
+    let has_match = sink.has_match();
+    Searched { has_match, result }
+}
+
+// Searches the file at a path, and writes a summary.
+fn sum_up_path<T: Files, M: Matcher, W: Output>(
+    rt: &T,
+    searcher: &mut Searcher,
+    matcher: &M,
+    printer: &mut Summary<W>,
+    path: &str,
+    shown: Option<&str>,
+) -> Searched {
+    let mut sink = printer.sink(shown);
+    let result = searcher.search_path(rt, matcher, path, &mut sink);
+    let has_match = sink.has_match();
+    Searched { has_match, result }
+}
+
+// Searches a reader, and writes a summary.
+fn sum_up_input<R: Source, M: Matcher, W: Output>(
+    searcher: &mut Searcher,
+    matcher: &M,
+    printer: &mut Summary<W>,
+    input: &mut R,
+    shown: Option<&str>,
+) -> Searched {
+    let mut sink = printer.sink(shown);
+    let result = searcher.search_reader(matcher, input, &mut sink);
+    let has_match = sink.has_match();
+    Searched { has_match, result }
 }
 
 // A path, if paths are written.
