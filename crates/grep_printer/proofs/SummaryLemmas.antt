@@ -2,8 +2,8 @@
 use Rattle.std.proofs.Common.{◌≡◌, ℕ, List, [], ◌∷◌, ◌++◌, inl, inr, refl, sym, ap, ◌∙◌, subst}
 use Rattle.std.specs.Prelude.{Bool, true, false, Result, Ok, Err, if◌then◌else◌}
 use Rattle.std.specs.Global.{Global}
-use Rattle.lgrep_cli.proofs.OutputLemmas.{Writes-none, Writes-more}
-use Rattle.lgrep_cli.specs.Outputs.{OutputCall, WritesAll}
+use Rattle.grep_output.proofs.OutputLemmas.{Writes-none, Writes-more}
+use Rattle.grep_output.specs.Outputs.{OutputCall, WritesAll}
 use Rattle.grep_searcher.specs.Plans.{Call, Plan, Planned, Finish, Outcome, all_true, stopped, failed, AreMade}
 use Rattle.grep_searcher.specs.Plans.{IsFinished, IsRun, finishes}
 use Rattle.grep_searcher.specs.Settings.{Settings}

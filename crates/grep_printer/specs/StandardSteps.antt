@@ -2,7 +2,7 @@
 use Rattle.std.specs.Prelude.{◌≡◌, ◌⊎◌, ℕ, Bool, true, ◌||◌, List, ◌++◌, Result, Ok, Err, String}
 use Rattle.std.specs.Global.{Global}
 use Rattle.std.specs.declared.io.Error.{Error}
-use Rattle.lgrep_cli.specs.Outputs.{OutputCall, FailsToWrite, WritesAll}
+use Rattle.grep_output.specs.Outputs.{OutputCall, FailsToWrite, WritesAll}
 use Rattle.grep_searcher.specs.Meanings.{Meaning}
 use Rattle.grep_searcher.specs.Plans.{Call, Plan, IsRun, reported_bytes}
 use Rattle.grep_searcher.specs.SearchErrors.{IsOutOfMemory}

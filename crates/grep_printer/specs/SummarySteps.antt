@@ -2,7 +2,7 @@
 use Rattle.std.specs.Prelude.{◌≡◌, ◌⊎◌, ℕ, Bool, true, List, Result, Ok, Err}
 use Rattle.std.specs.Global.{Global}
 use Rattle.std.specs.declared.io.Error.{Error}
-use Rattle.lgrep_cli.specs.Outputs.{OutputCall, FailsToWrite, WritesAll}
+use Rattle.grep_output.specs.Outputs.{OutputCall, FailsToWrite, WritesAll}
 use Rattle.grep_matcher.specs.Lines.{byte_of}
 use Rattle.grep_searcher.specs.Plans.{Call, Plan, IsRun}
 use Rattle.grep_searcher.specs.SearchErrors.{IsOutOfMemory}

@@ -2,8 +2,8 @@
 ghost use Rattle.grep_printer.specs.StandardSteps.{RunsPrint};
 ghost use Rattle.grep_printer.specs.SummarySteps.{RunsSumUp};
 
+use grep_output::Output;
 use grep_searcher::Matcher;
-use lgrep_cli::Output;
 
 /// A run of the sink of a `Standard` that ended in `Ok` has written the text of its plan: of each
 /// call, in order, up to the first after which the search doesn't go on, and of `finish`.

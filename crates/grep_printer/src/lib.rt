@@ -11,7 +11,6 @@ mod fields;
 pub mod laws;
 mod standard;
 mod summary;
-mod writes;
 
 pub use config::{SearchSeparator, StandardBuilder};
 pub use standard::{Standard, StandardSink};

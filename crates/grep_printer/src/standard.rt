@@ -5,7 +5,7 @@ ghost use Rattle.std.specs.Prelude.{if◌then◌else◌, ◌++◌, codes, decima
 ghost use Rattle.grep_report.specs.SinkReports.{match_bytes};
 ghost use Rattle.grep_searcher.specs.SearchErrors.{IsOutOfMemory};
 ghost use Rattle.grep_searcher.specs.SinkArguments.{context_call, match_call};
-ghost use Rattle.lgrep_cli.specs.Outputs.{Writes};
+ghost use Rattle.grep_output.specs.Outputs.{Writes};
 ghost use Rattle.grep_printer.specs.StandardSteps.{IsComposing, IsErrorAt, IsWritten};
 ghost use Rattle.grep_printer.specs.StandardSteps.{FailsToBeWritten, frame_of, report_of};
 ghost use Rattle.grep_printer.specs.StandardTexts.{asked_bytes, binary_message, column_of, is_hidden, is_text};
@@ -13,13 +13,12 @@ ghost use Rattle.grep_printer.specs.StandardTexts.{layout_of, new_progress, open
 
 use crate::config::Config;
 use crate::fields::{Layout, Place, push_digits};
-use crate::writes::write_all;
 use grep_lines::without_terminator;
+use grep_output::{Output, write_all};
 use grep_searcher::{
     BinaryDetection, Matcher, SearchError, Searcher, Sink, SinkContext, SinkError, SinkFinish,
     SinkMatch,
 };
-use lgrep_cli::Output;
 use std::alloc::{AllocError, Allocator, Global};
 use std::io;
 

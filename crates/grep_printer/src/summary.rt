@@ -1,12 +1,11 @@
 //! The printer of summaries: counts, and paths.
 ghost use Rattle.std.specs.Prelude.{◌≡◌, ◌++◌, ◌∷◌, [], false, true, OnOk, if◌then◌else◌, is_ok};
-ghost use Rattle.lgrep_cli.specs.Outputs.{Writes};
+ghost use Rattle.grep_output.specs.Outputs.{Writes};
 ghost use Rattle.grep_printer.specs.SummaryTexts.{finish_text, has_found, path_line};
 
 use crate::fields::{push_digits, push_path};
-use crate::writes::write_all;
+use grep_output::{Output, write_all};
 use grep_searcher::{SearchError, Searcher, Sink, SinkContext, SinkFinish, SinkMatch};
-use lgrep_cli::Output;
 use std::alloc::{AllocError, Allocator, Global};
 use std::io;
 

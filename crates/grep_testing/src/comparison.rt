@@ -1,4 +1,6 @@
 //! A sink that compares its calls with those of a row.
+ghost use Rattle.std.specs.Prelude.{◌≡◌, ◌&&◌, true, nat_lt, length};
+
 use crate::recorder::{Number, name_of};
 use crate::rows::{Call, Row};
 use grep_searcher::{ConfigError, Searcher, Sink, SinkContext, SinkError, SinkFinish, SinkMatch};
@@ -41,7 +43,12 @@ pub struct Comparison {
 
 impl Comparison {
     /// The sink of a search of `row`, before its first call.
-    pub fn new(row: &Row) -> Comparison {
+    pub fn new(row: &Row) -> Comparison
+        ensures calls { result.calls ≡ row.now.calls }
+        ensures finish { result.finish ≡ row.now.finish }
+        ensures made { result.made ≡ 0 }
+        ensures agrees { result.agrees ≡ true }
+    {
         Comparison {
             calls: row.calls,
             finish: row.finish,
@@ -51,7 +58,9 @@ impl Comparison {
     }
 
     /// Whether the calls so far are all of the row's, and `finish`.
-    pub fn is_whole(&self) -> bool {
+    pub fn is_whole(&self) -> bool
+        ensures { result ≡ (self.now.agrees && nat_lt (length self.now.calls.now) self.now.made) }
+    {
         self.agrees && self.made > self.calls.len()
     }
 

@@ -57,7 +57,7 @@ impl<'a, M> Counting<'a, M> {
         }
     }
 
-    /// How many calls of each kind there were.
+    /// How many calls of each kind there were. No contract can say what a cell holds.
     pub fn counts(&self) -> Counts {
         Counts {
             finds: self.finds.get(),

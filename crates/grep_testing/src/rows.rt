@@ -1,4 +1,8 @@
 //! Searches, and what they come to.
+ghost use Rattle.std.specs.Prelude.{◌≡◌, not, IfOk, IfErr};
+ghost use Rattle.grep_searcher.specs.BinaryBytes.{is_detecting};
+ghost use Rattle.grep_searcher.specs.BuiltSettings.{default_settings};
+
 use grep_searcher::{BinaryDetection, ConfigError, Searcher, SearcherBuilder};
 use std::alloc::Global;
 
@@ -35,7 +39,9 @@ pub struct Row {
 impl Row {
     /// Whether a search of the bytes as a slice makes the same calls. No byte of a slice is made a
     /// terminator.
-    pub fn is_same_in_slice(&self) -> bool {
+    pub fn is_same_in_slice(&self) -> bool
+        ensures { result ≡ not (is_detecting self.now.settings.detection) }
+    {
         matches!(self.settings.detection, BinaryDetection::None)
     }
 }
@@ -51,8 +57,18 @@ pub struct Settings {
 }
 
 impl Settings {
-    /// A searcher with these settings.
-    pub fn build(self, alloc: Global) -> Result<Searcher, ConfigError> {
+    /// A searcher with these settings, and the defaults of all others. The only error is `Memory`,
+    /// if there is none for its buffers.
+    pub fn build(self, alloc: Global) -> Result<Searcher, ConfigError>
+        ensures settings { IfOk result (λ searcher. searcher.settings ≡ record default_settings {
+          after_context = self.after;
+          before_context = self.before;
+          max_matches = self.max;
+          multi_line = self.multi_line;
+          binary_detection = self.detection;
+        }) }
+        ensures error { IfErr result (λ e. e ≡ ConfigError.Memory) }
+    {
         SearcherBuilder::new()
             .after_context(self.after)
             .before_context(self.before)

@@ -21,9 +21,9 @@ use Rattle.lgrep_cli.specs.OptionSettings.{searched_settings, settings_of_option
 use Rattle.lgrep_cli.specs.ProgramRuns.{searcher_of, meaning_of, calls_of, calls_over, Input, IsPrinted, IsFailure}
 use Rattle.lgrep_cli.specs.ProgramRuns.{of_reader, of_write}
 use Rattle.lgrep_cli.specs.PrintedTexts.{count_text, has_match, match_count, text}
-use Rattle.lgrep_cli.specs.Outputs.{OutputCall, flushes, Writes}
+use Rattle.grep_output.specs.Outputs.{OutputCall, flushes, Writes}
 use Rattle.lgrep_cli.specs.declared.options.Options.{Options}
-use Rattle.lgrep_cli.proofs.OutputLemmas.{Writes-none}
+use Rattle.grep_output.proofs.OutputLemmas.{Writes-none}
 
 -- some call reports a match exactly if their count isn't 0
 found-count : (calls : List Planned) → nat_lt 0 (match_count calls) ≡ has_match calls

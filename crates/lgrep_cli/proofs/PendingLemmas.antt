@@ -3,9 +3,9 @@ use Rattle.std.proofs.Common.{◌≡◌, ℕ, List, [], ◌++◌, refl, sym, ap,
 use Rattle.std.specs.Prelude.{Result, Ok, Err}
 use Rattle.std.specs.declared.io.Error.{Error}
 use Rattle.std.proofs.lemmas.List.{append-nil}
-use Rattle.lgrep_cli.specs.Outputs.{OutputCall, Writes}
+use Rattle.grep_output.specs.Outputs.{OutputCall, Writes}
 use Rattle.lgrep_cli.specs.PendingTexts.{PutsAll, Puts}
-use Rattle.lgrep_cli.proofs.OutputLemmas.{Writes-none, Writes-more, Writes-cut}
+use Rattle.grep_output.proofs.OutputLemmas.{Writes-none, Writes-more, Writes-cut}
 
 -- what is pending and two texts after it
 both : (pending xs kept ys bytes : List ℕ) → pending ++ xs ≡ bytes ++ kept → pending ++ (xs ++ ys) ≡ bytes

@@ -5,9 +5,9 @@ use Rattle.std.specs.Prelude.{Ok, Err}
 use Rattle.std.specs.declared.io.Error.{Error}
 use Rattle.std.proofs.lemmas.List.{append-nil}
 use Rattle.lgrep_cli.specs.PrintedTexts.{ended, numbered, next_number, match_text}
-use Rattle.lgrep_cli.specs.Outputs.{OutputCall, Writes}
+use Rattle.grep_output.specs.Outputs.{OutputCall, Writes}
 use Rattle.lgrep_cli.specs.PendingTexts.{PutsAll, Puts}
-use Rattle.lgrep_cli.proofs.OutputLemmas.{Writes-more, Writes-cut}
+use Rattle.grep_output.proofs.OutputLemmas.{Writes-more, Writes-cut}
 use Rattle.lgrep_cli.proofs.PendingLemmas.{Puts-none, Puts-more, Puts-cut}
 
 module _ {W : Type 0} (write_step : W → OutputCall → W → Type 0) where

@@ -20,7 +20,7 @@ use Rattle.grep_matcher.specs.Meanings.{IsInfallible}
 use Rattle.lgrep_cli.specs.Printers.{PrintsCall, Prints, IsMade}
 use Rattle.grep_searcher.specs.SearchLaws.{is_match}
 use Rattle.lgrep_cli.specs.PrintedTexts.{call_text, text, has_match}
-use Rattle.lgrep_cli.specs.Outputs.{OutputCall, Writes}
+use Rattle.grep_output.specs.Outputs.{OutputCall, Writes}
 use Rattle.lgrep_cli.specs.PendingTexts.{PutsAll}
 use Rattle.lgrep_cli.specs.declared.printer.Printer.{Printer}
 use Rattle.lgrep_cli.proofs.PendingLemmas.{Puts-none, Puts-more, Puts-cut}

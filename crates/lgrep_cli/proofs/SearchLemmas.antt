@@ -29,12 +29,12 @@ use Rattle.lgrep_cli.specs.ProgramRuns.{searcher_of, meaning_of, calls_of, calls
 use Rattle.lgrep_cli.specs.ProgramRuns.{IsPrinted, IsPrintedAndFlushed, IsPrintedWhole, IsProgramRun, IsFailure}
 use Rattle.lgrep_cli.specs.ProgramRuns.{of_memory, of_reader, of_reader_and_write, of_write}
 use Rattle.lgrep_cli.specs.PrintedTexts.{count_text, text, has_match}
-use Rattle.lgrep_cli.specs.Outputs.{OutputCall, flushes, taken_by, Writes}
+use Rattle.grep_output.specs.Outputs.{OutputCall, flushes, taken_by, Writes}
 use Rattle.lgrep_cli.specs.PendingTexts.{PutsAll}
 use Rattle.lgrep_cli.specs.declared.options.Options.{Options}
 use Rattle.lgrep_cli.specs.declared.printer.Printer.{Printer}
 use Rattle.lgrep_cli.proofs.OneLineLemmas.{calls-made}
-use Rattle.lgrep_cli.proofs.OutputLemmas.{Appends-more, written-appends}
+use Rattle.grep_output.proofs.OutputLemmas.{Appends-more, written-appends}
 use Rattle.lgrep_cli.proofs.PendingLemmas.{Puts-written}
 use Rattle.lgrep_cli.proofs.PrinterLemmas.{ArePut, IsCut, put-none, reported-put, search-put}
 

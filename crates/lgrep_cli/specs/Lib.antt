@@ -1,9 +1,7 @@
 pub mod CommandLine
 pub mod Numerals
 pub mod OptionSettings
-pub mod Outputs
 pub mod PendingTexts
 pub mod Printers
 pub mod ProgramRuns
 pub mod PrintedTexts
-pub mod Writing

@@ -1,7 +1,7 @@
 -- Texts that are put together before they are written.
 use Rattle.std.specs.Prelude.{◌≡◌, ℕ, List, ◌++◌, Result, Ok, Err}
 use Rattle.std.specs.declared.io.Error.{Error}
-use Rattle.lgrep_cli.specs.Outputs.{OutputCall, FailsToWrite, WritesAll}
+use Rattle.grep_output.specs.Outputs.{OutputCall, FailsToWrite, WritesAll}
 
 module _ {S : Type 0} (step : S → OutputCall → S → Type 0) where
   -- a text comes after what is pending: some first bytes of both are written, and the others are

@@ -20,7 +20,7 @@ use Rattle.grep_searcher.specs.Settings.{SearcherState}
 use Rattle.lgrep_cli.specs.CommandLine.{AskFor}
 use Rattle.lgrep_cli.specs.OptionSettings.{searched_settings, settings_of_options}
 use Rattle.lgrep_cli.specs.PrintedTexts.{count_text, has_match, text}
-use Rattle.lgrep_cli.specs.Outputs.{OutputCall, flushes, Writes}
+use Rattle.grep_output.specs.Outputs.{OutputCall, flushes, Writes}
 use Rattle.lgrep_cli.specs.declared.options.Options.{Options}
 
 -- a searcher with the settings of the options' search, and its buffers

@@ -1,9 +1,9 @@
 //! Lines and numbers, each written at once.
 ghost use Rattle.std.specs.Prelude.{◌≡◌, ◌∷◌, ◌++◌, [], decimal};
 ghost use Rattle.lgrep_cli.specs.PrintedTexts.{ended, numbered};
-ghost use Rattle.lgrep_cli.specs.Outputs.{Writes};
+ghost use Rattle.grep_output.specs.Outputs.{Writes};
 
-use crate::output::{Output, write_all};
+use grep_output::{Output, write_all};
 use itoa::write_digits;
 use std::io;
 

@@ -1,13 +1,13 @@
 //! Text that is put together before it is written.
 ghost use Rattle.std.specs.Prelude.{◌≡◌, ◌∷◌, ◌++◌, ◌+◌, ◌≤◌, [], IfOk, MatchBool, OnOk, length};
 ghost use Rattle.std.specs.Prelude.{take};
-ghost use Rattle.lgrep_cli.specs.Outputs.{Writes};
+ghost use Rattle.grep_output.specs.Outputs.{Writes};
 ghost use Rattle.lgrep_cli.specs.PendingTexts.{Puts};
 ghost use Rattle.lgrep_cli.specs.PrintedTexts.{ended, numbered};
 
 use crate::lines::write_line;
 use crate::numeral::{MARKED_LEN, Numeral};
-use crate::output::{Output, write_all};
+use grep_output::{Output, write_all};
 use std::alloc::{AllocError, Global};
 use std::io;
 use std::marker::Model;

@@ -2,11 +2,11 @@
 ghost use Rattle.std.specs.Prelude.{◌≡◌, [], true, false, Ok, Err, MatchResult};
 ghost use Rattle.grep_matcher.specs.Lines.{lines};
 ghost use Rattle.lgrep_cli.specs.PrintedTexts.{match_text, next_number};
-ghost use Rattle.lgrep_cli.specs.Outputs.{Writes};
+ghost use Rattle.grep_output.specs.Outputs.{Writes};
 ghost use Rattle.lgrep_cli.specs.PendingTexts.{Puts};
 
-use crate::output::Output;
 use crate::pending::Pending;
+use grep_output::Output;
 use grep_searcher::{LineIter, SearchError, Searcher, Sink, SinkContext, SinkFinish, SinkMatch};
 use std::alloc::Allocator;
 use std::io;

@@ -5,8 +5,8 @@ ghost use Rattle.lgrep_cli.specs.ProgramRuns.{IsProgramEnd};
 
 use crate::exit::status;
 use crate::options::{Options, OptionsFault, USAGE};
-use crate::output::Output;
 use crate::search::run_options;
+use grep_output::Output;
 use grep_searcher::{Reading, Source};
 use std::alloc::Global;
 use std::process::ExitCode;

@@ -4,16 +4,16 @@ ghost use Rattle.std.specs.Prelude.{Ok, Err, OnOk, IfOk, IfErr, MatchResult};
 ghost use Rattle.std.specs.declared.io.Error.{Error};
 ghost use Rattle.lgrep_cli.specs.OptionSettings.{searched_settings};
 ghost use Rattle.grep_searcher.specs.SearchErrors.{IsOutOfMemory};
-ghost use Rattle.lgrep_cli.specs.Outputs.{Writes};
+ghost use Rattle.grep_output.specs.Outputs.{Writes};
 ghost use Rattle.lgrep_cli.specs.ProgramRuns.{IsPrinted, IsFailure, IsProgramRun, IsPathRun};
 ghost use Rattle.lgrep_cli.specs.ProgramRuns.{IsRunAt};
 
 use crate::lines::write_number;
 use crate::options::Options;
-use crate::output::Output;
 use crate::pending::Pending;
 use crate::printer::Printer;
 use grep_matcher::LiteralMatcher;
+use grep_output::Output;
 use grep_searcher::laws::{
     matches_are_matched_lines, numbers_change_no_count, reader_searches_run, runs_count_matches,
 };

@@ -1,6 +1,6 @@
 use Rattle.std.proofs.Common.{rules}
 use Rattle.std.specs.Prelude.{Ok, Err}
-use Rattle.lgrep_cli.specs.Outputs.{flushes}
+use Rattle.grep_output.specs.Outputs.{flushes}
 use Rattle.lgrep_cli.specs.ProgramRuns.{of_flush}
 use Rattle.lgrep_cli.proofs.SearchLemmas.{printed-run}
 use Rattle.lgrep_cli.proofs.search.run.Goals as goal

@@ -26,7 +26,7 @@ pub struct Writing<W> {
 }
 
 impl<W> Model for Writing<W> {
-    ghost use Rattle.lgrep_cli.specs.Writing.{Writer};
+    ghost use Rattle.grep_output.specs.Writing.{Writer};
 
     ghost Value = { Writer W };
 
@@ -56,8 +56,8 @@ impl<W> Writing<W> {
 
 impl<W: Write> Output for Writing<W> {
     ghost use Rattle.std.specs.Io.KnownBytes.{Appends};
-    ghost use Rattle.lgrep_cli.specs.Outputs.{taken_by};
-    ghost use Rattle.lgrep_cli.specs.Writing.{last_of};
+    ghost use Rattle.grep_output.specs.Outputs.{taken_by};
+    ghost use Rattle.grep_output.specs.Writing.{last_of};
 
     ghost contents = { λ s. W.contents s.inner };
 

@@ -9,9 +9,9 @@ use Rattle.std.specs.declared.io.Error.{Error}
 use Rattle.std.specs.declared.io.ErrorKind.TheVariants.{Interrupted}
 use Rattle.std.proofs.lemmas.List.{append-nil, length-append, length-take-le, take-append-drop}
 use Rattle.std.proofs.lemmas.List.Elements.{All-append, All-cons, All-nil}
-use Rattle.lgrep_cli.specs.Outputs.{OutputCall, writes, write_call, taken_by, taken_by_all, IsInterrupted, GoesOn}
-use Rattle.lgrep_cli.specs.Outputs.{EndsIn, Calls}
-use Rattle.lgrep_cli.specs.Outputs.{WritesAll, Writes, Repeats}
+use Rattle.grep_output.specs.Outputs.{OutputCall, writes, write_call, taken_by, taken_by_all, IsInterrupted, GoesOn}
+use Rattle.grep_output.specs.Outputs.{EndsIn, Calls}
+use Rattle.grep_output.specs.Outputs.{WritesAll, Writes, Repeats}
 
 -- nothing more
 Appends-none : (known : Option (List ℕ)) → Appends known known []

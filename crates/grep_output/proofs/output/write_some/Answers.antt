@@ -1,6 +1,6 @@
 use Rattle.std.proofs.Common.{refl, arith}
-use Rattle.lgrep_cli.proofs.OutputLemmas.{trying-none, trying-more, repeated}
-use Rattle.grep_printer.proofs.writes.write_some.Goals as goal
+use Rattle.grep_output.proofs.OutputLemmas.{trying-none, trying-more, repeated}
+use Rattle.grep_output.proofs.output.write_some.Goals as goal
 
 pub loop-init : goal.loop-init
 loop-init g c = record {

@@ -1,12 +1,12 @@
-//! Outputs of bytes, to which a run writes.
+//! Outputs of bytes, and texts that are written whole.
 ghost use Rattle.std.specs.Prelude.{◌≡◌, ◌↔◌, ℕ, List, Option, None, IsTrue};
 ghost use Rattle.std.specs.Io.{WritesAtMost};
 ghost use Rattle.std.specs.Io.KnownBytes.{Appends};
 ghost use Rattle.std.specs.IoError.{error_kind};
 ghost use Rattle.std.specs.Result.{IsErrAnd};
 ghost use Rattle.std.specs.declared.io.ErrorKind.TheVariants.{Interrupted};
-ghost use Rattle.lgrep_cli.specs.Outputs.{OutputCall, flushes, taken_by, write_call};
-ghost use Rattle.lgrep_cli.specs.Outputs.{Repeats, Writes};
+ghost use Rattle.grep_output.specs.Outputs.{OutputCall, flushes, taken_by, write_call};
+ghost use Rattle.grep_output.specs.Outputs.{Repeats, Writes};
 
 use std::io;
 
@@ -37,11 +37,12 @@ pub trait Output {
         → Appends (contents s) (contents t) (taken_by call) };
 }
 
-// Writes all of `buffer`, by as many writes as it takes. One that is interrupted is made again.
-//
-// On an error some first bytes of `buffer` are written. The error is what the last write returned,
-// or of kind `WriteZero` if that write took none of the bytes that were left.
-pub(crate) fn write_all<W: Output>(writer: &mut W, buffer: &[u8]) -> io::Result<()>
+/// Writes all of `buffer`, by as many writes as it takes. One that is interrupted is made again.
+///
+/// On an error some first bytes of `buffer` are written, and no call follows the one that failed.
+/// The error is what the last write returned, or of kind `WriteZero` if that write took none of the
+/// bytes that were left.
+pub fn write_all<W: Output>(writer: &mut W, buffer: &[u8]) -> io::Result<()>
     ensures { Writes W.step writer.old buffer.now result writer.new }
 {
     let mut rest = buffer;

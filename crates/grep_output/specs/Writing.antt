@@ -1,9 +1,9 @@
 -- What contracts see of a standard writer as an output: the writer, and what its last call
 -- returned.
 use Rattle.std.specs.Prelude.{length, Ok, Err}
-use Rattle.lgrep_cli.specs.Outputs.{OutputCall, writes, flushes}
-use Rattle.lgrep_cli.specs.declared.writing.LastCall.{LastCall}
-use Rattle.lgrep_cli.specs.declared.writing.LastCall.TheVariants.{Write, Flush}
+use Rattle.grep_output.specs.Outputs.{OutputCall, writes, flushes}
+use Rattle.grep_output.specs.declared.writing.LastCall.{LastCall}
+use Rattle.grep_output.specs.declared.writing.LastCall.TheVariants.{Write, Flush}
 
 pub record Writer (W : Type 0) : Type 0 where
   pub inner : W

@@ -1,7 +1,7 @@
 use Rattle.std.specs.Io.{WritesAtMost}
-use Rattle.lgrep_cli.specs.Outputs.{write_call}
-use Rattle.lgrep_cli.proofs.OutputLemmas.{IsTrying}
-use Rattle.lgrep_cli.proofs.output.write_some.Given as goal
+use Rattle.grep_output.specs.Outputs.{write_call}
+use Rattle.grep_output.proofs.OutputLemmas.{IsTrying}
+use Rattle.grep_output.proofs.output.write_some.Given as goal
 
 abbrev pub invariant-loop : goal.invariant-loop
 invariant-loop g l = record {
