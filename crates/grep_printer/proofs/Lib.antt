@@ -1,3 +1,4 @@
 pub mod PrintedRunLemmas
+pub mod RunFoldLemmas
 pub mod SummaryLemmas
 pub mod TextLemmas

@@ -24,29 +24,3 @@ pushing-none layout start first bytes left same fits = record {
   fits = subst (λ n. first.offset + n < 2 ^ 64)
       (sym (ap (λ all. length (concat all)) same ∙ ap length (lines-joined layout.terminator bytes))) fits;
 }
-
--- one more
-pub pushing-more : (layout : Layout) (start : List ℕ) (first : Place) (all : List (List ℕ)) (text : List ℕ)
-    (place : Place) (line : List ℕ) (later : List (List ℕ)) (text' : List ℕ)
-    → IsPushing layout start first all text place (line ∷ later) → text' ≡ text ++ line_text layout 58 place line
-    → IsPushing layout start first all text' (place_after place line) later
-pushing-more layout start first all text place line later text' pushing same = record {
-  pushed = ap (λ t. t ++ lines_text layout (place_after place line) later) same
-      ∙ (append_assoc text (line_text layout 58 place line) (lines_text layout (place_after place line) later)
-      ∙ pushing.pushed);
-  fits = let fits = pushing.fits in let split = length-append line (concat later) in omega arith;
-}
-
--- the next one fits
-pub pushing-fits : (layout : Layout) (start : List ℕ) (first : Place) (all : List (List ℕ)) (text : List ℕ)
-    (place : Place) (line : List ℕ) (later : List (List ℕ))
-    → IsPushing layout start first all text place (line ∷ later) → place.offset + length line < 2 ^ 64
-pushing-fits layout start first all text place line later pushing =
-    let fits = pushing.fits in let split = length-append line (concat later) in omega arith
-
--- all are pushed
-pub pushing-all : (layout : Layout) (start : List ℕ) (first : Place) (all : List (List ℕ)) (text : List ℕ)
-    (place : Place) (left : List (List ℕ)) → left ≡ []
-    → IsPushing layout start first all text place left → text ≡ start ++ lines_text layout first all
-pushing-all layout start first all text place left same pushing =
-    sym (append-nil text) ∙ (ap (λ l. text ++ lines_text layout place l) (sym same) ∙ pushing.pushed)

@@ -3,7 +3,7 @@ use Rattle.std.specs.Prelude.{◌≡◌, ◌⊎◌, ℕ, Bool, true, ◌||◌, L
 use Rattle.std.specs.Global.{Global}
 use Rattle.std.specs.declared.io.Error.{Error}
 use Rattle.grep_output.specs.Outputs.{OutputCall, FailsToWrite, WritesAll}
-use Rattle.grep_searcher.specs.Meanings.{Meaning}
+use Rattle.grep_matcher.specs.Meanings.{MatcherFacts}
 use Rattle.grep_searcher.specs.Plans.{Call, Plan, IsRun, reported_bytes}
 use Rattle.grep_searcher.specs.SearchErrors.{IsOutOfMemory}
 use Rattle.grep_searcher.specs.Settings.{Settings}
@@ -46,50 +46,52 @@ pub record FailsToBeWritten {M W : Type 0} (write_step : W → OutputCall → W 
   pub same : IsSameSink old new
   pub error : Error
   pub is_io : e ≡ Io error
-  pub has_failed : new.printer.now.has_failed ≡ true
   pub failed : FailsToWrite write_step old.printer.now.writer old.printer.now.text.items error
       new.printer.now.writer
+  pub progress : new.progress ≡ old.progress
+  pub has_written : new.printer.now.has_written ≡ old.printer.now.has_written
+  pub has_failed : new.printer.now.has_failed ≡ true
 
--- what the texts of a sink's calls depend on
-abbrev pub frame_of : {M W : Type 0} → (M → Meaning) → StandardSink M W → Settings → Frame
-frame_of meaning sink settings = record {
-  config = sink.printer.now.config;
-  path = sink.path;
-  settings = settings;
-  meaning = meaning sink.matcher;
-}
+module _ {M W F : Type 0} (facts : M → MatcherFacts F) where
+  -- what the texts of a sink's calls depend on
+  abbrev pub frame_of : StandardSink M W → Settings → Frame
+  frame_of sink settings = record {
+    config = sink.printer.now.config;
+    path = sink.path;
+    settings = settings;
+    meaning = (facts sink.matcher).meaning;
+  }
 
--- the text of a report of a sink that isn't hidden
-abbrev pub report_of : {M W : Type 0} → (M → Meaning) → StandardSink M W → Settings → Call → List ℕ
-report_of meaning sink settings call =
-    opening_of (frame_of meaning sink settings) sink.progress
-    ++ report_text (frame_of meaning sink settings) call
+  -- the text of a report of a sink that isn't hidden
+  abbrev pub report_of : StandardSink M W → Settings → Call → List ℕ
+  report_of sink settings call =
+      opening_of (frame_of sink settings) sink.progress
+      ++ report_text (frame_of sink settings) call
 
--- the text of a call of a sink
-abbrev pub text_of : {M W : Type 0} → (M → Meaning) → StandardSink M W → Settings → Call → List ℕ
-text_of meaning sink settings call =
-    call_text (frame_of meaning sink settings) sink.progress call
+  -- the text of a call of a sink
+  abbrev pub text_of : StandardSink M W → Settings → Call → List ℕ
+  text_of sink settings call = call_text (frame_of sink settings) sink.progress call
 
--- the error is the matcher's, for the bytes of a report, as a message
-abbrev pub IsErrorAt : {M W F : Type 0} → (M → Meaning) → (M → List ℕ → F → Type 0)
-    → StandardSink M W → Settings → List ℕ → SearchError Global → Type 0
-IsErrorAt {M} {W} {F} meaning fails sink settings bytes e =
-    (error : F) × (text : String Global)
-    × fails sink.matcher (asked_bytes settings (meaning sink.matcher) bytes) error
-    × (e ≡ Message text)
+  -- the error is the matcher's, for the bytes of a report, as a message
+  abbrev pub IsErrorAt : StandardSink M W → Settings → List ℕ → SearchError Global → Type 0
+  IsErrorAt sink settings bytes e =
+      (error : F) × (text : String Global)
+      × (facts sink.matcher).fails
+      (asked_bytes settings (facts sink.matcher).meaning bytes) error
+      × (e ≡ Message text)
 
-module _ {M W F : Type 0} (meaning : M → Meaning) (fails : M → List ℕ → F → Type 0)
+module _ {M W F : Type 0} (facts : M → MatcherFacts F)
     (write_step : W → OutputCall → W → Type 0) where
   -- a call succeeds: its text is written, and nothing else
   pub record Prints (old : StandardSink M W) (settings : Settings) (call : Call) (goes : Bool)
       (new : StandardSink M W) : Type 0 where
     pub same : IsSameSink old new
-    pub goes_on : goes ≡ goes_on (frame_of meaning old settings) old.progress call
-    pub written : WritesAll write_step old.printer.now.writer (text_of meaning old settings call)
+    pub goes_on : goes ≡ goes_on (frame_of facts old settings) old.progress call
+    pub written : WritesAll write_step old.printer.now.writer (text_of facts old settings call)
         new.printer.now.writer
     pub progress : new.progress ≡ progress_after old.progress call
     pub has_written : new.printer.now.has_written
-        ≡ (old.printer.now.has_written || is_text (text_of meaning old settings call))
+        ≡ (old.printer.now.has_written || is_text (text_of facts old settings call))
     pub has_failed : new.printer.now.has_failed ≡ old.printer.now.has_failed
 
   -- the writer failed after some first bytes of the text of a call
@@ -97,16 +99,20 @@ module _ {M W F : Type 0} (meaning : M → Meaning) (fails : M → List ℕ → 
       (e : SearchError Global) (new : StandardSink M W) : Type 0 where
     pub error : Error
     pub is_io : e ≡ Io error
-    pub failed : FailsToWrite write_step old.printer.now.writer (text_of meaning old settings call)
+    pub failed : FailsToWrite write_step old.printer.now.writer (text_of facts old settings call)
         error new.printer.now.writer
+    pub progress : new.progress ≡ progress_after old.progress call
+    pub has_written : new.printer.now.has_written ≡ old.printer.now.has_written
     pub has_failed : new.printer.now.has_failed ≡ true
 
   -- the writer had no call, and there was no memory, or the matcher failed
   pub record FailsBefore (old : StandardSink M W) (settings : Settings) (call : Call)
       (e : SearchError Global) (new : StandardSink M W) : Type 0 where
     pub unwritten : new.printer.now.writer ≡ old.printer.now.writer
+    pub progress : new.progress ≡ old.progress
+    pub has_written : new.printer.now.has_written ≡ old.printer.now.has_written
     pub has_failed : new.printer.now.has_failed ≡ old.printer.now.has_failed
-    pub cause : IsOutOfMemory e ⊎ IsErrorAt meaning fails old settings (reported_bytes call) e
+    pub cause : IsOutOfMemory e ⊎ IsErrorAt facts old settings (reported_bytes call) e
 
   -- a call fails
   pub record FailsToPrint (old : StandardSink M W) (settings : Settings) (call : Call)
@@ -125,10 +131,11 @@ module _ {M W F : Type 0} (meaning : M → Meaning) (fails : M → List ℕ → 
       (new : StandardSink M W) : Type 0 where
     pub same : IsSameSink old new
     pub written : WritesAll write_step old.printer.now.writer
-        (printed_of (frame_of meaning old settings) old.progress plan).text
+        (printed_of (frame_of facts old settings) old.progress plan).text
         new.printer.now.writer
     pub progress : new.progress
-        ≡ (printed_of (frame_of meaning old settings) old.progress plan).progress
+        ≡ (printed_of (frame_of facts old settings) old.progress plan).progress
+    pub has_failed : new.printer.now.has_failed ≡ old.printer.now.has_failed
 
   -- a run of the sink that ended in `Ok` has written the text of its plan
   abbrev pub RunsPrint : Type 0

@@ -65,6 +65,7 @@ module _ {W : Type 0} (write_step : W → OutputCall → W → Type 0) where
   pub record FailsToSumUp (old : SummarySink W) (settings : Settings) (call : Call)
       (e : SearchError Global) (new : SummarySink W) : Type 0 where
     pub same : IsSameSummary old new
+    pub match_count : new.match_count ≡ old.match_count
     pub cause : FailsToWriteSummary old settings call e new ⊎ LacksMemory old e new
 
   -- what a sink does at a call
@@ -82,6 +83,7 @@ module _ {W : Type 0} (write_step : W → OutputCall → W → Type 0) where
         new.printer.now.writer
     pub match_count : new.match_count
         ≡ (summed_of (summary_frame old settings) old.match_count plan).match_count
+    pub has_failed : new.printer.now.has_failed ≡ old.printer.now.has_failed
 
   -- a run of the sink that ended in `Ok` has written the text of its plan
   abbrev pub RunsSumUp : Type 0

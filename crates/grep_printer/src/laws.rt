@@ -8,11 +8,11 @@ use grep_searcher::Matcher;
 /// A run of the sink of a `Standard` that ended in `Ok` has written the text of its plan: of each
 /// call, in order, up to the first after which the search doesn't go on, and of `finish`.
 pub fn runs_print<M: Matcher, W: Output>()
-    ensures { RunsPrint (λ m. (M.facts m).meaning) (λ m. (M.facts m).fails) W.step }
+    ensures { RunsPrint M.facts W.step }
 {}
 
-/// A run of the sink of a `Summary` that ended in `Ok` has counted the matches up to the first after
-/// which the search doesn't go on, and has written the text for that count.
+/// A run of the sink of a `Summary` that ended in `Ok` has counted the matches up to the first
+/// after which the search doesn't go on, and has written the text for that count.
 pub fn runs_sum_up<W: Output>()
     ensures { RunsSumUp W.step }
 {}

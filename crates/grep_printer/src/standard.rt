@@ -1,5 +1,5 @@
 //! The printer of lines.
-ghost use Rattle.std.specs.Prelude.{◌≡◌, ◌⊎◌, ◌+◌, ◌<◌, ◌^◌, ◌||◌, ◌∷◌, true, false, []};
+ghost use Rattle.std.specs.Prelude.{◌≡◌, ◌⊎◌, ◌+◌, ◌<◌, ◌^◌, ◌&&◌, ◌||◌, ◌∷◌, true, false, []};
 ghost use Rattle.std.specs.Prelude.{OnOk, is_ok, IfErr, MatchResult, length};
 ghost use Rattle.std.specs.Prelude.{if◌then◌else◌, ◌++◌, codes, decimal};
 ghost use Rattle.grep_report.specs.SinkReports.{match_bytes};
@@ -8,8 +8,9 @@ ghost use Rattle.grep_searcher.specs.SinkArguments.{context_call, match_call};
 ghost use Rattle.grep_output.specs.Outputs.{Writes};
 ghost use Rattle.grep_printer.specs.StandardSteps.{IsComposing, IsErrorAt, IsWritten};
 ghost use Rattle.grep_printer.specs.StandardSteps.{FailsToBeWritten, frame_of, report_of};
-ghost use Rattle.grep_printer.specs.StandardTexts.{asked_bytes, binary_message, column_of, is_hidden, is_text};
-ghost use Rattle.grep_printer.specs.StandardTexts.{layout_of, new_progress, opening_text, path_prefix};
+ghost use Rattle.grep_printer.specs.StandardTexts.{asked_bytes, binary_message, column_of};
+ghost use Rattle.grep_printer.specs.StandardTexts.{is_hidden, is_text, layout_of, new_progress};
+ghost use Rattle.grep_printer.specs.StandardTexts.{opening_text, path_prefix};
 
 use crate::config::Config;
 use crate::fields::{Layout, Place, push_digits};
@@ -79,7 +80,8 @@ impl<W> Standard<W> {
         }
     }
 
-    /// Whether anything was written.
+    /// Whether any text was written whole. The first bytes of one at which the writer failed don't
+    /// count: `has_failed` is true then.
     pub fn has_written(&self) -> bool
         ensures { result ≡ self.now.has_written }
     {
@@ -171,8 +173,8 @@ impl<W: Output> Standard<W> {
         ensures written { Writes W.step self.old.writer self.old.text.items result self.new.writer }
         ensures text { self.new.text.items ≡ self.old.text.items }
         ensures config { self.new.config ≡ self.old.config }
-        ensures has_written { OnOk result (self.new.has_written
-            ≡ (self.old.has_written || is_text self.old.text.items)) }
+        ensures has_written { self.new.has_written
+            ≡ (self.old.has_written || (is_ok result && is_text self.old.text.items)) }
         ensures has_failed { self.new.has_failed
             ≡ (if is_ok result then self.old.has_failed else true) }
     {
@@ -262,7 +264,7 @@ impl<'s, M: Matcher, W: Output> StandardSink<'s, M, W> {
 
     // How the lines of the search are laid out.
     fn layout<A: Allocator + Copy>(&self, searcher: &Searcher<A>) -> Layout<'s>
-        ensures { result ≡ layout_of (frame_of (λ m. (M.facts m).meaning) self.now searcher.now.settings) }
+        ensures { result ≡ layout_of (frame_of M.facts self.now searcher.now.settings) }
     {
         Layout {
             config: self.printer.config,
@@ -274,7 +276,7 @@ impl<'s, M: Matcher, W: Output> StandardSink<'s, M, W> {
     // Whether reports aren't written any more.
     fn is_hidden<A: Allocator + Copy>(&self, searcher: &Searcher<A>) -> bool
         ensures { result
-            ≡ is_hidden (frame_of (λ m. (M.facts m).meaning) self.now searcher.now.settings) self.now.progress }
+            ≡ is_hidden (frame_of M.facts self.now searcher.now.settings) self.now.progress }
     {
         self.progress.binary.is_some() && searcher.binary_detection().convert_byte().is_some()
     }
@@ -287,8 +289,8 @@ impl<'s, M: Matcher, W: Output> StandardSink<'s, M, W> {
     ) -> Result<Option<u64>, SearchError>
         ensures { MatchResult result
             (λ column. column
-            ≡ column_of (frame_of (λ m. (M.facts m).meaning) self.now searcher.now.settings) bytes.now)
-            (λ e. IsErrorAt (λ m. (M.facts m).meaning) (λ m. (M.facts m).fails) self.now searcher.now.settings bytes.now e) }
+            ≡ column_of (frame_of M.facts self.now searcher.now.settings) bytes.now)
+            (λ e. IsErrorAt M.facts self.now searcher.now.settings bytes.now e) }
     {
         if !self.printer.config.column {
             return Ok(None);
@@ -323,9 +325,9 @@ impl<'s, M: Matcher, W: Output> StandardSink<'s, M, W> {
         requires { found.now.offset + length (match_bytes found.now) < 2 ^ 64 }
         ensures composing { IsComposing self.old self.new }
         ensures text { OnOk result (self.new.printer.now.text.items
-            ≡ report_of (λ m. (M.facts m).meaning) self.old searcher.now.settings (match_call found.now)) }
+            ≡ report_of M.facts self.old searcher.now.settings (match_call found.now)) }
         ensures error { IfErr result (λ e. IsOutOfMemory e
-            ⊎ IsErrorAt (λ m. (M.facts m).meaning) (λ m. (M.facts m).fails) self.old searcher.now.settings (match_bytes found.now) e) }
+            ⊎ IsErrorAt M.facts self.old searcher.now.settings (match_bytes found.now) e) }
     {
         let column = match self.column(searcher, found.bytes()) {
             Ok(column) => column,
@@ -350,7 +352,7 @@ impl<'s, M: Matcher, W: Output> StandardSink<'s, M, W> {
     ) -> Result<(), AllocError>
         ensures composing { IsComposing self.old self.new }
         ensures text { OnOk result (self.new.printer.now.text.items
-            ≡ report_of (λ m. (M.facts m).meaning) self.old searcher.now.settings (context_call line.now)) }
+            ≡ report_of M.facts self.old searcher.now.settings (context_call line.now)) }
     {
         let layout = self.layout(searcher);
         let place = Place {
@@ -380,7 +382,7 @@ impl<'s, M: Matcher, W: Output> Sink for StandardSink<'s, M, W> {
 
     ghost use Rattle.grep_printer.specs.StandardSteps.{PrintsCall};
 
-    ghost step = { PrintsCall (λ m. (M.facts m).meaning) (λ m. (M.facts m).fails) W.step };
+    ghost step = { PrintsCall M.facts W.step };
 
     ghost may_call = { λ _. Unit {0} };
 

@@ -96,8 +96,8 @@ impl<W> Summary<W> {
         ensures kind { self.new.kind ≡ self.old.kind }
         ensures path_terminator { self.new.path_terminator ≡ self.old.path_terminator }
         ensures has_failed { self.new.has_failed ≡ self.old.has_failed }
-        ensures text { OnOk result (self.new.text.items
-            ≡ finish_text self.old.kind self.old.path_terminator path.entry terminator match_count) }
+        ensures text { OnOk result (self.new.text.items ≡ finish_text self.old.kind
+            self.old.path_terminator path.entry terminator match_count) }
     {
         self.text.clear();
         match self.kind {

@@ -5,6 +5,7 @@ pub returns-in-Err : goal.returns-in-Err
 returns-in-Err g c = (
   c.in-Err.error,
   c.error_message.ensures.0,
-  subst (λ bytes. (g.M.Matcher.facts c.args.self.now.matcher).fails bytes c.in-Err.error) c.asked.ensures c.in-Err.ensures.error,
+  subst (λ bytes. (g.M.Matcher.facts c.args.self.now.matcher).fails bytes c.in-Err.error) c.asked.ensures
+      c.in-Err.ensures.error,
   c.error_message.ensures.1,
 )

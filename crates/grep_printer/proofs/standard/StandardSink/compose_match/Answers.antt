@@ -3,5 +3,5 @@ use Rattle.grep_printer.specs.StandardSteps.{IsErrorAt}
 use Rattle.grep_printer.proofs.standard.StandardSink.compose_match.Goals as goal
 
 pub returns-in-Err-clause-error : goal.returns-in-Err-clause-error
-returns-in-Err-clause-error g c = inr (subst (λ bytes. IsErrorAt (λ m. (g.M.Matcher.facts m).meaning) (λ m. (g.M.Matcher.facts m).fails) c.args.self.now
+returns-in-Err-clause-error g c = inr (subst (λ bytes. IsErrorAt g.M.Matcher.facts c.args.self.now
     c.args.searcher.now.settings bytes c.in-Err.error) c.bytes.ensures c.in-Err.ensures)
