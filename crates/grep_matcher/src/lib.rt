@@ -4,6 +4,7 @@
 #![tactic(auto)]
 
 mod byte_set;
+mod find_at;
 mod line_match_kind;
 mod line_terminator;
 mod literal;
@@ -12,6 +13,7 @@ mod plain;
 mod range;
 
 pub use byte_set::ByteSet;
+pub use find_at::FindAt;
 pub use line_match_kind::LineMatchKind;
 pub use line_terminator::LineTerminator;
 pub use literal::LiteralMatcher;

@@ -4,6 +4,7 @@ ghost use Rattle.grep_matcher.specs.ByteSets.{holds};
 ghost use Rattle.grep_matcher.specs.Literals.{lacks};
 
 use crate::byte_set::ByteSet;
+use crate::find_at::FindAt;
 use crate::line_match_kind::LineMatchKind;
 use crate::line_terminator::LineTerminator;
 use crate::matcher::Matcher;
@@ -118,5 +119,22 @@ impl Matcher for LiteralMatcher<'_> {
 
     fn non_matching_bytes(&self) -> Option<&ByteSet> {
         Some(&self.absent)
+    }
+}
+
+impl FindAt for LiteralMatcher<'_> {
+    ghost use Rattle.std.specs.Prelude.{drop};
+    ghost use Rattle.grep_matcher.specs.FindResults.{match_from};
+    ghost use Rattle.grep_matcher.specs.Literals.{literal_match};
+
+    ghost first_at = { λ m haystack start.
+        match_from start (literal_match m (drop start haystack)) };
+
+    #[inline]
+    fn find_at(&self, haystack: &[u8], start: usize) -> Result<Option<Match>, io::Error> {
+        match self.find(&haystack[start..])? {
+            Some(found) => Ok(Some(found.offset(start))),
+            None => Ok(None),
+        }
     }
 }

@@ -1,5 +1,6 @@
 //! The matches of a matcher, without what makes a search fast.
 use crate::byte_set::ByteSet;
+use crate::find_at::FindAt;
 use crate::line_terminator::LineTerminator;
 use crate::matcher::Matcher;
 use crate::range::Match;
@@ -31,5 +32,13 @@ impl<M: Matcher> Matcher for Plain<M> {
 
     fn non_matching_bytes(&self) -> Option<&ByteSet> {
         None
+    }
+}
+
+impl<M: FindAt> FindAt for Plain<M> {
+    ghost first_at = { λ m. M.first_at m.0 };
+
+    fn find_at(&self, haystack: &[u8], start: usize) -> Result<Option<Match>, M::Error> {
+        self.0.find_at(haystack, start)
     }
 }

@@ -15,7 +15,7 @@ pub mod sinks;
 pub use grep_decode::{Reading, Source};
 pub use grep_lines::{LineIter, LineStep};
 pub use grep_matcher::{
-    ByteSet, LineMatchKind, LineTerminator, LiteralMatcher, Match, Matcher, Plain,
+    ByteSet, FindAt, LineMatchKind, LineTerminator, LiteralMatcher, Match, Matcher, Plain,
 };
 pub use grep_report::{
     BinaryDetection, ConfigError, Encoding, Label, MmapChoice, SearchError, SinkContext,
