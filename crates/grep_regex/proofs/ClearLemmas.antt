@@ -1,7 +1,7 @@
 -- Where a stretch of a haystack has none of some bytes.
-use Rattle.std.proofs.Common.{◌≡◌, ℕ, ◌+◌, ◌-◌, ◌<◌, ◌≤◌, Bool, true, false, not, List, length}
+use Rattle.std.proofs.Common.{◌≡◌, ℕ, ◌+◌, ◌-◌, ◌<◌, ◌≤◌, true, false, not, List, length}
 use Rattle.std.proofs.Common.{drop, get_or}
-use Rattle.std.proofs.Common.{slice_index, slice_range, refl, sym, ap, ◌∙◌, arith, length-take}
+use Rattle.std.proofs.Common.{slice_index, slice_range, sym, ap, ◌∙◌, arith, length-take}
 use Rattle.std.proofs.Common.{length-drop}
 use Rattle.std.proofs.Common.{get_or-drop}
 use Rattle.std.proofs.lemmas.Bool.{true≢false, false_from_ne_true}

@@ -38,30 +38,30 @@ first_from-span f g last h (suc n) i room =
 -- bytes
 pub find-stripped : (bytes : List ℕ) (whole stripped written : Re) → IsStripped bytes whole stripped
     → SameCaptures whole written →
-    (hay : List ℕ) → All (λ x. x < 256) hay → option_map span (find stripped hay 0)
-    ≡ option_map span (find_clear bytes written hay)
+    (hay : List ℕ) (start : ℕ) → All (λ x. x < 256) hay → start ≤ length hay → option_map span (find stripped hay start)
+    ≡ option_map span (find_clear bytes written hay start)
 unfolding find find_clear
-find-stripped bytes whole stripped written p q hay small =
+find-stripped bytes whole stripped written p q hay start small from =
     first_from-span _ _ (length hay) (λ i inside.
     ap outcome (p.at hay small accept i i (omega arith) inside (clear-empty bytes hay i))
-    ∙ q.at hay small (if_clear bytes hay i accept) i) (length hay + 1 - 0) 0 (omega arith)
+    ∙ q.at hay small (if_clear bytes hay i accept) i) (length hay + 1 - start) start (omega arith)
 
 -- the first match that holds none of the bytes holds none of them
-pub clear-match : (bytes : List ℕ) (re : Re) (hay : List ℕ) (a b : ℕ) → option_map span (find_clear bytes re hay)
-    ≡ Some (a, b) →
+pub clear-match : (bytes : List ℕ) (re : Re) (hay : List ℕ) (from a b : ℕ)
+    → option_map span (find_clear bytes re hay from) ≡ Some (a, b) →
     is_clear bytes hay a b ≡ true
 unfolding find_clear
-clear-match bytes re hay a b e = ⊎_elim
+clear-match bytes re hay from a b e = ⊎_elim
     (λ none. absurd (none-some _ (sym (ap (option_map span) none) ∙ e)))
     (λ some.
     let same = same_Some _ _ (sym (ap (option_map span) some.1) ∙ e) in
-    let first = IsFirst-of_first_between (λ i. attempt hay re (if_clear bytes hay i accept) i) 0 (length hay) some.0
+    let first = IsFirst-of_first_between (λ i. attempt hay re (if_clear bytes hay i accept) i) from (length hay) some.0
     some.1 in
     let goes = attempt_sound hay re (if_clear bytes hay some.0.start accept) some.0.start some.0.trace first.here in
     let both = ends some.0.start goes.at goes.rest goes.gave in
     ap₂ (is_clear bytes hay) (sym (ap (λ (x : ℕ × ℕ). x.0) same))
     (sym (ap (λ (x : ℕ × ℕ). x.1) same) ∙ (goes.same_end ∙ both.1)) ∙ both.0)
-    (option_cases (find_clear bytes re hay))
+    (option_cases (find_clear bytes re hay from))
   where
     ends : (s l : ℕ) (t : Trace) → if_clear bytes hay s accept l ≡ Some t → (is_clear bytes hay s l ≡ true)
         × (t.end ≡ l)
@@ -74,12 +74,12 @@ clear-match bytes re hay a b e = ⊎_elim
         (λ unclear. absurd (none-some t (sym (cond-false _ (accept l) None unclear) ∙ gave)))
         (cases_Bool (is_clear bytes hay s l))
 
--- where the haystack has none of the bytes, it is the first match of all
-pub find-unterminated : (bytes : List ℕ) (re : Re) (hay : List ℕ) → is_clear bytes hay 0 (length hay) ≡ true →
-    find_clear bytes re hay ≡ find re hay 0
+-- where none of the bytes follows a position, it is the first match of all
+pub find-unterminated : (bytes : List ℕ) (re : Re) (hay : List ℕ) (start : ℕ)
+    → is_clear bytes hay start (length hay) ≡ true → find_clear bytes re hay start ≡ find re hay start
 unfolding find find_clear
-find-unterminated bytes re hay clear =
-    first_between_cong _ _ 0 (length hay) (λ i from to. attempt_cong hay re (if_clear bytes hay i accept) accept i
+find-unterminated bytes re hay start clear =
+    first_between_cong _ _ start (length hay) (λ i from to. attempt_cong hay re (if_clear bytes hay i accept) accept i
     (λ j m.
     cond-true _ (accept j) None (clear-from bytes hay i j
-    (λ k low high inside. clear-at bytes hay 0 (length hay) clear k (omega arith) inside inside))))
+    (λ k low high inside. clear-at bytes hay start (length hay) clear k (omega (arith, from, low)) inside inside))))

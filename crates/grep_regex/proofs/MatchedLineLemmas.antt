@@ -1,12 +1,12 @@
 -- What a local pattern's first match in many lines says of each of them.
 use Rattle.std.proofs.Common.{◌≡◌, ◌≢◌, ℕ, zero, suc, ◌+◌, ◌-◌, ◌<◌, ◌≤◌, ◌⊎◌, true, false, List, [], ◌∷◌, ◌++◌, length}
-use Rattle.std.proofs.Common.{take, drop, slice_get, slice_index, slice_index_or, Some, None, is_some, option_map, refl}
+use Rattle.std.proofs.Common.{take, drop, slice_index, slice_index_or, Some, None, is_some, option_map, refl}
 use Rattle.std.proofs.Common.{sym, ap, ◌∙◌, subst, inl, inr, ⊎_elim, arith, length-append, length-drop, add-one}
 use Rattle.std.proofs.Common.{append_assoc, ◌==◌, get_or-drop, true≢false, get_or}
 use Rattle.std.proofs.lemmas.Bool.{cases_lt, cases_eq, cases_Bool, eq-eqb}
 use Rattle.std.proofs.lemmas.Bool.Decides.{Decides-eqb}
-use Rattle.std.proofs.lemmas.Option.{none-some, slice_get-get_or, get_or_from_slice_get}
-use Rattle.std.proofs.Math.Seq.{get_or-append_seam, take-length}
+use Rattle.std.proofs.lemmas.Option.{none-some, slice_get-get_or}
+use Rattle.std.proofs.Math.Seq.{take-length}
 use Rattle.std.proofs.lemmas.Slice.Eq.{ends_is}
 use Rattle.std.proofs.lemmas.List.{get_or_append_left, get_or-append-add, get_or_past}
 use Rattle.std.specs.List.{concat, ends_with}
@@ -26,28 +26,28 @@ use Rattle.grep_matcher.specs.declared.line_terminator.LineTerminator.{LineTermi
 use Rattle.grep_matcher.specs.declared.line_terminator.LineTerminator.TheVariants.{Byte, Crlf}
 use Rattle.grep_matcher.specs.Lawful.{HoldsPosition, EndsBefore}
 use Rattle.grep_matcher.specs.Meanings.{Meaning}
-use Rattle.grep_matcher.specs.FindResults.{IsWithin}
+use Rattle.grep_matcher.specs.FindResults.{IsFrom}
 use Rattle.grep_matcher.proofs.StrippedLineLemmas.{IsLine, line-is}
 use Rattle.grep_regex.specs.Clear.{is_among}
 use Rattle.grep_regex.specs.Locality.{is_local, is_crlf}
-use Rattle.grep_regex.specs.Patterns.{leftmost_match}
+use Rattle.grep_regex.specs.Patterns.{leftmost_match_at}
 use Rattle.grep_regex.proofs.ReadsLemmas.{reads-some}
 use Rattle.grep_regex.proofs.EdgeLemmas.{IsSeparated, IsPart, first_byte, matches-in, matches-out}
 
-found-to : (re : Re) (hay : List ℕ) (m : Match) → find re hay 0 ≡ Some m → m.start ≤ length hay
+found-to : (re : Re) (hay : List ℕ) (start : ℕ) (m : Match) → find re hay start ≡ Some m → m.start ≤ length hay
 unfolding find
-found-to re hay m e = (IsFirst-of_first_between (attempt hay re accept) 0 (length hay) m e).to
+found-to re hay start m e = (IsFirst-of_first_between (attempt hay re accept) start (length hay) m e).to
 
--- a match lies within its haystack
-pub match-within : (re : Re) (hay : List ℕ) → IsWithin hay (leftmost_match re hay)
-match-within re hay = ⊎_elim
-    (λ none. subst (λ o. IsWithin hay (option_map span o)) (sym none) tt)
+-- a match lies within its haystack, and starts at the position or after it
+pub match-within : (re : Re) (hay : List ℕ) (start : ℕ) → IsFrom start hay (leftmost_match_at re hay start)
+match-within re hay start = ⊎_elim
+    (λ none. subst (λ o. IsFrom start hay (option_map span o)) (sym none) (tt, tt))
     (λ some.
-    let sound = find_sound re hay 0 some.0 some.1 in
+    let sound = find_sound re hay start some.0 some.1 in
     let spans = Matches-IsSpan hay re _ _ sound.1 in
-    let to = found-to re hay some.0 some.1 in
-    subst (λ o. IsWithin hay (option_map span o)) (sym some.1) (omega arith, omega arith))
-    (option_cases (find re hay 0))
+    let to = found-to re hay start some.0 some.1 in
+    subst (λ o. IsFrom start hay (option_map span o)) (sym some.1) (sound.0, (omega arith, omega arith)))
+    (option_cases (find re hay start))
 
 -- ---- the lines
 
@@ -380,13 +380,13 @@ module _ (terminator : LineTerminator) (sep : IsSeparated terminator) (bytes : L
     (ok : is_local terminator re ≡ true) (reads : is_crlf terminator ≡ true → always_reads re ≡ true) where
   -- a line that matches alone matches in the bytes too
   outer : (i : ℕ) (it : IsKept terminator bytes i) → FindsClear terminator re (kept terminator bytes i)
-      → is_some (leftmost_match re (kept terminator bytes i)) ≡ true →
+      → is_some (leftmost_match_at re (kept terminator bytes i) 0) ≡ true →
       (a : ℕ) × (b : ℕ) × (a ≤ it.top) × Matches bytes re (start terminator bytes i + a) (start terminator bytes i + b)
   outer i it clear does = ⊎_elim
       (λ none. absurd (true≢false (sym does ∙ ap (λ o. is_some (option_map span o)) none)))
       (λ some.
       let sound = find_sound re (kept terminator bytes i) 0 some.0 some.1 in
-      let to = found-to re (kept terminator bytes i) some.0 some.1 in
+      let to = found-to re (kept terminator bytes i) 0 some.0 some.1 in
       let spans = Matches-IsSpan (kept terminator bytes i) re _ _ sound.1 in
       let inside : some.0.trace.end ≤ length (kept terminator bytes i) = omega (arith, spans, to) in
       let near : some.0.trace.end ≤ it.top = short (bytes_of terminator) (kept terminator bytes i) some.0.start
@@ -407,7 +407,7 @@ module _ (terminator : LineTerminator) (sep : IsSeparated terminator) (bytes : L
 
   inner : (i x y : ℕ) (it : IsKept terminator bytes i) → start terminator bytes i ≤ x
       → y ≤ start terminator bytes i + it.top → Matches bytes re x y
-      → is_some (leftmost_match re (kept terminator bytes i)) ≡ true
+      → is_some (leftmost_match_at re (kept terminator bytes i) 0) ≡ true
   inner i x y it low under m =
       let spans = Matches-IsSpan bytes re x y m in
       let some = value_of_IsSome _ (find_complete re (kept terminator bytes i) 0 (x - start terminator bytes i)
@@ -433,7 +433,7 @@ module _ (terminator : LineTerminator) (sep : IsSeparated terminator) (bytes : L
   -- if nothing is found, no line matches
   pub missed-all : find re bytes 0 ≡ None → (i : ℕ) → IsListed terminator bytes i
       → FindsClear terminator re (kept terminator bytes i)
-      → is_some (leftmost_match re (kept terminator bytes i)) ≡ false
+      → is_some (leftmost_match_at re (kept terminator bytes i) 0) ≡ false
   missed-all none i listed clear = ⊎_elim
       (λ does.
       let it = kept-is terminator bytes i listed in
@@ -442,19 +442,19 @@ module _ (terminator : LineTerminator) (sep : IsSeparated terminator) (bytes : L
       (omega (arith, m.2, within i it listed)) m.3) in
       absurd (none-some some.0 (sym none ∙ some.1)))
       (λ doesnt. doesnt)
-      (cases_Bool (is_some (leftmost_match re (kept terminator bytes i))))
+      (cases_Bool (is_some (leftmost_match_at re (kept terminator bytes i) 0)))
 
   module _ (m : Match) (found : find re bytes 0 ≡ Some m) where
     -- a line that ends before the first match doesn't match
     pub missed : (meaning : Meaning) (i : ℕ) → IsListed terminator bytes i
         → FindsClear terminator re (kept terminator bytes i) → EndsBefore terminator meaning bytes i m.start
-        → is_some (leftmost_match re (kept terminator bytes i)) ≡ false
+        → is_some (leftmost_match_at re (kept terminator bytes i) 0) ≡ false
     missed meaning i listed clear ends = ⊎_elim
         (λ does.
         let it = kept-is terminator bytes i listed in
         let o = outer i it clear does in
         let sound = find_sound re bytes 0 m found in
-        let to = found-to re bytes m found in
+        let to = found-to re bytes 0 m found in
         ⊎_elim
         (λ (sooner : start terminator bytes i + o.0 < m.start). absurd (sound.2 _ _ (omega arith) sooner o.3))
         (λ (later : m.start ≤ start terminator bytes i + o.0). ⊎_elim
@@ -466,7 +466,7 @@ module _ (terminator : LineTerminator) (sep : IsSeparated terminator) (bytes : L
         it.end)
         (cases_lt (start terminator bytes i + o.0) m.start))
         (λ doesnt. doesnt)
-        (cases_Bool (is_some (leftmost_match re (kept terminator bytes i))))
+        (cases_Bool (is_some (leftmost_match_at re (kept terminator bytes i) 0)))
       where
         only : (i : ℕ) → IsListed terminator bytes i → start terminator bytes (i + 1) ≡ length bytes
             → i + 1 ≡ length (lines (byte_of terminator) bytes)
@@ -498,11 +498,11 @@ module _ (terminator : LineTerminator) (sep : IsSeparated terminator) (bytes : L
     -- the line that holds the start of a match without excluded bytes matches
     pub matched : (meaning : Meaning) (i : ℕ) → IsListed terminator bytes i
         → HoldsPosition terminator meaning bytes i m.start → IsClear terminator bytes m
-        → is_some (leftmost_match re (kept terminator bytes i)) ≡ true
+        → is_some (leftmost_match_at re (kept terminator bytes i) 0) ≡ true
     matched meaning i listed holds clear =
         let it = kept-is terminator bytes i listed in
         let sound = find_sound re bytes 0 m found in
-        let to = found-to re bytes m found in
+        let to = found-to re bytes 0 m found in
         let spans = Matches-IsSpan bytes re _ _ sound.1 in
         inner i m.start m.trace.end it holds.0 (⊎_elim
         (λ ended. before-end meaning i it holds clear ended)

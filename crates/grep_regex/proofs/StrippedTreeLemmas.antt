@@ -1,7 +1,7 @@
 -- `IsStripped` of trees, by their forms.
-use Rattle.std.proofs.Common.{◌≡◌, ℕ, ◌+◌, ◌<◌, ◌||◌, Bool, true, false, List, [], ◌∷◌, ◌++◌}
+use Rattle.std.proofs.Common.{◌≡◌, ℕ, ◌+◌, ◌<◌, ◌||◌, Bool, false, List, [], ◌∷◌, ◌++◌}
 use Rattle.std.proofs.Common.{length, map, take, get_or}
-use Rattle.std.proofs.Common.{◌==◌, Option, refl, sym, ap, ap₂, ◌∙◌, subst, Vec, Box, Global}
+use Rattle.std.proofs.Common.{◌==◌, Option, sym, ap, ap₂, ◌∙◌, subst, Vec, Box, Global}
 use Rattle.std.proofs.lemmas.List.{take_more, map-append}
 use Rattle.std.proofs.lemmas.List.Folds.{list_any_more}
 use Rattle.std.proofs.Math.Seq.{take-length}

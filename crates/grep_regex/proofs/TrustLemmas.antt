@@ -1,5 +1,5 @@
 -- What a matcher finds in many lines can be trusted.
-use Rattle.std.proofs.Common.{◌≡◌, ◌≢◌, ℕ, ◌<◌, ◌≤◌, true, List, length, slice_index, Some, None, is_some, option_map}
+use Rattle.std.proofs.Common.{◌≡◌, ℕ, ◌<◌, ◌≤◌, true, List, length, slice_index, Some, None, is_some, option_map}
 use Rattle.std.proofs.Common.{sym, ap, ap₂, ◌∙◌, subst, inl, inr, ⊎_elim, arith, get_or, true≢false, Option, nat_lt}
 use Rattle.std.proofs.Common.{lit<, refl}
 use Rattle.std.proofs.lemmas.Bool.{and_parts, not-true}
@@ -11,8 +11,8 @@ use Rattle.regex_hir.specs.Reads.{always_reads}
 use Rattle.regex_hir.proofs.OptionLemmas.{option_cases}
 use Rattle.regex_vm.specs.Found.{span}
 use Rattle.grep_matcher.specs.Lawful.{IsLawfulResult, IsTrusted}
-use Rattle.grep_matcher.specs.Meanings.{ExcludesTerminator, Meaning}
-use Rattle.grep_matcher.specs.FindResults.{IsWithin}
+use Rattle.grep_matcher.specs.Meanings.{Meaning}
+use Rattle.grep_matcher.specs.FindResults.{IsWithin, IsFrom}
 use Rattle.grep_matcher.specs.Lines.{byte_of}
 use Rattle.grep_matcher.specs.declared.line_match_kind.LineMatchKind.TheVariants.{Confirmed, Candidate}
 use Rattle.grep_matcher.specs.declared.line_terminator.LineTerminator.{LineTerminator}
@@ -21,32 +21,33 @@ use Rattle.grep_matcher.specs.declared.line_terminator.LineTerminator.TheVariant
 use Rattle.grep_matcher.proofs.StrippedLineLemmas.{line-is}
 use Rattle.grep_regex.specs.Clear.{is_among}
 use Rattle.grep_regex.specs.Locality.{is_local, is_by_line, is_crlf, is_separator}
-use Rattle.grep_regex.specs.Patterns.{first_match, leftmost_match, excluded_bytes, written_re}
-use Rattle.grep_regex.specs.Views.{regex_first, regex_meaning, regex_options, regex_patterns, program_re}
+use Rattle.grep_regex.specs.Patterns.{first_match_at, leftmost_match_at, excluded_bytes, written_re}
+use Rattle.grep_regex.specs.Views.{regex_first, regex_first_at, regex_meaning, regex_options, regex_patterns, program_re}
 use Rattle.grep_regex.specs.declared.regex.Regex.{Regex}
 use Rattle.grep_regex.proofs.ClearLemmas.{clear-at}
 use Rattle.grep_regex.proofs.EdgeLemmas.{IsSeparated}
-use Rattle.grep_regex.proofs.EngineLemmas.{finds-of}
+use Rattle.grep_regex.proofs.EngineLemmas.{finds-of, finds-at}
 use Rattle.grep_regex.proofs.FindLemmas.{clear-match}
 use Rattle.grep_regex.proofs.MatchedLineLemmas.{match-within, kept, IsListed, kept-small, missed-all, missed, matched}
 use Rattle.grep_regex.proofs.MatchedLineLemmas.{FindsClear}
 
 -- expressions with the same options and texts find the same
 pub first-same : (p q : Regex) → regex_options p ≡ regex_options q → regex_patterns p ≡ regex_patterns q
-    → (hay : List ℕ) →
-    regex_first p hay ≡ regex_first q hay
-first-same p q options patterns hay = ap₂ (λ o texts. first_match o texts hay) options patterns
+    → (hay : List ℕ) (start : ℕ) → regex_first_at p hay start ≡ regex_first_at q hay start
+first-same p q options patterns hay start = ap₂ (λ o texts. first_match_at o texts hay start) options patterns
 
--- a match lies within its haystack
-pub first-within : (r : Regex) (hay : List ℕ) → ((k : ℕ) → get_or hay k 0 < 256) → IsWithin hay (regex_first r hay)
-first-within r hay bytes = subst (IsWithin hay) (finds-of r hay bytes) (match-within (program_re r) hay)
+-- a match lies within its haystack, and starts at the position or after it
+pub first-within : (r : Regex) (hay : List ℕ) (start : ℕ) → ((k : ℕ) → get_or hay k 0 < 256) → start ≤ length hay
+    → IsFrom start hay (regex_first_at r hay start)
+first-within r hay start bytes from =
+    subst (IsFrom start hay) (finds-at r hay start bytes from) (match-within (program_re r) hay start)
 
-none-of : (re : Re) (bytes : List ℕ) → leftmost_match re bytes ≡ None → find re bytes 0 ≡ None
+none-of : (re : Re) (bytes : List ℕ) → leftmost_match_at re bytes 0 ≡ None → find re bytes 0 ≡ None
 none-of re bytes e =
     ⊎_elim (λ none. none) (λ some. absurd (none-some _ (sym e ∙ ap (option_map span) some.1)))
     (option_cases (find re bytes 0))
 
-some-of : (re : Re) (bytes : List ℕ) (a b : ℕ) → leftmost_match re bytes ≡ Some (a, b) →
+some-of : (re : Re) (bytes : List ℕ) (a b : ℕ) → leftmost_match_at re bytes 0 ≡ Some (a, b) →
     (m : Match) × (find re bytes 0 ≡ Some m) × (m.start ≡ a) × (m.trace.end ≡ b)
 some-of re bytes a b e = ⊎_elim
     (λ none. absurd (none-some _ (sym (ap (option_map span) none) ∙ e)))
@@ -86,9 +87,9 @@ module _ (r : Regex) (is_lawful : LineTerminator → Type 0) (bytes : List ℕ)
   finds-clear terminator is hay low m found k from to =
       let first : regex_first r hay ≡ Some (m.start, m.trace.end) =
       sym (finds-of r hay low) ∙ ap (option_map span) found in
-      let inside : k < length hay = omega (arith, to, (subst (IsWithin hay) first (first-within r hay low)).1) in
+      let inside : k < length hay = omega (arith, to, (subst (IsWithin hay) first (first-within r hay 0 low (omega arith)).1).1) in
       let clear = clear-match (excluded_bytes (regex_options r).line_terminator)
-      (written_re (regex_options r) (regex_patterns r)) hay m.start m.trace.end first in
+      (written_re (regex_options r) (regex_patterns r)) hay 0 m.start m.trace.end first in
       ap (λ bytes. is_among bytes (slice_index hay k)) (sym (ap excluded_bytes is))
       ∙ clear-at (excluded_bytes (regex_options r).line_terminator) hay m.start m.trace.end clear k from to inside
 
@@ -96,7 +97,7 @@ module _ (r : Regex) (is_lawful : LineTerminator → Type 0) (bytes : List ℕ)
       (has : IsConfirmed terminator (program_re r)) where
     -- a line alone, by what was compiled
     alone : (i : ℕ) → IsListed terminator bytes i → is_some (regex_first r (kept terminator bytes i))
-        ≡ is_some (leftmost_match (program_re r) (kept terminator bytes i))
+        ≡ is_some (leftmost_match_at (program_re r) (kept terminator bytes i) 0)
     alone i listed =
         ap is_some (sym (finds-of r (kept terminator bytes i) (kept-small terminator bytes small i listed)))
 

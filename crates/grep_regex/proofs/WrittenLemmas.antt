@@ -121,6 +121,6 @@ pub finds-as : (o : Options) (patterns : List (List ℕ)) (hir whole stripped : 
     SameCaptures hir (alt_all (map (read_re o) patterns)) → whole ≡ framed o hir →
     IsStripped (excluded_bytes o.line_terminator) whole stripped → FindsAs o patterns stripped
 finds-as o patterns hir whole stripped read is thin = record {
-  at = λ haystack small. find-stripped (excluded_bytes o.line_terminator) whole stripped (written_re o patterns) thin
-      (alike_of_eq is also framed-alike o read) haystack small;
+  at = λ haystack start small from. find-stripped (excluded_bytes o.line_terminator) whole stripped
+      (written_re o patterns) thin (alike_of_eq is also framed-alike o read) haystack start small from;
 }

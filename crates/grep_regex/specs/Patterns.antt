@@ -1,6 +1,6 @@
 -- What patterns mean under their options.
-use Rattle.std.specs.Prelude.{◌≡◌, ◌<◌, ℕ, Bool, true, false, if◌then◌else◌, List, [], map, Option}
-use Rattle.std.specs.Prelude.{None, Some, All, option_map, chars, encode_utf8_all}
+use Rattle.std.specs.Prelude.{◌≡◌, ◌<◌, ◌≤◌, ℕ, true, false, if◌then◌else◌, List, [], map}
+use Rattle.std.specs.Prelude.{length, Option, None, Some, All, option_map, chars, encode_utf8_all}
 use Rattle.regex_hir.specs.Find.{find}
 use Rattle.regex_hir.specs.Meaning.{alt_all}
 use Rattle.regex_hir.specs.Re.{Re, empty, byte_in, look, cat}
@@ -94,11 +94,16 @@ abbrev pub excluded_bytes : Option LineTerminator → List ℕ
 excluded_bytes None = []
 excluded_bytes (Some terminator) = bytes_of terminator
 
--- the first match of a haystack, by its start and its end: the leftmost that holds no excluded
--- byte, and of those the one that the pattern prefers
+-- the first match of a haystack that starts at a position or after it, by its start and its end:
+-- the leftmost that holds no excluded byte, and of those the one that the pattern prefers; what is
+-- before the position is seen by assertions
+abbrev pub first_match_at : Options → List (List ℕ) → List ℕ → ℕ → Option (ℕ × ℕ)
+first_match_at o patterns haystack start = option_map span
+    (find_clear (excluded_bytes o.line_terminator) (written_re o patterns) haystack start)
+
+-- the first match of a haystack
 abbrev pub first_match : Options → List (List ℕ) → List ℕ → Option (ℕ × ℕ)
-first_match o patterns haystack =
-    option_map span (find_clear (excluded_bytes o.line_terminator) (written_re o patterns) haystack)
+first_match o patterns haystack = first_match_at o patterns haystack 0
 
 -- what a matcher of the patterns means
 abbrev pub meaning_of : Options → List (List ℕ) → Meaning
@@ -108,11 +113,12 @@ meaning_of o patterns = record {
   absent = λ byte. false;
 }
 
--- the leftmost match of a pattern with no regard to bytes
-abbrev pub leftmost_match : Re → List ℕ → Option (ℕ × ℕ)
-leftmost_match re haystack = option_map span (find re haystack 0)
+-- the leftmost match of a pattern from a position on, with no regard to bytes
+abbrev pub leftmost_match_at : Re → List ℕ → ℕ → Option (ℕ × ℕ)
+leftmost_match_at re haystack start = option_map span (find re haystack start)
 
--- the pattern finds in each haystack what the texts of the patterns find there
+-- the pattern finds in each haystack, from each position on, what the texts of the patterns find
+-- there
 pub record FindsAs (o : Options) (patterns : List (List ℕ)) (re : Re) : Type 0 where
-  pub at : (haystack : List ℕ) → All (λ x. x < 256) haystack →
-      leftmost_match re haystack ≡ first_match o patterns haystack
+  pub at : (haystack : List ℕ) (start : ℕ) → All (λ x. x < 256) haystack → start ≤ length haystack →
+      leftmost_match_at re haystack start ≡ first_match_at o patterns haystack start

@@ -6,7 +6,7 @@ use Rattle.regex_hir.specs.Re.{Re}
 use Rattle.regex_meta.specs.declared.program.Program.{Program}
 use Rattle.regex_meta.specs.declared.searcher.Searcher.{Searcher}
 use Rattle.grep_matcher.specs.Meanings.{Meaning}
-use Rattle.grep_regex.specs.Patterns.{first_match, meaning_of}
+use Rattle.grep_regex.specs.Patterns.{first_match_at, meaning_of}
 use Rattle.grep_regex.specs.declared.engine.Engine.{Engine}
 use Rattle.grep_regex.specs.declared.matcher.RegexMatcher.{RegexMatcher}
 use Rattle.grep_regex.specs.declared.options.Options.{Options}
@@ -30,9 +30,13 @@ searcher_program s = s.program.now
 abbrev pub program_re : Regex → Re
 program_re r = meaning (arc_value r.shared).program.hir
 
+-- the first match of a haystack that starts at a position or after it
+abbrev pub regex_first_at : Regex → List ℕ → ℕ → Option (ℕ × ℕ)
+regex_first_at r = first_match_at (regex_options r) (regex_patterns r)
+
 -- the first match of a haystack
 abbrev pub regex_first : Regex → List ℕ → Option (ℕ × ℕ)
-regex_first r = first_match (regex_options r) (regex_patterns r)
+regex_first r haystack = regex_first_at r haystack 0
 
 -- the expression for which an engine was made
 abbrev pub engine_regex : Engine → Regex

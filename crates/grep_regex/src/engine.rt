@@ -1,5 +1,5 @@
 //! What searches for a regular expression.
-ghost use Rattle.std.specs.Prelude.{◌≡◌, is_some, IfOk};
+ghost use Rattle.std.specs.Prelude.{◌≡◌, ◌≤◌, length, is_some, IfOk};
 ghost use Rattle.std.specs.Arc.{arc_value};
 
 use crate::regex::Regex;
@@ -24,7 +24,7 @@ impl<'r> Drop for Engine<'r> {
 }
 
 impl<'r> Engine<'r> {
-    ghost use Rattle.grep_regex.specs.Views.{engine_regex, regex_first};
+    ghost use Rattle.grep_regex.specs.Views.{engine_regex, regex_first, regex_first_at};
 
     pub(crate) fn new(alloc: Global, regex: &'r Regex) -> Result<Engine<'r>, AllocError>
         ensures { IfOk result (λ engine. engine.regex.now ≡ regex.now) }
@@ -33,11 +33,12 @@ impl<'r> Engine<'r> {
         Ok(Engine { regex, searcher })
     }
 
-    pub(crate) fn find(&mut self, haystack: &[u8]) -> Option<(usize, usize)>
-        ensures value { result ≡ regex_first (engine_regex self.old) haystack.now }
+    pub(crate) fn find_at(&mut self, haystack: &[u8], start: usize) -> Option<(usize, usize)>
+        requires { start ≤ length haystack.now }
+        ensures value { result ≡ regex_first_at (engine_regex self.old) haystack.now start }
         ensures same { self.new.regex.now ≡ self.old.regex.now }
     {
-        self.searcher.find(haystack, 0)
+        self.searcher.find(haystack, start)
     }
 
     pub(crate) fn is_match(&mut self, haystack: &[u8]) -> bool

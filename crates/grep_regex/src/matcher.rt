@@ -1,11 +1,11 @@
 //! The matcher of a regular expression.
-ghost use Rattle.std.specs.Prelude.{◌≡◌, is_some, IfOk};
-ghost use Rattle.grep_matcher.specs.FindResults.{IsWithin};
-ghost use Rattle.grep_regex.specs.Views.{regex_first};
+ghost use Rattle.std.specs.Prelude.{◌≡◌, ◌≤◌, length, is_some, IfOk};
+ghost use Rattle.grep_matcher.specs.FindResults.{IsFrom};
+ghost use Rattle.grep_regex.specs.Views.{regex_first, regex_first_at};
 
 use crate::engine::Engine;
 use crate::regex::Regex;
-use grep_matcher::{ByteSet, LineMatchKind, LineTerminator, Match, Matcher};
+use grep_matcher::{ByteSet, FindAt, LineMatchKind, LineTerminator, Match, Matcher};
 use std::alloc::{AllocError, Global};
 use std::cell::RefCell;
 
@@ -37,25 +37,27 @@ impl<'r> RegexMatcher<'r> {
     }
 }
 
-// The first match, by the engine in the cell if it is for this expression, and otherwise by a new
-// one.
+// The first match from a position on, by the engine in the cell if it is for this expression, and
+// otherwise by a new one.
 fn find_by<'r>(
     alloc: Global,
     regex: &'r Regex,
     cell: &RefCell<Engine<'r>>,
     haystack: &[u8],
+    start: usize,
 ) -> Result<Option<(usize, usize)>, AllocError>
-    ensures value { IfOk result (λ found. found ≡ regex_first regex.now haystack.now) }
-    ensures within { IfOk result (IsWithin haystack.now) }
+    requires { start ≤ length haystack.now }
+    ensures value { IfOk result (λ found. found ≡ regex_first_at regex.now haystack.now start) }
+    ensures within { IfOk result (IsFrom start haystack.now) }
 {
     if let Ok(mut borrowed) = cell.try_borrow_mut() {
         let engine = &mut *borrowed;
         if engine.regex.is_equal(regex) {
-            return Ok(engine.find(haystack));
+            return Ok(engine.find_at(haystack, start));
         }
     }
     let mut engine = Engine::new(alloc, regex)?;
-    Ok(engine.find(haystack))
+    Ok(engine.find_at(haystack, start))
 }
 
 // Whether there is a match, in the same way.
@@ -91,10 +93,7 @@ impl Matcher for RegexMatcher<'_> {
     } };
 
     fn find(&self, haystack: &[u8]) -> Result<Option<Match>, AllocError> {
-        match find_by(self.alloc, self.regex, &self.engine, haystack)? {
-            Some((start, end)) => Ok(Some(Match::new(start, end))),
-            None => Ok(None),
-        }
+        self.find_at(haystack, 0)
     }
 
     fn is_match(&self, haystack: &[u8]) -> Result<bool, AllocError> {
@@ -105,7 +104,7 @@ impl Matcher for RegexMatcher<'_> {
         if !self.regex.is_by_line() {
             return Ok(Some(LineMatchKind::Candidate(0)));
         }
-        match find_by(self.alloc, self.regex, &self.engine, haystack)? {
+        match find_by(self.alloc, self.regex, &self.engine, haystack, 0)? {
             Some((start, _)) => Ok(Some(LineMatchKind::Confirmed(start))),
             None => Ok(None),
         }
@@ -117,5 +116,19 @@ impl Matcher for RegexMatcher<'_> {
 
     fn non_matching_bytes(&self) -> Option<&ByteSet> {
         None
+    }
+}
+
+/// What comes before the position is seen by assertions, as `^` and `\b`.
+impl FindAt for RegexMatcher<'_> {
+    ghost use Rattle.grep_regex.specs.Views.{matcher_regex, regex_first_at};
+
+    ghost first_at = { λ m. regex_first_at (matcher_regex m) };
+
+    fn find_at(&self, haystack: &[u8], start: usize) -> Result<Option<Match>, AllocError> {
+        match find_by(self.alloc, self.regex, &self.engine, haystack, start)? {
+            Some((from, end)) => Ok(Some(Match::new(from, end))),
+            None => Ok(None),
+        }
     }
 }

@@ -1,6 +1,6 @@
 //! What is built and asked, as plain values. An expression is dropped in this file alone, since
 //! that costs much to prove.
-use grep_matcher::{LineTerminator, Matcher};
+use grep_matcher::{FindAt, LineTerminator, Matcher};
 use grep_regex::{Error, Regex, RegexMatcherBuilder};
 use std::alloc::Global;
 
@@ -105,6 +105,39 @@ pub fn answer_of(
         Ok(answer) => Some(answer),
         Err(_) => None,
     }
+}
+
+// Where the first match from a position on starts and ends.
+fn ask_from<M: FindAt>(
+    matcher: &M,
+    haystack: &[u8],
+    start: usize,
+) -> Result<Option<(usize, usize)>, M::Error> {
+    if start > haystack.len() {
+        return Ok(None);
+    }
+    Ok(
+        matcher
+            .find_at(haystack, start)?
+            .map(|found| (found.start(), found.end())),
+    )
+}
+
+// What `ask_from` returns of the matcher of a pattern, or `None` if one can't be made.
+pub fn first_from(
+    alloc: Global,
+    letters: &str,
+    pattern: &str,
+    haystack: &[u8],
+    start: usize,
+) -> Option<Option<(usize, usize)>> {
+    let Ok(regex) = build(alloc, letters, &[pattern]) else {
+        return None;
+    };
+    let Ok(matcher) = regex.matcher(alloc) else {
+        return None;
+    };
+    ask_from(&matcher, haystack, start).ok()
 }
 
 // The debug form of a clone of the expression of patterns, or `None` if there is none.

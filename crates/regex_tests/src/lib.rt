@@ -13,6 +13,8 @@ mod engine;
 #[cfg(test)]
 mod errors;
 #[cfg(test)]
+mod from_position;
+#[cfg(test)]
 mod hostile;
 #[cfg(test)]
 mod matches;

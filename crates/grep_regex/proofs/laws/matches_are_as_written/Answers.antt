@@ -5,5 +5,5 @@ use Rattle.grep_regex.proofs.FindLemmas.{find-unterminated}
 use Rattle.grep_regex.proofs.laws.matches_are_as_written.Goals as goal
 
 pub returns : goal.returns
-returns c = λ o patterns haystack clear. ap (option_map span)
-    (find-unterminated (excluded_bytes o.line_terminator) (written_re o patterns) haystack clear)
+returns c = λ o patterns haystack from clear. ap (option_map span)
+    (find-unterminated (excluded_bytes o.line_terminator) (written_re o patterns) haystack from clear)

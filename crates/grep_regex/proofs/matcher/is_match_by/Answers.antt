@@ -6,4 +6,4 @@ pub returns-then-is_equal : goal.returns-then-is_equal
 returns-then-is_equal c = c.is_match.ensures.value
     ∙ ap is_some (first-same c.deref_mut-engine.result.now.regex.now c.args.regex.now
     (c.is_equal.ensures.options c.if-is_equal.true) (c.is_equal.ensures.patterns c.if-is_equal.true)
-    c.args.haystack.now)
+    c.args.haystack.now 0)

@@ -1,0 +1,8 @@
+use Rattle.std.proofs.Common.{◌∙◌}
+use Rattle.grep_regex.proofs.EngineLemmas.{engine-finds}
+use Rattle.grep_regex.proofs.engine.Engine.find_at.Goals as goal
+
+pub returns-clause-value : goal.returns-clause-value
+returns-clause-value c = c.find.ensures.found
+    ∙ engine-finds _ c.args.self.now.regex.now c.args.haystack.now c.args.start c.args.self.now.same
+    (λ k. (c.type_inv.haystack k).fits) c.requires
