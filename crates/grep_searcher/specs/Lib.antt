@@ -1,5 +1,7 @@
 pub mod ClosureSinks
 pub mod CountSinks
+pub mod LineCounts
+pub mod MatchHandlers
 pub use Rattle.grep_definitions.specs.Settings
 pub use Rattle.grep_definitions.specs.BuiltSettings
 pub use Rattle.grep_definitions.specs.Plans

@@ -5,6 +5,11 @@ ghost use Rattle.std.specs.Str.Lossy.{utf8_lossy};
 ghost use Rattle.grep_searcher.specs.ClosureSinks.{ClosuresAreCalled, ClosuresKeep, IsUtf8Text};
 ghost use Rattle.grep_searcher.specs.ClosureSinks.{IsLossyText, IsWholeText};
 ghost use Rattle.grep_searcher.specs.CountSinks.{RunsCount, RunsCountAll};
+ghost use Rattle.grep_searcher.specs.LineCounts.{RunsCountLines, SlicesCountLines, SlicesCountAll};
+ghost use Rattle.grep_searcher.specs.LineCounts.{ReadersCountLines};
+ghost use Rattle.grep_searcher.specs.MatchHandlers.{RunsHandle, RunsFindSelected, RunsCollect};
+ghost use Rattle.grep_searcher.specs.MatchHandlers.{RunsCollectLines, RunsHandFirst};
+ghost use Rattle.grep_searcher.specs.MatchHandlers.{RunsHandFirstLines};
 ghost use Rattle.grep_definitions.specs.FileSearches.{IsFileRead};
 ghost use Rattle.grep_definitions.specs.SinkFolds.{RunsFold, RunsFoldAll, RunsFoldMatches};
 ghost use Rattle.grep_definitions.specs.SinkFolds.{SearchesRun, ReaderSearchesRun, SearchesFail};
@@ -12,7 +17,7 @@ ghost use Rattle.grep_definitions.specs.SinkFolds.{ReaderSearchesFail, KnownRead
 ghost use Rattle.grep_report.specs.ErrorMakers.{makers_of};
 
 use crate::sink::Sink;
-use crate::sinks::{Bytes, Lossy, UTF8};
+use crate::sinks::{Bytes, Lossy, MatchHandler, UTF8};
 use grep_decode::Source;
 pub use grep_definitions::laws::{
     after_wins, after_wins_across, at_most_limit, at_most_limit_across, counted_reports_are_clear,
@@ -55,6 +60,45 @@ pub fn runs_count_matches<E>()
     ensures all { RunsCountAll E }
     ensures added { RunsCount E }
 {}
+
+/// By line, a run of a new `Count` that ended in `Ok` counted the matched lines, up to the largest
+/// `u64`.
+pub fn runs_count_lines<E>()
+    ensures { RunsCountLines E }
+{
+    matches_are_counted();
+}
+
+/// A run of `OnMatch` that ended in `Ok` made its handler handle the matches that are reported, in
+/// order, up to the first after which the search doesn't go on.
+pub fn runs_handle_matches<H: MatchHandler>()
+    ensures { RunsHandle H.goes H.next H.fails }
+{}
+
+/// By line, a run of a new `Found` that ended in `Ok` found a match exactly if a line is selected.
+pub fn runs_find_selected<E>()
+    ensures { RunsFindSelected E }
+{
+    first_match_is_first();
+}
+
+/// A run of a new `First` that ended in `Ok` kept the first matches that are reported, up to its
+/// limit; by line these are the first matched lines.
+pub fn runs_hand_first<A: Allocator + Copy>()
+    ensures all { RunsHandFirst A }
+    ensures lines { RunsHandFirstLines A }
+{
+    matches_are_matched_lines();
+}
+
+/// A run of `Collect` that ended in `Ok` kept the matches that are reported, after those that it
+/// had kept; by line these are the matched lines, each with its number, its offset and its bytes.
+pub fn runs_collect_lines<A: Allocator + Copy>()
+    ensures all { RunsCollect A }
+    ensures lines { RunsCollectLines A }
+{
+    matches_are_matched_lines();
+}
 
 /// A run that ended in `Ok`, of a sink that calls a closure, called it at each match that is
 /// reported, in order, with its number and its text, up to the first at which it returned false.
@@ -161,3 +205,36 @@ where
         (makers_of M.Error.output S.Error.makers) (M.facts matcher)
         F.remaining (IsFileRead F.remaining) }
 {}
+
+/// A search of a slice, by line and without binary detection, with a lawful matcher and a new
+/// `Count`, if it ended in `Ok`, counted the matched lines of its decoded bytes, up to the largest
+/// `u64`. A slice that is searched as it is has no more lines than that.
+pub fn slices_count_lines<A: Allocator + Copy, M: Matcher, E: SinkError<A>>()
+    ensures decoded { (matcher : M) → SlicesCountLines
+        (makers_of M.Error.output E.makers) (M.facts matcher) }
+    ensures unchanged { (matcher : M) → SlicesCountAll
+        (makers_of M.Error.output E.makers) (M.facts matcher) }
+{
+    unchanged_is_searched();
+    matches_are_counted();
+    matches_are_few();
+}
+
+/// So did such a search of a reader that says which bytes remain.
+pub fn readers_count_lines<A: Allocator + Copy, M: Matcher, R: Source, E: SinkError<A>>()
+    ensures { (matcher : M) → ReadersCountLines
+        (makers_of M.Error.output E.makers) (M.facts matcher)
+        R.remaining R.step }
+{
+    matches_are_counted();
+}
+
+/// So did such a search of a file that says which bytes remain. After `search_path` such a file is
+/// one that was opened.
+pub fn files_count_lines<A: Allocator + Copy, M: Matcher, F: Read, E: SinkError<A>>()
+    ensures { (matcher : M) → ReadersCountLines
+        (makers_of M.Error.output E.makers) (M.facts matcher)
+        F.remaining (IsFileRead F.remaining) }
+{
+    matches_are_counted();
+}

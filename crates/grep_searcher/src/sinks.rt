@@ -1,17 +1,28 @@
 //! Sinks that take matches alone: those that call a closure at each match, with its line number and
-//! its text, and one that counts.
+//! its text, one that counts, and one that passes each match to a handler, with the handlers that
+//! callers need most.
 //!
 //! The closure returns whether the search goes on. Its error ends the search.
 ghost use Rattle.std.specs.Prelude.{◌≡◌, Some, None, MatchResult};
 ghost use Rattle.std.specs.IoError.{error_kind};
 ghost use Rattle.std.specs.declared.io.ErrorKind.TheVariants.{Other};
 
+mod collect;
 mod count;
+mod first;
+mod found;
+mod kept_match;
+mod on_match;
 
 use crate::searcher::Searcher;
 use crate::sink::Sink;
+pub use collect::Collect;
 pub use count::Count;
+pub use first::First;
+pub use found::Found;
 use grep_report::{SinkContext, SinkError, SinkFinish, SinkMatch};
+pub use kept_match::KeptMatch;
+pub use on_match::{MatchHandler, OnMatch};
 use std::alloc::Allocator;
 use std::{io, str};
 

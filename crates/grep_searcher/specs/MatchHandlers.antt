@@ -1,0 +1,126 @@
+-- What handlers of matches make of a match, and of a search.
+use Rattle.std.specs.Prelude.{◌≡◌, ℕ, Bool, true, false, if◌then◌else◌, nat_lt}
+use Rattle.std.specs.Prelude.{List, [], ◌∷◌, ◌++◌, length, map, take, Option, None, Result, Ok, Err}
+use Rattle.grep_matcher.specs.Meanings.{Meaning}
+use Rattle.grep_report.specs.SearchErrors.{IsOutOfMemory}
+use Rattle.grep_report.specs.declared.sink_error.SearchError.{SearchError}
+use Rattle.grep_definitions.specs.Asking.{is_across, search_plan}
+use Rattle.grep_definitions.specs.Plans.{Call, matches, context, Plan, Steps, IsRun}
+use Rattle.grep_definitions.specs.Plans.{reported_bytes, reported_from}
+use Rattle.grep_definitions.specs.Reports.{line_count, some_below}
+use Rattle.grep_definitions.specs.SearchLaws.{match_calls, match_of, matched_lines}
+use Rattle.grep_definitions.specs.SelectedLines.{is_selected}
+use Rattle.grep_definitions.specs.Settings.{Settings}
+use Rattle.grep_definitions.specs.SinkFolds.{fold_while, IsMatchStep, IsTakenBy}
+
+module _ {H E : Type 0} (goes : H → Call → Bool) (next : H → Call → H) (fails : E → Type 0) where
+  -- a match is handled by these functions of the state and the call, or the error is one of these
+  abbrev pub IsHandled : H → Call → Result Bool E → H → Type 0
+  IsHandled old call (Ok b) new = IsTakenBy goes next old call b new
+  IsHandled old call (Err e) new = fails e
+
+  -- in a run that ended in `Ok`, of a sink that passes each match to such a handler, it handled the
+  -- matches that are reported, up to the first after which the search doesn't go on
+  abbrev pub RunsHandle : Type 0
+  RunsHandle =
+      (settings : Settings) (old : H) (plan : Plan) (new : H)
+      → IsRun (IsMatchStep goes next fails) settings old plan (Ok tt) new
+      → new ≡ fold_while goes next old (match_calls plan.calls)
+
+-- a match that was kept: the number of its first line, its offset in the whole input, and its bytes
+pub record KeptReport : Type 0 where
+  pub line_number : Option ℕ
+  pub offset : ℕ
+  pub bytes : List ℕ
+
+-- the number of the first line that a call reports
+abbrev pub reported_number : Call → Option ℕ
+reported_number (matches number offset bytes) = number
+reported_number (context kind number offset bytes) = number
+reported_number _ = None
+
+-- what is kept of a match
+abbrev pub kept_of : Call → KeptReport
+kept_of call = record {
+  line_number = reported_number call;
+  offset = reported_from call;
+  bytes = reported_bytes call;
+}
+
+-- each match is kept
+abbrev pub collected : List KeptReport → Call → List KeptReport
+collected old call = old ++ kept_of call ∷ []
+
+-- the first matches that were kept, and how many there may be
+pub record FirstReports : Type 0 where
+  pub limit : ℕ
+  pub kept : List KeptReport
+
+-- whether another may be kept
+abbrev pub has_room : FirstReports → Bool
+has_room first = nat_lt (length first.kept) first.limit
+
+-- a match is kept if there is room
+abbrev pub with_first : FirstReports → Call → FirstReports
+with_first old call =
+    if has_room old then record old { kept = collected old.kept call } else old
+
+-- The sinks of these handlers.
+
+-- a match was found, and ends the search
+abbrev pub IsFoundStep : {E : Type 0} → Steps Bool E
+IsFoundStep = IsMatchStep (λ _ _. false) (λ _ _. true) (λ _. ⊥)
+
+-- each match is kept
+abbrev pub IsCollectStep : {A : Type 0} → Steps (List KeptReport) (SearchError A)
+IsCollectStep = IsMatchStep (λ _ _. true) collected IsOutOfMemory
+
+-- the first matches are kept, and the last of them ends the search
+abbrev pub IsFirstStep : {A : Type 0} → Steps FirstReports (SearchError A)
+IsFirstStep = IsMatchStep (λ old call. has_room (with_first old call)) with_first IsOutOfMemory
+
+-- by line, a run of a new handler that ended in `Ok` found a match exactly if a line is selected
+abbrev pub RunsFindSelected : Type 0 → Type 0
+RunsFindSelected E =
+    (settings : Settings) (meaning : Meaning) (bytes : List ℕ) → is_across settings meaning ≡ false
+    → (old new : Bool) → old ≡ false
+    → IsRun {E = E} IsFoundStep settings old (search_plan settings meaning bytes) (Ok tt) new
+    → new ≡ some_below (is_selected settings meaning bytes) (line_count settings bytes)
+
+-- a run that ended in `Ok` adds the matches that are reported
+abbrev pub RunsCollect : Type 0 → Type 0
+RunsCollect A =
+    (settings : Settings) (old : List KeptReport) (plan : Plan) (new : List KeptReport)
+    → IsRun {E = SearchError A} IsCollectStep settings old plan (Ok tt) new
+    → new ≡ old ++ map kept_of (match_calls plan.calls)
+
+-- what is kept of line i
+abbrev pub kept_line : Settings → List ℕ → ℕ → KeptReport
+kept_line settings bytes i = kept_of (match_of settings bytes i)
+
+-- by line these are the matched lines
+abbrev pub RunsCollectLines : Type 0 → Type 0
+RunsCollectLines A =
+    (settings : Settings) (meaning : Meaning) (bytes : List ℕ) → is_across settings meaning ≡ false
+    → (old : List KeptReport) (new : List KeptReport)
+    → IsRun {E = SearchError A} IsCollectStep settings old (search_plan settings meaning bytes)
+    (Ok tt) new
+    → new ≡ old ++ map (kept_line settings bytes) (matched_lines settings meaning bytes)
+
+-- a run of a new handler that ended in `Ok` kept the first matches that are reported
+abbrev pub RunsHandFirst : Type 0 → Type 0
+RunsHandFirst A =
+    (settings : Settings) (limit : ℕ) (old : FirstReports) (plan : Plan) (new : FirstReports)
+    → old ≡ record { limit = limit; kept = [] }
+    → IsRun {E = SearchError A} IsFirstStep settings old plan (Ok tt) new
+    → new.kept ≡ map kept_of (take limit (match_calls plan.calls))
+
+-- by line these are the first matched lines
+abbrev pub RunsHandFirstLines : Type 0 → Type 0
+RunsHandFirstLines A =
+    (settings : Settings) (meaning : Meaning) (bytes : List ℕ) → is_across settings meaning ≡ false
+    → (limit : ℕ) (old new : FirstReports) → old ≡ record { limit = limit; kept = [] }
+    → IsRun {E = SearchError A} IsFirstStep settings old (search_plan settings meaning bytes)
+    (Ok tt) new
+    → new.kept
+    ≡ map (kept_line settings bytes) (take limit (matched_lines settings meaning bytes))
