@@ -1,3 +1,5 @@
+pub mod JsonRunLemmas
+pub mod MessageLemmas
 pub mod PrintedRunLemmas
 pub mod RunFoldLemmas
 pub mod SummaryLemmas

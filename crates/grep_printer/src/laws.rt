@@ -1,4 +1,5 @@
 //! What the printers make of a search: each law is the contract of a function that does nothing.
+ghost use Rattle.grep_printer.specs.JsonSteps.{RunsPrintJson};
 ghost use Rattle.grep_printer.specs.StandardSteps.{RunsPrint};
 ghost use Rattle.grep_printer.specs.SummarySteps.{RunsSumUp};
 
@@ -15,4 +16,10 @@ pub fn runs_print<M: Matcher, W: Output>()
 /// after which the search doesn't go on, and has written the text for that count.
 pub fn runs_sum_up<W: Output>()
     ensures { RunsSumUp W.step }
+{}
+
+/// A run of the sink of a `Json` that ended in `Ok` has written the text of its plan: of each call,
+/// in order.
+pub fn runs_print_json<M: Matcher, W: Output>()
+    ensures { RunsPrintJson M.facts W.step }
 {}

@@ -8,10 +8,16 @@
 
 mod config;
 mod fields;
+mod json_lines;
+mod json_printer;
 pub mod laws;
+mod messages;
 mod standard;
+mod stats;
 mod summary;
 
 pub use config::{SearchSeparator, StandardBuilder};
+pub use json_printer::{Json, JsonBuilder, JsonSink};
 pub use standard::{Standard, StandardSink};
+pub use stats::Stats;
 pub use summary::{Summary, SummaryKind, SummarySink};

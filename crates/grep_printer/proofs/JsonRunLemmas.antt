@@ -1,0 +1,90 @@
+-- What the sink of a printer of JSON has written after a run along a plan, and a call that fails.
+use Rattle.std.proofs.Common.{◌≡◌, ◌⊎◌, ◌∙◌, [], ap, refl, subst}
+use Rattle.std.specs.Global.{Global}
+use Rattle.std.specs.Prelude.{Bool, Err, Ok, true}
+use Rattle.grep_output.proofs.OutputLemmas.{Writes-none, Writes-more}
+use Rattle.grep_output.specs.Outputs.{OutputCall, WritesAll}
+use Rattle.grep_matcher.specs.Meanings.{MatcherFacts}
+use Rattle.grep_searcher.specs.Plans.{Call, Plan, IsRun, reported_bytes}
+use Rattle.grep_searcher.specs.SearchErrors.{IsOutOfMemory}
+use Rattle.grep_searcher.specs.Settings.{Settings}
+use Rattle.grep_searcher.specs.declared.SearchError.{SearchError}
+use Rattle.grep_printer.proofs.RunFoldLemmas.{run-keeps}
+use Rattle.grep_printer.specs.JsonSteps.{IsComposingCall, IsComposingJson, IsJsonError, IsSameJson, PrintsJson}
+use Rattle.grep_printer.specs.JsonSteps.{PrintsJsonCall, PrintsJsonPlan, json_frame}
+use Rattle.grep_printer.specs.JsonTexts.{JsonFrame, JsonPrinted, json_printed_with, json_progress, json_text}
+use Rattle.grep_printer.specs.declared.json_printer.JsonSink.{JsonSink}
+
+-- one step after another
+same-more : {M W : Type 0} (old mid new : JsonSink M W) → IsSameJson old mid → IsSameJson mid new → IsSameJson old new
+same-more old mid new first later = record {
+  printer = later.printer ∙ first.printer;
+  matcher = later.matcher ∙ first.matcher;
+  path = later.path ∙ first.path;
+  always_begin_end = later.always_begin_end ∙ first.always_begin_end;
+}
+
+module _ {M W F : Type 0} (facts : M → MatcherFacts F) (settings : Settings) where
+  -- the matcher failed, or there was no memory for its matches
+  pub composing-fails : (call : Call) (old new : JsonSink M W) (e : SearchError Global) → IsComposingJson old new
+      → IsOutOfMemory e ⊎ IsJsonError facts old settings (reported_bytes call) e
+      → IsComposingCall facts old settings call (Err e) new
+  composing-fails call old new e composing cause = record {
+    same = composing.same;
+    writer = composing.writer;
+    has_failed = composing.has_failed;
+    made = record { progress = composing.progress; cause = cause };
+  }
+
+  -- the texts of a sink's calls depend on the same
+  same-frame : (old new : JsonSink M W) → IsSameJson old new → json_frame facts new settings ≡ json_frame facts old settings
+  same-frame old new same =
+      let matcher = same.matcher in let path = same.path in let always_begin_end = same.always_begin_end in cc
+
+module _ {M W F : Type 0} (facts : M → MatcherFacts F) (write_step : W → OutputCall → W → Type 0)
+    (settings : Settings) where
+  -- what a sink has written since a state of the writer, and what was reported to it
+  record HasPrinted (frame : JsonFrame) (start : JsonSink M W) (printed : JsonPrinted) (now : JsonSink M W) : Type 0 where
+    same : IsSameJson start now
+    framed : json_frame facts now settings ≡ frame
+    written : WritesAll write_step start.printer.now.writer printed.text now.printer.now.writer
+    progress : now.progress ≡ printed.progress
+    has_failed : now.printer.now.has_failed ≡ start.printer.now.has_failed
+
+  -- one more call
+  printed-more : (frame : JsonFrame) (start : JsonSink M W) (printed : JsonPrinted) (old : JsonSink M W) (call : Call)
+      (b : Bool) (new : JsonSink M W) → HasPrinted frame start printed old
+      → PrintsJson facts write_step old settings call b new
+      → (b ≡ true) × HasPrinted frame start (json_printed_with frame printed call) new
+  printed-more frame start printed old call b new before step = (
+    step.goes_on,
+    record {
+      same = same-more start old new before.same step.same;
+      framed = same-frame facts settings old new step.same ∙ before.framed;
+      written = Writes-more write_step start.printer.now.writer old.printer.now.writer new.printer.now.writer
+          printed.text (json_text frame printed.progress call) (Ok tt) before.written
+          (subst (λ text. WritesAll write_step old.printer.now.writer text new.printer.now.writer)
+          (ap (λ f. json_text f old.progress call) before.framed ∙ ap (λ p. json_text frame p call) before.progress)
+          step.written);
+      progress = step.progress ∙ (ap (λ f. json_progress f old.progress call) before.framed
+          ∙ ap (λ p. json_progress frame p call) before.progress);
+      has_failed = step.has_failed ∙ before.has_failed;
+    },
+  )
+
+  -- a run along a plan that ended in `Ok`
+  pub run-prints-json : (old : JsonSink M W) (plan : Plan) (new : JsonSink M W)
+      → IsRun (PrintsJsonCall facts write_step) settings old plan (Ok tt) new
+      → PrintsJsonPlan facts write_step old settings plan new
+  run-prints-json old plan new run =
+      let frame = json_frame facts old settings in
+      let end = run-keeps (PrintsJsonCall facts write_step) settings (HasPrinted frame old) (λ printed call. true)
+      (json_printed_with frame) (printed-more frame old) (record { progress = old.progress; text = [] }) old plan new
+      (record {
+        same = record { printer = refl; matcher = refl; path = refl; always_begin_end = refl };
+        framed = refl;
+        written = Writes-none write_step old.printer.now.writer;
+        progress = refl;
+        has_failed = refl;
+      }) run in
+      record { same = end.same; written = end.written; progress = end.progress; has_failed = end.has_failed }

@@ -1,0 +1,14 @@
+use Rattle.std.proofs.Common.{append_assoc}
+use Rattle.grep_printer.specs.JsonMessages.{begin_json, begin_tokens, json_line}
+use Rattle.grep_printer.proofs.json_lines.add_begin.Goals as goal
+
+pub returns : goal.returns
+unfolding begin_json begin_tokens json_line
+returns c =
+    simp append_assoc (simp (
+      c.in_ok-open.ensures.before,
+      c.in_ok-open.ensures.tokens,
+      c.new-out.ensures.before,
+      c.new-out.ensures.tokens,
+      append_assoc,
+    ) at c.close.ensures)

@@ -1,0 +1,610 @@
+//! The printer of JSON.
+ghost use Rattle.std.specs.Prelude.{◌≡◌, ◌⊎◌, ◌≤◌, ◌++◌, [], All, IfErr, MatchResult, OnErr, OnOk};
+ghost use Rattle.std.specs.Prelude.{if◌then◌else◌, is_ok, length, true, false};
+ghost use Rattle.grep_searcher.specs.SearchErrors.{IsOutOfMemory};
+ghost use Rattle.grep_searcher.specs.SinkArguments.{context_call, match_call};
+ghost use Rattle.grep_output.specs.Outputs.{Writes};
+ghost use Rattle.grep_printer.specs.JsonMessages.{begin_json, end_json, json_line, report_json};
+ghost use Rattle.grep_printer.specs.JsonMessages.{summary_json};
+ghost use Rattle.grep_printer.specs.JsonSteps.{FailsToWriteJson, FailsToWriteText, IsSameJson};
+ghost use Rattle.grep_printer.specs.JsonSteps.{IsComposingCall, IsComposingJson, IsJsonError};
+ghost use Rattle.grep_printer.specs.JsonSteps.{IsJsonWritten, IsSamePrinter, WritesText};
+ghost use Rattle.grep_printer.specs.JsonSteps.{json_frame};
+ghost use Rattle.grep_printer.specs.JsonTexts.{context_submatches, end_text, is_after, is_reported};
+ghost use Rattle.grep_printer.specs.JsonTexts.{new_json_progress, opening_line, report_line};
+ghost use Rattle.grep_printer.specs.JsonTexts.{stats_of, submatch_of, submatches_of, with_match};
+ghost use Rattle.grep_printer.specs.JsonTexts.{with_size, with_text};
+ghost use Rattle.grep_printer.specs.StandardTexts.{asked_bytes};
+ghost use Rattle.grep_printer.specs.StatsSums.{nanos_of};
+
+use crate::json_lines::{Report, add_begin, add_end, add_report, add_summary};
+use crate::stats::{Stats, nanoseconds};
+use grep_lines::{line_count, without_terminator};
+use grep_output::{Output, write_all};
+use grep_searcher::{
+    Match, Matcher, SearchError, Searcher, Sink, SinkContext, SinkError, SinkFinish, SinkMatch,
+};
+use std::alloc::{AllocError, Allocator, Global};
+use std::time::Duration;
+use std::{io, mem};
+
+/// How a printer of JSON writes messages. The setter returns the builder.
+#[derive(Debug, Drop)]
+pub struct JsonBuilder {
+    always_begin_end: bool,
+}
+
+impl JsonBuilder {
+    /// The default settings: nothing is written of a search that reports nothing.
+    pub fn new() -> JsonBuilder
+        ensures { result.always_begin_end ≡ false }
+    {
+        JsonBuilder {
+            always_begin_end: false,
+        }
+    }
+
+    /// Whether the messages that a search begins and ends are written for every search, also if it
+    /// reports nothing; not by default.
+    pub fn always_begin_end(&mut self, yes: bool) -> &mut JsonBuilder
+        ensures reference { result.ghost_name ≡ self.entry.ghost_name }
+        ensures set { result.now ≡ record self.old { always_begin_end = yes } }
+    {
+        self.always_begin_end = yes;
+        self
+    }
+
+    /// A printer with these settings, which writes to `writer`. It takes memory from `alloc` when
+    /// it writes.
+    pub fn build<W>(&self, alloc: Global, writer: W) -> Json<W>
+        ensures writer { result.writer ≡ writer }
+        ensures always_begin_end { result.always_begin_end ≡ self.now.always_begin_end }
+        ensures has_failed { result.has_failed ≡ false }
+    {
+        Json {
+            writer,
+            text: Vec::new(alloc),
+            submatches: Vec::new(alloc),
+            always_begin_end: self.always_begin_end,
+            has_failed: false,
+        }
+    }
+}
+
+/// A printer of JSON: it writes each report as a message in a line of its own. `sink` gives the
+/// sink of one search after another.
+#[derive(Drop)]
+pub struct Json<W> {
+    writer: W,
+    // The text of the call at hand, and the matches in its report.
+    text: Vec<u8>,
+    submatches: Vec<Match>,
+    always_begin_end: bool,
+    has_failed: bool,
+}
+
+impl<W> Json<W> {
+    /// The sink of a search: the matcher is that of the search, and the path, if there is one, is
+    /// in each message.
+    pub fn sink<'s, M: Matcher>(
+        &'s mut self,
+        matcher: M,
+        path: Option<&'s str>,
+    ) -> JsonSink<'s, M, W>
+        ensures printer { result.printer.ghost_name ≡ self.entry.ghost_name }
+        ensures now { result.printer.now ≡ self.old }
+        ensures matcher { result.matcher ≡ matcher }
+        ensures path { result.path ≡ path.entry }
+        ensures progress { result.progress ≡ new_json_progress }
+    {
+        JsonSink {
+            printer: self,
+            matcher,
+            path,
+            progress: JsonProgress::new(),
+        }
+    }
+
+    /// Whether the writer failed.
+    pub fn has_failed(&self) -> bool
+        ensures { result ≡ self.now.has_failed }
+    {
+        self.has_failed
+    }
+
+    /// The writer.
+    pub fn get_mut(&mut self) -> &mut W
+        ensures now { result.now ≡ self.old.writer }
+    {
+        &mut self.writer
+    }
+
+    /// The writer back.
+    pub fn into_inner(self) -> W
+        ensures { result ≡ self.writer }
+    {
+        let Json {
+            writer,
+            text: _,
+            submatches: _,
+            always_begin_end: _,
+            has_failed: _,
+        } = self;
+        writer
+    }
+
+    // Takes the text at hand, and leaves an empty one.
+    fn take_text(&mut self) -> Vec<u8>
+        ensures text { result.items ≡ [] }
+        ensures same { IsSamePrinter self.old self.new }
+        ensures submatches { self.new.submatches ≡ self.old.submatches }
+    {
+        let alloc = *self.text.allocator();
+        let mut text = mem::replace(&mut self.text, Vec::new(alloc));
+        text.clear();
+        text
+    }
+
+    // Keeps a match in a report of so many bytes, if there is one.
+    fn keep_submatch(&mut self, size: usize, found: Option<Match>) -> Result<(), AllocError>
+        ensures same { IsSamePrinter self.old self.new }
+        ensures submatches { OnOk result (self.new.submatches.items ≡ submatch_of size found) }
+    {
+        self.submatches.clear();
+        if let Some(range) = found {
+            if !is_after(size, &range) {
+                self.submatches.push(range)?;
+            }
+        }
+        Ok(())
+    }
+
+    // Makes a text of the message that a search begins.
+    fn compose_begin(&mut self, path: Option<&str>) -> Result<(), AllocError>
+        ensures same { IsSamePrinter self.old self.new }
+        ensures text { OnOk result (self.new.text.items ≡ json_line (begin_json path.entry)) }
+    {
+        let text = self.take_text();
+        self.text = add_begin(text, path)?;
+        Ok(())
+    }
+
+    // Makes a text of a report with the matches at hand, after the message that the search begins
+    // if that isn't written yet.
+    fn compose_report(
+        &mut self,
+        is_begun: bool,
+        kind: &str,
+        path: Option<&str>,
+        place: &Place,
+        bytes: &[u8],
+    ) -> Result<(), AllocError>
+        requires { All (λ range. range.1 ≤ length bytes.now) self.old.submatches.items }
+        ensures same { IsSamePrinter self.old self.new }
+        ensures submatches { self.new.submatches ≡ self.old.submatches }
+        ensures text { OnOk result (self.new.text.items
+            ≡ opening_line path.entry is_begun ++ json_line (report_json kind.now path.entry
+            bytes.now place.now.number place.now.offset self.old.submatches.items)) }
+    {
+        let alloc = *self.text.allocator();
+        let mut text = self.take_text();
+        if !is_begun {
+            text = add_begin(text, path)?;
+        }
+        let report = Report {
+            bytes,
+            number: place.number,
+            offset: place.offset,
+            ranges: &self.submatches,
+        };
+        self.text = add_report(alloc, text, kind, path, &report)?;
+        Ok(())
+    }
+}
+
+impl<W: Output> Json<W> {
+    /// Writes the message about all searches: what was searched, found and written in them, and
+    /// how long all took in all. An error is the writer's, or one of being out of memory.
+    pub fn write_summary(&mut self, stats: &Stats, elapsed: Duration) -> Result<(), SearchError>
+        ensures { MatchResult result
+            (λ _. WritesText W.step self.old
+            (json_line (summary_json stats.now (nanos_of elapsed))) self.new)
+            (λ e. FailsToWriteText W.step self.old
+            (json_line (summary_json stats.now (nanos_of elapsed))) e self.new) }
+    {
+        let alloc = *self.text.allocator();
+        let text = self.take_text();
+        self.text = add_summary(alloc, text, stats, nanoseconds(elapsed))?;
+        self.write_text()?;
+        Ok(())
+    }
+
+    // Writes the message that a search ends.
+    fn write_end(
+        &mut self,
+        path: Option<&str>,
+        binary_offset: Option<u64>,
+        stats: &Stats,
+    ) -> Result<(), SearchError>
+        ensures { MatchResult result
+            (λ _. WritesText W.step self.old
+            (json_line (end_json path.entry binary_offset stats.now)) self.new)
+            (λ e. FailsToWriteText W.step self.old
+            (json_line (end_json path.entry binary_offset stats.now)) e self.new) }
+    {
+        let alloc = *self.text.allocator();
+        let text = self.take_text();
+        self.text = add_end(alloc, text, path, binary_offset, stats)?;
+        self.write_text()?;
+        Ok(())
+    }
+
+    // Writes the text at hand.
+    fn write_text(&mut self) -> io::Result<()>
+        ensures written { Writes W.step self.old.writer self.old.text.items result self.new.writer }
+        ensures text { self.new.text.items ≡ self.old.text.items }
+        ensures always_begin_end { self.new.always_begin_end ≡ self.old.always_begin_end }
+        ensures has_failed { self.new.has_failed
+            ≡ (if is_ok result then self.old.has_failed else true) }
+    {
+        match write_all(&mut self.writer, &self.text) {
+            Ok(()) => Ok(()),
+            Err(error) => {
+                self.has_failed = true;
+                Err(error)
+            }
+        }
+    }
+}
+
+// Where a report is: the number of its first line, and its offset.
+#[derive(Clone, Copy)]
+struct Place {
+    number: Option<u64>,
+    offset: u64,
+}
+
+// What was reported to a sink, and written: whether the message that the search begins was,
+// whether a match was reported, how many bytes were written, how many lines the matches have, how
+// often the matcher matches in them, and once the search has ended how many bytes it has been
+// through, and the offset of a binary byte, if one was found.
+#[derive(Clone, Copy)]
+pub(crate) struct JsonProgress {
+    pub(crate) is_begun: bool,
+    pub(crate) has_match: bool,
+    pub(crate) bytes_printed: u64,
+    pub(crate) matched_lines: u64,
+    pub(crate) matches: u64,
+    pub(crate) byte_count: Option<u64>,
+    pub(crate) binary_offset: Option<u64>,
+}
+
+impl JsonProgress {
+    // Nothing was reported yet.
+    fn new() -> JsonProgress
+        ensures { result ≡ new_json_progress }
+    {
+        JsonProgress {
+            is_begun: false,
+            has_match: false,
+            bytes_printed: 0,
+            matched_lines: 0,
+            matches: 0,
+            byte_count: None,
+            binary_offset: None,
+        }
+    }
+
+    // With so many bytes more.
+    fn add_text(&mut self, size: usize)
+        ensures { self.new ≡ with_size self.old size }
+    {
+        self.is_begun = true;
+        self.bytes_printed = self.bytes_printed.saturating_add(size as u64);
+    }
+
+    // With a match of so many lines, in which the matcher matches so often.
+    fn add_match(&mut self, lines: u64, matches: usize)
+        ensures { self.new ≡ with_match self.old lines matches }
+    {
+        self.has_match = true;
+        self.matched_lines = self.matched_lines.saturating_add(lines);
+        self.matches = self.matches.saturating_add(matches as u64);
+    }
+
+    // Whether a search has ended of which something was written.
+    fn is_reported(&self) -> bool
+        ensures { result ≡ is_reported self.now }
+    {
+        self.is_begun && self.byte_count.is_some()
+    }
+
+    // What was searched, found and written in a search that took so many nanoseconds.
+    fn stats(&self, elapsed: u64) -> Stats
+        ensures { result ≡ stats_of self.now elapsed }
+    {
+        if !self.is_reported() {
+            return Stats::new();
+        }
+        Stats {
+            elapsed,
+            searches: 1,
+            searches_with_match: if self.has_match { 1 } else { 0 },
+            bytes_searched: self.byte_count.unwrap_or(0),
+            bytes_printed: self.bytes_printed,
+            matched_lines: self.matched_lines,
+            matches: self.matches,
+        }
+    }
+}
+
+/// The sink of one search, which writes a message for each report.
+#[derive(Drop)]
+pub struct JsonSink<'s, M, W> {
+    printer: &'s mut Json<W>,
+    matcher: M,
+    path: Option<&'s str>,
+    progress: JsonProgress,
+}
+
+impl<'s, M: Matcher, W: Output> JsonSink<'s, M, W> {
+    /// Whether a match was reported.
+    pub fn has_match(&self) -> bool
+        ensures { result ≡ self.now.progress.has_match }
+    {
+        self.progress.has_match
+    }
+
+    /// Writes the message that the search ends, which took so long, if the search has ended and
+    /// something was written of it. It gives what was searched, found and written, or nothing if it
+    /// writes nothing. An error is the writer's, or one of being out of memory.
+    pub fn write_end(&mut self, elapsed: Duration) -> Result<Stats, SearchError>
+        ensures same { IsSameJson self.old self.new }
+        ensures progress { self.new.progress ≡ self.old.progress }
+        ensures end { MatchResult result
+            (λ stats. (stats ≡ stats_of self.old.progress (nanos_of elapsed))
+            × WritesText W.step self.old.printer.now (end_text self.old.path self.old.progress
+            (nanos_of elapsed)) self.new.printer.now)
+            (λ e. FailsToWriteText W.step self.old.printer.now (end_text self.old.path
+            self.old.progress (nanos_of elapsed)) e self.new.printer.now) }
+    {
+        let stats = self.progress.stats(nanoseconds(elapsed));
+        if !self.progress.is_reported() {
+            return Ok(stats);
+        }
+        self.printer
+            .write_end(self.path, self.progress.binary_offset, &stats)?;
+        Ok(stats)
+    }
+}
+
+impl<'s, M: Matcher, W: Output> JsonSink<'s, M, W> {
+    // The bytes of a report about which the matcher is asked.
+    fn asked<'b, A: Allocator + Copy>(&self, searcher: &Searcher<A>, bytes: &'b [u8]) -> &'b [u8]
+        ensures { result.now ≡ asked_bytes searcher.now.settings (M.facts self.now.matcher).meaning
+            bytes.now }
+    {
+        if searcher.multi_line_with_matcher(&self.matcher) {
+            return bytes;
+        }
+        without_terminator(bytes, searcher.line_terminator())
+    }
+
+    // Finds the matches in a report.
+    fn find_submatches<A: Allocator + Copy>(
+        &mut self,
+        searcher: &Searcher<A>,
+        bytes: &[u8],
+    ) -> Result<(), SearchError>
+        ensures composing { IsComposingJson self.old self.new }
+        ensures submatches { OnOk result (self.new.printer.now.submatches.items
+            ≡ submatches_of (json_frame M.facts self.old searcher.now.settings) bytes.now) }
+        ensures within { OnOk result
+            (All (λ range. range.1 ≤ length bytes.now) self.new.printer.now.submatches.items) }
+        ensures error { IfErr result (λ e. IsOutOfMemory e
+            ⊎ IsJsonError M.facts self.old searcher.now.settings bytes.now e) }
+    {
+        let asked = self.asked(searcher, bytes);
+        match self.matcher.find(asked) {
+            Ok(found) => {
+                self.printer.keep_submatch(bytes.len(), found)?;
+                Ok(())
+            }
+            Err(error) => {
+                let alloc = *self.printer.text.allocator();
+                Err(SearchError::error_message(alloc, error))
+            }
+        }
+    }
+
+    // Finds the matches in a line that isn't a match, if lines without a match are selected.
+    fn find_context_submatches<A: Allocator + Copy>(
+        &mut self,
+        searcher: &Searcher<A>,
+        bytes: &[u8],
+    ) -> Result<(), SearchError>
+        ensures composing { IsComposingJson self.old self.new }
+        ensures submatches { OnOk result (self.new.printer.now.submatches.items
+            ≡ context_submatches (json_frame M.facts self.old searcher.now.settings) bytes.now) }
+        ensures within { OnOk result
+            (All (λ range. range.1 ≤ length bytes.now) self.new.printer.now.submatches.items) }
+        ensures error { IfErr result (λ e. IsOutOfMemory e
+            ⊎ IsJsonError M.facts self.old searcher.now.settings bytes.now e) }
+    {
+        if searcher.invert_match() {
+            return self.find_submatches(searcher, bytes);
+        }
+        self.printer.submatches.clear();
+        Ok(())
+    }
+
+    // Makes the text of a report with the matches at hand, and counts its bytes.
+    fn compose_report(&mut self, kind: &str, place: &Place, bytes: &[u8]) -> Result<(), AllocError>
+        requires { All (λ range. range.1 ≤ length bytes.now)
+            self.old.printer.now.submatches.items }
+        ensures same { IsSameJson self.old self.new }
+        ensures writer { self.new.printer.now.writer ≡ self.old.printer.now.writer }
+        ensures has_failed { self.new.printer.now.has_failed ≡ self.old.printer.now.has_failed }
+        ensures submatches { self.new.printer.now.submatches ≡ self.old.printer.now.submatches }
+        ensures text { OnOk result (self.new.printer.now.text.items
+            ≡ report_line self.old.path self.old.progress kind.now bytes.now place.now.number
+            place.now.offset self.old.printer.now.submatches.items) }
+        ensures counted { OnOk result (self.new.progress ≡ with_text self.old.progress
+            (report_line self.old.path self.old.progress kind.now bytes.now place.now.number
+            place.now.offset self.old.printer.now.submatches.items)) }
+        ensures uncounted { OnErr result (self.new.progress ≡ self.old.progress) }
+    {
+        let is_begun = self.progress.is_begun;
+        self.printer
+            .compose_report(is_begun, kind, self.path, place, bytes)?;
+        let size = self.printer.text.len();
+        self.progress.add_text(size);
+        Ok(())
+    }
+
+    // Makes the text of a match.
+    fn compose_match<A: Allocator + Copy>(
+        &mut self,
+        searcher: &Searcher<A>,
+        found: &SinkMatch<'_>,
+    ) -> Result<(), SearchError>
+        ensures composing { IsComposingCall M.facts self.old searcher.now.settings
+            (match_call found.now) result self.new }
+    {
+        let bytes = found.bytes();
+        if let Err(error) = self.find_submatches(searcher, bytes) {
+            return Err(error);
+        }
+        let place = Place {
+            number: found.line_number(),
+            offset: found.absolute_byte_offset(),
+        };
+        self.compose_report("match", &place, bytes)?;
+        let matches = self.printer.submatches.len();
+        let lines = line_count(bytes, searcher.line_terminator().as_byte());
+        self.progress.add_match(lines, matches);
+        Ok(())
+    }
+
+    // Makes the text of a line that isn't a match.
+    fn compose_context<A: Allocator + Copy>(
+        &mut self,
+        searcher: &Searcher<A>,
+        line: &SinkContext<'_>,
+    ) -> Result<(), SearchError>
+        ensures composing { IsComposingCall M.facts self.old searcher.now.settings
+            (context_call line.now) result self.new }
+    {
+        let bytes = line.bytes();
+        if let Err(error) = self.find_context_submatches(searcher, bytes) {
+            return Err(error);
+        }
+        let place = Place {
+            number: line.line_number(),
+            offset: line.absolute_byte_offset(),
+        };
+        self.compose_report("context", &place, bytes)?;
+        Ok(())
+    }
+
+    // Makes the text of the message that the search begins, and counts its bytes.
+    fn compose_begin(&mut self) -> Result<(), AllocError>
+        ensures same { IsSameJson self.old self.new }
+        ensures writer { self.new.printer.now.writer ≡ self.old.printer.now.writer }
+        ensures has_failed { self.new.printer.now.has_failed ≡ self.old.printer.now.has_failed }
+        ensures text { OnOk result
+            (self.new.printer.now.text.items ≡ json_line (begin_json self.old.path)) }
+        ensures counted { OnOk result (self.new.progress
+            ≡ with_text self.old.progress (json_line (begin_json self.old.path))) }
+        ensures uncounted { OnErr result (self.new.progress ≡ self.old.progress) }
+    {
+        self.printer.compose_begin(self.path)?;
+        let size = self.printer.text.len();
+        self.progress.add_text(size);
+        Ok(())
+    }
+
+    // Writes the text at hand.
+    fn write(&mut self) -> Result<bool, SearchError>
+        ensures { MatchResult result
+            (λ goes. (goes ≡ true) × IsJsonWritten W.step self.old self.new)
+            (λ e. FailsToWriteJson W.step self.old e self.new) }
+    {
+        match self.printer.write_text() {
+            Ok(()) => Ok(true),
+            Err(error) => Err(SearchError::Io(error)),
+        }
+    }
+}
+
+impl<'s, M: Matcher, W: Output> Sink for JsonSink<'s, M, W> {
+    type Error = SearchError;
+
+    ghost use Rattle.grep_printer.specs.JsonSteps.{PrintsJsonCall};
+
+    ghost step = { PrintsJsonCall M.facts W.step };
+
+    ghost may_call = { λ _. Unit {0} };
+
+    fn begin<A: Allocator + Copy>(&mut self, _searcher: &Searcher<A>) -> Result<bool, SearchError> {
+        if !self.printer.always_begin_end || self.progress.is_begun {
+            return Ok(true);
+        }
+        self.compose_begin()?;
+        self.write()
+    }
+
+    fn matched<A: Allocator + Copy>(
+        &mut self,
+        searcher: &Searcher<A>,
+        found: &SinkMatch<'_>,
+    ) -> Result<bool, SearchError> {
+        match self.compose_match(searcher, found) {
+            Ok(()) => self.write(),
+            Err(error) => Err(error),
+        }
+    }
+
+    fn context<A: Allocator + Copy>(
+        &mut self,
+        searcher: &Searcher<A>,
+        line: &SinkContext<'_>,
+    ) -> Result<bool, SearchError> {
+        match self.compose_context(searcher, line) {
+            Ok(()) => self.write(),
+            Err(error) => Err(error),
+        }
+    }
+
+    fn context_break<A: Allocator + Copy>(
+        &mut self,
+        _searcher: &Searcher<A>,
+    ) -> Result<bool, SearchError> {
+        Ok(true)
+    }
+
+    fn binary_data<A: Allocator + Copy>(
+        &mut self,
+        _searcher: &Searcher<A>,
+        _binary_byte_offset: u64,
+    ) -> Result<bool, SearchError> {
+        Ok(true)
+    }
+
+    fn finish<A: Allocator + Copy>(
+        &mut self,
+        _searcher: &Searcher<A>,
+        finish: &SinkFinish,
+    ) -> Result<(), SearchError> {
+        self.progress.byte_count = Some(finish.byte_count());
+        self.progress.binary_offset = finish.binary_byte_offset();
+        Ok(())
+    }
+}
+
+// Whether a match is at the end of so many bytes, and empty.
+fn is_after(size: usize, range: &Match) -> bool
+    ensures { result ≡ is_after size range.now }
+{
+    size <= range.start() && range.end() <= range.start()
+}
