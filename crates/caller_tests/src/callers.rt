@@ -1,12 +1,13 @@
 //! Each caller of `uses`, run once on its happy path.
 use crate::paths::temporary_path;
 use grep_searcher::{LiteralMatcher, SearchError, Searcher};
+use std::alloc::Global;
 use std::fs;
 use std::path::Path;
 use std::test::Fail;
 use uses::{
-    count_in_path, count_matching_lines, count_pattern_lines, first_match, in_context,
-    matching_lines, numbered_lines,
+    count_in_path, count_matching_lines, count_pattern_lines, first_match, first_matches,
+    has_match, in_context, matching_lines, numbered_lines,
 };
 
 // Line 2 and line 4 have an `a`.
@@ -38,6 +39,20 @@ fn first(rt: HostRuntime) -> Result<(), Fail> {
     assert!(rt; matches!(found, Some((2, 2))));
     assert!(rt; reader.is_empty());
     Ok(())
+}
+
+// Whether the first line that has an `a` is kept, and no other.
+fn keeps_one(alloc: Global) -> Result<bool, SearchError> {
+    let mut searcher = Searcher::new(alloc)?;
+    let matcher = LiteralMatcher::new(alloc, b"a")?;
+    let kept = first_matches(alloc, &mut searcher, matcher, INPUT, 1)?;
+    let expected: &[u8] = b"ab\n";
+    Ok(kept.len() == 1 && kept.iter().all(|found| found.bytes() == expected))
+}
+
+#[test]
+fn kept(rt: HostRuntime) {
+    assert!(rt; matches!(keeps_one(rt.alloc()), Ok(true)));
 }
 
 #[test]
@@ -100,14 +115,23 @@ fn count_watsons(rt: &HostRuntime, path: Path<'_>) -> Result<u64, SearchError> {
     count_in_path(rt, &mut searcher, matcher, path)
 }
 
+// Whether a line of the file at a path has `Doctor Watson`.
+fn has_watson(rt: &HostRuntime, path: Path<'_>) -> Result<bool, SearchError> {
+    let mut searcher = Searcher::new(rt.alloc())?;
+    let matcher = LiteralMatcher::new(rt.alloc(), b"Doctor Watson")?;
+    has_match(rt, &mut searcher, matcher, path)
+}
+
 #[test]
 fn counted_in_path(rt: HostRuntime) -> Result<(), Fail> {
     let path = temporary_path(&rt, "counted")?;
     fs::write(&rt, path.as_path(), SHERLOCK)?;
     let count = count_watsons(&rt, path.as_path());
+    let found = has_watson(&rt, path.as_path());
     fs::remove_file(&rt, path.as_path())?;
     let unopened = count_watsons(&rt, path.as_path());
     assert!(rt; count? == 2);
+    assert!(rt; found?);
     assert!(rt; matches!(unopened, Err(SearchError::Io(_))));
     Ok(())
 }

@@ -1,7 +1,5 @@
 -- What the sinks of these callers make of some matches.
-use Rattle.std.proofs.Common.{◌≡◌, ℕ, ◌+◌, ◌<◌, ◌-◌, ◌^◌, min, true, false, List, [], ◌∷◌, ◌++◌, length, refl, sym, ◌∙◌}
-use Rattle.std.proofs.Common.{arith}
-use Rattle.std.proofs.Common.{append_assoc}
+use Rattle.std.proofs.Common.{◌≡◌, ℕ, ◌+◌, true, false, List, [], ◌∷◌, ◌++◌, refl, sym, ap, ◌∙◌, append_assoc}
 use Rattle.std.proofs.lemmas.List.{append-nil}
 use Rattle.std.specs.Prelude.{Option, None, Some, map, slice_get}
 use Rattle.std.specs.List.{concat, fold}
@@ -11,25 +9,14 @@ use Rattle.grep_searcher.specs.Reports.{line, start}
 use Rattle.grep_searcher.specs.SearchLaws.{calls_of, match_of}
 use Rattle.grep_searcher.specs.Settings.{Settings}
 use Rattle.grep_searcher.specs.SinkFolds.{fold_while}
-use Rattle.uses.specs.declared.count.MatchCount.{MatchCount}
-use Rattle.uses.specs.MatchSinks.{counted, kept, joined, marked, position_of, report_of, reported}
-
--- how many matches there are, up to the largest number
-fold_while-counted : (sink : MatchCount) (calls : List Call) → sink.count < 2 ^ 64
-    → (fold_while (λ _ _. true) counted sink calls).count ≡ min (sink.count + length calls) (2 ^ 64 - 1)
-fold_while-counted sink [] fits = omega arith
-fold_while-counted sink (call ∷ later) fits = omega (arith, fold_while-counted (counted sink call) later (omega arith))
-
-pub fold_while-counted_all : (calls : List Call)
-    → (fold_while (λ _ _. true) counted (record { count = 0 }) calls).count ≡ min (length calls) (2 ^ 64 - 1)
-fold_while-counted_all calls = omega (arith, fold_while-counted (record { count = 0 }) calls (omega arith))
+use Rattle.uses.specs.declared.first.FirstMatch.{FirstMatch}
+use Rattle.uses.specs.MatchSinks.{kept, joined, marked, position_of, report_of, reported}
 
 -- the first of some matches, and where it is
-pub fold_while-kept : (calls : List Call)
-    → (fold_while (λ _ _. false) kept (record { position = None }) calls).position
-    ≡ option_and_then position_of (slice_get calls 0)
-fold_while-kept [] = refl
-fold_while-kept (call ∷ later) = refl
+pub fold_while-kept : (old : FirstMatch) (calls : List Call) → old ≡ record { position = None }
+    → (fold_while (λ _ _. false) kept old calls).position ≡ option_and_then position_of (slice_get calls 0)
+fold_while-kept old [] is_new = ap (λ first. first.position) is_new
+fold_while-kept old (call ∷ later) is_new = refl
 
 pub position_of-match : (settings : Settings) (bytes : List ℕ) → settings.line_number ≡ true
     → (found : Option ℕ)

@@ -1,5 +1,5 @@
 -- What the sinks of these callers make of a call.
-use Rattle.std.specs.Prelude.{ℕ, ◌+◌, ◌-◌, ◌^◌, true, min, List, [], ◌∷◌, ◌++◌, codes, map, Option}
+use Rattle.std.specs.Prelude.{ℕ, true, List, [], ◌∷◌, ◌++◌, codes, map, Option}
 use Rattle.std.specs.Prelude.{Some, None}
 use Rattle.std.specs.List.{concat}
 use Rattle.grep_searcher.specs.Settings.{Settings, SearcherState}
@@ -7,12 +7,7 @@ use Rattle.grep_searcher.specs.BuiltSettings.{default_settings}
 use Rattle.grep_searcher.specs.Plans.{Call, begins, matches, context, breaks, binary_data}
 use Rattle.grep_searcher.specs.Plans.{finishes, Planned}
 use Rattle.grep_searcher.specs.SearchLaws.{calls_of}
-use Rattle.uses.specs.declared.count.MatchCount.{MatchCount}
 use Rattle.uses.specs.declared.first.FirstMatch.{FirstMatch}
-
--- one match more, up to the largest number
-abbrev pub counted : MatchCount → Call → MatchCount
-counted sink call = record { count = min (sink.count + 1) (2 ^ 64 - 1) }
 
 -- the number and the offset of a match, if it has a number
 abbrev pub position_of : Call → Option (ℕ × ℕ)

@@ -1,18 +1,24 @@
 -- What these callers return, said of the matched lines: those that are selected, or trailing after
 -- a selected one.
-use Rattle.std.specs.Prelude.{ℕ, ◌+◌, List, map, Option}
+use Rattle.std.specs.Prelude.{ℕ, ◌+◌, Bool, List, map, Option, take}
 use Rattle.std.specs.List.{concat}
 use Rattle.std.specs.Option.{option_map}
+use Rattle.grep_searcher.specs.MatchHandlers.{KeptReport, kept_line}
 use Rattle.grep_searcher.specs.Meanings.{Meaning}
-use Rattle.grep_searcher.specs.Reports.{count_below, first_below, line_count, line, start}
-use Rattle.grep_searcher.specs.SearchLaws.{is_matched, matched_lines}
-use Rattle.grep_searcher.specs.SelectedLines.{is_selected, reports_end}
+use Rattle.grep_searcher.specs.Reports.{first_below, line_count, line, some_below, start}
+use Rattle.grep_searcher.specs.SearchLaws.{matched_lines}
+use Rattle.grep_searcher.specs.SelectedLines.{is_selected}
 use Rattle.grep_searcher.specs.Settings.{Settings}
 
--- how many lines are matched
-abbrev pub matched_count : Settings → Meaning → List ℕ → ℕ
-matched_count settings meaning bytes =
-    count_below (is_matched settings meaning bytes) (reports_end settings meaning bytes)
+-- whether a line is selected
+abbrev pub has_selected : Settings → Meaning → List ℕ → Bool
+has_selected settings meaning bytes =
+    some_below (is_selected settings meaning bytes) (line_count settings bytes)
+
+-- the first matched lines, at most n, with their numbers, their offsets and their bytes
+abbrev pub first_lines : ℕ → Settings → Meaning → List ℕ → List KeptReport
+first_lines n settings meaning bytes =
+    map (kept_line settings bytes) (take n (matched_lines settings meaning bytes))
 
 -- the number of the first selected line, counted from 1, and its offset
 abbrev pub first_selected : Settings → Meaning → List ℕ → Option (ℕ × ℕ)

@@ -1,19 +1,19 @@
 //! The lines of all matches.
-ghost use Rattle.std.specs.Prelude.{◌≡◌, ◌⊎◌, true, false, None, IfOk, IfErr};
+ghost use Rattle.std.specs.Prelude.{◌≡◌, ◌⊎◌, true, None, IfOk, IfErr};
+ghost use Rattle.grep_searcher.specs.Asking.{IsLawful, refusal_of};
 ghost use Rattle.grep_searcher.specs.Inputs.{searched_bytes};
+ghost use Rattle.grep_searcher.specs.LineCounts.{IsLineSearch};
 ghost use Rattle.grep_searcher.specs.Meanings.{IsInfallible};
-ghost use Rattle.grep_searcher.specs.Asking.{is_across, IsLawful, refusal_of};
 ghost use Rattle.grep_searcher.specs.SearchErrors.{IsOutOfMemory};
 ghost use Rattle.uses.specs.DecodingErrors.{IsDecodingError};
 ghost use Rattle.uses.specs.MatchedLines.{matched_bytes};
 
 use grep_searcher::laws::{
-    matches_are_matched_lines, runs_fold_matches, searches_fail, searches_run,
+    matches_are_matched_lines, runs_handle_matches, searches_fail, searches_run,
 };
-use grep_searcher::{
-    BinaryDetection, Matcher, SearchError, Searcher, Sink, SinkContext, SinkFinish, SinkMatch,
-};
-use std::alloc::{Allocator, Global};
+use grep_searcher::sinks::{MatchHandler, OnMatch};
+use grep_searcher::{BinaryDetection, Matcher, SearchError, Searcher, SinkMatch};
+use std::alloc::Global;
 use std::marker::Model;
 
 /// Returns the matched lines of `bytes`, decoded and joined: each with its terminator, in order.
@@ -31,9 +31,7 @@ pub fn matching_lines<M: Matcher + Drop>(
     matcher: M,
     bytes: &[u8],
 ) -> Result<Vec<u8>, SearchError>
-    ensures lines { IsLawful (M.facts matcher) searcher.old.settings
-        → is_across searcher.old.settings (M.facts matcher).meaning ≡ false
-        → searcher.old.settings.binary_detection ≡ BinaryDetection.None
+    ensures lines { IsLineSearch (M.facts matcher) searcher.old.settings
         → IfOk result (λ text. text.items
         ≡ matched_bytes searcher.old.settings (M.facts matcher).meaning
         (searched_bytes searcher.old.settings bytes.now)) }
@@ -45,18 +43,18 @@ pub fn matching_lines<M: Matcher + Drop>(
         → searcher.old.settings.binary_detection ≡ BinaryDetection.None → IfErr result (λ e.
         IsOutOfMemory e ⊎ IsDecodingError searcher.old (M.facts matcher).meaning bytes.now e) }
 {
-    let mut matches = MatchText {
+    let mut sink = OnMatch::new(MatchText {
         text: Vec::new(alloc),
-    };
-    searches_fail::<Global, M, MatchText>();
-    searcher.search_slice(matcher, bytes, &mut matches)?;
-    searches_run::<Global, M, _>(&matches);
-    runs_fold_matches::<MatchText>();
+    });
+    searches_fail::<Global, M, OnMatch<MatchText>>();
+    searcher.search_slice(matcher, bytes, &mut sink)?;
+    searches_run::<Global, M, _>(&sink);
+    runs_handle_matches::<MatchText>();
     matches_are_matched_lines();
-    Ok(matches.into_text())
+    Ok(sink.into_handler().into_text())
 }
 
-// A sink that keeps the lines of all matches.
+// Keeps the lines of all matches, joined.
 #[derive(Drop)]
 struct MatchText {
     text: Vec<u8>,
@@ -80,55 +78,20 @@ impl MatchText {
     }
 }
 
-impl Sink for MatchText {
+impl MatchHandler for MatchText {
     ghost use Rattle.std.specs.Prelude.{true};
-    ghost use Rattle.grep_searcher.specs.SinkFolds.{IsMatchStep};
     ghost use Rattle.uses.specs.MatchSinks.{joined};
 
     type Error = SearchError;
 
-    ghost step = { IsMatchStep (λ _ _. true) joined IsOutOfMemory };
+    ghost goes = { λ _ _. true };
 
-    ghost may_call = { λ _. Unit {0} };
+    ghost next = { joined };
 
-    fn begin<A: Allocator + Copy>(&mut self, _: &Searcher<A>) -> Result<bool, SearchError> {
-        Ok(true)
-    }
+    ghost fails = { IsOutOfMemory };
 
-    fn matched<A: Allocator + Copy>(
-        &mut self,
-        _: &Searcher<A>,
-        found: &SinkMatch<'_>,
-    ) -> Result<bool, SearchError> {
+    fn handle(&mut self, found: &SinkMatch<'_>) -> Result<bool, SearchError> {
         self.text.extend_from_slice(found.bytes())?;
         Ok(true)
-    }
-
-    fn context<A: Allocator + Copy>(
-        &mut self,
-        _: &Searcher<A>,
-        _: &SinkContext<'_>,
-    ) -> Result<bool, SearchError> {
-        Ok(true)
-    }
-
-    fn context_break<A: Allocator + Copy>(&mut self, _: &Searcher<A>) -> Result<bool, SearchError> {
-        Ok(true)
-    }
-
-    fn binary_data<A: Allocator + Copy>(
-        &mut self,
-        _: &Searcher<A>,
-        _: u64,
-    ) -> Result<bool, SearchError> {
-        Ok(true)
-    }
-
-    fn finish<A: Allocator + Copy>(
-        &mut self,
-        _: &Searcher<A>,
-        _: &SinkFinish,
-    ) -> Result<(), SearchError> {
-        Ok(())
     }
 }

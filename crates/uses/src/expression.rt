@@ -1,9 +1,9 @@
 //! How many lines match a regular expression.
 ghost use Rattle.std.specs.Prelude.{◌≡◌, false, true, IfOk};
-ghost use Rattle.grep_searcher.specs.SliceSearches.{is_searched_unchanged};
 ghost use Rattle.grep_searcher.specs.Asking.{is_across};
+ghost use Rattle.grep_searcher.specs.LineCounts.{matched_count};
+ghost use Rattle.grep_searcher.specs.SliceSearches.{is_searched_unchanged};
 ghost use Rattle.uses.specs.Expressions.{line_meaning};
-ghost use Rattle.uses.specs.MatchedLines.{matched_count};
 
 use crate::count::count_matching_lines;
 use grep_regex::RegexMatcherBuilder;

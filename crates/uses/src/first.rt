@@ -1,17 +1,18 @@
-//! The first match of a reader.
-ghost use Rattle.std.specs.Prelude.{◌≡◌, ℕ, Bool, true, false, None, List, IfOk, IfErr};
+//! The first match of a reader, and the first ones of a slice.
+ghost use Rattle.std.specs.Prelude.{◌≡◌, ℕ, Bool, true, None, List, IfOk, IfErr};
 ghost use Rattle.std.specs.declared.io.Error.{Error};
-ghost use Rattle.grep_searcher.specs.Inputs.{IsInput, Taken, IsUnread};
+ghost use Rattle.grep_searcher.specs.Asking.{IsLawful, refusal_of};
+ghost use Rattle.grep_searcher.specs.Inputs.{IsInput, searched_bytes, Taken, IsUnread};
+ghost use Rattle.grep_searcher.specs.LineCounts.{IsLineSearch};
 ghost use Rattle.grep_searcher.specs.Meanings.{IsInfallible};
-ghost use Rattle.grep_searcher.specs.Asking.{is_across, IsLawful, refusal_of};
-ghost use Rattle.uses.specs.MatchedLines.{first_selected};
+ghost use Rattle.uses.specs.MatchedLines.{first_lines, first_selected};
 
-use grep_searcher::laws::{first_match_is_first, reader_searches_run, runs_fold_matches};
-use grep_searcher::{
-    BinaryDetection, Matcher, SearchError, Searcher, Sink, SinkContext, SinkFinish, SinkMatch,
-    Source,
+use grep_searcher::laws::{
+    first_match_is_first, reader_searches_run, runs_hand_first, runs_handle_matches, searches_run,
 };
-use std::alloc::{Allocator, Global};
+use grep_searcher::sinks::{First, KeptMatch, MatchHandler, OnMatch};
+use grep_searcher::{Matcher, SearchError, Searcher, SinkMatch, Source};
+use std::alloc::Global;
 
 /// Returns the number of the first selected line of what a reader gives, counted from 1, and its
 /// offset in the decoded bytes; `None` if no line is selected. The caller ensures that the searcher
@@ -32,9 +33,7 @@ pub fn first_match<M: Matcher + Drop, R: Source>(
     reader: &mut R,
 ) -> Result<Option<(u64, u64)>, SearchError>
     requires { searcher.old.settings.line_number ≡ true }
-    ensures first { IsLawful (M.facts matcher) searcher.old.settings
-        → is_across searcher.old.settings (M.facts matcher).meaning ≡ false
-        → searcher.old.settings.binary_detection ≡ BinaryDetection.None
+    ensures first { IsLineSearch (M.facts matcher) searcher.old.settings
         → IfOk result (λ found. (taken : Taken R.remaining R.step reader.old reader.new)
         × ((bytes : List ℕ) → IsInput searcher.old.settings taken.ended taken.pieces bytes
         → found ≡ first_selected searcher.old.settings (M.facts matcher).meaning bytes)) }
@@ -48,70 +47,62 @@ pub fn first_match<M: Matcher + Drop, R: Source>(
         reader.old begun seen error reader.new
         × (e ≡ SearchError.Io error)) }
 {
-    let mut first = FirstMatch { position: None };
-    searcher.search_reader(matcher, reader, &mut first)?;
-    reader_searches_run::<Global, M, R, _>(&first);
-    runs_fold_matches::<FirstMatch>();
+    let mut sink = OnMatch::new(FirstMatch { position: None });
+    searcher.search_reader(matcher, reader, &mut sink)?;
+    reader_searches_run::<Global, M, R, _>(&sink);
+    runs_handle_matches::<FirstMatch>();
     first_match_is_first();
-    Ok(first.position)
+    Ok(sink.handler().position)
 }
 
-// A sink that keeps the number and the offset of the first match, and stops there.
+// Keeps the number and the offset of the first match, and ends the search there.
 #[derive(Drop)]
 struct FirstMatch {
     position: Option<(u64, u64)>,
 }
 
-impl Sink for FirstMatch {
+impl MatchHandler for FirstMatch {
     ghost use Rattle.std.specs.Prelude.{false};
-    ghost use Rattle.grep_searcher.specs.SinkFolds.{IsMatchStep};
     ghost use Rattle.uses.specs.MatchSinks.{kept};
 
     type Error = SearchError;
 
-    ghost step = { IsMatchStep (λ _ _. false) kept (λ _. ⊥) };
+    ghost goes = { λ _ _. false };
 
-    ghost may_call = { λ _. Unit {0} };
+    ghost next = { kept };
 
-    fn begin<A: Allocator + Copy>(&mut self, _: &Searcher<A>) -> Result<bool, SearchError> {
-        Ok(true)
-    }
+    ghost fails = { λ _. ⊥ };
 
-    fn matched<A: Allocator + Copy>(
-        &mut self,
-        _: &Searcher<A>,
-        found: &SinkMatch<'_>,
-    ) -> Result<bool, SearchError> {
+    fn handle(&mut self, found: &SinkMatch<'_>) -> Result<bool, SearchError> {
         let offset = found.absolute_byte_offset();
         self.position = found.line_number().map(|number| (number, offset));
         Ok(false)
     }
+}
 
-    fn context<A: Allocator + Copy>(
-        &mut self,
-        _: &Searcher<A>,
-        _: &SinkContext<'_>,
-    ) -> Result<bool, SearchError> {
-        Ok(true)
-    }
-
-    fn context_break<A: Allocator + Copy>(&mut self, _: &Searcher<A>) -> Result<bool, SearchError> {
-        Ok(true)
-    }
-
-    fn binary_data<A: Allocator + Copy>(
-        &mut self,
-        _: &Searcher<A>,
-        _: u64,
-    ) -> Result<bool, SearchError> {
-        Ok(true)
-    }
-
-    fn finish<A: Allocator + Copy>(
-        &mut self,
-        _: &Searcher<A>,
-        _: &SinkFinish,
-    ) -> Result<(), SearchError> {
-        Ok(())
-    }
+/// Returns the first matched lines of `bytes`, at most `n`, each with its number, its offset and
+/// its bytes; if the bytes have to be decoded, those of the decoded lines. The search ends at the
+/// last of them.
+///
+/// The lines are promised of a search by line without binary detection, for a matcher that is
+/// lawful for the searcher's terminator.
+pub fn first_matches<M: Matcher + Drop>(
+    alloc: Global,
+    searcher: &mut Searcher,
+    matcher: M,
+    bytes: &[u8],
+    n: usize,
+) -> Result<Vec<KeptMatch>, SearchError>
+    ensures lines { IsLineSearch (M.facts matcher) searcher.old.settings
+        → IfOk result (λ lines. lines.items
+        ≡ first_lines n searcher.old.settings (M.facts matcher).meaning
+        (searched_bytes searcher.old.settings bytes.now)) }
+    ensures settings { searcher.new.settings ≡ searcher.old.settings }
+    ensures buffers { searcher.old.has_buffers ≡ true → searcher.new.has_buffers ≡ true }
+{
+    let mut sink = OnMatch::new(First::new(alloc, n));
+    searcher.search_slice(matcher, bytes, &mut sink)?;
+    searches_run::<Global, M, _>(&sink);
+    runs_hand_first::<Global>();
+    Ok(sink.into_handler().into_matches())
 }

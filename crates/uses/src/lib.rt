@@ -1,11 +1,11 @@
 //! Small callers of grep_searcher, each proved from its public contracts: copy the one that is
 //! closest to what you need.
 //!
-//! `count_matching_lines` counts, `first_match` stops at the first match of a reader, and
-//! `matching_lines` keeps the lines of all matches. `in_context` builds its searcher, and writes a
-//! report with a sink of its own. `numbered_lines` collects by a closure, and `count_in_path`
-//! searches a path. `count_pattern_lines` compiles a regular expression. `CALLING.md` says which
-//! laws they use.
+//! `count_matching_lines` counts, `first_match` stops at the first match of a reader,
+//! `first_matches` keeps some, and `matching_lines` joins the lines of all matches. `in_context`
+//! builds its searcher, and writes a report with a sink of its own. `numbered_lines` collects by a
+//! closure; `count_in_path` and `has_match` search a path. `count_pattern_lines` compiles a regular
+//! expression. `CALLING.md` says which laws they use.
 #![tactic(auto)]
 
 mod collect;
@@ -19,7 +19,7 @@ mod report;
 pub use collect::matching_lines;
 pub use count::count_matching_lines;
 pub use expression::count_pattern_lines;
-pub use first::first_match;
+pub use first::{first_match, first_matches};
 pub use numbered::numbered_lines;
-pub use path::count_in_path;
+pub use path::{count_in_path, has_match};
 pub use report::in_context;

@@ -1,13 +1,13 @@
 //! The numbers and the texts of all matches, by a closure.
-ghost use Rattle.std.specs.Prelude.{◌≡◌, ◌++◌, ◌∷◌, [], true, false, IfOk};
+ghost use Rattle.std.specs.Prelude.{◌≡◌, ◌++◌, ◌∷◌, [], true, IfOk};
 ghost use Rattle.grep_searcher.specs.Inputs.{searched_bytes};
-ghost use Rattle.grep_searcher.specs.Asking.{is_across, IsLawful};
+ghost use Rattle.grep_searcher.specs.LineCounts.{IsLineSearch};
 ghost use Rattle.uses.specs.NumberedTexts.{texts_of};
 ghost use Rattle.uses.specs.MatchedLines.{numbered_lines_of};
 
 use grep_searcher::laws::{closures_keep_calls, searches_run};
 use grep_searcher::sinks::UTF8;
-use grep_searcher::{BinaryDetection, Matcher, Searcher};
+use grep_searcher::{Matcher, Searcher};
 use std::alloc::Global;
 use std::io;
 
@@ -29,9 +29,7 @@ pub fn numbered_lines<M: Matcher + Drop>(
     matcher: M,
     bytes: &[u8],
 ) -> io::Result<Vec<(u64, String)>>
-    ensures lines { IsLawful (M.facts matcher) searcher.old.settings
-        → is_across searcher.old.settings (M.facts matcher).meaning ≡ false
-        → searcher.old.settings.binary_detection ≡ BinaryDetection.None
+    ensures lines { IsLineSearch (M.facts matcher) searcher.old.settings
         → IfOk result (λ lines. texts_of lines.items
         ≡ numbered_lines_of searcher.old.settings (M.facts matcher).meaning
         (searched_bytes searcher.old.settings bytes.now)) }

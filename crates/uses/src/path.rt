@@ -1,15 +1,15 @@
-//! How many lines of a file match.
-ghost use Rattle.std.specs.Prelude.{◌≡◌, ◌-◌, ◌^◌, ℕ, List, Some, None, true, false, min, IfOk};
-ghost use Rattle.std.specs.Prelude.{IfErr};
+//! How many lines of a file match, and whether one does.
+ghost use Rattle.std.specs.Prelude.{◌≡◌, ℕ, List, Some, None, true, IfOk, IfErr};
 ghost use Rattle.std.specs.declared.io.Error.{Error};
+ghost use Rattle.grep_searcher.specs.Asking.{IsLawful, refusal_of};
 ghost use Rattle.grep_searcher.specs.Inputs.{searched_bytes};
+ghost use Rattle.grep_searcher.specs.LineCounts.{IsLineCount, IsLineSearch};
 ghost use Rattle.grep_searcher.specs.Meanings.{IsInfallible};
-ghost use Rattle.grep_searcher.specs.Asking.{is_across, IsLawful, refusal_of};
-ghost use Rattle.uses.specs.MatchedLines.{matched_count};
+ghost use Rattle.uses.specs.MatchedLines.{has_selected};
 
-use crate::count::MatchCount;
-use grep_searcher::laws::{known_files_run, matches_are_counted, runs_fold_matches};
-use grep_searcher::{BinaryDetection, Matcher, SearchError, Searcher};
+use grep_searcher::laws::{files_count_lines, known_files_run, runs_find_selected};
+use grep_searcher::sinks::{Count, Found, OnMatch};
+use grep_searcher::{Matcher, SearchError, Searcher};
 use std::alloc::Global;
 use std::path::AsPath;
 use std::rt::Files;
@@ -30,14 +30,10 @@ pub fn count_in_path<R: Files, M: Matcher + Drop, P: AsPath>(
     matcher: M,
     path: P,
 ) -> Result<u64, SearchError>
-    ensures count { IsLawful (M.facts matcher) searcher.old.settings
-        → is_across searcher.old.settings (M.facts matcher).meaning ≡ false
-        → searcher.old.settings.binary_detection ≡ BinaryDetection.None
+    ensures count { IsLineSearch (M.facts matcher) searcher.old.settings
         → IfOk result (λ count. (file : R.File) × ((input : List ℕ)
-        → R.File.remaining file ≡ Some input → count
-        ≡ min (matched_count searcher.old.settings (M.facts matcher).meaning
-        (searched_bytes searcher.old.settings input))
-        (2 ^ 64 - 1))) }
+        → R.File.remaining file ≡ Some input
+        → IsLineCount (M.facts matcher) searcher.old.settings input count)) }
     ensures settings { searcher.new.settings ≡ searcher.old.settings }
     ensures buffers { searcher.old.has_buffers ≡ true → searcher.new.has_buffers ≡ true }
     ensures error { IsInfallible (M.facts matcher).fails
@@ -45,10 +41,38 @@ pub fn count_in_path<R: Files, M: Matcher + Drop, P: AsPath>(
         → refusal_of searcher.old.settings (M.facts matcher).meaning ≡ None
         → IfErr result (λ e. (error : Error) × (e ≡ SearchError.Io error)) }
 {
-    let mut matches = MatchCount { count: 0 };
+    let mut matches: Count<SearchError> = Count::new();
     searcher.search_path(rt, matcher, path, &mut matches)?;
-    known_files_run::<Global, M, R::File, MatchCount>();
-    runs_fold_matches::<MatchCount>();
-    matches_are_counted();
-    Ok(matches.count)
+    files_count_lines::<Global, M, R::File, SearchError>();
+    Ok(matches.count())
+}
+
+/// Opens the file at a path, and returns whether one of its decoded lines is selected. The search
+/// ends at the first one.
+///
+/// The errors, and what is promised, are as in `count_in_path`.
+pub fn has_match<R: Files, M: Matcher + Drop, P: AsPath>(
+    rt: &R,
+    searcher: &mut Searcher,
+    matcher: M,
+    path: P,
+) -> Result<bool, SearchError>
+    ensures found { IsLineSearch (M.facts matcher) searcher.old.settings
+        → IfOk result (λ found. (file : R.File) × ((input : List ℕ)
+        → R.File.remaining file ≡ Some input
+        → found ≡ has_selected searcher.old.settings (M.facts matcher).meaning
+        (searched_bytes searcher.old.settings input))) }
+    ensures settings { searcher.new.settings ≡ searcher.old.settings }
+    ensures buffers { searcher.old.has_buffers ≡ true → searcher.new.has_buffers ≡ true }
+    ensures error { IsInfallible (M.facts matcher).fails
+        → IsLawful (M.facts matcher) searcher.old.settings
+        → refusal_of searcher.old.settings (M.facts matcher).meaning ≡ None
+        → IfErr result (λ e. (error : Error) × (e ≡ SearchError.Io error)) }
+{
+    let found: Found<SearchError> = Found::new();
+    let mut sink = OnMatch::new(found);
+    searcher.search_path(rt, matcher, path, &mut sink)?;
+    known_files_run::<Global, M, R::File, OnMatch<Found<SearchError>>>();
+    runs_find_selected::<SearchError>();
+    Ok(sink.handler().found())
 }
