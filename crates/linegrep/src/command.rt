@@ -26,7 +26,7 @@ enum Kind {
     Texts,
 }
 
-const SWITCHES: [Switch; 25] = [
+const SWITCHES: [Switch; 27] = [
     Switch {
         name: "fixed-strings",
         letter: Some('F'),
@@ -123,6 +123,16 @@ const SWITCHES: [Switch; 25] = [
         help: "Letters match in either case if no pattern has a capital",
     },
     Switch {
+        name: "recursive",
+        letter: Some('r'),
+        help: "Search the files of folders, and of the folders in them",
+    },
+    Switch {
+        name: "hidden",
+        letter: None,
+        help: "Search hidden files and folders too",
+    },
+    Switch {
         name: "count",
         letter: Some('c'),
         help: "Write how many lines match, for each file",
@@ -154,7 +164,7 @@ const SWITCHES: [Switch; 25] = [
     },
 ];
 
-const VALUED: [Valued; 7] = [
+const VALUED: [Valued; 8] = [
     Valued {
         name: "regexp",
         letter: Some('e'),
@@ -168,6 +178,13 @@ const VALUED: [Valued; 7] = [
         value: "FILE",
         kind: Kind::Texts,
         help: "A file with a pattern in each line",
+    },
+    Valued {
+        name: "glob",
+        letter: Some('g'),
+        value: "GLOB",
+        kind: Kind::Texts,
+        help: "Search the files of folders that match GLOB, or with ! before it those that don't",
     },
     Valued {
         name: "max-count",

@@ -3,9 +3,11 @@
 
 mod command;
 mod failures;
+mod globs;
 mod options;
 mod patterns;
 mod search;
+mod walk;
 
 use crate::command::command;
 use crate::failures::Failure;

@@ -79,12 +79,12 @@ pub fn summary_kind(matches: &ArgMatches<'_>) -> Option<SummaryKind> {
     }
 }
 
-/// Whether paths are written: if they are asked for, or if there are several.
-pub fn shows_paths(matches: &ArgMatches<'_>, paths: &[String]) -> bool {
+/// Whether paths are written: if they are asked for, or if several files may be searched.
+pub fn shows_paths(matches: &ArgMatches<'_>, searches_several: bool) -> bool {
     if matches.get_flag("files-with-matches") || matches.get_flag("files-without-match") {
         return true;
     }
-    !matches.get_flag("no-filename") && (matches.get_flag("with-filename") || paths.len() > 1)
+    !matches.get_flag("no-filename") && (matches.get_flag("with-filename") || searches_several)
 }
 
 /// What ends a line.

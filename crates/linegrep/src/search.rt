@@ -1,23 +1,26 @@
 //! The search of all that the arguments name.
 use crate::failures::{Failure, report_cause};
+use crate::globs::Globs;
 use crate::options::{Printer, shows_paths};
 use crate::patterns::{Operands, compile};
+use crate::walk::{Found, Walk};
 use clap::ArgMatches;
 use grep_output::Output;
 use grep_printer::{Standard, Summary};
-use grep_searcher::{Matcher, SearchError, Searcher, Source};
-use std::io;
+use grep_searcher::{BinaryDetection, Matcher, SearchError, Searcher, Source};
+use std::fmt::Display;
 use std::process::ExitCode;
 use std::rt::Files;
+use std::{fs, io};
 
 // The name of standard input.
 const STDIN: &str = "<stdin>";
 
-/// Searches the files at the paths, one after another, or what `input` gives if there is none, and
-/// writes what is found. The status is 0 if there is a match, 1 if there is none, and 2 if a file
-/// can't be read, of which standard error says why. If nothing is to be written, the first match
-/// ends it with 0.
-pub fn search_all<T: Files + Eprint + AllocGlobal, R: Source, W: Output + Drop>(
+/// Searches the files at the paths, one after another, and writes what is found. If there is no
+/// path, it searches the current folder under `-r`, and otherwise what `input` gives. The status is
+/// 0 if there is a match, 1 if there is none, and 2 if a file can't be read, of which standard error
+/// says why. If nothing is to be written, the first match ends it with 0.
+pub fn search_all<T: Files + Eprint + AllocGlobal + Clone + Drop, R: Source, W: Output + Drop>(
     rt: &T,
     matches: &ArgMatches<'_>,
     operands: &Operands,
@@ -28,12 +31,18 @@ pub fn search_all<T: Files + Eprint + AllocGlobal, R: Source, W: Output + Drop>(
     let alloc = rt.alloc();
     let regex = compile(alloc, matches, &operands.patterns)?;
     let matcher = regex.matcher(alloc)?;
+    let globs = Globs::read(alloc, matches)?;
+    let is_recursive = matches.get_flag("recursive");
+    let names_folder = is_recursive && names_folder(rt, &operands.paths);
     let mut run = Run {
         rt,
         searcher,
         matcher,
         printer,
-        shows_paths: shows_paths(matches, &operands.paths),
+        globs: &globs,
+        is_recursive,
+        shows_hidden: matches.get_flag("hidden"),
+        shows_paths: shows_paths(matches, names_folder || operands.paths.len() > 1),
         is_silent: matches.get_flag("no-messages"),
         is_quiet: matches.get_flag("quiet"),
         has_match: false,
@@ -45,11 +54,14 @@ pub fn search_all<T: Files + Eprint + AllocGlobal, R: Source, W: Output + Drop>(
 
 // A run over files: what it searches with, and what came of those that it has searched.
 #[derive(Drop)]
-struct Run<'r, T, M, W> {
+struct Run<'r, 'g, T, M, W> {
     rt: &'r T,
     searcher: Searcher,
     matcher: M,
     printer: Printer<W>,
+    globs: &'g Globs,
+    is_recursive: bool,
+    shows_hidden: bool,
     shows_paths: bool,
     is_silent: bool,
     is_quiet: bool,
@@ -64,22 +76,63 @@ struct Searched {
     result: Result<(), SearchError>,
 }
 
-impl<'r, T: Files + Eprint + AllocGlobal, M: Matcher, W: Output> Run<'r, T, M, W> {
-    // Searches the files at some paths, or the input if there is none.
+impl<'r, 'g, T, M, W> Run<'r, 'g, T, M, W>
+where
+    T: Files + Eprint + AllocGlobal + Clone + Drop,
+    M: Matcher,
+    W: Output,
+{
+    // Searches the files at some paths. If there is none, it searches the current folder or the
+    // input.
     fn search_paths<R: Source>(&mut self, paths: &[String], input: &mut R) -> Result<(), Failure> {
         if paths.is_empty() {
-            return self.search_input(input);
+            return if self.is_recursive {
+                self.search_folder("")
+            } else {
+                self.search_input(input)
+            };
         }
         for path in paths {
-            if path.as_str() == "-" {
+            let path = path.as_str();
+            if path == "-" {
                 self.search_input(input)?;
+            } else if self.is_recursive && is_folder(self.rt, path) {
+                self.search_folder(path)?;
             } else {
-                self.search_path(path.as_str())?;
+                self.search_path(path)?;
             }
-            if self.is_quiet && self.has_match {
+            if self.is_over() {
                 break;
             }
         }
+        Ok(())
+    }
+
+    // Whether nothing that is found from now on makes a difference.
+    fn is_over(&self) -> bool {
+        self.is_quiet && self.has_match
+    }
+
+    // Searches the files of a folder. The search of one that has a NUL ends there, unless files are
+    // searched as text.
+    fn search_folder(&mut self, folder: &str) -> Result<(), Failure> {
+        let detection = *self.searcher.binary_detection();
+        if let BinaryDetection::Convert(byte) = detection {
+            self.searcher
+                .set_binary_detection(BinaryDetection::quit(byte));
+        }
+        let mut walk = Walk::new(self.rt, self.globs, self.shows_hidden, folder)?;
+        for _ in 0..u64::MAX {
+            match walk.next()? {
+                Some(Found::File(path)) => self.search_path(path.as_str())?,
+                Some(Found::Unread(path, error)) => self.report(path.as_str(), &error),
+                None => break,
+            }
+            if self.is_over() {
+                break;
+            }
+        }
+        self.searcher.set_binary_detection(detection);
         Ok(())
     }
 
@@ -134,11 +187,16 @@ impl<'r, T: Files + Eprint + AllocGlobal, M: Matcher, W: Output> Run<'r, T, M, W
         if self.printer.has_failed() {
             return Err(Failure::Output(written_error(error)));
         }
+        self.report(path, &error);
+        Ok(())
+    }
+
+    // Says what can't be read, and why.
+    fn report<E: Display>(&mut self, path: &str, error: &E) {
         self.has_error = true;
         if !self.is_silent {
-            let _ = report_cause(self.rt, path, &error);
+            let _ = report_cause(self.rt, path, error);
         }
-        Ok(())
     }
 
     // Writes what is left, and gives the status.
@@ -227,6 +285,19 @@ fn sum_up_input<R: Source, M: Matcher, W: Output>(
     let result = searcher.search_reader(matcher, input, &mut sink);
     let has_match = sink.has_match();
     Searched { has_match, result }
+}
+
+// Whether there is a folder at one of the paths, or no path at all.
+fn names_folder<T: Files>(rt: &T, paths: &[String]) -> bool {
+    paths.is_empty() || paths.iter().any(|path| is_folder(rt, path.as_str()))
+}
+
+// Whether there is a folder at a path.
+fn is_folder<T: Files>(rt: &T, path: &str) -> bool {
+    match fs::metadata(rt, path) {
+        Ok(metadata) => metadata.is_dir(),
+        Err(_) => false,
+    }
 }
 
 // A path, if paths are written.

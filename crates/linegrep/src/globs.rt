@@ -1,0 +1,272 @@
+//! Globs, which choose among the files of folders.
+use crate::failures::Failure;
+use crate::options::texts;
+use clap::ArgMatches;
+use regex::Regex;
+use regex_syntax::is_meta_character;
+use std::alloc::{AllocError, Global};
+
+/// What globs say of a file or a folder.
+#[derive(Clone, Copy)]
+pub enum Choice {
+    /// The last glob that matches it asks for it.
+    Chosen,
+    /// The last glob that matches it leaves it out, or no glob asks for this file.
+    LeftOut,
+    /// No glob matches it.
+    Unmatched,
+}
+
+/// The globs of the arguments, in order.
+#[derive(Drop)]
+pub struct Globs {
+    globs: Vec<Glob>,
+    are_exclusions: bool,
+}
+
+// A glob: the paths that it matches, whether it leaves them out, and whether it matches folders
+// alone.
+#[derive(Drop)]
+struct Glob {
+    regex: Regex,
+    is_exclusion: bool,
+    names_folders: bool,
+}
+
+impl Globs {
+    /// Reads the globs of `-g` from parsed arguments. A failure is that of a glob that isn't well
+    /// formed, or of being out of memory.
+    pub fn read(alloc: Global, matches: &ArgMatches<'_>) -> Result<Globs, Failure> {
+        let mut globs = Vec::new(alloc);
+        for text in &texts(alloc, matches, "glob")? {
+            globs.push(compile(alloc, text.as_str())?)?;
+        }
+        let are_exclusions = globs.iter().all(|glob: &Glob| glob.is_exclusion);
+        Ok(Globs {
+            globs,
+            are_exclusions,
+        })
+    }
+
+    /// What the globs say of a path. The last that matches it decides. If none does, a file is left
+    /// out if there is a glob that asks for files. The only error is being out of memory.
+    pub fn choice(&self, alloc: Global, path: &str, is_folder: bool) -> Result<Choice, AllocError> {
+        let path = path.strip_prefix("./").unwrap_or(path);
+        for glob in self.globs.iter().rev() {
+            if glob.matches(alloc, path, is_folder)? {
+                return Ok(if glob.is_exclusion {
+                    Choice::LeftOut
+                } else {
+                    Choice::Chosen
+                });
+            }
+        }
+        if self.are_exclusions || is_folder {
+            Ok(Choice::Unmatched)
+        } else {
+            Ok(Choice::LeftOut)
+        }
+    }
+}
+
+impl Glob {
+    fn matches(&self, alloc: Global, path: &str, is_folder: bool) -> Result<bool, AllocError> {
+        if self.names_folders && !is_folder {
+            return Ok(false);
+        }
+        Ok(self.regex.matcher(alloc)?.is_match(path))
+    }
+}
+
+// Compiles the text of a glob: an exclamation mark at its start leaves paths out, a slash at its
+// end means folders alone, and without any other slash it is about names in any folder.
+fn compile(alloc: Global, text: &str) -> Result<Glob, Failure> {
+    let (is_exclusion, glob) = match text.strip_prefix('!') {
+        Some(glob) => (true, glob),
+        None => (false, text),
+    };
+    let (names_folders, glob) = match glob.strip_suffix('/') {
+        Some(glob) => (true, glob),
+        None => (false, glob),
+    };
+    let mut letters = Vec::new(alloc);
+    for letter in glob.strip_prefix('/').unwrap_or(glob).chars() {
+        letters.push(letter)?;
+    }
+    let mut translation = Translation::new(alloc, !glob.contains('/'))?;
+    if let Err(error) = translation.push_all(&letters) {
+        return Err(failure(alloc, text, error));
+    }
+    match Regex::new(alloc, translation.finish()?.as_str()) {
+        Ok(regex) => Ok(Glob {
+            regex,
+            is_exclusion,
+            names_folders,
+        }),
+        Err(error) => Err(failure(alloc, text, Error::Regex(error))),
+    }
+}
+
+// Why a glob can't be compiled.
+#[derive(Drop)]
+enum Error {
+    Glob(&'static str),
+    Regex(regex::Error),
+    OutOfMemory,
+}
+
+impl From<AllocError> for Error {
+    fn from(_: AllocError) -> Error {
+        Error::OutOfMemory
+    }
+}
+
+// The failure of a glob, with its text.
+fn failure(alloc: Global, text: &str, error: Error) -> Failure {
+    let message = match error {
+        Error::Glob(cause) => format!(in alloc; "the glob {text}: {cause}"),
+        Error::Regex(cause) => format!(in alloc; "the glob {text}: {cause}"),
+        Error::OutOfMemory => return Failure::from(AllocError),
+    };
+    match message {
+        Ok(message) => Failure::Setting(message),
+        Err(error) => Failure::from(error),
+    }
+}
+
+// A regular expression that is made of a glob, letter by letter.
+#[derive(Drop)]
+struct Translation {
+    regex: String,
+    // How many braces are open.
+    depth: u64,
+    // Whether a name begins here.
+    begins_name: bool,
+}
+
+impl Translation {
+    // The beginning of a regular expression for whole paths, or for the names in any folder.
+    fn new(alloc: Global, is_of_names: bool) -> Result<Translation, AllocError> {
+        let start = if is_of_names {
+            "(?s)^(?:.*/)?"
+        } else {
+            "(?s)^"
+        };
+        Ok(Translation {
+            regex: String::from_str(alloc, start)?,
+            depth: 0,
+            begins_name: true,
+        })
+    }
+
+    // Adds a glob.
+    fn push_all(&mut self, glob: &[char]) -> Result<(), Error> {
+        let mut left = glob;
+        for _ in glob {
+            if left.is_empty() {
+                break;
+            }
+            left = self.push_first(left)?;
+        }
+        if self.depth > 0 {
+            return Err(Error::Glob("a brace isn't closed"));
+        }
+        Ok(())
+    }
+
+    // Adds what a glob begins with, and returns what follows it.
+    fn push_first<'g>(&mut self, glob: &'g [char]) -> Result<&'g [char], Error> {
+        let begins_name = self.begins_name;
+        self.begins_name = false;
+        match glob {
+            ['*', '*', '/', rest @ ..] if begins_name => {
+                self.begins_name = true;
+                self.push_text("(?:.*/)?", rest)
+            }
+            ['*', '*'] if begins_name => self.push_text(".*", &[]),
+            ['*', rest @ ..] => self.push_text("[^/]*", rest),
+            ['?', rest @ ..] => self.push_text("[^/]", rest),
+            ['/', rest @ ..] => {
+                self.begins_name = true;
+                self.push_text("/", rest)
+            }
+            ['[', rest @ ..] => self.push_class(rest),
+            ['\\', letter, rest @ ..] => self.push_letter(*letter, rest),
+            ['\\'] => Err(Error::Glob("it ends in a backslash")),
+            _ => self.push_choice(glob),
+        }
+    }
+
+    // Adds a part of a choice in braces, or a letter.
+    fn push_choice<'g>(&mut self, glob: &'g [char]) -> Result<&'g [char], Error> {
+        match glob {
+            ['{', rest @ ..] => {
+                self.depth = self.depth.saturating_add(1);
+                self.push_text("(?:", rest)
+            }
+            [',', rest @ ..] if self.depth > 0 => self.push_text("|", rest),
+            ['}', rest @ ..] if self.depth > 0 => {
+                self.depth -= 1;
+                self.push_text(")", rest)
+            }
+            ['}', ..] => Err(Error::Glob("a brace isn't opened")),
+            [letter, rest @ ..] => self.push_letter(*letter, rest),
+            [] => Ok(glob),
+        }
+    }
+
+    // Adds a class, of which the opening bracket is left out, and returns what follows it. A
+    // bracket that comes first is a member.
+    fn push_class<'g>(&mut self, glob: &'g [char]) -> Result<&'g [char], Error> {
+        let (start, members) = match glob {
+            ['!' | '^', rest @ ..] => ("[^", rest),
+            _ => ("[", glob),
+        };
+        let [first, rest @ ..] = members else {
+            return Err(Error::Glob("a bracket isn't closed"));
+        };
+        let Some(end) = rest.iter().position(|letter| *letter == ']') else {
+            return Err(Error::Glob("a bracket isn't closed"));
+        };
+        self.regex.push_str(start)?;
+        self.push_member(*first)?;
+        self.push_members(&rest[..end])?;
+        self.push_text("]", &rest[end + 1..])
+    }
+
+    // Adds members of a class after its first: a dash between two of them makes a range.
+    fn push_members(&mut self, members: &[char]) -> Result<(), Error> {
+        for i in 0..members.len() {
+            if members[i] == '-' && i + 1 < members.len() {
+                self.regex.push('-')?;
+            } else {
+                self.push_member(members[i])?;
+            }
+        }
+        Ok(())
+    }
+
+    fn push_member(&mut self, letter: char) -> Result<(), AllocError> {
+        if is_meta_character(letter) {
+            self.regex.push('\\')?;
+        }
+        self.regex.push(letter)?;
+        Ok(())
+    }
+
+    fn push_letter<'g>(&mut self, letter: char, rest: &'g [char]) -> Result<&'g [char], Error> {
+        self.push_member(letter)?;
+        Ok(rest)
+    }
+
+    fn push_text<'g>(&mut self, text: &str, rest: &'g [char]) -> Result<&'g [char], Error> {
+        self.regex.push_str(text)?;
+        Ok(rest)
+    }
+
+    // The whole regular expression.
+    fn finish(mut self) -> Result<String, AllocError> {
+        self.regex.push('$')?;
+        Ok(self.regex)
+    }
+}
