@@ -50,7 +50,8 @@ module _ {W : Type 0} (write_step : W → OutputCall → W → Type 0) (settings
           (subst (λ text. WritesAll write_step old.printer.now.writer text new.printer.now.writer)
           (ap (λ f. summary_text f old.match_count call) before.framed
           ∙ ap (λ n. summary_text frame n call) before.match_count) step.written);
-      match_count = step.match_count ∙ ap (λ n. count_after n call) before.match_count;
+      match_count = step.match_count ∙ ap (λ f. count_after f old.match_count call) before.framed
+          ∙ ap (λ n. count_after frame n call) before.match_count;
       has_failed = step.has_failed ∙ before.has_failed;
     },
   )

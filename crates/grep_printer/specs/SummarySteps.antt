@@ -11,7 +11,6 @@ use Rattle.grep_searcher.specs.declared.SearchError.{SearchError}
 use Rattle.grep_searcher.specs.declared.SearchError.TheVariants.{Io}
 use Rattle.grep_printer.specs.SummaryTexts.{SummaryFrame, count_after, summary_text, summed_of}
 use Rattle.grep_printer.specs.SummaryTexts.{sums_on}
-use Rattle.grep_printer.specs.declared.summary.Summary.{Summary}
 use Rattle.grep_printer.specs.declared.summary.SummarySink.{SummarySink}
 
 -- the path and the settings of a sink stay, and so does the printer that it refers to
@@ -28,6 +27,7 @@ summary_frame sink settings = record {
   path_terminator = sink.printer.now.path_terminator;
   path = sink.path;
   terminator = byte_of settings.line_terminator;
+  binary_detection = settings.binary_detection;
 }
 
 -- the text of a call of a sink
@@ -42,7 +42,8 @@ module _ {W : Type 0} (write_step : W → OutputCall → W → Type 0) where
     pub goes_on : goes ≡ sums_on old.printer.now.kind call
     pub written : WritesAll write_step old.printer.now.writer (sum_of old settings call)
         new.printer.now.writer
-    pub match_count : new.match_count ≡ count_after old.match_count call
+    pub match_count : new.match_count
+        ≡ count_after (summary_frame old settings) old.match_count call
     pub has_failed : new.printer.now.has_failed ≡ old.printer.now.has_failed
 
   -- the writer failed after some first bytes of the text

@@ -1,11 +1,13 @@
 -- The text that a printer of summaries writes for a search.
 use Rattle.std.specs.Prelude.{ℕ, ◌+◌, ◌-◌, ◌^◌, min, nat_lt, Bool, true, false, ◌==◌, if◌then◌else◌}
-use Rattle.std.specs.Prelude.{List, [], ◌∷◌, ◌++◌, decimal, Option}
+use Rattle.std.specs.Prelude.{List, [], ◌∷◌, ◌++◌, decimal, Option, is_some, ◌&&◌}
 use Rattle.std.specs.Borrow.{Bor}
 use Rattle.std.specs.Option.{unwrap_or}
+use Rattle.grep_searcher.specs.BinaryDetections.{quit_byte_of}
 use Rattle.grep_searcher.specs.Plans.{Call, begins, matches, context, breaks, binary_data, finishes}
 use Rattle.grep_searcher.specs.Plans.{Plan}
 use Rattle.grep_searcher.specs.SinkFolds.{run_fold}
+use Rattle.grep_searcher.specs.declared.BinaryDetection.{BinaryDetection}
 use Rattle.grep_printer.specs.StandardTexts.{path_field}
 use Rattle.grep_printer.specs.declared.summary.SummaryKind.{SummaryKind}
 use Rattle.grep_printer.specs.declared.summary.SummaryKind.TheVariants.{Count, PathWithMatch}
@@ -15,7 +17,7 @@ use Rattle.grep_printer.specs.declared.summary.SummaryKind.TheVariants.{PathWith
 abbrev pub path_line : Option ℕ → Option (Bor (List ℕ)) → ℕ → List ℕ
 path_line path_terminator path terminator = path_field (unwrap_or path_terminator terminator) path
 
--- what is written when a search has ended, by how many matches were reported
+-- what is written when a search has ended, by how many matches count
 abbrev pub finish_text : SummaryKind → Option ℕ → Option (Bor (List ℕ)) → ℕ → ℕ → List ℕ
 finish_text Count path_terminator path terminator count =
     if nat_lt 0 count
@@ -27,13 +29,19 @@ finish_text PathWithoutMatch path_terminator path terminator count =
     if count == 0 then path_line path_terminator path terminator else []
 finish_text Quiet path_terminator path terminator count = []
 
--- what the text of a search depends on: what is to be written, the byte after a path, the path, and
--- the byte at which lines are split
+-- what the text of a search depends on: what is to be written, the byte after a path, the path, the
+-- byte at which lines are split, and which bytes are binary
 pub record SummaryFrame : Type 0 where
   pub kind : SummaryKind
   pub path_terminator : Option ℕ
   pub path : Option (Bor (List ℕ))
   pub terminator : ℕ
+  pub binary_detection : BinaryDetection
+
+-- a search that a binary byte ended counts for nothing: its matches don't count, and nothing is
+-- written of it
+abbrev pub is_left_out : BinaryDetection → Option ℕ → Bool
+is_left_out detection binary = is_some binary && is_some (quit_byte_of detection)
 
 -- the text of a call, by how many matches were reported: only the end of a search has one
 abbrev pub summary_text : SummaryFrame → ℕ → Call → List ℕ
@@ -43,7 +51,9 @@ summary_text frame count (context which number offset line) = []
 summary_text frame count breaks = []
 summary_text frame count (binary_data offset) = []
 summary_text frame count (finishes bytes binary) =
-    finish_text frame.kind frame.path_terminator frame.path frame.terminator count
+    if is_left_out frame.binary_detection binary
+    then []
+    else finish_text frame.kind frame.path_terminator frame.path frame.terminator count
 
 -- whether a search found what it is for, by how many matches were reported
 abbrev pub has_found : SummaryKind → ℕ → Bool
@@ -68,14 +78,15 @@ sums_on kind breaks = true
 sums_on kind (binary_data offset) = true
 sums_on kind (finishes count binary) = true
 
--- how many matches were reported, with a call, up to the greatest number of 64 bits
-abbrev pub count_after : ℕ → Call → ℕ
-count_after count begins = count
-count_after count (matches number offset bytes) = min (count + 1) (2 ^ 64 - 1)
-count_after count (context which number offset line) = count
-count_after count breaks = count
-count_after count (binary_data offset) = count
-count_after count (finishes bytes binary) = count
+-- how many matches count, with a call: those that were reported, up to the greatest number of 64
+-- bits, and none once the search is left out
+abbrev pub count_after : SummaryFrame → ℕ → Call → ℕ
+count_after frame count begins = count
+count_after frame count (matches number offset bytes) = min (count + 1) (2 ^ 64 - 1)
+count_after frame count (context which number offset line) = count
+count_after frame count breaks = count
+count_after frame count (binary_data offset) = count
+count_after frame count (finishes bytes binary) = if is_left_out frame.binary_detection binary then 0 else count
 
 -- what a printer makes of some calls: how many matches were reported, and the text of all calls
 pub record Summed : Type 0 where
@@ -85,7 +96,7 @@ pub record Summed : Type 0 where
 -- with one more call
 abbrev pub summed_with : SummaryFrame → Summed → Call → Summed
 summed_with frame summed call = record {
-  match_count = count_after summed.match_count call;
+  match_count = count_after frame summed.match_count call;
   text = summed.text ++ summary_text frame summed.match_count call;
 }
 

@@ -1,6 +1,7 @@
 //! The printer of summaries: counts, and paths.
 ghost use Rattle.std.specs.Prelude.{◌≡◌, ◌++◌, ◌∷◌, [], false, true, OnOk, if◌then◌else◌, is_ok};
 ghost use Rattle.grep_output.specs.Outputs.{Writes};
+ghost use Rattle.grep_printer.specs.SummaryTexts;
 ghost use Rattle.grep_printer.specs.SummaryTexts.{finish_text, has_found, path_line};
 
 use crate::fields::{push_digits, push_path};
@@ -150,7 +151,9 @@ impl<W: Output> Summary<W> {
 }
 
 /// The sink of one search, which counts the matches, and writes the summary when the search ends. A
-/// search of which only the first match counts ends there.
+/// search of which only the first match counts ends there. A search that a binary byte ended
+/// (`BinaryDetection::Quit`) counts for nothing, as in ripgrep: nothing is written of it, and it has
+/// no match.
 #[derive(Drop)]
 pub struct SummarySink<'s, W> {
     printer: &'s mut Summary<W>,
@@ -218,8 +221,12 @@ impl<'s, W: Output> Sink for SummarySink<'s, W> {
     fn finish<A: Allocator + Copy>(
         &mut self,
         searcher: &Searcher<A>,
-        _finish: &SinkFinish,
+        finish: &SinkFinish,
     ) -> Result<(), SearchError> {
+        if is_left_out(searcher, finish) {
+            self.match_count = 0;
+            return Ok(());
+        }
         let terminator = searcher.line_terminator().as_byte();
         self.printer
             .compose(self.path, terminator, self.match_count)?;
@@ -228,4 +235,12 @@ impl<'s, W: Output> Sink for SummarySink<'s, W> {
             Err(error) => Err(SearchError::Io(error)),
         }
     }
+}
+
+// Whether a binary byte ended a search, so that it counts for nothing.
+fn is_left_out<A: Allocator + Copy>(searcher: &Searcher<A>, finish: &SinkFinish) -> bool
+    ensures { result ≡ SummaryTexts.is_left_out searcher.now.settings.binary_detection
+        finish.now.binary_byte_offset }
+{
+    finish.binary_byte_offset().is_some() && searcher.binary_detection().quit_byte().is_some()
 }
