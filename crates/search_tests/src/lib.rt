@@ -17,6 +17,8 @@ mod detection;
 #[cfg(test)]
 mod files;
 #[cfg(test)]
+mod handlers;
+#[cfg(test)]
 mod matchers;
 #[cfg(test)]
 mod messages;
