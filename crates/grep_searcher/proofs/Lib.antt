@@ -1,6 +1,8 @@
 pub mod ClosureSinkLemmas
 pub mod CountSinkLemmas
+pub mod HitLineLemmas
 pub mod InputSearchLemmas
+pub mod LentMatchLemmas
 pub mod LineCountLemmas
 pub mod MatchHandlerLemmas
 pub mod SourceSearchLemmas

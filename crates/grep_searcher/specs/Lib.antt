@@ -1,5 +1,7 @@
 pub mod ClosureSinks
 pub mod CountSinks
+pub mod HitLines
+pub mod LentMatches
 pub mod LineCounts
 pub mod MatchHandlers
 pub use Rattle.grep_definitions.specs.Settings

@@ -5,6 +5,8 @@ ghost use Rattle.std.specs.Str.Lossy.{utf8_lossy};
 ghost use Rattle.grep_searcher.specs.ClosureSinks.{ClosuresAreCalled, ClosuresKeep, IsUtf8Text};
 ghost use Rattle.grep_searcher.specs.ClosureSinks.{IsLossyText, IsWholeText};
 ghost use Rattle.grep_searcher.specs.CountSinks.{RunsCount, RunsCountAll};
+ghost use Rattle.grep_searcher.specs.HitLines.{HitsAreSelected, HitsAreMatched, HitsAreCounted};
+ghost use Rattle.grep_searcher.specs.LentMatches.{ClosuresAreLent, ClosuresKeepMatches};
 ghost use Rattle.grep_searcher.specs.LineCounts.{RunsCountLines, SlicesCountLines, SlicesCountAll};
 ghost use Rattle.grep_searcher.specs.LineCounts.{ReadersCountLines};
 ghost use Rattle.grep_searcher.specs.MatchHandlers.{RunsHandle, RunsFindSelected, RunsCollect};
@@ -17,7 +19,7 @@ ghost use Rattle.grep_definitions.specs.SinkFolds.{ReaderSearchesFail, KnownRead
 ghost use Rattle.grep_report.specs.ErrorMakers.{makers_of};
 
 use crate::sink::Sink;
-use crate::sinks::{Bytes, Lossy, MatchHandler, UTF8};
+use crate::sinks::{Bytes, Lossy, MatchHandler, Matches, UTF8};
 use grep_decode::Source;
 pub use grep_definitions::laws::{
     after_wins, after_wins_across, at_most_limit, at_most_limit_across, counted_reports_are_clear,
@@ -30,10 +32,19 @@ pub use grep_definitions::laws::{
     whole_count_across,
 };
 use grep_matcher::Matcher;
-use grep_report::SinkError;
+use grep_report::{SinkError, SinkMatch};
 use std::alloc::Allocator;
 use std::io;
 use std::io::Read;
+
+/// Without limit and stop, in a search by line, a line is selected exactly if it hits, and so are
+/// the matched lines: a line hits if whether it matches without its terminator differs from
+/// inversion. Then as many lines are matched as hit.
+pub fn hits_are_selected()
+    ensures selected { HitsAreSelected }
+    ensures matched { HitsAreMatched }
+    ensures counted { HitsAreCounted }
+{}
 
 /// A run that ended in `Ok`, of a sink whose steps are functions of the state and the call, is a
 /// fold over the planned calls: up to the first after which the sink doesn't go on, and then
@@ -143,6 +154,15 @@ pub fn bytes_closures_keep_calls<F: FnMut(u64, &[u8]) -> Result<bool, io::Error>
 {
     matches_are_matched_lines();
 }
+
+/// A run of `Matches` that ended in `Ok` lent its closure the matches that are reported, in order,
+/// up to the first at which it returned false. If each call that returns adds the number, the
+/// offset and the bytes of the match to what is kept, through one reference, the run adds those of
+/// all these matches. Pass the sink, since a closure's type has no name.
+pub fn matches_are_lent<F: FnMut(&SinkMatch<'_>) -> Result<bool, io::Error>>(_: &Matches<F>)
+    ensures lent { ClosuresAreLent F.step (λ (s : Matches F). s.0) }
+    ensures kept { ClosuresKeepMatches F.step (λ (s : Matches F). s.0) }
+{}
 
 /// Without binary detection, a search of a slice with a lawful matcher, if it ended in `Ok`, is a
 /// run along the plan of its decoded bytes. Pass the sink, since a closure's type has no name.

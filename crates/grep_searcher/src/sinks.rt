@@ -1,6 +1,6 @@
 //! Sinks that take matches alone: those that call a closure at each match, with its line number and
-//! its text, one that counts, and one that passes each match to a handler, with the handlers that
-//! callers need most.
+//! its text or with the match itself, one that counts, and one that passes each match to a handler,
+//! with the handlers that callers need most.
 //!
 //! The closure returns whether the search goes on. Its error ends the search.
 ghost use Rattle.std.specs.Prelude.{◌≡◌, Some, None, MatchResult};
@@ -12,6 +12,7 @@ mod count;
 mod first;
 mod found;
 mod kept_match;
+mod lent;
 mod on_match;
 
 use crate::searcher::Searcher;
@@ -22,6 +23,7 @@ pub use first::First;
 pub use found::Found;
 use grep_report::{SinkContext, SinkError, SinkFinish, SinkMatch};
 pub use kept_match::KeptMatch;
+pub use lent::Matches;
 pub use on_match::{MatchHandler, OnMatch};
 use std::alloc::Allocator;
 use std::{io, str};

@@ -1,0 +1,73 @@
+-- Which lines a search by line selects if no limit and no stop is set.
+use Rattle.std.proofs.Common.{◌≡◌, ℕ, zero, suc, ◌<◌, ◌≤◌, Bool, true, false, List, [], length, take, refl, ap, ◌∙◌, arith}
+use Rattle.std.proofs.Common.{add-one}
+use Rattle.std.proofs.Math.Seq.{take-length}
+use Rattle.std.proofs.lemmas.Bool.{lt-ltb}
+use Rattle.std.proofs.lemmas.List.Sums.{count_by_more_yes, count_by_more_no}
+use Rattle.std.specs.Prelude.{◌||◌, ◌&&◌, nat_lt, count_by, slice_index_or}
+use Rattle.grep_matcher.specs.Lines.{byte_of, lines}
+use Rattle.grep_matcher.specs.Meanings.{Meaning}
+use Rattle.grep_definitions.specs.Reports.{count_below, line, line_count}
+use Rattle.grep_definitions.specs.SearchLaws.{is_matched}
+use Rattle.grep_definitions.specs.SelectedLines.{reports_end}
+use Rattle.grep_definitions.specs.Settings.{Settings}
+use Rattle.grep_searcher.specs.HitLines.{is_hit, HitsAreSelected, HitsAreMatched, HitsAreCounted, IsUnlimited}
+
+-- as many numbers pass as items of a list do, if a number passes exactly if its item does
+count_below-items : {X : Type 0} (f : X → Bool) (p : ℕ → Bool) (d : X) (xs : List X) (n : ℕ) → n ≤ length xs
+    → ((i : ℕ) → i < length xs → p i ≡ f (slice_index_or xs i d)) → count_below p n ≡ count_by f (take n xs)
+count_below-items f p d xs zero fits same = refl
+count_below-items f p d xs (suc n) fits same =
+    let below : n < length xs = omega (arith, fits) in
+    let low : n ≤ length xs = omega (arith, fits) in
+    grind (
+      arith,
+      add-one,
+      same n below,
+      count_below-items f p d xs n low same,
+      count_by_more_yes f xs n d below,
+      count_by_more_no f xs n d below,
+    )
+
+-- without a limit the line is chosen if it hits, and not trailing
+selected-hit : (below hit : Bool) → below ≡ true → (((below && hit) && true) && true) ≡ hit
+selected-hit true true is = refl
+selected-hit true false is = refl
+selected-hit false hit is = absurd (let never = is in cc)
+
+matched-hit : (below hit follows : Bool) → below ≡ true
+    → ((((below && hit) && true) && true) || (follows && ((below && hit) && false))) ≡ hit
+matched-hit true true follows is = refl
+matched-hit true false true is = refl
+matched-hit true false false is = refl
+matched-hit false hit follows is = absurd (let never = is in cc)
+
+pub hits-are_selected : HitsAreSelected
+hits-are_selected settings meaning bytes i free below =
+    rw (free.unlimited, free.unstopped)
+    (selected-hit (nat_lt i (line_count settings bytes)) (is_hit settings meaning (line settings bytes i))
+    (lt-ltb i (line_count settings bytes) below))
+
+pub hits-are_matched : HitsAreMatched
+hits-are_matched settings meaning bytes i free below =
+    rw (free.unlimited, free.unstopped)
+    (matched-hit (nat_lt i (line_count settings bytes)) (is_hit settings meaning (line settings bytes i)) _
+    (lt-ltb i (line_count settings bytes) below))
+
+-- each line may be reported
+reports_end-whole : (settings : Settings) (meaning : Meaning) (bytes : List ℕ) → IsUnlimited settings
+    → reports_end settings meaning bytes ≡ line_count settings bytes
+reports_end-whole settings meaning bytes free = go settings.passthru
+  where
+    go : (passthru : Bool)
+        → reports_end (record settings { passthru = passthru }) meaning bytes ≡ line_count settings bytes
+    go true = rw (free.unlimited, free.unstopped) refl
+    go false = rw (free.unlimited, free.unstopped) refl
+
+pub hits-are_counted : HitsAreCounted
+hits-are_counted settings meaning bytes free =
+    let all = lines (byte_of settings.line_terminator) bytes in
+    ap (count_below (is_matched settings meaning bytes)) (reports_end-whole settings meaning bytes free)
+    ∙ count_below-items (is_hit settings meaning) (is_matched settings meaning bytes) [] all (length all) (omega arith)
+    (λ i below. hits-are_matched settings meaning bytes i free below)
+    ∙ ap (count_by (is_hit settings meaning)) (take-length all)

@@ -1,0 +1,53 @@
+-- Sinks that lend matches to a closure.
+use Rattle.std.proofs.Common.{◌≡◌, ℕ, Bool, true, false, List, [], ◌∷◌, ◌++◌, sym, ap, ◌∙◌, inl, inr, append_assoc}
+use Rattle.std.proofs.lemmas.List.{append-nil}
+use Rattle.std.specs.Prelude.{Result, Ok, map}
+use Rattle.std.specs.Borrow.{Bor}
+use Rattle.std.specs.declared.io.Error.{Error}
+use Rattle.grep_report.specs.SinkReports.{MatchReport}
+use Rattle.grep_definitions.specs.Plans.{Call, begins, matches, context, breaks, binary_data, finishes}
+use Rattle.grep_definitions.specs.SearchLaws.{match_calls}
+use Rattle.grep_definitions.specs.SinkFolds.{AreTaken, IsTakenOk}
+use Rattle.grep_definitions.proofs.SinkFoldLemmas.{runs-take_matches}
+use Rattle.grep_searcher.specs.LentMatches.{IsLentAt, IsLentStep, LentSteps, ClosuresAreLent, KeepsMatches}
+use Rattle.grep_searcher.specs.LentMatches.{ClosuresKeepMatches}
+use Rattle.grep_searcher.specs.MatchHandlers.{KeptReport, kept_of}
+
+module _ {F : Type 0} (call : F → Bor MatchReport → Result Bool Error → F → Type 0) where
+  -- a call that succeeds lends the closure a match, and no other call does
+  lent-takes : (old : F) (made : Call) (b : Bool) (new : F) → IsLentStep call old made (Ok b) new
+      → IsTakenOk (IsLentAt call) old made b new
+  lent-takes old begins b new (is, same) = (cc, same)
+  lent-takes old (matches number offset bytes) b new lent = lent
+  lent-takes old (context kind number offset bytes) b new (is, same) = (cc, same)
+  lent-takes old breaks b new (is, same) = (cc, same)
+  lent-takes old (binary_data offset) b new (is, same) = (cc, same)
+  lent-takes old (finishes count binary) b new (is, same) = (cc, same)
+
+  pub closures-are_lent : {S : Type 0} (closure : S → F) → ClosuresAreLent call closure
+  closures-are_lent closure settings old plan new run =
+      runs-take_matches (LentSteps call closure) settings plan.finish new closure (IsLentAt call)
+      (λ from made b after h. lent-takes (closure from) made b (closure after) h) old plan.calls run
+
+  module _ (name : F → ℕ) (kept : F → List KeptReport) (by : KeepsMatches call name kept) where
+    lent-one : (old : F) (made : Call) (b : Bool) (new : F) → IsLentAt call old made b new
+        → (b ≡ true) × (name new ≡ name old) × (kept new ≡ kept old ++ kept_of made ∷ [])
+    lent-one old made b new (found, is, called) =
+        let here = by old found b new called in
+        (here.0, here.1, here.2 ∙ ap (λ m. kept old ++ kept_of m ∷ []) is)
+
+    lent-all : (calls : List Call) (old new : F) → AreTaken (IsLentAt call) old calls new
+        → (name new ≡ name old) × (kept new ≡ kept old ++ map kept_of calls)
+    lent-all [] old new same = (ap name same, ap kept same ∙ sym (append-nil (kept old)))
+    lent-all (made ∷ later) old new (inl (mid, here, rest)) =
+        let first = lent-one old made true mid here in
+        let others = lent-all later mid new rest in (
+          others.0 ∙ first.1,
+          others.1 ∙ ap (λ k. k ++ map kept_of later) first.2 ∙ append_assoc (kept old) (kept_of made ∷ []) (map kept_of later),
+        )
+    lent-all (made ∷ later) old new (inr here) = absurd (let never = (lent-one old made false new here).0 in cc)
+
+  pub closures-keep_matches : {S : Type 0} (closure : S → F) → ClosuresKeepMatches call closure
+  closures-keep_matches closure name kept by settings old plan new run =
+      lent-all name kept by (match_calls plan.calls) (closure old) (closure new)
+      (closures-are_lent closure settings old plan new run)

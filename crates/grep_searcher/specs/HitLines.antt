@@ -1,0 +1,39 @@
+-- Which lines a search by line selects if no limit and no stop is set: those that hit.
+use Rattle.std.specs.Prelude.{◌≡◌, ℕ, ◌<◌, Bool, false, List, count_by, is_some, None}
+use Rattle.grep_matcher.specs.Lines.{byte_of, lines, strip}
+use Rattle.grep_matcher.specs.Meanings.{Meaning}
+use Rattle.grep_definitions.specs.Reports.{line, line_count}
+use Rattle.grep_definitions.specs.SearchLaws.{is_matched}
+use Rattle.grep_definitions.specs.SelectedLines.{differ, is_selected}
+use Rattle.grep_definitions.specs.Settings.{Settings}
+use Rattle.grep_searcher.specs.LineCounts.{matched_count}
+
+-- a line hits if whether it matches without its terminator differs from inversion
+abbrev pub is_hit : Settings → Meaning → List ℕ → Bool
+is_hit settings meaning line =
+    differ (is_some (meaning.first (strip settings.line_terminator line))) settings.invert_match
+
+-- no limit is set, and no stop at the next line that isn't selected
+pub record IsUnlimited (settings : Settings) : Type 0 where
+  pub unlimited : settings.max_matches ≡ None
+  pub unstopped : settings.stop_on_nonmatch ≡ false
+
+-- then a line is selected exactly if it hits, and matched exactly if it hits
+abbrev pub HitsAreSelected : Type 0
+HitsAreSelected =
+    (settings : Settings) (meaning : Meaning) (bytes : List ℕ) (i : ℕ) → IsUnlimited settings
+    → i < line_count settings bytes
+    → is_selected settings meaning bytes i ≡ is_hit settings meaning (line settings bytes i)
+
+abbrev pub HitsAreMatched : Type 0
+HitsAreMatched =
+    (settings : Settings) (meaning : Meaning) (bytes : List ℕ) (i : ℕ) → IsUnlimited settings
+    → i < line_count settings bytes
+    → is_matched settings meaning bytes i ≡ is_hit settings meaning (line settings bytes i)
+
+-- and as many lines are matched as hit
+abbrev pub HitsAreCounted : Type 0
+HitsAreCounted =
+    (settings : Settings) (meaning : Meaning) (bytes : List ℕ) → IsUnlimited settings
+    → matched_count settings meaning bytes
+    ≡ count_by (is_hit settings meaning) (lines (byte_of settings.line_terminator) bytes)
