@@ -1,5 +1,5 @@
 -- What contracts see of a compiled expression.
-use Rattle.std.specs.Prelude.{ℕ, List, Option}
+use Rattle.std.specs.Prelude.{◌≡◌, ℕ, List, Option}
 use Rattle.std.specs.Arc.{arc_value}
 use Rattle.regex_hir.specs.Meaning.{meaning}
 use Rattle.regex_hir.specs.Re.{Re}
@@ -45,6 +45,10 @@ engine_regex engine = engine.regex.now
 -- what the matchers of an expression mean
 abbrev pub regex_meaning : Regex → Meaning
 regex_meaning r = meaning_of (regex_options r) (regex_patterns r)
+
+-- the expression has these options and these texts
+abbrev pub IsNamed : Options → List (List ℕ) → Regex → Type 0
+IsNamed options patterns r = (regex_options r ≡ options) × (regex_patterns r ≡ patterns)
 
 -- the expression of a matcher
 abbrev pub matcher_regex : RegexMatcher → Regex

@@ -24,6 +24,7 @@ impl<'r> Drop for Engine<'r> {
 }
 
 impl<'r> Engine<'r> {
+    ghost use Rattle.grep_matcher.specs.FindResults.{IsFrom};
     ghost use Rattle.grep_regex.specs.Views.{engine_regex, regex_first, regex_first_at};
 
     pub(crate) fn new(alloc: Global, regex: &'r Regex) -> Result<Engine<'r>, AllocError>
@@ -36,6 +37,7 @@ impl<'r> Engine<'r> {
     pub(crate) fn find_at(&mut self, haystack: &[u8], start: usize) -> Option<(usize, usize)>
         requires { start ≤ length haystack.now }
         ensures value { result ≡ regex_first_at (engine_regex self.old) haystack.now start }
+        ensures within { IsFrom start haystack.now result }
         ensures same { self.new.regex.now ≡ self.old.regex.now }
     {
         self.searcher.find(haystack, start)

@@ -11,6 +11,7 @@ use crate::error::Error;
 use crate::frame::framed;
 use crate::locality::is_by_line;
 use crate::matcher::RegexMatcher;
+use crate::named::{NamedMatcher, Naming};
 use crate::options::Options;
 use crate::parse::{Choice, read_choice};
 use crate::strip::without_bytes;
@@ -97,6 +98,8 @@ impl Regex {
     ghost use Rattle.grep_regex.specs.Refusals.{IsRefusal};
     ghost use Rattle.grep_regex.specs.Views.{regex_options, regex_patterns, program_re};
     ghost use Rattle.grep_regex.specs.Views.{regex_program, searcher_program, matcher_regex};
+    ghost use Rattle.grep_regex.specs.NamedViews.{named_regex};
+    ghost use Rattle.grep_regex.specs.Views.{IsNamed};
 
     // Compiles the first of the patterns that works.
     pub(crate) fn new(alloc: Global, options: Options, patterns: &[&str]) -> Result<Regex, Error>
@@ -128,6 +131,14 @@ impl Regex {
         ensures { IfOk result (λ m. matcher_regex m ≡ self.now) }
     {
         RegexMatcher::new(alloc, self)
+    }
+
+    /// The same, for an expression that `N` names.
+    pub fn named_matcher<N: Naming>(&self, alloc: Global) -> Result<NamedMatcher<'_, N>, AllocError>
+        requires { IsNamed N.options N.patterns self.now }
+        ensures { IfOk result (λ m. named_regex m ≡ self.now) }
+    {
+        NamedMatcher::new(alloc, self)
     }
 
     /// The options that it was compiled with.

@@ -1,8 +1,11 @@
 //! What is built and asked, as plain values. An expression is dropped in this file alone, since
 //! that costs much to prove.
+ghost use Rattle.grep_regex.specs.Views.{IsNamed};
+
 use grep_matcher::{FindAt, LineTerminator, Matcher};
-use grep_regex::{Error, Regex, RegexMatcherBuilder};
+use grep_regex::{Error, Naming, Regex, RegexMatcherBuilder};
 use std::alloc::Global;
+use std::marker::Brand;
 
 // What the matcher of an expression returns for a haystack.
 #[derive(Clone, Copy)]
@@ -88,7 +91,8 @@ fn ask<M: Matcher>(matcher: &M, haystack: &[u8]) -> Result<Answer, M::Error> {
     })
 }
 
-// What the matcher of patterns returns for a haystack, or `None` if one can't be made.
+// What the matchers of patterns return for a haystack, or `None` if one can't be made or they
+// differ.
 pub fn answer_of(
     alloc: Global,
     letters: &str,
@@ -98,13 +102,40 @@ pub fn answer_of(
     let Ok(regex) = build(alloc, letters, patterns) else {
         return None;
     };
+    let answer = plain_answer(alloc, &regex, haystack)?;
+    let named = pick_answer(alloc, &regex, haystack)?;
+    if is_same(&answer, &named) {
+        Some(answer)
+    } else {
+        None
+    }
+}
+
+fn plain_answer(alloc: Global, regex: &Regex, haystack: &[u8]) -> Option<Answer> {
     let Ok(matcher) = regex.matcher(alloc) else {
         return None;
     };
-    match ask(&matcher, haystack) {
-        Ok(answer) => Some(answer),
-        Err(_) => None,
-    }
+    ask(&matcher, haystack).ok()
+}
+
+fn pick_answer(alloc: Global, regex: &Regex, haystack: &[u8]) -> Option<Answer> {
+    named_answer::<Brand>(alloc, regex, haystack)
+}
+
+fn named_answer<N: Naming>(alloc: Global, regex: &Regex, haystack: &[u8]) -> Option<Answer>
+    requires { IsNamed N.options N.patterns regex.now }
+{
+    let Ok(matcher) = regex.named_matcher::<N>(alloc) else {
+        return None;
+    };
+    ask(&matcher, haystack).ok()
+}
+
+fn is_same(answer: &Answer, other: &Answer) -> bool {
+    answer.range == other.range
+        && answer.is_match == other.is_match
+        && answer.position == other.position
+        && answer.terminator == other.terminator
 }
 
 // Where the first match from a position on starts and ends.
@@ -123,7 +154,7 @@ fn ask_from<M: FindAt>(
     )
 }
 
-// What `ask_from` returns of the matcher of a pattern, or `None` if one can't be made.
+// What `ask_from` returns of the named matcher of a pattern, or `None` if one can't be made.
 pub fn first_from(
     alloc: Global,
     letters: &str,
@@ -134,7 +165,27 @@ pub fn first_from(
     let Ok(regex) = build(alloc, letters, &[pattern]) else {
         return None;
     };
-    let Ok(matcher) = regex.matcher(alloc) else {
+    pick_from(alloc, &regex, haystack, start)
+}
+
+fn pick_from(
+    alloc: Global,
+    regex: &Regex,
+    haystack: &[u8],
+    start: usize,
+) -> Option<Option<(usize, usize)>> {
+    named_from::<Brand>(alloc, regex, haystack, start)
+}
+
+fn named_from<N: Naming>(
+    alloc: Global,
+    regex: &Regex,
+    haystack: &[u8],
+    start: usize,
+) -> Option<Option<(usize, usize)>>
+    requires { IsNamed N.options N.patterns regex.now }
+{
+    let Ok(matcher) = regex.named_matcher::<N>(alloc) else {
         return None;
     };
     ask_from(&matcher, haystack, start).ok()

@@ -1,0 +1,170 @@
+//! The matcher of an expression that has a name.
+ghost use Rattle.std.specs.Prelude.{◌≡◌, ◌≤◌, length, is_some, IfOk};
+ghost use Rattle.grep_matcher.specs.FindResults.{IsFrom};
+ghost use Rattle.grep_regex.specs.Patterns.{first_match_at};
+ghost use Rattle.grep_regex.specs.Views.{regex_first, regex_first_at, IsNamed};
+
+use crate::engine::Engine;
+use crate::regex::Regex;
+use grep_matcher::{ByteSet, FindAt, LineMatchKind, LineTerminator, Match, Matcher};
+use std::alloc::{AllocError, Global};
+use std::cell::RefCell;
+use std::marker::{Brand, PhantomData};
+
+/// Names an expression by its options and the texts of its patterns. Each call that passes `Brand`
+/// picks them.
+pub trait Naming {
+    ghost use Rattle.std.specs.Prelude.{ℕ, List};
+    ghost use Rattle.grep_regex.specs.declared.options.Options.{Options};
+
+    /// The options.
+    ghost options: { Options };
+
+    /// The texts of the patterns.
+    ghost patterns: { List (List ℕ) };
+}
+
+impl Naming for Brand {
+    ghost use Rattle.std.specs.Prelude.{[]};
+    ghost use Rattle.grep_regex.specs.Patterns.{default_options};
+
+    ghost options = { default_options };
+
+    ghost patterns = { [] };
+}
+
+// What searches for the named expression.
+#[derive(Drop)]
+struct NamedEngine<'r, N: Naming> {
+    engine: Engine<'r>,
+    name: PhantomData<N>,
+    ghost named: { IsNamed N.options N.patterns engine.regex.now },
+}
+
+impl<'r, N: Naming> NamedEngine<'r, N> {
+    fn new(alloc: Global, regex: &'r Regex) -> Result<NamedEngine<'r, N>, AllocError>
+        requires { IsNamed N.options N.patterns regex.now }
+    {
+        let engine = Engine::new(alloc, regex)?;
+        Ok(NamedEngine {
+            engine,
+            name: PhantomData,
+        })
+    }
+
+    fn find_at(&mut self, haystack: &[u8], start: usize) -> Option<(usize, usize)>
+        requires { start ≤ length haystack.now }
+        ensures value { result ≡ first_match_at N.options N.patterns haystack.now start }
+        ensures within { IsFrom start haystack.now result }
+    {
+        self.engine.find_at(haystack, start)
+    }
+
+    fn is_match(&mut self, haystack: &[u8]) -> bool
+        ensures { result ≡ is_some (first_match_at N.options N.patterns haystack.now 0) }
+    {
+        self.engine.is_match(haystack)
+    }
+}
+
+/// The matcher of a named expression. It does what a `RegexMatcher` does, and compares no texts:
+/// what is in its cell is of the expression's name.
+#[derive(Drop)]
+pub struct NamedMatcher<'r, N: Naming> {
+    alloc: Global,
+    regex: &'r Regex,
+    engine: RefCell<NamedEngine<'r, N>>,
+    ghost named: { IsNamed N.options N.patterns regex.now },
+}
+
+impl<'r, N: Naming> NamedMatcher<'r, N> {
+    ghost use Rattle.grep_regex.specs.NamedViews.{named_regex};
+
+    // The matcher of an expression.
+    pub(crate) fn new(alloc: Global, regex: &'r Regex) -> Result<NamedMatcher<'r, N>, AllocError>
+        requires { IsNamed N.options N.patterns regex.now }
+        ensures { IfOk result (λ matcher. named_regex matcher ≡ regex.now) }
+    {
+        let engine = NamedEngine::new(alloc, regex)?;
+        Ok(NamedMatcher {
+            alloc,
+            regex,
+            engine: RefCell::new(engine),
+        })
+    }
+
+    // The first match from a position on, by the engine in the cell, or by a new one if the cell is
+    // in use.
+    fn find_by(&self, haystack: &[u8], start: usize) -> Result<Option<(usize, usize)>, AllocError>
+        requires { start ≤ length haystack.now }
+        ensures value { IfOk result
+            (λ found. found ≡ regex_first_at (named_regex self.now) haystack.now start) }
+        ensures within { IfOk result (IsFrom start haystack.now) }
+    {
+        if let Ok(mut borrowed) = self.engine.try_borrow_mut() {
+            return Ok(borrowed.find_at(haystack, start));
+        }
+        let mut engine: NamedEngine<'r, N> = NamedEngine::new(self.alloc, self.regex)?;
+        Ok(engine.find_at(haystack, start))
+    }
+}
+
+impl<N: Naming> Matcher for NamedMatcher<'_, N> {
+    type Error = AllocError;
+
+    ghost use Rattle.std.specs.Prelude.{IfErr};
+    ghost use Rattle.grep_matcher.specs.Lawful.{IsInside, IsTrusted};
+    ghost use Rattle.grep_regex.specs.NamedViews.{named_regex};
+    ghost use Rattle.grep_regex.specs.Views.{regex_meaning};
+
+    ghost facts = { λ m. record {
+      meaning = regex_meaning (named_regex m);
+      fails = λ _ _. Unit {0};
+      is_lawful = λ _. Unit {0};
+    } };
+
+    fn find(&self, haystack: &[u8]) -> Result<Option<Match>, AllocError> {
+        self.find_at(haystack, 0)
+    }
+
+    fn is_match(&self, haystack: &[u8]) -> Result<bool, AllocError> {
+        if let Ok(mut borrowed) = self.engine.try_borrow_mut() {
+            return Ok(borrowed.is_match(haystack));
+        }
+        let mut engine: NamedEngine<'_, N> = NamedEngine::new(self.alloc, self.regex)?;
+        Ok(engine.is_match(haystack))
+    }
+
+    fn find_candidate_line(&self, haystack: &[u8]) -> Result<Option<LineMatchKind>, AllocError> {
+        if !self.regex.is_by_line() {
+            return Ok(Some(LineMatchKind::Candidate(0)));
+        }
+        match self.find_by(haystack, 0)? {
+            Some((start, _)) => Ok(Some(LineMatchKind::Confirmed(start))),
+            None => Ok(None),
+        }
+    }
+
+    fn line_terminator(&self) -> Option<LineTerminator> {
+        self.regex.options().line_terminator
+    }
+
+    fn non_matching_bytes(&self) -> Option<&ByteSet> {
+        None
+    }
+}
+
+/// What comes before the position is seen by assertions, as `^` and `\b`.
+impl<N: Naming> FindAt for NamedMatcher<'_, N> {
+    ghost use Rattle.grep_regex.specs.NamedViews.{named_regex};
+    ghost use Rattle.grep_regex.specs.Views.{regex_first_at};
+
+    ghost first_at = { λ m. regex_first_at (named_regex m) };
+
+    fn find_at(&self, haystack: &[u8], start: usize) -> Result<Option<Match>, AllocError> {
+        match self.find_by(haystack, start)? {
+            Some((from, end)) => Ok(Some(Match::new(from, end))),
+            None => Ok(None),
+        }
+    }
+}
