@@ -1,6 +1,6 @@
 -- What the sink of a printer has written after a run along a plan.
 use Rattle.std.proofs.Common.{◌≡◌, ◌∙◌, ap, refl, subst}
-use Rattle.std.specs.Prelude.{Bool, Ok}
+use Rattle.std.specs.Prelude.{ℕ, List, Option, Bool, Ok}
 use Rattle.grep_output.proofs.OutputLemmas.{Writes-none, Writes-more}
 use Rattle.grep_output.specs.Outputs.{OutputCall, WritesAll}
 use Rattle.grep_matcher.specs.Meanings.{MatcherFacts}
@@ -22,11 +22,11 @@ same-more old mid new first later = record {
   config = later.config ∙ first.config;
 }
 
-module _ {M W F : Type 0} (facts : M → MatcherFacts F) (write_step : W → OutputCall → W → Type 0)
-    (settings : Settings) where
+module _ {M W F : Type 0} (facts : M → MatcherFacts F) (first_at : M → List ℕ → ℕ → Option (ℕ × ℕ))
+    (write_step : W → OutputCall → W → Type 0) (settings : Settings) where
   -- the texts of a sink's calls depend on the same
   same-frame : (old new : StandardSink M W) → IsSameSink old new
-      → frame_of facts new settings ≡ frame_of facts old settings
+      → frame_of facts first_at new settings ≡ frame_of facts first_at old settings
   same-frame old new same =
       let matcher = same.matcher in let path = same.path in let config = same.config in cc
 
@@ -34,7 +34,7 @@ module _ {M W F : Type 0} (facts : M → MatcherFacts F) (write_step : W → Out
   record HasPrinted (frame : Frame) (start : StandardSink M W) (printed : Printed) (now : StandardSink M W)
       : Type 0 where
     same : IsSameSink start now
-    framed : frame_of facts now settings ≡ frame
+    framed : frame_of facts first_at now settings ≡ frame
     written : WritesAll write_step start.printer.now.writer printed.text now.printer.now.writer
     progress : now.progress ≡ printed.progress
     has_failed : now.printer.now.has_failed ≡ start.printer.now.has_failed
@@ -42,7 +42,7 @@ module _ {M W F : Type 0} (facts : M → MatcherFacts F) (write_step : W → Out
   -- one more call, and whether the search goes on after it
   printed-more : (frame : Frame) (start : StandardSink M W) (printed : Printed) (old : StandardSink M W) (call : Call)
       (b : Bool) (new : StandardSink M W) → HasPrinted frame start printed old
-      → Prints facts write_step old settings call b new
+      → Prints facts first_at write_step old settings call b new
       → (b ≡ goes_on frame printed.progress call) × HasPrinted frame start (printed_with frame printed call) new
   printed-more frame start printed old call b new before step = (
     step.goes_on ∙ (ap (λ f. goes_on f old.progress call) before.framed
@@ -62,11 +62,11 @@ module _ {M W F : Type 0} (facts : M → MatcherFacts F) (write_step : W → Out
 
   -- a run along a plan that ended in `Ok`
   pub run-prints : (old : StandardSink M W) (plan : Plan) (new : StandardSink M W)
-      → IsRun (PrintsCall facts write_step) settings old plan (Ok tt) new
-      → PrintsPlan facts write_step old settings plan new
+      → IsRun (PrintsCall facts first_at write_step) settings old plan (Ok tt) new
+      → PrintsPlan facts first_at write_step old settings plan new
   run-prints old plan new run =
-      let frame = frame_of facts old settings in
-      let end = run-keeps (PrintsCall facts write_step) settings (HasPrinted frame old)
+      let frame = frame_of facts first_at old settings in
+      let end = run-keeps (PrintsCall facts first_at write_step) settings (HasPrinted frame old)
       (λ printed call. goes_on frame printed.progress call) (printed_with frame) (printed-more frame old)
       (nothing_printed old.progress) old plan new
       (record {

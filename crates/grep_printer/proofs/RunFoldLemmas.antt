@@ -1,7 +1,7 @@
 -- What a fold over the calls of a plan has to do with a run along it that ended in `Ok`.
 use Rattle.std.proofs.Common.{◌≡◌, List, [], ◌∷◌, inl, inr, sym, subst}
-use Rattle.std.specs.Prelude.{Bool, true, false, Result, Ok, Err, if◌then◌else◌}
-use Rattle.grep_searcher.specs.Plans.{Call, Plan, Planned, Finish, Outcome, all_true, stopped, failed, AreMade}
+use Rattle.std.specs.Prelude.{Bool, true, false, Ok}
+use Rattle.grep_searcher.specs.Plans.{Call, Plan, Planned, Finish, Outcome, AreMade}
 use Rattle.grep_searcher.specs.Plans.{IsFinished, IsRun, Steps, finishes}
 use Rattle.grep_searcher.specs.Settings.{Settings}
 use Rattle.grep_searcher.specs.SinkFolds.{run_fold}

@@ -1,11 +1,11 @@
 -- Texts that are put together line after line.
-use Rattle.std.proofs.Common.{◌≡◌, ℕ, ◌+◌, ◌<◌, ◌^◌, List, [], ◌∷◌, ◌++◌, length, arith, sym, ap, ◌∙◌, append_assoc}
+use Rattle.std.proofs.Common.{◌≡◌, ℕ, ◌+◌, ◌<◌, ◌^◌, List, ◌++◌, length, sym, ap, ◌∙◌}
 use Rattle.std.proofs.Common.{subst}
 use Rattle.std.specs.List.{concat}
-use Rattle.std.proofs.lemmas.List.{append-nil, length-append}
 use Rattle.grep_lines.proofs.LineLemmas.{lines-joined}
 use Rattle.grep_searcher.specs.Lines.{lines}
-use Rattle.grep_printer.specs.StandardTexts.{line_text, lines_text, place_after}
+use Rattle.grep_matcher.specs.Lines.{byte_of}
+use Rattle.grep_printer.specs.LineTexts.{lines_text}
 use Rattle.grep_printer.specs.declared.fields.Layout.{Layout}
 use Rattle.grep_printer.specs.declared.fields.Place.{Place}
 
@@ -17,10 +17,10 @@ pub record IsPushing (layout : Layout) (start : List ℕ) (first : Place) (all :
 
 -- none is pushed yet
 pub pushing-none : (layout : Layout) (start : List ℕ) (first : Place) (bytes : List ℕ) (left : List (List ℕ))
-    → left ≡ lines layout.terminator bytes → first.offset + length bytes < 2 ^ 64
-    → IsPushing layout start first (lines layout.terminator bytes) start first left
+    → left ≡ lines (byte_of layout.terminator) bytes → first.offset + length bytes < 2 ^ 64
+    → IsPushing layout start first (lines (byte_of layout.terminator) bytes) start first left
 pushing-none layout start first bytes left same fits = record {
   pushed = ap (λ all. start ++ lines_text layout first all) same;
   fits = subst (λ n. first.offset + n < 2 ^ 64)
-      (sym (ap (λ all. length (concat all)) same ∙ ap length (lines-joined layout.terminator bytes))) fits;
+      (sym (ap (λ all. length (concat all)) same ∙ ap length (lines-joined (byte_of layout.terminator) bytes))) fits;
 }

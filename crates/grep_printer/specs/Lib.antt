@@ -1,6 +1,9 @@
 pub mod JsonMessages
 pub mod JsonSteps
 pub mod JsonTexts
+pub mod LineTexts
+pub mod MatchedParts
+pub mod PartTexts
 pub mod StandardSteps
 pub mod StandardTexts
 pub mod StatsSums

@@ -1,5 +1,5 @@
 -- What a standard printer does at a call of a search, and in a whole search.
-use Rattle.std.specs.Prelude.{◌≡◌, ◌⊎◌, ℕ, Bool, true, ◌||◌, List, ◌++◌, Result, Ok, Err, String}
+use Rattle.std.specs.Prelude.{◌≡◌, ◌⊎◌, ℕ, Bool, true, ◌||◌, List, ◌++◌, Option, Result, Ok, Err}
 use Rattle.std.specs.Global.{Global}
 use Rattle.std.specs.declared.io.Error.{Error}
 use Rattle.grep_output.specs.Outputs.{OutputCall, FailsToWrite, WritesAll}
@@ -8,10 +8,10 @@ use Rattle.grep_searcher.specs.Plans.{Call, Plan, IsRun, reported_bytes}
 use Rattle.grep_searcher.specs.SearchErrors.{IsOutOfMemory}
 use Rattle.grep_searcher.specs.Settings.{Settings}
 use Rattle.grep_searcher.specs.declared.SearchError.{SearchError}
-use Rattle.grep_searcher.specs.declared.SearchError.TheVariants.{Io, Message}
+use Rattle.grep_searcher.specs.declared.SearchError.TheVariants.{Io}
+use Rattle.grep_printer.specs.MatchedParts.{IsMessageOf}
 use Rattle.grep_printer.specs.StandardTexts.{Frame, asked_bytes, call_text, goes_on, is_text}
 use Rattle.grep_printer.specs.StandardTexts.{opening_of, printed_of, progress_after, report_text}
-use Rattle.grep_printer.specs.declared.standard.Standard.{Standard}
 use Rattle.grep_printer.specs.declared.standard.StandardSink.{StandardSink}
 
 -- the matcher, the path and the settings of a sink stay, and so does the printer that it refers to
@@ -21,7 +21,7 @@ pub record IsSameSink {M W : Type 0} (old new : StandardSink M W) : Type 0 where
   pub path : new.path ≡ old.path
   pub config : new.printer.now.config ≡ old.printer.now.config
 
--- a sink of which the text at hand alone has changed
+-- a sink of which the text and the parts at hand alone have changed
 pub record IsComposing {M W : Type 0} (old new : StandardSink M W) : Type 0 where
   pub same : IsSameSink old new
   pub progress : new.progress ≡ old.progress
@@ -53,6 +53,14 @@ pub record FailsToBeWritten {M W : Type 0} (write_step : W → OutputCall → W 
   pub has_failed : new.printer.now.has_failed ≡ true
 
 module _ {M W F : Type 0} (facts : M → MatcherFacts F) where
+  -- the error is the matcher's, for the bytes of a report, as a message
+  abbrev pub IsErrorAt : StandardSink M W → Settings → List ℕ → SearchError Global → Type 0
+  IsErrorAt sink settings bytes =
+      IsMessageOf (facts sink.matcher).fails
+      (asked_bytes settings (facts sink.matcher).meaning bytes)
+
+module _ {M W F : Type 0} (facts : M → MatcherFacts F)
+    (first_at : M → List ℕ → ℕ → Option (ℕ × ℕ)) where
   -- what the texts of a sink's calls depend on
   abbrev pub frame_of : StandardSink M W → Settings → Frame
   frame_of sink settings = record {
@@ -60,6 +68,7 @@ module _ {M W F : Type 0} (facts : M → MatcherFacts F) where
     path = sink.path;
     settings = settings;
     meaning = (facts sink.matcher).meaning;
+    first_at = first_at sink.matcher;
   }
 
   -- the text of a report of a sink that isn't hidden
@@ -72,26 +81,18 @@ module _ {M W F : Type 0} (facts : M → MatcherFacts F) where
   abbrev pub text_of : StandardSink M W → Settings → Call → List ℕ
   text_of sink settings call = call_text (frame_of sink settings) sink.progress call
 
-  -- the error is the matcher's, for the bytes of a report, as a message
-  abbrev pub IsErrorAt : StandardSink M W → Settings → List ℕ → SearchError Global → Type 0
-  IsErrorAt sink settings bytes e =
-      (error : F) × (text : String Global)
-      × (facts sink.matcher).fails
-      (asked_bytes settings (facts sink.matcher).meaning bytes) error
-      × (e ≡ Message text)
-
 module _ {M W F : Type 0} (facts : M → MatcherFacts F)
-    (write_step : W → OutputCall → W → Type 0) where
+    (first_at : M → List ℕ → ℕ → Option (ℕ × ℕ)) (write_step : W → OutputCall → W → Type 0) where
   -- a call succeeds: its text is written, and nothing else
   pub record Prints (old : StandardSink M W) (settings : Settings) (call : Call) (goes : Bool)
       (new : StandardSink M W) : Type 0 where
     pub same : IsSameSink old new
-    pub goes_on : goes ≡ goes_on (frame_of facts old settings) old.progress call
-    pub written : WritesAll write_step old.printer.now.writer (text_of facts old settings call)
-        new.printer.now.writer
+    pub goes_on : goes ≡ goes_on (frame_of facts first_at old settings) old.progress call
+    pub written : WritesAll write_step old.printer.now.writer
+        (text_of facts first_at old settings call) new.printer.now.writer
     pub progress : new.progress ≡ progress_after old.progress call
     pub has_written : new.printer.now.has_written
-        ≡ (old.printer.now.has_written || is_text (text_of facts old settings call))
+        ≡ (old.printer.now.has_written || is_text (text_of facts first_at old settings call))
     pub has_failed : new.printer.now.has_failed ≡ old.printer.now.has_failed
 
   -- the writer failed after some first bytes of the text of a call
@@ -99,8 +100,8 @@ module _ {M W F : Type 0} (facts : M → MatcherFacts F)
       (e : SearchError Global) (new : StandardSink M W) : Type 0 where
     pub error : Error
     pub is_io : e ≡ Io error
-    pub failed : FailsToWrite write_step old.printer.now.writer (text_of facts old settings call)
-        error new.printer.now.writer
+    pub failed : FailsToWrite write_step old.printer.now.writer
+        (text_of facts first_at old settings call) error new.printer.now.writer
     pub progress : new.progress ≡ progress_after old.progress call
     pub has_written : new.printer.now.has_written ≡ old.printer.now.has_written
     pub has_failed : new.printer.now.has_failed ≡ true
@@ -131,10 +132,10 @@ module _ {M W F : Type 0} (facts : M → MatcherFacts F)
       (new : StandardSink M W) : Type 0 where
     pub same : IsSameSink old new
     pub written : WritesAll write_step old.printer.now.writer
-        (printed_of (frame_of facts old settings) old.progress plan).text
+        (printed_of (frame_of facts first_at old settings) old.progress plan).text
         new.printer.now.writer
     pub progress : new.progress
-        ≡ (printed_of (frame_of facts old settings) old.progress plan).progress
+        ≡ (printed_of (frame_of facts first_at old settings) old.progress plan).progress
     pub has_failed : new.printer.now.has_failed ≡ old.printer.now.has_failed
 
   -- a run of the sink that ended in `Ok` has written the text of its plan

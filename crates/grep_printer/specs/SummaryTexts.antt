@@ -8,7 +8,7 @@ use Rattle.grep_searcher.specs.Plans.{Call, begins, matches, context, breaks, bi
 use Rattle.grep_searcher.specs.Plans.{Plan}
 use Rattle.grep_searcher.specs.SinkFolds.{run_fold}
 use Rattle.grep_searcher.specs.declared.BinaryDetection.{BinaryDetection}
-use Rattle.grep_printer.specs.StandardTexts.{path_field}
+use Rattle.grep_printer.specs.LineTexts.{path_field}
 use Rattle.grep_printer.specs.declared.summary.SummaryKind.{SummaryKind}
 use Rattle.grep_printer.specs.declared.summary.SummaryKind.TheVariants.{Count, PathWithMatch}
 use Rattle.grep_printer.specs.declared.summary.SummaryKind.TheVariants.{PathWithoutMatch, Quiet}

@@ -23,6 +23,7 @@ pub(crate) struct Config {
     pub(crate) heading: bool,
     pub(crate) column: bool,
     pub(crate) byte_offset: bool,
+    pub(crate) only_matching: bool,
     pub(crate) path_terminator: Option<u8>,
     pub(crate) separator: SearchSeparator,
 }
@@ -43,8 +44,8 @@ impl Model for StandardBuilder {
 }
 
 impl StandardBuilder {
-    /// The default settings: a path is written before each line, and neither columns nor byte
-    /// offsets are; nothing is written between two searches.
+    /// The default settings: whole lines are written, a path before each, and neither columns nor
+    /// byte offsets; nothing is written between two searches.
     pub fn new() -> StandardBuilder
         ensures { result ≡ default_config }
     {
@@ -53,6 +54,7 @@ impl StandardBuilder {
                 heading: false,
                 column: false,
                 byte_offset: false,
+                only_matching: false,
                 path_terminator: None,
                 separator: SearchSeparator::Nothing,
             },
@@ -81,7 +83,8 @@ impl StandardBuilder {
     }
 
     /// Whether the column of the first match is written before each line of a match: its first
-    /// byte, counted from 1 at the start of the report; not by default.
+    /// byte, counted from 1 at the start of the report; not by default. Without a part that matches
+    /// there is none.
     pub fn column(&mut self, yes: bool) -> &mut StandardBuilder
         ensures reference { result.ghost_name ≡ self.entry.ghost_name }
         ensures set { result.now ≡ record self.old { column = yes } }
@@ -97,6 +100,16 @@ impl StandardBuilder {
         ensures set { result.now ≡ record self.old { byte_offset = yes } }
     {
         self.config.byte_offset = yes;
+        self
+    }
+
+    /// Whether the parts of a match are written in place of its lines, each in a line of its own,
+    /// with its own column and offset; not by default. A report without a part is written whole.
+    pub fn only_matching(&mut self, yes: bool) -> &mut StandardBuilder
+        ensures reference { result.ghost_name ≡ self.entry.ghost_name }
+        ensures set { result.now ≡ record self.old { only_matching = yes } }
+    {
+        self.config.only_matching = yes;
         self
     }
 

@@ -1,13 +1,14 @@
 //! Lines, and the fields before them.
 ghost use Rattle.std.specs.Prelude.{◌≡◌, ◌+◌, ◌<◌, ◌^◌, ◌∷◌, ◌++◌, [], OnOk, decimal, length};
 ghost use Rattle.std.specs.Option.{unwrap_or};
+ghost use Rattle.grep_matcher.specs.Lines.{byte_of};
 ghost use Rattle.grep_searcher.specs.Lines.{lines};
-ghost use Rattle.grep_printer.specs.StandardTexts.{ended, fields, line_text, lines_text};
-ghost use Rattle.grep_printer.specs.StandardTexts.{next_number, number_field, opening_text};
-ghost use Rattle.grep_printer.specs.StandardTexts.{path_field, place_after, separator_text};
+ghost use Rattle.grep_printer.specs.LineTexts.{ended, fields, line_text, lines_text};
+ghost use Rattle.grep_printer.specs.LineTexts.{next_number, number_field, opening_text};
+ghost use Rattle.grep_printer.specs.LineTexts.{path_field, place_after, separator_text};
 
 use crate::config::{Config, SearchSeparator};
-use grep_searcher::LineIter;
+use grep_searcher::{LineIter, LineTerminator};
 use itoa::write_digits;
 use std::alloc::AllocError;
 
@@ -19,12 +20,12 @@ pub(crate) struct Place {
     pub(crate) offset: u64,
 }
 
-// How the lines of a search are laid out: the settings, the path, and the byte that ends a line.
+// How the lines of a search are laid out: the settings, the path, and what ends a line.
 #[derive(Clone, Copy)]
 pub(crate) struct Layout<'p> {
     pub(crate) config: Config,
     pub(crate) path: Option<&'p str>,
-    pub(crate) terminator: u8,
+    pub(crate) terminator: LineTerminator,
 }
 
 impl<'p> Layout<'p> {
@@ -38,12 +39,15 @@ impl<'p> Layout<'p> {
             (text.new.items ≡ text.old.items ++ opening_text self.now has_written) }
     {
         if has_written {
-            push_separator(text, self.config.separator, self.terminator)?;
+            push_separator(text, self.config.separator, self.terminator.as_byte())?;
         }
         if !self.config.heading {
             return Ok(());
         }
-        let mark = self.config.path_terminator.unwrap_or(self.terminator);
+        let mark = self
+            .config
+            .path_terminator
+            .unwrap_or(self.terminator.as_byte());
         push_path(text, self.path, mark)
     }
 
@@ -56,10 +60,11 @@ impl<'p> Layout<'p> {
     ) -> Result<(), AllocError>
         requires { place.offset + length bytes.now < 2 ^ 64 }
         ensures { OnOk result (text.new.items
-            ≡ text.old.items ++ lines_text self.now place (lines self.now.terminator bytes.now)) }
+            ≡ text.old.items
+            ++ lines_text self.now place (lines (byte_of self.now.terminator) bytes.now)) }
     {
         let mut place = place;
-        for line in LineIter::new(self.terminator, bytes) {
+        for line in LineIter::new(self.terminator.as_byte(), bytes) {
             self.push_line(text, b':', &place, line)?;
             place = place_after(&place, line);
         }
@@ -78,7 +83,7 @@ impl<'p> Layout<'p> {
             (text.new.items ≡ text.old.items ++ line_text self.now mark place.now line.now) }
     {
         self.push_fields(text, mark, place)?;
-        push_ended(text, self.terminator, line)
+        push_ended(text, self.terminator.as_byte(), line)
     }
 
     // Pushes the fields before a line.
@@ -175,7 +180,7 @@ fn place_after(place: &Place, line: &[u8]) -> Place
 }
 
 // The number of the next line.
-fn next_number(number: Option<u64>) -> Option<u64>
+pub(crate) fn next_number(number: Option<u64>) -> Option<u64>
     ensures { result ≡ next_number number }
 {
     number.map(|number| number.saturating_add(1))

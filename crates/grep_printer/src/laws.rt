@@ -4,12 +4,12 @@ ghost use Rattle.grep_printer.specs.StandardSteps.{RunsPrint};
 ghost use Rattle.grep_printer.specs.SummarySteps.{RunsSumUp};
 
 use grep_output::Output;
-use grep_searcher::Matcher;
+use grep_searcher::{FindAt, Matcher};
 
 /// A run of the sink of a `Standard` that ended in `Ok` has written the text of its plan: of each
 /// call, in order, up to the first after which the search doesn't go on, and of `finish`.
-pub fn runs_print<M: Matcher, W: Output>()
-    ensures { RunsPrint M.facts W.step }
+pub fn runs_print<M: FindAt, W: Output>()
+    ensures { RunsPrint M.facts M.first_at W.step }
 {}
 
 /// A run of the sink of a `Summary` that ended in `Ok` has counted the matches up to the first

@@ -12,6 +12,8 @@ mod json_lines;
 mod json_printer;
 pub mod laws;
 mod messages;
+mod parts;
+mod reports;
 mod standard;
 mod stats;
 mod summary;

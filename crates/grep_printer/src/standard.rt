@@ -6,19 +6,23 @@ ghost use Rattle.grep_report.specs.SinkReports.{match_bytes};
 ghost use Rattle.grep_searcher.specs.SearchErrors.{IsOutOfMemory};
 ghost use Rattle.grep_searcher.specs.SinkArguments.{context_call, match_call};
 ghost use Rattle.grep_output.specs.Outputs.{Writes};
+ghost use Rattle.grep_printer.specs.LineTexts.{opening_text};
+ghost use Rattle.grep_printer.specs.MatchedParts.{AreInOrder};
+ghost use Rattle.grep_printer.specs.PartTexts.{column_of, context_text, match_text, writes_parts};
 ghost use Rattle.grep_printer.specs.StandardSteps.{IsComposing, IsErrorAt, IsWritten};
 ghost use Rattle.grep_printer.specs.StandardSteps.{FailsToBeWritten, frame_of, report_of};
-ghost use Rattle.grep_printer.specs.StandardTexts.{asked_bytes, binary_message, column_of};
+ghost use Rattle.grep_printer.specs.StandardTexts.{asked_bytes, binary_message, context_parts};
 ghost use Rattle.grep_printer.specs.StandardTexts.{is_hidden, is_text, layout_of, new_progress};
-ghost use Rattle.grep_printer.specs.StandardTexts.{opening_text, path_prefix};
+ghost use Rattle.grep_printer.specs.StandardTexts.{parts_of, path_prefix};
 
 use crate::config::Config;
 use crate::fields::{Layout, Place, push_digits};
+use crate::parts::find_parts;
+use crate::reports::Report;
 use grep_lines::without_terminator;
 use grep_output::{Output, write_all};
 use grep_searcher::{
-    BinaryDetection, Matcher, SearchError, Searcher, Sink, SinkContext, SinkError, SinkFinish,
-    SinkMatch,
+    BinaryDetection, FindAt, Match, SearchError, Searcher, Sink, SinkContext, SinkFinish, SinkMatch,
 };
 use std::alloc::{AllocError, Allocator, Global};
 use std::io;
@@ -36,6 +40,8 @@ pub struct Standard<W> {
     writer: W,
     // The text of the call at hand.
     text: Vec<u8>,
+    // The parts of the report at hand that match, if they are asked for.
+    parts: Vec<Match>,
     config: Config,
     has_written: bool,
     has_failed: bool,
@@ -52,6 +58,7 @@ impl<W> Standard<W> {
         Standard {
             writer,
             text: Vec::new(alloc),
+            parts: Vec::new(alloc),
             config,
             has_written: false,
             has_failed: false,
@@ -60,7 +67,7 @@ impl<W> Standard<W> {
 
     /// The sink of a search: the matcher is that of the search, and the path, if there is one, is
     /// written before each line or as a heading.
-    pub fn sink<'s, M: Matcher>(
+    pub fn sink<'s, M: FindAt>(
         &'s mut self,
         matcher: M,
         path: Option<&'s str>,
@@ -108,6 +115,7 @@ impl<W> Standard<W> {
         ensures config { self.new.config ≡ self.old.config }
         ensures has_written { self.new.has_written ≡ self.old.has_written }
         ensures has_failed { self.new.has_failed ≡ self.old.has_failed }
+        ensures parts { self.new.parts ≡ self.old.parts }
         ensures text { OnOk result (self.new.text.items
             ≡ (if progress.now.is_open then [] else opening_text layout.now progress.now.follows)) }
     {
@@ -116,6 +124,95 @@ impl<W> Standard<W> {
             return Ok(());
         }
         layout.push_opening(&mut self.text, progress.follows)
+    }
+
+    // Pushes the text of a match: its parts, or its lines.
+    fn push_match(
+        &mut self,
+        layout: &Layout<'_>,
+        found: &SinkMatch<'_>,
+        is_across: bool,
+    ) -> Result<(), AllocError>
+        requires fits { found.now.offset + length (match_bytes found.now) < 2 ^ 64 }
+        requires ordered { AreInOrder 0 (length (match_bytes found.now)) self.old.parts.items }
+        ensures writer { self.new.writer ≡ self.old.writer }
+        ensures config { self.new.config ≡ self.old.config }
+        ensures has_written { self.new.has_written ≡ self.old.has_written }
+        ensures has_failed { self.new.has_failed ≡ self.old.has_failed }
+        ensures text { OnOk result (self.new.text.items ≡ self.old.text.items
+            ++ match_text layout.now is_across found.now.line_number found.now.offset
+            (match_bytes found.now) self.old.parts.items) }
+    {
+        let number = found.line_number();
+        let report = Report {
+            mark: b':',
+            offset: found.absolute_byte_offset(),
+            bytes: found.bytes(),
+        };
+        if !self.writes_parts(layout) {
+            let place = self.place(layout, number, &report);
+            return layout.push_lines(&mut self.text, place, report.bytes);
+        }
+        if is_across {
+            return layout.push_across(&mut self.text, &report, number, &self.parts);
+        }
+        layout.push_parts(&mut self.text, &report, number, &self.parts)
+    }
+
+    // Pushes the text of a line that isn't a match: its parts, or all of it.
+    fn push_context(
+        &mut self,
+        layout: &Layout<'_>,
+        line: &SinkContext<'_>,
+    ) -> Result<(), AllocError>
+        requires fits { line.now.offset + length line.now.bytes < 2 ^ 64 }
+        requires ordered { AreInOrder 0 (length line.now.bytes) self.old.parts.items }
+        ensures writer { self.new.writer ≡ self.old.writer }
+        ensures config { self.new.config ≡ self.old.config }
+        ensures has_written { self.new.has_written ≡ self.old.has_written }
+        ensures has_failed { self.new.has_failed ≡ self.old.has_failed }
+        ensures text { OnOk result (self.new.text.items ≡ self.old.text.items
+            ++ context_text layout.now line.now.line_number line.now.offset line.now.bytes
+            self.old.parts.items) }
+    {
+        let number = line.line_number();
+        let report = Report {
+            mark: b'-',
+            offset: line.absolute_byte_offset(),
+            bytes: line.bytes(),
+        };
+        if !self.writes_parts(layout) {
+            let place = self.place(layout, number, &report);
+            return layout.push_line(&mut self.text, report.mark, &place, report.bytes);
+        }
+        layout.push_parts(&mut self.text, &report, number, &self.parts)
+    }
+
+    // Whether the parts of the report at hand are written in place of its lines.
+    fn writes_parts(&self, layout: &Layout<'_>) -> bool
+        ensures { result ≡ writes_parts layout.now self.now.parts.items }
+    {
+        layout.config.only_matching && !self.parts.is_empty()
+    }
+
+    // The place of the report at hand, with the column of its first part if columns are written.
+    fn place(&self, layout: &Layout<'_>, number: Option<u64>, report: &Report<'_>) -> Place
+        requires { AreInOrder 0 (length report.now.bytes.now) self.now.parts.items }
+        ensures { result ≡ record {
+          number = number;
+          column = column_of layout.now self.now.parts.items;
+          offset = report.now.offset;
+        } }
+    {
+        let column = match self.parts.first() {
+            Some(part) if layout.config.column => Some(part.start() as u64 + 1),
+            _ => None,
+        };
+        Place {
+            number,
+            column,
+            offset: report.offset,
+        }
     }
 
     // Makes a text of the line between two groups of lines.
@@ -159,6 +256,7 @@ impl<W> Standard<W> {
         let Standard {
             writer,
             text: _,
+            parts: _,
             config: _,
             has_written: _,
             has_failed: _,
@@ -254,7 +352,7 @@ pub struct StandardSink<'s, M, W> {
     progress: Progress,
 }
 
-impl<'s, M: Matcher, W: Output> StandardSink<'s, M, W> {
+impl<'s, M: FindAt, W: Output> StandardSink<'s, M, W> {
     /// Whether a match was reported.
     pub fn has_match(&self) -> bool
         ensures { result ≡ self.now.progress.has_match }
@@ -264,45 +362,43 @@ impl<'s, M: Matcher, W: Output> StandardSink<'s, M, W> {
 
     // How the lines of the search are laid out.
     fn layout<A: Allocator + Copy>(&self, searcher: &Searcher<A>) -> Layout<'s>
-        ensures { result ≡ layout_of (frame_of M.facts self.now searcher.now.settings) }
+        ensures { result ≡ layout_of (frame_of M.facts M.first_at self.now searcher.now.settings) }
     {
         Layout {
             config: self.printer.config,
             path: self.path,
-            terminator: searcher.line_terminator().as_byte(),
+            terminator: searcher.line_terminator(),
         }
     }
 
     // Whether reports aren't written any more.
     fn is_hidden<A: Allocator + Copy>(&self, searcher: &Searcher<A>) -> bool
         ensures { result
-            ≡ is_hidden (frame_of M.facts self.now searcher.now.settings) self.now.progress }
+            ≡ is_hidden (frame_of M.facts M.first_at self.now searcher.now.settings) self.now.progress }
     {
         self.progress.binary.is_some() && searcher.binary_detection().convert_byte().is_some()
     }
 
-    // The column of the first match in a report, if columns are written.
-    fn column<A: Allocator + Copy>(
-        &self,
+    // Finds the parts of a report that match, if they are asked for.
+    fn find_parts<A: Allocator + Copy>(
+        &mut self,
         searcher: &Searcher<A>,
         bytes: &[u8],
-    ) -> Result<Option<u64>, SearchError>
-        ensures { MatchResult result
-            (λ column. column
-            ≡ column_of (frame_of M.facts self.now searcher.now.settings) bytes.now)
-            (λ e. IsErrorAt M.facts self.now searcher.now.settings bytes.now e) }
+    ) -> Result<(), SearchError>
+        ensures composing { IsComposing self.old self.new }
+        ensures parts { OnOk result (self.new.printer.now.parts.items
+            ≡ parts_of (frame_of M.facts M.first_at self.old searcher.now.settings) bytes.now) }
+        ensures ordered { OnOk result
+            (AreInOrder 0 (length bytes.now) self.new.printer.now.parts.items) }
+        ensures error { IfErr result (λ e. IsOutOfMemory e
+            ⊎ IsErrorAt M.facts self.old searcher.now.settings bytes.now e) }
     {
-        if !self.printer.config.column {
-            return Ok(None);
+        if !(self.printer.config.only_matching || self.printer.config.column) {
+            self.printer.parts.clear();
+            return Ok(());
         }
-        match self.matcher.find(self.asked(searcher, bytes)) {
-            Ok(Some(found)) => Ok(Some(found.start() as u64 + 1)),
-            Ok(None) => Ok(None),
-            Err(error) => {
-                let alloc = *self.printer.text.allocator();
-                Err(SearchError::error_message(alloc, error))
-            }
-        }
+        let asked = self.asked(searcher, bytes);
+        find_parts(&mut self.printer.parts, &self.matcher, asked, bytes.len())
     }
 
     // The bytes of a report about which the matcher is asked.
@@ -325,22 +421,18 @@ impl<'s, M: Matcher, W: Output> StandardSink<'s, M, W> {
         requires { found.now.offset + length (match_bytes found.now) < 2 ^ 64 }
         ensures composing { IsComposing self.old self.new }
         ensures text { OnOk result (self.new.printer.now.text.items
-            ≡ report_of M.facts self.old searcher.now.settings (match_call found.now)) }
+            ≡ report_of M.facts M.first_at self.old searcher.now.settings (match_call found.now)) }
         ensures error { IfErr result (λ e. IsOutOfMemory e
             ⊎ IsErrorAt M.facts self.old searcher.now.settings (match_bytes found.now) e) }
     {
-        let column = match self.column(searcher, found.bytes()) {
-            Ok(column) => column,
+        match self.find_parts(searcher, found.bytes()) {
+            Ok(()) => {}
             Err(error) => return Err(error),
-        };
+        }
         let layout = self.layout(searcher);
-        let place = Place {
-            number: found.line_number(),
-            column,
-            offset: found.absolute_byte_offset(),
-        };
         self.printer.open(&layout, &self.progress)?;
-        layout.push_lines(&mut self.printer.text, place, found.bytes())?;
+        let is_across = searcher.multi_line_with_matcher(&self.matcher);
+        self.printer.push_match(&layout, found, is_across)?;
         Ok(())
     }
 
@@ -349,19 +441,46 @@ impl<'s, M: Matcher, W: Output> StandardSink<'s, M, W> {
         &mut self,
         searcher: &Searcher<A>,
         line: &SinkContext<'_>,
-    ) -> Result<(), AllocError>
+    ) -> Result<(), SearchError>
+        requires { line.now.offset + length line.now.bytes < 2 ^ 64 }
         ensures composing { IsComposing self.old self.new }
         ensures text { OnOk result (self.new.printer.now.text.items
-            ≡ report_of M.facts self.old searcher.now.settings (context_call line.now)) }
+            ≡ report_of M.facts M.first_at self.old searcher.now.settings
+            (context_call line.now)) }
+        ensures error { IfErr result (λ e. IsOutOfMemory e
+            ⊎ IsErrorAt M.facts self.old searcher.now.settings line.now.bytes e) }
     {
+        match self.find_context_parts(searcher, line.bytes()) {
+            Ok(()) => {}
+            Err(error) => return Err(error),
+        }
         let layout = self.layout(searcher);
-        let place = Place {
-            number: line.line_number(),
-            column: None,
-            offset: line.absolute_byte_offset(),
-        };
         self.printer.open(&layout, &self.progress)?;
-        layout.push_line(&mut self.printer.text, b'-', &place, line.bytes())
+        self.printer.push_context(&layout, line)?;
+        Ok(())
+    }
+
+    // Finds the parts of a line that isn't a match. It has none unless the lines without one are
+    // selected.
+    fn find_context_parts<A: Allocator + Copy>(
+        &mut self,
+        searcher: &Searcher<A>,
+        line: &[u8],
+    ) -> Result<(), SearchError>
+        ensures composing { IsComposing self.old self.new }
+        ensures parts { OnOk result (self.new.printer.now.parts.items
+            ≡ context_parts (frame_of M.facts M.first_at self.old searcher.now.settings)
+            line.now) }
+        ensures ordered { OnOk result
+            (AreInOrder 0 (length line.now) self.new.printer.now.parts.items) }
+        ensures error { IfErr result (λ e. IsOutOfMemory e
+            ⊎ IsErrorAt M.facts self.old searcher.now.settings line.now e) }
+    {
+        if searcher.invert_match() {
+            return self.find_parts(searcher, line);
+        }
+        self.printer.parts.clear();
+        Ok(())
     }
 
     // Writes the text at hand.
@@ -377,12 +496,12 @@ impl<'s, M: Matcher, W: Output> StandardSink<'s, M, W> {
     }
 }
 
-impl<'s, M: Matcher, W: Output> Sink for StandardSink<'s, M, W> {
+impl<'s, M: FindAt, W: Output> Sink for StandardSink<'s, M, W> {
     type Error = SearchError;
 
     ghost use Rattle.grep_printer.specs.StandardSteps.{PrintsCall};
 
-    ghost step = { PrintsCall M.facts W.step };
+    ghost step = { PrintsCall M.facts M.first_at W.step };
 
     ghost may_call = { λ _. Unit {0} };
 
@@ -419,9 +538,13 @@ impl<'s, M: Matcher, W: Output> Sink for StandardSink<'s, M, W> {
             self.progress.is_open = true;
             return Ok(false);
         }
-        self.compose_context(searcher, line)?;
-        self.progress.is_open = true;
-        self.write()
+        match self.compose_context(searcher, line) {
+            Ok(()) => {
+                self.progress.is_open = true;
+                self.write()
+            }
+            Err(error) => Err(error),
+        }
     }
 
     fn context_break<A: Allocator + Copy>(

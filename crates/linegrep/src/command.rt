@@ -26,7 +26,7 @@ enum Kind {
     Texts,
 }
 
-const SWITCHES: [Switch; 27] = [
+const SWITCHES: [Switch; 28] = [
     Switch {
         name: "fixed-strings",
         letter: Some('F'),
@@ -86,6 +86,11 @@ const SWITCHES: [Switch; 27] = [
         name: "column",
         letter: None,
         help: "Write the column of the first match",
+    },
+    Switch {
+        name: "only-matching",
+        letter: Some('o'),
+        help: "Write only the parts of lines that match, each in a line of its own",
     },
     Switch {
         name: "null",

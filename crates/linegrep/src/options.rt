@@ -59,6 +59,7 @@ pub fn build_printer<W>(
         .heading(heading)
         .column(matches.get_flag("column"))
         .byte_offset(matches.get_flag("byte-offset"))
+        .only_matching(matches.get_flag("only-matching"))
         .path_terminator(terminator)
         .separator_search(separator(matches, heading));
     Printer::Lines(builder.build(alloc, writer))

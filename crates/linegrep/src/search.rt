@@ -7,7 +7,7 @@ use crate::walk::{Found, Walk};
 use clap::ArgMatches;
 use grep_output::Output;
 use grep_printer::{Standard, Summary};
-use grep_searcher::{BinaryDetection, Matcher, SearchError, Searcher, Source};
+use grep_searcher::{BinaryDetection, FindAt, Matcher, SearchError, Searcher, Source};
 use std::fmt::Display;
 use std::process::ExitCode;
 use std::rt::Files;
@@ -79,7 +79,7 @@ struct Searched {
 impl<'r, 'g, T, M, W> Run<'r, 'g, T, M, W>
 where
     T: Files + Eprint + AllocGlobal + Clone + Drop,
-    M: Matcher,
+    M: FindAt,
     W: Output,
 {
     // Searches the files at some paths. If there is none, it searches the current folder or the
@@ -230,7 +230,7 @@ impl<W: Output> Printer<W> {
 }
 
 // Searches the file at a path, and writes the lines that match.
-fn print_path<T: Files, M: Matcher, W: Output>(
+fn print_path<T: Files, M: FindAt, W: Output>(
     rt: &T,
     searcher: &mut Searcher,
     matcher: &M,
@@ -245,7 +245,7 @@ fn print_path<T: Files, M: Matcher, W: Output>(
 }
 
 // Searches a reader, and writes the lines that match.
-fn print_input<R: Source, M: Matcher, W: Output>(
+fn print_input<R: Source, M: FindAt, W: Output>(
     searcher: &mut Searcher,
     matcher: &M,
     printer: &mut Standard<W>,

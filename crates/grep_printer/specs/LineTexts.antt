@@ -1,0 +1,80 @@
+-- The text of a line, with the fields before it, and what is written before the first report of a
+-- search.
+use Rattle.std.specs.Prelude.{ℕ, ◌+◌, ◌-◌, ◌^◌, min, nat_eq, Bool, if◌then◌else◌, List, [], ◌∷◌}
+use Rattle.std.specs.Prelude.{◌++◌, length, decimal, Option, Some, None}
+use Rattle.std.specs.Borrow.{Bor}
+use Rattle.std.specs.List.{ends_with}
+use Rattle.std.specs.Option.{unwrap_or}
+use Rattle.grep_matcher.specs.Lines.{byte_of}
+use Rattle.grep_printer.specs.declared.config.SearchSeparator.{SearchSeparator}
+use Rattle.grep_printer.specs.declared.config.SearchSeparator.TheVariants.{Nothing, Blank, Dashes}
+use Rattle.grep_printer.specs.declared.fields.Layout.{Layout}
+use Rattle.grep_printer.specs.declared.fields.Place.{Place}
+
+-- a number and a mark, if there is a number
+abbrev pub number_field : ℕ → Option ℕ → List ℕ
+number_field mark None = []
+number_field mark (Some number) = decimal number ++ mark ∷ []
+
+-- a path and a byte, if there is a path
+abbrev pub path_field : ℕ → Option (Bor (List ℕ)) → List ℕ
+path_field mark None = []
+path_field mark (Some path) = path.now ++ mark ∷ []
+
+-- a line with the terminator at its end, which is added if it isn't there
+abbrev pub ended : ℕ → List ℕ → List ℕ
+ended terminator line =
+    if ends_with nat_eq line (terminator ∷ []) then line else line ++ terminator ∷ []
+
+-- numbers go up by one, and stay at the greatest of 64 bits
+abbrev pub next_number : Option ℕ → Option ℕ
+next_number None = None
+next_number (Some number) = Some (min (number + 1) (2 ^ 64 - 1))
+
+-- the place after a line
+abbrev pub place_after : Place → List ℕ → Place
+place_after place line = record {
+  number = next_number place.number;
+  column = place.column;
+  offset = place.offset + length line;
+}
+
+-- what is written between two searches
+abbrev pub separator_text : SearchSeparator → ℕ → List ℕ
+separator_text Nothing terminator = []
+separator_text Blank terminator = terminator ∷ []
+separator_text Dashes terminator = 45 ∷ 45 ∷ terminator ∷ []
+
+module _ (layout : Layout) where
+  -- the fields before a line, each with a mark after it: the path, the number, the column and the
+  -- offset. A path that is written as a heading isn't among them
+  abbrev pub fields : ℕ → Place → List ℕ
+  fields mark place =
+      (if layout.config.heading then []
+      else path_field (unwrap_or layout.config.path_terminator mark) layout.path)
+      ++ (number_field mark place.number ++ (number_field mark place.column
+      ++ number_field mark (if layout.config.byte_offset then Some place.offset else None)))
+
+  -- a line after its fields: the mark is a colon in a match, and a dash in any other line
+  abbrev pub line_text : ℕ → Place → List ℕ → List ℕ
+  line_text mark place line = fields mark place ++ ended (byte_of layout.terminator) line
+
+  -- the lines of a match, each with its own number and its own offset, and with the column of the
+  -- first match in all of them
+  abbrev pub lines_text : Place → List (List ℕ) → List ℕ
+  lines_text place [] = []
+  lines_text place (line ∷ later) =
+      line_text 58 place line ++ lines_text (place_after place line) later
+
+  -- the path in a line of its own, if it is written as a heading
+  abbrev pub heading_text : List ℕ
+  heading_text =
+      if layout.config.heading
+      then path_field (unwrap_or layout.config.path_terminator (byte_of layout.terminator)) layout.path
+      else []
+
+  -- what is written before the first report of a search, by whether anything was written before it
+  abbrev pub opening_text : Bool → List ℕ
+  opening_text has_written =
+      (if has_written then separator_text layout.config.separator (byte_of layout.terminator) else [])
+      ++ heading_text

@@ -1,0 +1,57 @@
+-- The parts of some bytes that match: the successive matches of a matcher in them.
+use Rattle.std.specs.Prelude.{◌≡◌, ℕ, zero, suc, ◌+◌, ◌≤◌, ◌&&◌, ◌==◌, Bool, false, if◌then◌else◌}
+use Rattle.std.specs.Prelude.{nat_lt, nat_le, List, [], ◌∷◌, Option, Some, None, String}
+use Rattle.std.specs.Global.{Global}
+use Rattle.std.specs.Option.{option_map_or}
+use Rattle.grep_searcher.specs.declared.SearchError.{SearchError}
+use Rattle.grep_searcher.specs.declared.SearchError.TheVariants.{Message}
+
+-- the parts lie between two positions, in order, and none overlaps another one
+abbrev pub AreInOrder : ℕ → ℕ → List (ℕ × ℕ) → Type 0
+AreInOrder low high [] = Unit {0}
+AreInOrder low high (part ∷ later) =
+    (low ≤ part.0) × (part.0 ≤ part.1) × (part.1 ≤ high) × AreInOrder part.1 high later
+
+-- where the search for the next match begins: at the end of a match, or one byte later if the match
+-- is empty
+abbrev pub position_after : ℕ × ℕ → ℕ
+position_after found = if found.0 == found.1 then found.1 + 1 else found.1
+
+-- whether a match is empty, and the one before it ended there
+abbrev pub is_passed : Option ℕ → ℕ × ℕ → Bool
+is_passed None found = false
+is_passed (Some end) found = found.0 == found.1 && found.1 == end
+
+-- some parts, after a match unless it is passed over
+abbrev pub with_part : Option ℕ → ℕ × ℕ → List (ℕ × ℕ) → List (ℕ × ℕ)
+with_part end found later = if is_passed end found then later else found ∷ later
+
+-- a match, if it starts before a limit
+abbrev pub below : ℕ → Option (ℕ × ℕ) → Option (ℕ × ℕ)
+below limit None = None
+below limit (Some found) = if nat_lt found.0 limit then Some found else None
+
+module _ (first_at : ℕ → Option (ℕ × ℕ)) (size limit : ℕ) where
+  -- the first match from a position on that starts before the limit
+  abbrev pub found_from : ℕ → Option (ℕ × ℕ)
+  found_from position = if nat_le position size then below limit (first_at position) else None
+
+  -- the parts that so many searches find, the first of them from a position on, where the match
+  -- before it may have ended
+  abbrev pub parts_from : ℕ → ℕ → Option ℕ → List (ℕ × ℕ)
+  parts_from zero position end = []
+  parts_from (suc count) position end =
+      option_map_or
+      (λ found. with_part end found (parts_from count (position_after found) (Some found.1)))
+      (found_from position) []
+
+  -- all parts: each search begins where the match before ended, or one byte later if that match is
+  -- empty, and an empty match isn't a part if the one before ended there
+  unfoldable pub parts_in : List (ℕ × ℕ)
+  parts_in = parts_from (size + 1) 0 None
+
+-- an error is the matcher's, for some bytes, as a message
+abbrev pub IsMessageOf : {F : Type 0} → (List ℕ → F → Type 0) → List ℕ → SearchError Global
+    → Type 0
+IsMessageOf {F} fails bytes e =
+    (error : F) × (text : String Global) × fails bytes error × (e ≡ Message text)

@@ -1,0 +1,94 @@
+//! The parts of some bytes that match.
+ghost use Rattle.std.specs.Prelude.{◌≡◌, ◌⊎◌, ◌<◌, ◌^◌, ◌++◌, ◌∷◌, [], IfErr, IfOk, OnOk, length};
+ghost use Rattle.std.specs.Prelude.{if◌then◌else◌};
+ghost use Rattle.grep_matcher.specs.FindResults.{IsFrom};
+ghost use Rattle.grep_searcher.specs.SearchErrors.{IsOutOfMemory};
+ghost use Rattle.grep_printer.specs.MatchedParts.{AreInOrder, IsMessageOf, found_from};
+ghost use Rattle.grep_printer.specs.MatchedParts.{is_passed, parts_in, position_after};
+
+use grep_searcher::{FindAt, Match, SearchError, SinkError};
+use std::alloc::{AllocError, Global};
+
+// Finds the parts of some bytes that match and start before a limit, in order.
+pub(crate) fn find_parts<M: FindAt>(
+    parts: &mut Vec<Match>,
+    matcher: &M,
+    bytes: &[u8],
+    limit: usize,
+) -> Result<(), SearchError>
+    ensures parts { OnOk result (parts.new.items
+        ≡ parts_in (M.first_at matcher.now bytes.now) (length bytes.now) limit) }
+    ensures ordered { OnOk result (AreInOrder 0 (length bytes.now) parts.new.items) }
+    ensures error { IfErr result (λ e. IsOutOfMemory e
+        ⊎ IsMessageOf (M.facts matcher.now).fails bytes.now e) }
+{
+    parts.clear();
+    let mut position = 0;
+    let mut end = None;
+    while let Some(found) = find_from(*parts.allocator(), matcher, bytes, limit, position)? {
+        push_part(parts, end, found)?;
+        end = Some(found.end());
+        position = position_after(&found);
+    }
+    Ok(())
+}
+
+// Pushes a match, unless it is empty and the one before it ended there.
+fn push_part(parts: &mut Vec<Match>, end: Option<usize>, found: Match) -> Result<(), AllocError>
+    ensures { OnOk result (parts.new.items
+        ≡ (if is_passed end found then parts.old.items else parts.old.items ++ found ∷ [])) }
+{
+    if is_passed(end, &found) {
+        return Ok(());
+    }
+    match parts.push(found) {
+        Ok(()) => Ok(()),
+        Err(error) => Err(AllocError::from(error)),
+    }
+}
+
+// The first match from a position on that starts before a limit.
+fn find_from<M: FindAt>(
+    alloc: Global,
+    matcher: &M,
+    bytes: &[u8],
+    limit: usize,
+    position: usize,
+) -> Result<Option<Match>, SearchError>
+    ensures value { IfOk result (λ m. m
+        ≡ found_from (M.first_at matcher.now bytes.now) (length bytes.now) limit position) }
+    ensures within { IfOk result (IsFrom position bytes.now) }
+    ensures error { IfErr result (IsMessageOf (M.facts matcher.now).fails bytes.now) }
+{
+    if position > bytes.len() {
+        return Ok(None);
+    }
+    match matcher.find_at(bytes, position) {
+        Ok(Some(found)) if found.start() < limit => Ok(Some(found)),
+        Ok(_) => Ok(None),
+        Err(error) => Err(SearchError::error_message(alloc, error)),
+    }
+}
+
+// Whether a match is empty, and the one before it ended there.
+fn is_passed(end: Option<usize>, found: &Match) -> bool
+    ensures { result ≡ is_passed end found.now }
+{
+    match end {
+        Some(end) => found.start() == found.end() && found.end() == end,
+        None => false,
+    }
+}
+
+// Where the search for the next match begins: at the end of a match, or one byte later if the match
+// is empty.
+fn position_after(found: &Match) -> usize
+    requires { found.now.1 < 2 ^ 63 }
+    ensures { result ≡ position_after found.now }
+{
+    if found.start() == found.end() {
+        found.end() + 1
+    } else {
+        found.end()
+    }
+}

@@ -1,0 +1,178 @@
+//! The parts of a report that match, each in a line of its own.
+ghost use Rattle.std.specs.Prelude.{◌≡◌, ◌+◌, ◌<◌, ◌≤◌, ◌^◌, ◌++◌, ℕ, OnOk, length};
+ghost use Rattle.std.specs.List.{flat_map};
+ghost use Rattle.grep_matcher.specs.Lines.{byte_of};
+ghost use Rattle.grep_searcher.specs.Lines.{lines};
+ghost use Rattle.grep_printer.specs.MatchedParts.{AreInOrder};
+ghost use Rattle.grep_printer.specs.PartTexts.{across_text, clipped_text, part_place, part_text};
+ghost use Rattle.grep_printer.specs.PartTexts.{parts_after, parts_text};
+
+use crate::fields::{Layout, Place, next_number};
+use grep_lines::without_terminator;
+use grep_searcher::{LineIter, Match};
+use std::alloc::AllocError;
+
+// A report of which the parts are written: the mark after each field, its offset, and its bytes.
+#[derive(Clone, Copy)]
+pub(crate) struct Report<'r> {
+    pub(crate) mark: u8,
+    pub(crate) offset: u64,
+    pub(crate) bytes: &'r [u8],
+}
+
+impl<'p> Layout<'p> {
+    // Pushes each part of a report in a line of its own.
+    pub(crate) fn push_parts(
+        &self,
+        text: &mut Vec<u8>,
+        report: &Report<'_>,
+        number: Option<u64>,
+        parts: &[Match],
+    ) -> Result<(), AllocError>
+        requires fits { report.now.offset + length report.now.bytes.now < 2 ^ 64 }
+        requires ordered { AreInOrder 0 (length report.now.bytes.now) parts.now }
+        ensures { OnOk result (text.new.items ≡ text.old.items ++ parts_text self.now
+            report.now.mark report.now.offset report.now.bytes.now number parts.now) }
+    {
+        let mut rest = parts;
+        while let Some((part, later)) = rest.split_first() {
+            self.push_part(text, report, number, part)?;
+            rest = later;
+        }
+        Ok(())
+    }
+
+    // Pushes what the parts have in each line of a report, without its terminator.
+    pub(crate) fn push_across(
+        &self,
+        text: &mut Vec<u8>,
+        report: &Report<'_>,
+        number: Option<u64>,
+        parts: &[Match],
+    ) -> Result<(), AllocError>
+        requires fits { report.now.offset + length report.now.bytes.now < 2 ^ 64 }
+        requires ordered { AreInOrder 0 (length report.now.bytes.now) parts.now }
+        ensures { OnOk result (text.new.items ≡ text.old.items ++ across_text self.now
+            report.now.mark report.now.offset report.now.bytes.now number 0
+            (lines (byte_of self.now.terminator) report.now.bytes.now) parts.now) }
+    {
+        let mut number = number;
+        let mut start = 0;
+        let mut rest = parts;
+        for line in LineIter::new(self.terminator.as_byte(), report.bytes) {
+            rest = parts_after(rest, start);
+            let end = start + without_terminator(line, self.terminator).len();
+            self.push_clipped(text, report, number, &Match::new(start, end), rest)?;
+            number = next_number(number);
+            start += line.len();
+        }
+        Ok(())
+    }
+
+    // Pushes what the parts have in a range of the bytes.
+    fn push_clipped(
+        &self,
+        text: &mut Vec<u8>,
+        report: &Report<'_>,
+        number: Option<u64>,
+        range: &Match,
+        parts: &[Match],
+    ) -> Result<(), AllocError>
+        requires fits { report.now.offset + length report.now.bytes.now < 2 ^ 64 }
+        requires within { range.now.1 ≤ length report.now.bytes.now }
+        requires ordered { AreInOrder 0 (length report.now.bytes.now) parts.now }
+        ensures { OnOk result (text.new.items ≡ text.old.items
+            ++ flat_map (clipped_text self.now report.now.mark report.now.offset
+            report.now.bytes.now number range.now) parts.now) }
+    {
+        let mut rest = parts;
+        while let Some((part, later)) = rest.split_first() {
+            if part.start() >= range.end() {
+                break;
+            }
+            self.push_part_in(text, report, number, range, part)?;
+            rest = later;
+        }
+        Ok(())
+    }
+
+    // Pushes what a part has in a range of the bytes, if it has any of them.
+    fn push_part_in(
+        &self,
+        text: &mut Vec<u8>,
+        report: &Report<'_>,
+        number: Option<u64>,
+        range: &Match,
+        part: &Match,
+    ) -> Result<(), AllocError>
+        requires fits { report.now.offset + length report.now.bytes.now < 2 ^ 64 }
+        requires part_within { part.now.1 ≤ length report.now.bytes.now }
+        requires within { range.now.1 ≤ length report.now.bytes.now }
+        ensures { OnOk result (text.new.items ≡ text.old.items
+            ++ clipped_text self.now report.now.mark report.now.offset report.now.bytes.now
+            number range.now part.now) }
+    {
+        let start = part.start().max(range.start());
+        let end = part.end().min(range.end());
+        if start >= end {
+            return Ok(());
+        }
+        let place = self.part_place(report, number, part);
+        self.push_line(text, report.mark, &place, &report.bytes[start..end])
+    }
+
+    // Pushes a part in a line of its own.
+    fn push_part(
+        &self,
+        text: &mut Vec<u8>,
+        report: &Report<'_>,
+        number: Option<u64>,
+        part: &Match,
+    ) -> Result<(), AllocError>
+        requires fits { report.now.offset + length report.now.bytes.now < 2 ^ 64 }
+        requires within { part.now.1 ≤ length report.now.bytes.now }
+        ensures { OnOk result (text.new.items ≡ text.old.items ++ part_text self.now
+            report.now.mark report.now.offset report.now.bytes.now number part.now) }
+    {
+        let place = self.part_place(report, number, part);
+        self.push_line(
+            text,
+            report.mark,
+            &place,
+            &report.bytes[part.start()..part.end()],
+        )
+    }
+
+    // The place of a part: the number of its line, and its own column and offset.
+    fn part_place(&self, report: &Report<'_>, number: Option<u64>, part: &Match) -> Place
+        requires fits { report.now.offset + length report.now.bytes.now < 2 ^ 64 }
+        requires within { part.now.1 ≤ length report.now.bytes.now }
+        ensures { result ≡ part_place self.now report.now.mark report.now.offset
+            report.now.bytes.now number part.now }
+    {
+        let start = part.start() as u64;
+        Place {
+            number,
+            column: if self.config.column {
+                Some(start + 1)
+            } else {
+                None
+            },
+            offset: report.offset + start,
+        }
+    }
+}
+
+// The parts without the first ones that end at a position or before it.
+fn parts_after(parts: &[Match], position: usize) -> &[Match]
+    ensures { result.now ≡ parts_after position parts.now }
+{
+    let mut rest = parts;
+    while let Some((part, later)) = rest.split_first() {
+        if part.end() > position {
+            break;
+        }
+        rest = later;
+    }
+    rest
+}
