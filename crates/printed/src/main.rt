@@ -1,0 +1,35 @@
+//! Writes what the printers make of some searches, each after a line with the options that ripgrep
+//! has for it.
+#![tactic(auto)]
+
+mod files;
+mod lines;
+mod summaries;
+
+use grep_searcher::SearchError;
+use std::io;
+use std::process::ExitCode;
+
+fn main(rt: HostRuntime) -> ExitCode {
+    match write_all(&rt) {
+        Ok(()) => ExitCode::SUCCESS,
+        Err(error) => {
+            let _ = eprintln!(rt; "printed: {error}");
+            ExitCode::FAILURE
+        }
+    }
+}
+
+// Writes what all searches come to.
+fn write_all(rt: &HostRuntime) -> Result<(), SearchError> {
+    lines::write_fields(rt)?;
+    lines::write_parts(rt)?;
+    lines::write_across(rt)?;
+    summaries::write_summaries(rt)?;
+    Ok(())
+}
+
+// Writes the options of a search.
+pub(crate) fn write_title<T: Print>(rt: &T, title: &str) -> io::Result<()> {
+    println!(rt; "== {title}")
+}
