@@ -6,8 +6,8 @@ use std::fs;
 use std::path::Path;
 use std::test::Fail;
 use uses::{
-    count_in_path, count_matching_lines, count_pattern_lines, first_match, first_matches,
-    has_match, in_context, matching_lines, numbered_lines,
+    count_in_path, count_matching_lines, count_pattern_lines, count_with_prefix, first_match,
+    first_matches, has_match, in_context, matching_lines, numbered_lines,
 };
 
 // Line 2 and line 4 have an `a`.
@@ -28,6 +28,11 @@ fn counted_by_a_pattern(rt: HostRuntime) -> Result<(), Fail> {
     let count = count_pattern_lines(rt.alloc(), &mut searcher, "^a|a$", INPUT)?;
     assert!(rt; count == 2);
     Ok(())
+}
+
+#[test]
+fn counted_with_a_prefix(rt: HostRuntime) {
+    assert!(rt; matches!(count_with_prefix(rt.alloc(), b"a", INPUT), Ok(1)));
 }
 
 #[test]

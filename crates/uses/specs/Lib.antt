@@ -3,3 +3,4 @@ pub mod DecodingErrors
 pub mod Expressions
 pub mod MatchSinks
 pub mod NumberedTexts
+pub mod Prefixes
