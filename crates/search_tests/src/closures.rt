@@ -1,8 +1,8 @@
 //! Sinks that call a closure, and boxed sinks.
 use crate::searches::search_slice;
 use grep_matcher::LiteralMatcher;
-use grep_searcher::sinks::{Bytes, Lossy, UTF8};
-use grep_searcher::{SearchError, Searcher, SearcherBuilder, Sink, SinkError};
+use grep_searcher::sinks::{Bytes, Lossy, Matches, UTF8};
+use grep_searcher::{SearchError, Searcher, SearcherBuilder, Sink, SinkError, SinkMatch};
 use grep_testing::Recorder;
 use std::alloc::{AllocError, Global};
 use std::io;
@@ -191,6 +191,22 @@ fn the_text_comes_before_the_number(rt: HostRuntime) {
     assert!(rt; refuses_with(rt.alloc(), b"a\n", unnumbered));
     let ill_formed = "invalid utf-8 sequence of 1 bytes from index 1";
     assert!(rt; refuses_with(rt.alloc(), b"a\xFF\n", ill_formed));
+}
+
+// The offset of the first match, without line numbers.
+fn first_offset(alloc: Global, bytes: &[u8]) -> io::Result<u64> {
+    let mut offset = 0;
+    let mut sink = Matches(|found: &SinkMatch<'_>| {
+        offset = found.absolute_byte_offset();
+        Ok(false)
+    });
+    search_for_a(alloc, false, bytes, &mut sink)?;
+    Ok(offset)
+}
+
+#[test]
+fn a_match_is_lent(rt: HostRuntime) {
+    assert!(rt; matches!(first_offset(rt.alloc(), b"b\na\na\n"), Ok(2)));
 }
 
 // Whether a search with contexts makes these calls of a recorder in a box.
