@@ -1,7 +1,7 @@
 -- What the sink of a printer of JSON has written after a run along a plan, and a call that fails.
 use Rattle.std.proofs.Common.{◌≡◌, ◌⊎◌, ◌∙◌, [], ap, refl, subst}
 use Rattle.std.specs.Global.{Global}
-use Rattle.std.specs.Prelude.{Bool, Err, Ok, true}
+use Rattle.std.specs.Prelude.{Bool, Err, List, Ok, Option, ℕ, true}
 use Rattle.grep_output.proofs.OutputLemmas.{Writes-none, Writes-more}
 use Rattle.grep_output.specs.Outputs.{OutputCall, WritesAll}
 use Rattle.grep_matcher.specs.Meanings.{MatcherFacts}
@@ -24,11 +24,12 @@ same-more old mid new first later = record {
   always_begin_end = later.always_begin_end ∙ first.always_begin_end;
 }
 
-module _ {M W F : Type 0} (facts : M → MatcherFacts F) (settings : Settings) where
+module _ {M W F : Type 0} (facts : M → MatcherFacts F) (first_at : M → List ℕ → ℕ → Option (ℕ × ℕ))
+    (settings : Settings) where
   -- the matcher failed, or there was no memory for its matches
   pub composing-fails : (call : Call) (old new : JsonSink M W) (e : SearchError Global) → IsComposingJson old new
       → IsOutOfMemory e ⊎ IsJsonError facts old settings (reported_bytes call) e
-      → IsComposingCall facts old settings call (Err e) new
+      → IsComposingCall facts first_at old settings call (Err e) new
   composing-fails call old new e composing cause = record {
     same = composing.same;
     writer = composing.writer;
@@ -37,16 +38,16 @@ module _ {M W F : Type 0} (facts : M → MatcherFacts F) (settings : Settings) w
   }
 
   -- the texts of a sink's calls depend on the same
-  same-frame : (old new : JsonSink M W) → IsSameJson old new → json_frame facts new settings ≡ json_frame facts old settings
+  same-frame : (old new : JsonSink M W) → IsSameJson old new → json_frame facts first_at new settings ≡ json_frame facts first_at old settings
   same-frame old new same =
       let matcher = same.matcher in let path = same.path in let always_begin_end = same.always_begin_end in cc
 
-module _ {M W F : Type 0} (facts : M → MatcherFacts F) (write_step : W → OutputCall → W → Type 0)
-    (settings : Settings) where
+module _ {M W F : Type 0} (facts : M → MatcherFacts F) (first_at : M → List ℕ → ℕ → Option (ℕ × ℕ))
+    (write_step : W → OutputCall → W → Type 0) (settings : Settings) where
   -- what a sink has written since a state of the writer, and what was reported to it
   record HasPrinted (frame : JsonFrame) (start : JsonSink M W) (printed : JsonPrinted) (now : JsonSink M W) : Type 0 where
     same : IsSameJson start now
-    framed : json_frame facts now settings ≡ frame
+    framed : json_frame facts first_at now settings ≡ frame
     written : WritesAll write_step start.printer.now.writer printed.text now.printer.now.writer
     progress : now.progress ≡ printed.progress
     has_failed : now.printer.now.has_failed ≡ start.printer.now.has_failed
@@ -54,13 +55,13 @@ module _ {M W F : Type 0} (facts : M → MatcherFacts F) (write_step : W → Out
   -- one more call
   printed-more : (frame : JsonFrame) (start : JsonSink M W) (printed : JsonPrinted) (old : JsonSink M W) (call : Call)
       (b : Bool) (new : JsonSink M W) → HasPrinted frame start printed old
-      → PrintsJson facts write_step old settings call b new
+      → PrintsJson facts first_at write_step old settings call b new
       → (b ≡ true) × HasPrinted frame start (json_printed_with frame printed call) new
   printed-more frame start printed old call b new before step = (
     step.goes_on,
     record {
       same = same-more start old new before.same step.same;
-      framed = same-frame facts settings old new step.same ∙ before.framed;
+      framed = same-frame facts first_at settings old new step.same ∙ before.framed;
       written = Writes-more write_step start.printer.now.writer old.printer.now.writer new.printer.now.writer
           printed.text (json_text frame printed.progress call) (Ok tt) before.written
           (subst (λ text. WritesAll write_step old.printer.now.writer text new.printer.now.writer)
@@ -74,11 +75,11 @@ module _ {M W F : Type 0} (facts : M → MatcherFacts F) (write_step : W → Out
 
   -- a run along a plan that ended in `Ok`
   pub run-prints-json : (old : JsonSink M W) (plan : Plan) (new : JsonSink M W)
-      → IsRun (PrintsJsonCall facts write_step) settings old plan (Ok tt) new
-      → PrintsJsonPlan facts write_step old settings plan new
+      → IsRun (PrintsJsonCall facts first_at write_step) settings old plan (Ok tt) new
+      → PrintsJsonPlan facts first_at write_step old settings plan new
   run-prints-json old plan new run =
-      let frame = json_frame facts old settings in
-      let end = run-keeps (PrintsJsonCall facts write_step) settings (HasPrinted frame old) (λ printed call. true)
+      let frame = json_frame facts first_at old settings in
+      let end = run-keeps (PrintsJsonCall facts first_at write_step) settings (HasPrinted frame old) (λ printed call. true)
       (json_printed_with frame) (printed-more frame old) (record { progress = old.progress; text = [] }) old plan new
       (record {
         same = record { printer = refl; matcher = refl; path = refl; always_begin_end = refl };

@@ -1,10 +1,12 @@
 -- Parts of messages.
-use Rattle.std.proofs.Common.{◌≡◌, ℕ, List, refl}
+use Rattle.std.proofs.Common.{◌≡◌, ◌≤◌, ℕ, ◌∷◌, List, [], arith, refl}
 use Rattle.std.proofs.lemmas.Bool.{false_from_ne_true}
-use Rattle.std.specs.Prelude.{IsUtf8}
+use Rattle.std.proofs.lemmas.List.Elements.{All-nil, All-cons}
+use Rattle.std.specs.Prelude.{All, IsUtf8}
 use Rattle.std.proofs.lemmas.Str.{IsUtf8-from_is_utf8, is_utf8-from_IsUtf8}
 use Rattle.base64.specs.Engines.{standard}
 use Rattle.base64.specs.GeneralPurpose.{encode_of}
+use Rattle.grep_printer.specs.MatchedParts.{AreInOrder}
 use Rattle.grep_printer.specs.JsonMessages.{base64_json, bytes_json, text_json}
 
 -- bytes that are UTF-8
@@ -16,3 +18,11 @@ bytes_json-text bytes utf8 = rw (is_utf8-from_IsUtf8 bytes utf8) refl
 pub bytes_json-other : (bytes : List ℕ) → ¬ (IsUtf8 bytes) → bytes_json bytes ≡ base64_json (encode_of standard bytes)
 unfolding bytes_json
 bytes_json-other bytes other = rw (false_from_ne_true _ (λ t. other (IsUtf8-from_is_utf8 bytes t))) refl
+
+-- parts that lie in order by a position end by a later one
+pub ends-within : (parts : List (ℕ × ℕ)) (low high size : ℕ) → high ≤ size → AreInOrder low high parts
+    → All (λ part. part.1 ≤ size) parts
+ends-within [] low high size less ordered = All-nil (λ part. part.1 ≤ size)
+ends-within (part ∷ later) low high size less ordered =
+    let ends : part.1 ≤ size = omega (arith, less, ordered.2) in
+    All-cons (λ part. part.1 ≤ size) part later ends (ends-within later part.1 high size less ordered.3)

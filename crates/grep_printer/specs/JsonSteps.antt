@@ -1,6 +1,6 @@
 -- What a printer of JSON does at a call of a search, and in a whole search.
-use Rattle.std.specs.Prelude.{◌≡◌, ◌⊎◌, ℕ, Bool, true, List, MatchResult, Result, Ok, Err}
-use Rattle.std.specs.Prelude.{String}
+use Rattle.std.specs.Prelude.{◌≡◌, ◌⊎◌, ℕ, Bool, true, List, MatchResult, Option, Result, Ok}
+use Rattle.std.specs.Prelude.{Err}
 use Rattle.std.specs.Global.{Global}
 use Rattle.std.specs.declared.io.Error.{Error}
 use Rattle.grep_output.specs.Outputs.{OutputCall, FailsToWrite, WritesAll}
@@ -9,8 +9,9 @@ use Rattle.grep_searcher.specs.Plans.{Call, Plan, IsRun, reported_bytes}
 use Rattle.grep_searcher.specs.SearchErrors.{IsOutOfMemory}
 use Rattle.grep_searcher.specs.Settings.{Settings}
 use Rattle.grep_searcher.specs.declared.SearchError.{SearchError}
-use Rattle.grep_searcher.specs.declared.SearchError.TheVariants.{Io, Message}
+use Rattle.grep_searcher.specs.declared.SearchError.TheVariants.{Io}
 use Rattle.grep_printer.specs.JsonTexts.{JsonFrame, json_printed_of, json_progress, json_text}
+use Rattle.grep_printer.specs.MatchedParts.{IsMessageOf}
 use Rattle.grep_printer.specs.StandardTexts.{asked_bytes}
 use Rattle.grep_printer.specs.declared.json_printer.Json.{Json}
 use Rattle.grep_printer.specs.declared.json_printer.JsonSink.{JsonSink}
@@ -56,6 +57,14 @@ pub record FailsToWriteJson {M W : Type 0} (write_step : W → OutputCall → W 
   pub has_failed : new.printer.now.has_failed ≡ true
 
 module _ {M W F : Type 0} (facts : M → MatcherFacts F) where
+  -- the error is the matcher's, for the bytes of a report, as a message
+  abbrev pub IsJsonError : JsonSink M W → Settings → List ℕ → SearchError Global → Type 0
+  IsJsonError sink settings bytes =
+      IsMessageOf (facts sink.matcher).fails
+      (asked_bytes settings (facts sink.matcher).meaning bytes)
+
+module _ {M W F : Type 0} (facts : M → MatcherFacts F)
+    (first_at : M → List ℕ → ℕ → Option (ℕ × ℕ)) where
   -- what the texts of a sink's calls depend on
   abbrev pub json_frame : JsonSink M W → Settings → JsonFrame
   json_frame sink settings = record {
@@ -63,19 +72,12 @@ module _ {M W F : Type 0} (facts : M → MatcherFacts F) where
     path = sink.path;
     settings = settings;
     meaning = (facts sink.matcher).meaning;
+    first_at = first_at sink.matcher;
   }
 
   -- the text of a call of a sink
   abbrev pub json_text_of : JsonSink M W → Settings → Call → List ℕ
   json_text_of sink settings call = json_text (json_frame sink settings) sink.progress call
-
-  -- the error is the matcher's, for the bytes of a report, as a message
-  abbrev pub IsJsonError : JsonSink M W → Settings → List ℕ → SearchError Global → Type 0
-  IsJsonError sink settings bytes e =
-      (error : F) × (text : String Global)
-      × (facts sink.matcher).fails
-      (asked_bytes settings (facts sink.matcher).meaning bytes) error
-      × (e ≡ Message text)
 
   -- the text of a call is made, and nothing is written
   pub record ComposesCall (old : JsonSink M W) (settings : Settings) (call : Call)
@@ -87,7 +89,7 @@ module _ {M W F : Type 0} (facts : M → MatcherFacts F) where
   pub record FailsToCompose (old : JsonSink M W) (settings : Settings) (call : Call)
       (e : SearchError Global) (new : JsonSink M W) : Type 0 where
     pub progress : new.progress ≡ old.progress
-    pub cause : IsOutOfMemory e ⊎ IsJsonError old settings (reported_bytes call) e
+    pub cause : IsOutOfMemory e ⊎ IsJsonError facts old settings (reported_bytes call) e
 
   -- a sink before the text of a call is written
   pub record IsComposingCall (old : JsonSink M W) (settings : Settings) (call : Call)
@@ -99,15 +101,15 @@ module _ {M W F : Type 0} (facts : M → MatcherFacts F) where
         (λ e. FailsToCompose old settings call e new)
 
 module _ {M W F : Type 0} (facts : M → MatcherFacts F)
-    (write_step : W → OutputCall → W → Type 0) where
+    (first_at : M → List ℕ → ℕ → Option (ℕ × ℕ)) (write_step : W → OutputCall → W → Type 0) where
   -- a call succeeds: its text is written, and nothing else
   pub record PrintsJson (old : JsonSink M W) (settings : Settings) (call : Call) (goes : Bool)
       (new : JsonSink M W) : Type 0 where
     pub same : IsSameJson old new
     pub goes_on : goes ≡ true
     pub written : WritesAll write_step old.printer.now.writer
-        (json_text_of facts old settings call) new.printer.now.writer
-    pub progress : new.progress ≡ json_progress (json_frame facts old settings) old.progress call
+        (json_text_of facts first_at old settings call) new.printer.now.writer
+    pub progress : new.progress ≡ json_progress (json_frame facts first_at old settings) old.progress call
     pub has_failed : new.printer.now.has_failed ≡ old.printer.now.has_failed
 
   -- the writer failed after some first bytes of the text of a call
@@ -116,8 +118,8 @@ module _ {M W F : Type 0} (facts : M → MatcherFacts F)
     pub error : Error
     pub is_io : e ≡ Io error
     pub failed : FailsToWrite write_step old.printer.now.writer
-        (json_text_of facts old settings call) error new.printer.now.writer
-    pub progress : new.progress ≡ json_progress (json_frame facts old settings) old.progress call
+        (json_text_of facts first_at old settings call) error new.printer.now.writer
+    pub progress : new.progress ≡ json_progress (json_frame facts first_at old settings) old.progress call
     pub has_failed : new.printer.now.has_failed ≡ true
 
   -- the writer had no call, and there was no memory, or the matcher failed
@@ -146,10 +148,10 @@ module _ {M W F : Type 0} (facts : M → MatcherFacts F)
       (new : JsonSink M W) : Type 0 where
     pub same : IsSameJson old new
     pub written : WritesAll write_step old.printer.now.writer
-        (json_printed_of (json_frame facts old settings) old.progress plan).text
+        (json_printed_of (json_frame facts first_at old settings) old.progress plan).text
         new.printer.now.writer
     pub progress : new.progress
-        ≡ (json_printed_of (json_frame facts old settings) old.progress plan).progress
+        ≡ (json_printed_of (json_frame facts first_at old settings) old.progress plan).progress
     pub has_failed : new.printer.now.has_failed ≡ old.printer.now.has_failed
 
   -- a run of the sink that ended in `Ok` has written the text of its plan

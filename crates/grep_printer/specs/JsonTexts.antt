@@ -1,6 +1,6 @@
 -- The text that a printer of JSON writes for the calls of a search.
 use Rattle.std.specs.Prelude.{ℕ, Bool, true, false, ◌&&◌, if◌then◌else◌, List, [], ◌∷◌, ◌++◌, length}
-use Rattle.std.specs.Prelude.{codes, Option, None, Some, is_some, nat_le, not, unwrap_or}
+use Rattle.std.specs.Prelude.{codes, Option, None, Some, is_some, not, unwrap_or}
 use Rattle.std.specs.Borrow.{Bor}
 use Rattle.grep_matcher.specs.Lines.{byte_of}
 use Rattle.grep_searcher.specs.Lines.{lines}
@@ -10,6 +10,7 @@ use Rattle.grep_searcher.specs.Plans.{Plan}
 use Rattle.grep_searcher.specs.Settings.{Settings}
 use Rattle.grep_searcher.specs.SinkFolds.{run_fold}
 use Rattle.grep_printer.specs.JsonMessages.{begin_json, end_json, json_line, report_json}
+use Rattle.grep_printer.specs.MatchedParts.{parts_in}
 use Rattle.grep_printer.specs.StandardTexts.{asked_bytes}
 use Rattle.grep_printer.specs.StatsSums.{capped_sum, no_stats}
 use Rattle.grep_printer.specs.declared.json_printer.JsonProgress.{JsonProgress}
@@ -28,21 +29,14 @@ new_json_progress = record {
 }
 
 -- what the texts of a search's calls depend on: whether `begin` and `end` are written for every
--- search, the path, the settings of the search, and what the matcher means
+-- search, the path, the settings of the search, what the matcher means, and which matches it finds
+-- from a position on
 pub record JsonFrame : Type 0 where
   pub always_begin_end : Bool
   pub path : Option (Bor (List ℕ))
   pub settings : Settings
   pub meaning : Meaning
-
--- whether a match is at the end of so many bytes, and empty
-abbrev pub is_after : ℕ → ℕ × ℕ → Bool
-is_after size range = nat_le size range.0 && nat_le range.1 range.0
-
--- a match in a report of so many bytes, unless it is empty and at the end
-abbrev pub submatch_of : ℕ → Option (ℕ × ℕ) → List (ℕ × ℕ)
-submatch_of size None = []
-submatch_of size (Some range) = if is_after size range then [] else range ∷ []
+  pub first_at : List ℕ → ℕ → Option (ℕ × ℕ)
 
 -- the message before the first report of a search, by whether it was written
 abbrev pub opening_line : Option (Bor (List ℕ)) → Bool → List ℕ
@@ -84,8 +78,8 @@ module _ (frame : JsonFrame) where
   -- the matches in the bytes of a report
   abbrev pub submatches_of : List ℕ → List (ℕ × ℕ)
   submatches_of bytes =
-      submatch_of (length bytes)
-      (frame.meaning.first (asked_bytes frame.settings frame.meaning bytes))
+      parts_in (frame.first_at (asked_bytes frame.settings frame.meaning bytes))
+      (length (asked_bytes frame.settings frame.meaning bytes)) (length bytes)
 
   -- those in a line that isn't reported as a match: it has some if lines without a match are
   -- selected

@@ -10,19 +10,20 @@ ghost use Rattle.grep_printer.specs.JsonSteps.{FailsToWriteJson, FailsToWriteTex
 ghost use Rattle.grep_printer.specs.JsonSteps.{IsComposingCall, IsComposingJson, IsJsonError};
 ghost use Rattle.grep_printer.specs.JsonSteps.{IsJsonWritten, IsSamePrinter, WritesText};
 ghost use Rattle.grep_printer.specs.JsonSteps.{json_frame};
-ghost use Rattle.grep_printer.specs.JsonTexts.{context_submatches, end_text, is_after, is_reported};
+ghost use Rattle.grep_printer.specs.JsonTexts.{context_submatches, end_text, is_reported};
 ghost use Rattle.grep_printer.specs.JsonTexts.{new_json_progress, opening_line, report_line};
-ghost use Rattle.grep_printer.specs.JsonTexts.{stats_of, submatch_of, submatches_of, with_match};
+ghost use Rattle.grep_printer.specs.JsonTexts.{stats_of, submatches_of, with_match};
 ghost use Rattle.grep_printer.specs.JsonTexts.{with_size, with_text};
 ghost use Rattle.grep_printer.specs.StandardTexts.{asked_bytes};
 ghost use Rattle.grep_printer.specs.StatsSums.{nanos_of};
 
 use crate::json_lines::{Report, add_begin, add_end, add_report, add_summary};
+use crate::parts::find_parts;
 use crate::stats::{Stats, nanoseconds};
 use grep_lines::{line_count, without_terminator};
 use grep_output::{Output, write_all};
 use grep_searcher::{
-    Match, Matcher, SearchError, Searcher, Sink, SinkContext, SinkError, SinkFinish, SinkMatch,
+    FindAt, Match, SearchError, Searcher, Sink, SinkContext, SinkFinish, SinkMatch,
 };
 use std::alloc::{AllocError, Allocator, Global};
 use std::time::Duration;
@@ -86,7 +87,7 @@ pub struct Json<W> {
 impl<W> Json<W> {
     /// The sink of a search: the matcher is that of the search, and the path, if there is one, is
     /// in each message.
-    pub fn sink<'s, M: Matcher>(
+    pub fn sink<'s, M: FindAt>(
         &'s mut self,
         matcher: M,
         path: Option<&'s str>,
@@ -143,20 +144,6 @@ impl<W> Json<W> {
         let mut text = mem::replace(&mut self.text, Vec::new(alloc));
         text.clear();
         text
-    }
-
-    // Keeps a match in a report of so many bytes, if there is one.
-    fn keep_submatch(&mut self, size: usize, found: Option<Match>) -> Result<(), AllocError>
-        ensures same { IsSamePrinter self.old self.new }
-        ensures submatches { OnOk result (self.new.submatches.items ≡ submatch_of size found) }
-    {
-        self.submatches.clear();
-        if let Some(range) = found {
-            if !is_after(size, &range) {
-                self.submatches.push(range)?;
-            }
-        }
-        Ok(())
     }
 
     // Makes a text of the message that a search begins.
@@ -347,7 +334,7 @@ pub struct JsonSink<'s, M, W> {
     progress: JsonProgress,
 }
 
-impl<'s, M: Matcher, W: Output> JsonSink<'s, M, W> {
+impl<'s, M: FindAt, W: Output> JsonSink<'s, M, W> {
     /// Whether a match was reported.
     pub fn has_match(&self) -> bool
         ensures { result ≡ self.now.progress.has_match }
@@ -378,7 +365,7 @@ impl<'s, M: Matcher, W: Output> JsonSink<'s, M, W> {
     }
 }
 
-impl<'s, M: Matcher, W: Output> JsonSink<'s, M, W> {
+impl<'s, M: FindAt, W: Output> JsonSink<'s, M, W> {
     // The bytes of a report about which the matcher is asked.
     fn asked<'b, A: Allocator + Copy>(&self, searcher: &Searcher<A>, bytes: &'b [u8]) -> &'b [u8]
         ensures { result.now ≡ asked_bytes searcher.now.settings (M.facts self.now.matcher).meaning
@@ -398,23 +385,15 @@ impl<'s, M: Matcher, W: Output> JsonSink<'s, M, W> {
     ) -> Result<(), SearchError>
         ensures composing { IsComposingJson self.old self.new }
         ensures submatches { OnOk result (self.new.printer.now.submatches.items
-            ≡ submatches_of (json_frame M.facts self.old searcher.now.settings) bytes.now) }
+            ≡ submatches_of (json_frame M.facts M.first_at self.old searcher.now.settings) bytes.now) }
         ensures within { OnOk result
             (All (λ range. range.1 ≤ length bytes.now) self.new.printer.now.submatches.items) }
         ensures error { IfErr result (λ e. IsOutOfMemory e
             ⊎ IsJsonError M.facts self.old searcher.now.settings bytes.now e) }
     {
         let asked = self.asked(searcher, bytes);
-        match self.matcher.find(asked) {
-            Ok(found) => {
-                self.printer.keep_submatch(bytes.len(), found)?;
-                Ok(())
-            }
-            Err(error) => {
-                let alloc = *self.printer.text.allocator();
-                Err(SearchError::error_message(alloc, error))
-            }
-        }
+        let limit = bytes.len();
+        find_parts(&mut self.printer.submatches, &self.matcher, asked, limit)
     }
 
     // Finds the matches in a line that isn't a match, if lines without a match are selected.
@@ -425,7 +404,7 @@ impl<'s, M: Matcher, W: Output> JsonSink<'s, M, W> {
     ) -> Result<(), SearchError>
         ensures composing { IsComposingJson self.old self.new }
         ensures submatches { OnOk result (self.new.printer.now.submatches.items
-            ≡ context_submatches (json_frame M.facts self.old searcher.now.settings) bytes.now) }
+            ≡ context_submatches (json_frame M.facts M.first_at self.old searcher.now.settings) bytes.now) }
         ensures within { OnOk result
             (All (λ range. range.1 ≤ length bytes.now) self.new.printer.now.submatches.items) }
         ensures error { IfErr result (λ e. IsOutOfMemory e
@@ -468,7 +447,7 @@ impl<'s, M: Matcher, W: Output> JsonSink<'s, M, W> {
         searcher: &Searcher<A>,
         found: &SinkMatch<'_>,
     ) -> Result<(), SearchError>
-        ensures composing { IsComposingCall M.facts self.old searcher.now.settings
+        ensures composing { IsComposingCall M.facts M.first_at self.old searcher.now.settings
             (match_call found.now) result self.new }
     {
         let bytes = found.bytes();
@@ -492,7 +471,7 @@ impl<'s, M: Matcher, W: Output> JsonSink<'s, M, W> {
         searcher: &Searcher<A>,
         line: &SinkContext<'_>,
     ) -> Result<(), SearchError>
-        ensures composing { IsComposingCall M.facts self.old searcher.now.settings
+        ensures composing { IsComposingCall M.facts M.first_at self.old searcher.now.settings
             (context_call line.now) result self.new }
     {
         let bytes = line.bytes();
@@ -537,12 +516,12 @@ impl<'s, M: Matcher, W: Output> JsonSink<'s, M, W> {
     }
 }
 
-impl<'s, M: Matcher, W: Output> Sink for JsonSink<'s, M, W> {
+impl<'s, M: FindAt, W: Output> Sink for JsonSink<'s, M, W> {
     type Error = SearchError;
 
     ghost use Rattle.grep_printer.specs.JsonSteps.{PrintsJsonCall};
 
-    ghost step = { PrintsJsonCall M.facts W.step };
+    ghost step = { PrintsJsonCall M.facts M.first_at W.step };
 
     ghost may_call = { λ _. Unit {0} };
 
@@ -600,11 +579,4 @@ impl<'s, M: Matcher, W: Output> Sink for JsonSink<'s, M, W> {
         self.progress.binary_offset = finish.binary_byte_offset();
         Ok(())
     }
-}
-
-// Whether a match is at the end of so many bytes, and empty.
-fn is_after(size: usize, range: &Match) -> bool
-    ensures { result ≡ is_after size range.now }
-{
-    size <= range.start() && range.end() <= range.start()
 }

@@ -20,6 +20,6 @@ pub fn runs_sum_up<W: Output>()
 
 /// A run of the sink of a `Json` that ended in `Ok` has written the text of its plan: of each call,
 /// in order.
-pub fn runs_print_json<M: Matcher, W: Output>()
-    ensures { RunsPrintJson M.facts W.step }
+pub fn runs_print_json<M: FindAt, W: Output>()
+    ensures { RunsPrintJson M.facts M.first_at W.step }
 {}
