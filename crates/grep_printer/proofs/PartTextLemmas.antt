@@ -18,6 +18,7 @@ use Rattle.grep_printer.specs.PartTexts.{across_text, clipped_text, parts_after}
 use Rattle.grep_printer.specs.LineTexts.{next_number}
 use Rattle.grep_printer.specs.StandardTexts.{asked_bytes}
 use Rattle.grep_printer.specs.declared.fields.Layout.{Layout}
+use Rattle.grep_printer.specs.declared.fields.LineKind.{LineKind}
 
 -- of some parts the texts are pushed, and these are left
 pub record IsWriting (f : ℕ × ℕ → List ℕ) (high : ℕ) (start : List ℕ) (all : List (ℕ × ℕ)) (text : List ℕ)
@@ -61,72 +62,72 @@ ordered-after (part ∷ later) position low high ordered =
     go true others = others
     go false others = (omega arith, ordered.1, ordered.2, ordered.3)
 
-module _ (layout : Layout) (mark offset : ℕ) (bytes : List ℕ) where
+module _ (layout : Layout) (kind : LineKind) (offset : ℕ) (bytes : List ℕ) where
   -- a part has no byte of a range that ends before it begins, or begins after it ends
   clipped-empty : (number : Option ℕ) (range part : ℕ × ℕ) → (range.1 ≤ part.0) ⊎ (part.1 ≤ range.0)
-      → clipped_text layout mark offset bytes number range part ≡ []
+      → clipped_text layout kind offset bytes number range part ≡ []
   clipped-empty number range part (inl before) = grind (arith, nat_tests)
   clipped-empty number range part (inr after) = grind (arith, nat_tests)
 
   -- no part of a range ends before the parts begin
   pub clipped-none : (number : Option ℕ) (range : ℕ × ℕ) (parts : List (ℕ × ℕ)) (low high : ℕ)
       → AreInOrder low high parts → range.1 ≤ low
-      → flat_map (clipped_text layout mark offset bytes number range) parts ≡ []
+      → flat_map (clipped_text layout kind offset bytes number range) parts ≡ []
   clipped-none number range [] low high ordered before = refl
   clipped-none number range (part ∷ later) low high ordered before =
       let first = clipped-empty number range part (inl (omega (arith, ordered.0))) in
       let others = clipped-none number range later part.1 high ordered.3 (omega (arith, ordered.0, ordered.1)) in
-      ap (λ (t : List ℕ). t ++ flat_map (clipped_text layout mark offset bytes number range) later) first ∙ others
+      ap (λ (t : List ℕ). t ++ flat_map (clipped_text layout kind offset bytes number range) later) first ∙ others
 
   -- the parts that end before a range don't count
   clipped-after : (number : Option ℕ) (range : ℕ × ℕ) (position : ℕ) (parts : List (ℕ × ℕ)) → position ≤ range.0
-      → flat_map (clipped_text layout mark offset bytes number range) (parts_after position parts)
-      ≡ flat_map (clipped_text layout mark offset bytes number range) parts
+      → flat_map (clipped_text layout kind offset bytes number range) (parts_after position parts)
+      ≡ flat_map (clipped_text layout kind offset bytes number range) parts
   clipped-after number range position [] less = refl
   clipped-after number range position (part ∷ later) less =
       go (nat_le part.1 position) refl (clipped-after number range position later less)
     where
       go : (passed : Bool) → nat_le part.1 position ≡ passed
-          → flat_map (clipped_text layout mark offset bytes number range) (parts_after position later)
-          ≡ flat_map (clipped_text layout mark offset bytes number range) later
-          → flat_map (clipped_text layout mark offset bytes number range)
+          → flat_map (clipped_text layout kind offset bytes number range) (parts_after position later)
+          ≡ flat_map (clipped_text layout kind offset bytes number range) later
+          → flat_map (clipped_text layout kind offset bytes number range)
           (if passed then parts_after position later else part ∷ later)
-          ≡ flat_map (clipped_text layout mark offset bytes number range) (part ∷ later)
+          ≡ flat_map (clipped_text layout kind offset bytes number range) (part ∷ later)
       go true passed others =
           let first = clipped-empty number range part (inr (grind (arith, nat_tests))) in
-          others ∙ sym (ap (λ (t : List ℕ). t ++ flat_map (clipped_text layout mark offset bytes number range) later)
+          others ∙ sym (ap (λ (t : List ℕ). t ++ flat_map (clipped_text layout kind offset bytes number range) later)
           first)
       go false kept others = refl
 
   -- nor do they in the lines from a position on
   across-after : (number : Option ℕ) (start position : ℕ) (left : List (List ℕ)) (parts : List (ℕ × ℕ))
       → position ≤ start
-      → across_text layout mark offset bytes number start left (parts_after position parts)
-      ≡ across_text layout mark offset bytes number start left parts
+      → across_text layout kind offset bytes number start left (parts_after position parts)
+      ≡ across_text layout kind offset bytes number start left parts
   across-after number start position [] parts less = refl
   across-after number start position (line ∷ later) parts less =
       let range : ℕ × ℕ = (start, start + length (strip layout.terminator line)) in
       let first = clipped-after number range position parts less in
       let others = across-after (next_number number) (start + length line) position later parts (omega arith) in
-      ap (λ (t : List ℕ). t ++ across_text layout mark offset bytes (next_number number) (start + length line) later
+      ap (λ (t : List ℕ). t ++ across_text layout kind offset bytes (next_number number) (start + length line) later
       (parts_after position parts)) first
-      ∙ ap (λ (t : List ℕ). flat_map (clipped_text layout mark offset bytes number range) parts ++ t) others
+      ∙ ap (λ (t : List ℕ). flat_map (clipped_text layout kind offset bytes number range) parts ++ t) others
 
   -- of some lines what the parts have in them is pushed, and these are left, the first of them with a number and
   -- a start; these parts are left
   pub record IsCrossing (whole text : List ℕ) (number : Option ℕ) (start : ℕ) (left : List (List ℕ))
       (rest : List (ℕ × ℕ)) : Type 0 where
-    pub pushed : text ++ across_text layout mark offset bytes number start left rest ≡ whole
+    pub pushed : text ++ across_text layout kind offset bytes number start left rest ≡ whole
     pub fits : start + length (concat left) ≡ length bytes
     pub ordered : AreInOrder 0 (length bytes) rest
 
   -- none is pushed yet
   pub crossing-none : (text : List ℕ) (number : Option ℕ) (left : List (List ℕ)) (parts : List (ℕ × ℕ))
       → left ≡ lines (byte_of layout.terminator) bytes → AreInOrder 0 (length bytes) parts
-      → IsCrossing (text ++ across_text layout mark offset bytes number 0
+      → IsCrossing (text ++ across_text layout kind offset bytes number 0
       (lines (byte_of layout.terminator) bytes) parts) text number 0 left parts
   crossing-none text number left parts same ordered = record {
-    pushed = ap (λ (ls : List (List ℕ)). text ++ across_text layout mark offset bytes number 0 ls parts) same;
+    pushed = ap (λ (ls : List (List ℕ)). text ++ across_text layout kind offset bytes number 0 ls parts) same;
     fits =
         let joined = ap (λ (ls : List (List ℕ)). length (concat ls)) same
         ∙ ap length (lines-joined (byte_of layout.terminator) bytes) in
@@ -148,18 +149,18 @@ module _ (layout : Layout) (mark offset : ℕ) (bytes : List ℕ) where
   pub crossing-more : (whole text : List ℕ) (number : Option ℕ) (start : ℕ) (left : List (List ℕ))
       (rest : List (ℕ × ℕ)) (line : List ℕ) (later : List (List ℕ)) (new : List ℕ)
       → IsCrossing whole text number start left rest → left ≡ line ∷ later
-      → new ≡ text ++ flat_map (clipped_text layout mark offset bytes number
+      → new ≡ text ++ flat_map (clipped_text layout kind offset bytes number
       (start, start + length (strip layout.terminator line))) (parts_after start rest)
       → IsCrossing whole new (next_number number) (start + length line) later (parts_after start rest)
   crossing-more whole text number start left rest line later new crossing is pushed =
-      let clipped = flat_map (clipped_text layout mark offset bytes number
+      let clipped = flat_map (clipped_text layout kind offset bytes number
       (start, start + length (strip layout.terminator line))) (parts_after start rest) in
-      let others = across_text layout mark offset bytes (next_number number) (start + length line) later
+      let others = across_text layout kind offset bytes (next_number number) (start + length line) later
       (parts_after start rest) in
       record {
         pushed = ap (λ (t : List ℕ). t ++ others) pushed ∙ (append_assoc text clipped others
             ∙ (ap (λ (t : List ℕ). text ++ t) (across-after number start start (line ∷ later) rest (omega arith))
-            ∙ (ap (λ (ls : List (List ℕ)). text ++ across_text layout mark offset bytes number start ls rest) (sym is)
+            ∙ (ap (λ (ls : List (List ℕ)). text ++ across_text layout kind offset bytes number start ls rest) (sym is)
             ∙ crossing.pushed)));
         fits = crossing-within whole text number start left rest line later crossing is;
         ordered = ordered-after rest start 0 (length bytes) crossing.ordered;

@@ -1,7 +1,7 @@
 -- The text of a line, with the fields before it, and what is written before the first report of a
 -- search.
 use Rattle.std.specs.Prelude.{ℕ, ◌+◌, ◌-◌, ◌^◌, min, nat_eq, Bool, if◌then◌else◌, List, [], ◌∷◌}
-use Rattle.std.specs.Prelude.{◌++◌, length, decimal, Option, Some, None}
+use Rattle.std.specs.Prelude.{◌++◌, ◌==◌, false, nat_lt, length, codes, decimal, Option, Some, None}
 use Rattle.std.specs.Borrow.{Bor}
 use Rattle.std.specs.List.{ends_with}
 use Rattle.std.specs.Option.{unwrap_or}
@@ -9,6 +9,8 @@ use Rattle.grep_matcher.specs.Lines.{byte_of}
 use Rattle.grep_printer.specs.declared.config.SearchSeparator.{SearchSeparator}
 use Rattle.grep_printer.specs.declared.config.SearchSeparator.TheVariants.{Nothing, Blank, Dashes}
 use Rattle.grep_printer.specs.declared.fields.Layout.{Layout}
+use Rattle.grep_printer.specs.declared.fields.LineKind.{LineKind}
+use Rattle.grep_printer.specs.declared.fields.LineKind.TheVariants.{Match, Context}
 use Rattle.grep_printer.specs.declared.fields.Place.{Place}
 
 -- a number and a mark, if there is a number
@@ -45,6 +47,31 @@ separator_text Nothing terminator = []
 separator_text Blank terminator = terminator ∷ []
 separator_text Dashes terminator = 45 ∷ 45 ∷ terminator ∷ []
 
+-- the byte after each field of a line: a colon in a match, and a dash in any other line
+abbrev pub mark_of : LineKind → ℕ
+mark_of (Match count) = 58
+mark_of (Context count) = 45
+
+-- whether a line has more bytes than are written
+abbrev pub is_long : Option ℕ → List ℕ → Bool
+is_long None line = false
+is_long (Some most) line = nat_lt most (length line)
+
+-- how many parts match of a report with a line that is too long
+abbrev pub counted_notice : ℕ → List ℕ
+counted_notice count = codes "[Omitted long line with " ++ (decimal count ++ codes " matches]")
+
+-- what is written in place of a line that is too long
+abbrev pub notice : LineKind → List ℕ
+notice (Match count) =
+    if count == 0 then codes "[Omitted long matching line]" else counted_notice count
+notice (Context count) =
+    if count == 0 then codes "[Omitted long context line]" else counted_notice count
+
+-- the byte at the end of each line
+abbrev pub end_byte : Layout → ℕ
+end_byte layout = byte_of layout.terminator
+
 module _ (layout : Layout) where
   -- the fields before a line, each with a mark after it: the path, the number, the column and the
   -- offset. A path that is written as a heading isn't among them
@@ -55,26 +82,33 @@ module _ (layout : Layout) where
       ++ (number_field mark place.number ++ (number_field mark place.column
       ++ number_field mark (if layout.config.byte_offset then Some place.offset else None)))
 
-  -- a line after its fields: the mark is a colon in a match, and a dash in any other line
-  abbrev pub line_text : ℕ → Place → List ℕ → List ℕ
-  line_text mark place line = fields mark place ++ ended (byte_of layout.terminator) line
+  -- a line, or a notice if it is too long, with the terminator at its end
+  abbrev pub shown_line : LineKind → List ℕ → List ℕ
+  shown_line kind line =
+      if is_long layout.config.max_columns line
+      then notice kind ++ end_byte layout ∷ []
+      else ended (end_byte layout) line
+
+  -- a line after its fields
+  abbrev pub line_text : LineKind → Place → List ℕ → List ℕ
+  line_text kind place line = fields (mark_of kind) place ++ shown_line kind line
 
   -- the lines of a match, each with its own number and its own offset, and with the column of the
   -- first match in all of them
-  abbrev pub lines_text : Place → List (List ℕ) → List ℕ
-  lines_text place [] = []
-  lines_text place (line ∷ later) =
-      line_text 58 place line ++ lines_text (place_after place line) later
+  abbrev pub lines_text : LineKind → Place → List (List ℕ) → List ℕ
+  lines_text kind place [] = []
+  lines_text kind place (line ∷ later) =
+      line_text kind place line ++ lines_text kind (place_after place line) later
 
   -- the path in a line of its own, if it is written as a heading
   abbrev pub heading_text : List ℕ
   heading_text =
       if layout.config.heading
-      then path_field (unwrap_or layout.config.path_terminator (byte_of layout.terminator)) layout.path
+      then path_field (unwrap_or layout.config.path_terminator (end_byte layout)) layout.path
       else []
 
   -- what is written before the first report of a search, by whether anything was written before it
   abbrev pub opening_text : Bool → List ℕ
   opening_text has_written =
-      (if has_written then separator_text layout.config.separator (byte_of layout.terminator) else [])
+      (if has_written then separator_text layout.config.separator (end_byte layout) else [])
       ++ heading_text

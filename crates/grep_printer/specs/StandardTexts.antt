@@ -30,6 +30,7 @@ default_config = record {
   column = false;
   byte_offset = false;
   only_matching = false;
+  max_columns = None;
   path_terminator = None;
   separator = Nothing;
 }

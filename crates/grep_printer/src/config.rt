@@ -24,6 +24,7 @@ pub(crate) struct Config {
     pub(crate) column: bool,
     pub(crate) byte_offset: bool,
     pub(crate) only_matching: bool,
+    pub(crate) max_columns: Option<u64>,
     pub(crate) path_terminator: Option<u8>,
     pub(crate) separator: SearchSeparator,
 }
@@ -55,6 +56,7 @@ impl StandardBuilder {
                 column: false,
                 byte_offset: false,
                 only_matching: false,
+                max_columns: None,
                 path_terminator: None,
                 separator: SearchSeparator::Nothing,
             },
@@ -110,6 +112,18 @@ impl StandardBuilder {
         ensures set { result.now ≡ record self.old { only_matching = yes } }
     {
         self.config.only_matching = yes;
+        self
+    }
+
+    /// How many bytes a line has at most that is written, with the terminator at its end if it has
+    /// one; by default there is no limit. A notice is written in place of a longer line, or of a
+    /// longer part of one: it says how many parts of the report match, if they are found and aren't
+    /// written themselves.
+    pub fn max_columns(&mut self, most: Option<u64>) -> &mut StandardBuilder
+        ensures reference { result.ghost_name ≡ self.entry.ghost_name }
+        ensures set { result.now ≡ record self.old { max_columns = most } }
+    {
+        self.config.max_columns = most;
         self
     }
 

@@ -3,7 +3,8 @@ ghost use Rattle.std.specs.Prelude.{◌≡◌, ◌+◌, ◌<◌, ◌^◌, ◌∷
 ghost use Rattle.std.specs.Option.{unwrap_or};
 ghost use Rattle.grep_matcher.specs.Lines.{byte_of};
 ghost use Rattle.grep_searcher.specs.Lines.{lines};
-ghost use Rattle.grep_printer.specs.LineTexts.{ended, fields, line_text, lines_text};
+ghost use Rattle.grep_printer.specs.LineTexts.{counted_notice, ended, fields, is_long, line_text};
+ghost use Rattle.grep_printer.specs.LineTexts.{lines_text, mark_of, notice};
 ghost use Rattle.grep_printer.specs.LineTexts.{next_number, number_field, opening_text};
 ghost use Rattle.grep_printer.specs.LineTexts.{path_field, place_after, separator_text};
 
@@ -18,6 +19,28 @@ pub(crate) struct Place {
     pub(crate) number: Option<u64>,
     pub(crate) column: Option<u64>,
     pub(crate) offset: u64,
+}
+
+// What a line belongs to, with how many parts of the report match, or 0 if that isn't known or the
+// parts themselves are written.
+#[derive(Clone, Copy)]
+pub(crate) enum LineKind {
+    // A match.
+    Match(usize),
+    // No match: the line is near one, or every line is reported.
+    Context(usize),
+}
+
+impl LineKind {
+    // The byte after each field of a line.
+    fn mark(&self) -> u8
+        ensures { result ≡ mark_of self.now }
+    {
+        match self {
+            LineKind::Match(_) => b':',
+            LineKind::Context(_) => b'-',
+        }
+    }
 }
 
 // How the lines of a search are laid out: the settings, the path, and what ends a line.
@@ -55,34 +78,39 @@ impl<'p> Layout<'p> {
     pub(crate) fn push_lines(
         &self,
         text: &mut Vec<u8>,
+        kind: LineKind,
         place: Place,
         bytes: &[u8],
     ) -> Result<(), AllocError>
         requires { place.offset + length bytes.now < 2 ^ 64 }
         ensures { OnOk result (text.new.items
             ≡ text.old.items
-            ++ lines_text self.now place (lines (byte_of self.now.terminator) bytes.now)) }
+            ++ lines_text self.now kind place (lines (byte_of self.now.terminator) bytes.now)) }
     {
         let mut place = place;
         for line in LineIter::new(self.terminator.as_byte(), bytes) {
-            self.push_line(text, b':', &place, line)?;
+            self.push_line(text, kind, &place, line)?;
             place = place_after(&place, line);
         }
         Ok(())
     }
 
-    // Pushes a line after its fields.
+    // Pushes a line after its fields, or a notice if it is too long.
     pub(crate) fn push_line(
         &self,
         text: &mut Vec<u8>,
-        mark: u8,
+        kind: LineKind,
         place: &Place,
         line: &[u8],
     ) -> Result<(), AllocError>
         ensures { OnOk result
-            (text.new.items ≡ text.old.items ++ line_text self.now mark place.now line.now) }
+            (text.new.items ≡ text.old.items ++ line_text self.now kind place.now line.now) }
     {
-        self.push_fields(text, mark, place)?;
+        self.push_fields(text, kind.mark(), place)?;
+        if is_long(self.config.max_columns, line) {
+            push_notice(text, kind)?;
+            return text.extend_from_slice(&[self.terminator.as_byte()]);
+        }
         push_ended(text, self.terminator.as_byte(), line)
     }
 
@@ -149,6 +177,37 @@ fn push_ended(text: &mut Vec<u8>, terminator: u8, line: &[u8]) -> Result<(), All
         return Ok(());
     }
     text.extend_from_slice(&[terminator])
+}
+
+// Whether a line has more bytes than are written.
+fn is_long(most: Option<u64>, line: &[u8]) -> bool
+    ensures { result ≡ is_long most line.now }
+{
+    match most {
+        Some(most) => line.len() as u64 > most,
+        None => false,
+    }
+}
+
+// Pushes what is written in place of a line that is too long.
+fn push_notice(text: &mut Vec<u8>, kind: LineKind) -> Result<(), AllocError>
+    ensures { OnOk result (text.new.items ≡ text.old.items ++ notice kind) }
+{
+    match kind {
+        LineKind::Match(0) => text.extend_from_slice(b"[Omitted long matching line]"),
+        LineKind::Context(0) => text.extend_from_slice(b"[Omitted long context line]"),
+        LineKind::Match(count) => push_count(text, count),
+        LineKind::Context(count) => push_count(text, count),
+    }
+}
+
+// Pushes how many parts match of a report with a line that is too long.
+fn push_count(text: &mut Vec<u8>, count: usize) -> Result<(), AllocError>
+    ensures { OnOk result (text.new.items ≡ text.old.items ++ counted_notice count) }
+{
+    text.extend_from_slice(b"[Omitted long line with ")?;
+    push_digits(text, count as u64, b' ')?;
+    text.extend_from_slice(b"matches]")
 }
 
 // Pushes what is written between two searches.

@@ -7,15 +7,15 @@ ghost use Rattle.grep_printer.specs.MatchedParts.{AreInOrder};
 ghost use Rattle.grep_printer.specs.PartTexts.{across_text, clipped_text, part_place, part_text};
 ghost use Rattle.grep_printer.specs.PartTexts.{parts_after, parts_text};
 
-use crate::fields::{Layout, Place, next_number};
+use crate::fields::{Layout, LineKind, Place, next_number};
 use grep_lines::without_terminator;
 use grep_searcher::{LineIter, Match};
 use std::alloc::AllocError;
 
-// A report of which the parts are written: the mark after each field, its offset, and its bytes.
+// A report: what its lines belong to, its offset, and its bytes.
 #[derive(Clone, Copy)]
 pub(crate) struct Report<'r> {
-    pub(crate) mark: u8,
+    pub(crate) kind: LineKind,
     pub(crate) offset: u64,
     pub(crate) bytes: &'r [u8],
 }
@@ -32,7 +32,7 @@ impl<'p> Layout<'p> {
         requires fits { report.now.offset + length report.now.bytes.now < 2 ^ 64 }
         requires ordered { AreInOrder 0 (length report.now.bytes.now) parts.now }
         ensures { OnOk result (text.new.items ≡ text.old.items ++ parts_text self.now
-            report.now.mark report.now.offset report.now.bytes.now number parts.now) }
+            report.now.kind report.now.offset report.now.bytes.now number parts.now) }
     {
         let mut rest = parts;
         while let Some((part, later)) = rest.split_first() {
@@ -53,7 +53,7 @@ impl<'p> Layout<'p> {
         requires fits { report.now.offset + length report.now.bytes.now < 2 ^ 64 }
         requires ordered { AreInOrder 0 (length report.now.bytes.now) parts.now }
         ensures { OnOk result (text.new.items ≡ text.old.items ++ across_text self.now
-            report.now.mark report.now.offset report.now.bytes.now number 0
+            report.now.kind report.now.offset report.now.bytes.now number 0
             (lines (byte_of self.now.terminator) report.now.bytes.now) parts.now) }
     {
         let mut number = number;
@@ -82,7 +82,7 @@ impl<'p> Layout<'p> {
         requires within { range.now.1 ≤ length report.now.bytes.now }
         requires ordered { AreInOrder 0 (length report.now.bytes.now) parts.now }
         ensures { OnOk result (text.new.items ≡ text.old.items
-            ++ flat_map (clipped_text self.now report.now.mark report.now.offset
+            ++ flat_map (clipped_text self.now report.now.kind report.now.offset
             report.now.bytes.now number range.now) parts.now) }
     {
         let mut rest = parts;
@@ -109,7 +109,7 @@ impl<'p> Layout<'p> {
         requires part_within { part.now.1 ≤ length report.now.bytes.now }
         requires within { range.now.1 ≤ length report.now.bytes.now }
         ensures { OnOk result (text.new.items ≡ text.old.items
-            ++ clipped_text self.now report.now.mark report.now.offset report.now.bytes.now
+            ++ clipped_text self.now report.now.kind report.now.offset report.now.bytes.now
             number range.now part.now) }
     {
         let start = part.start().max(range.start());
@@ -118,7 +118,7 @@ impl<'p> Layout<'p> {
             return Ok(());
         }
         let place = self.part_place(report, number, part);
-        self.push_line(text, report.mark, &place, &report.bytes[start..end])
+        self.push_line(text, report.kind, &place, &report.bytes[start..end])
     }
 
     // Pushes a part in a line of its own.
@@ -132,12 +132,12 @@ impl<'p> Layout<'p> {
         requires fits { report.now.offset + length report.now.bytes.now < 2 ^ 64 }
         requires within { part.now.1 ≤ length report.now.bytes.now }
         ensures { OnOk result (text.new.items ≡ text.old.items ++ part_text self.now
-            report.now.mark report.now.offset report.now.bytes.now number part.now) }
+            report.now.kind report.now.offset report.now.bytes.now number part.now) }
     {
         let place = self.part_place(report, number, part);
         self.push_line(
             text,
-            report.mark,
+            report.kind,
             &place,
             &report.bytes[part.start()..part.end()],
         )
@@ -147,7 +147,7 @@ impl<'p> Layout<'p> {
     fn part_place(&self, report: &Report<'_>, number: Option<u64>, part: &Match) -> Place
         requires fits { report.now.offset + length report.now.bytes.now < 2 ^ 64 }
         requires within { part.now.1 ≤ length report.now.bytes.now }
-        ensures { result ≡ part_place self.now report.now.mark report.now.offset
+        ensures { result ≡ part_place self.now report.now.kind report.now.offset
             report.now.bytes.now number part.now }
     {
         let start = part.start() as u64;

@@ -1,11 +1,11 @@
 //! The printer of lines.
 ghost use Rattle.std.specs.Prelude.{◌≡◌, ◌⊎◌, ◌+◌, ◌<◌, ◌^◌, ◌&&◌, ◌||◌, ◌∷◌, true, false, []};
-ghost use Rattle.std.specs.Prelude.{OnOk, is_ok, IfErr, MatchResult, length};
+ghost use Rattle.std.specs.Prelude.{OnOk, is_ok, IfErr, MatchResult, length, not};
 ghost use Rattle.std.specs.Prelude.{if◌then◌else◌, ◌++◌, codes, decimal};
 ghost use Rattle.grep_report.specs.SinkReports.{match_bytes};
 ghost use Rattle.grep_searcher.specs.SearchErrors.{IsOutOfMemory};
 ghost use Rattle.grep_searcher.specs.SinkArguments.{context_call, match_call};
-ghost use Rattle.grep_output.specs.Outputs.{Writes};
+ghost use Rattle.grep_output.specs.Outputs.{Writes, flushes};
 ghost use Rattle.grep_printer.specs.LineTexts.{opening_text};
 ghost use Rattle.grep_printer.specs.MatchedParts.{AreInOrder};
 ghost use Rattle.grep_printer.specs.PartTexts.{column_of, context_text, match_text, writes_parts};
@@ -16,7 +16,7 @@ ghost use Rattle.grep_printer.specs.StandardTexts.{is_hidden, is_text, layout_of
 ghost use Rattle.grep_printer.specs.StandardTexts.{parts_of, path_prefix};
 
 use crate::config::Config;
-use crate::fields::{Layout, Place, push_digits};
+use crate::fields::{Layout, LineKind, Place, push_digits};
 use crate::parts::find_parts;
 use crate::reports::Report;
 use grep_lines::without_terminator;
@@ -102,13 +102,6 @@ impl<W> Standard<W> {
         self.has_failed
     }
 
-    /// The writer.
-    pub fn get_mut(&mut self) -> &mut W
-        ensures now { result.now ≡ self.old.writer }
-    {
-        &mut self.writer
-    }
-
     // Begins a text, which is empty but for the opening before the first report of a search.
     fn open(&mut self, layout: &Layout<'_>, progress: &Progress) -> Result<(), AllocError>
         ensures writer { self.new.writer ≡ self.old.writer }
@@ -145,13 +138,14 @@ impl<W> Standard<W> {
     {
         let number = found.line_number();
         let report = Report {
-            mark: b':',
+            kind: LineKind::Match(0),
             offset: found.absolute_byte_offset(),
             bytes: found.bytes(),
         };
         if !self.writes_parts(layout) {
             let place = self.place(layout, number, &report);
-            return layout.push_lines(&mut self.text, place, report.bytes);
+            let kind = LineKind::Match(self.parts.len());
+            return layout.push_lines(&mut self.text, kind, place, report.bytes);
         }
         if is_across {
             return layout.push_across(&mut self.text, &report, number, &self.parts);
@@ -177,13 +171,14 @@ impl<W> Standard<W> {
     {
         let number = line.line_number();
         let report = Report {
-            mark: b'-',
+            kind: LineKind::Context(0),
             offset: line.absolute_byte_offset(),
             bytes: line.bytes(),
         };
         if !self.writes_parts(layout) {
             let place = self.place(layout, number, &report);
-            return layout.push_line(&mut self.text, report.mark, &place, report.bytes);
+            let kind = LineKind::Context(self.parts.len());
+            return layout.push_line(&mut self.text, kind, &place, report.bytes);
         }
         layout.push_parts(&mut self.text, &report, number, &self.parts)
     }
@@ -266,6 +261,18 @@ impl<W> Standard<W> {
 }
 
 impl<W: Output> Standard<W> {
+    /// Flushes the writer. An error is the writer's own.
+    pub fn flush(&mut self) -> io::Result<()>
+        ensures flushed { W.step self.old.writer (flushes result) self.new.writer }
+        ensures config { self.new.config ≡ self.old.config }
+        ensures has_written { self.new.has_written ≡ self.old.has_written }
+        ensures has_failed { self.new.has_failed ≡ (self.old.has_failed || not (is_ok result)) }
+    {
+        let flushed = self.writer.flush();
+        self.has_failed = self.has_failed || flushed.is_err();
+        flushed
+    }
+
     // Writes the text at hand.
     fn write_text(&mut self) -> io::Result<()>
         ensures written { Writes W.step self.old.writer self.old.text.items result self.new.writer }
@@ -373,8 +380,8 @@ impl<'s, M: FindAt, W: Output> StandardSink<'s, M, W> {
 
     // Whether reports aren't written any more.
     fn is_hidden<A: Allocator + Copy>(&self, searcher: &Searcher<A>) -> bool
-        ensures { result
-            ≡ is_hidden (frame_of M.facts M.first_at self.now searcher.now.settings) self.now.progress }
+        ensures { result ≡ is_hidden
+            (frame_of M.facts M.first_at self.now searcher.now.settings) self.now.progress }
     {
         self.progress.binary.is_some() && searcher.binary_detection().convert_byte().is_some()
     }

@@ -1,6 +1,7 @@
 //! The printer of summaries: counts, and paths.
-ghost use Rattle.std.specs.Prelude.{◌≡◌, ◌++◌, ◌∷◌, [], false, true, OnOk, if◌then◌else◌, is_ok};
-ghost use Rattle.grep_output.specs.Outputs.{Writes};
+ghost use Rattle.std.specs.Prelude.{◌≡◌, ◌++◌, ◌∷◌, ◌||◌, [], false, true, OnOk, if◌then◌else◌};
+ghost use Rattle.std.specs.Prelude.{is_ok, not};
+ghost use Rattle.grep_output.specs.Outputs.{Writes, flushes};
 ghost use Rattle.grep_printer.specs.SummaryTexts;
 ghost use Rattle.grep_printer.specs.SummaryTexts.{finish_text, has_found, path_line};
 
@@ -79,13 +80,6 @@ impl<W> Summary<W> {
         self.has_failed
     }
 
-    /// The writer.
-    pub fn get_mut(&mut self) -> &mut W
-        ensures now { result.now ≡ self.old.writer }
-    {
-        &mut self.writer
-    }
-
     // Makes the text of a search that has ended, with so many matches.
     fn compose(
         &mut self,
@@ -132,6 +126,18 @@ impl<W> Summary<W> {
 }
 
 impl<W: Output> Summary<W> {
+    /// Flushes the writer. An error is the writer's own.
+    pub fn flush(&mut self) -> io::Result<()>
+        ensures flushed { W.step self.old.writer (flushes result) self.new.writer }
+        ensures kind { self.new.kind ≡ self.old.kind }
+        ensures path_terminator { self.new.path_terminator ≡ self.old.path_terminator }
+        ensures has_failed { self.new.has_failed ≡ (self.old.has_failed || not (is_ok result)) }
+    {
+        let flushed = self.writer.flush();
+        self.has_failed = self.has_failed || flushed.is_err();
+        flushed
+    }
+
     // Writes the text at hand.
     fn write_text(&mut self) -> io::Result<()>
         ensures written { Writes W.step self.old.writer self.old.text.items result self.new.writer }

@@ -169,7 +169,7 @@ const SWITCHES: [Switch; 28] = [
     },
 ];
 
-const VALUED: [Valued; 8] = [
+const VALUED: [Valued; 9] = [
     Valued {
         name: "regexp",
         letter: Some('e'),
@@ -197,6 +197,13 @@ const VALUED: [Valued; 8] = [
         value: "NUM",
         kind: Kind::Number,
         help: "Stop in a file after NUM matched lines",
+    },
+    Valued {
+        name: "max-columns",
+        letter: Some('M'),
+        value: "NUM",
+        kind: Kind::Number,
+        help: "Write a notice in place of lines of more than NUM bytes; 0 is no limit",
     },
     Valued {
         name: "after-context",

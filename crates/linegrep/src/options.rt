@@ -60,6 +60,7 @@ pub fn build_printer<W>(
         .column(matches.get_flag("column"))
         .byte_offset(matches.get_flag("byte-offset"))
         .only_matching(matches.get_flag("only-matching"))
+        .max_columns(max_columns(matches))
         .path_terminator(terminator)
         .separator_search(separator(matches, heading));
     Printer::Lines(builder.build(alloc, writer))
@@ -143,6 +144,14 @@ fn binary_detection(matches: &ArgMatches<'_>) -> BinaryDetection {
         BinaryDetection::none()
     } else {
         BinaryDetection::convert(0)
+    }
+}
+
+// How many bytes a line has at most that is written. 0 is no limit.
+fn max_columns(matches: &ArgMatches<'_>) -> Option<u64> {
+    match matches.get_one::<u64>("max-columns") {
+        Some(0) => None,
+        most => most,
     }
 }
 

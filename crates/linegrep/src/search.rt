@@ -223,8 +223,8 @@ impl<W: Output> Printer<W> {
     // Writes what the writer keeps.
     fn flush(&mut self) -> io::Result<()> {
         match self {
-            Printer::Lines(printer) => printer.get_mut().flush(),
-            Printer::Summary(printer) => printer.get_mut().flush(),
+            Printer::Lines(printer) => printer.flush(),
+            Printer::Summary(printer) => printer.flush(),
         }
     }
 }

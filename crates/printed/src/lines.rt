@@ -1,7 +1,7 @@
 //! Searches whose lines are written.
 use crate::files::{FILES, compile};
 use crate::write_title;
-use grep_output::{Output, Writing};
+use grep_output::Writing;
 use grep_printer::{SearchSeparator, StandardBuilder};
 use grep_searcher::{SearchError, SearcherBuilder};
 
@@ -55,6 +55,23 @@ pub fn write_parts(rt: &HostRuntime) -> Result<(), SearchError> {
     )
 }
 
+/// Writes lines that are no longer than a limit, and notices in place of longer ones.
+pub fn write_limited(rt: &HostRuntime) -> Result<(), SearchError> {
+    let mut searcher = SearcherBuilder::new();
+    searcher.before_context(1).after_context(1);
+    let mut printer = StandardBuilder::new();
+    printer
+        .max_columns(Some(8))
+        .separator_search(SearchSeparator::Dashes);
+    write_lines(rt, "-n -C1 -M8 baz", &searcher, &printer, "baz")?;
+    printer.column(true);
+    write_lines(rt, "-n -C1 -M8 --column foo", &searcher, &printer, "foo")?;
+    searcher.invert_match(true);
+    write_lines(rt, "-n -C1 -M8 -v --column foo", &searcher, &printer, "foo")?;
+    printer.only_matching(true);
+    write_lines(rt, "-n -C1 -M8 -v -o --column foo.*", &searcher, &printer, "foo.*")
+}
+
 /// Writes the lines of matches across lines, and the parts of them.
 pub fn write_across(rt: &HostRuntime) -> Result<(), SearchError> {
     let mut searcher = SearcherBuilder::new();
@@ -102,6 +119,6 @@ fn write_lines(
         let mut sink = printer.sink(&matcher, Some(path));
         searcher.search_slice(&matcher, text, &mut sink)?;
     }
-    printer.get_mut().flush()?;
+    printer.flush()?;
     Ok(())
 }

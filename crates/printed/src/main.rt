@@ -24,6 +24,7 @@ fn main(rt: HostRuntime) -> ExitCode {
 fn write_all(rt: &HostRuntime) -> Result<(), SearchError> {
     lines::write_fields(rt)?;
     lines::write_parts(rt)?;
+    lines::write_limited(rt)?;
     lines::write_across(rt)?;
     summaries::write_summaries(rt)?;
     Ok(())

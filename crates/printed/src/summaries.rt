@@ -1,7 +1,7 @@
 //! Searches of which a summary is written.
 use crate::files::{FILES, compile};
 use crate::write_title;
-use grep_output::{Output, Writing};
+use grep_output::Writing;
 use grep_printer::{Summary, SummaryKind};
 use grep_searcher::{SearchError, SearcherBuilder};
 
@@ -35,6 +35,6 @@ fn write_summary(
         let mut sink = printer.sink(Some(path));
         searcher.search_slice(&matcher, text, &mut sink)?;
     }
-    printer.get_mut().flush()?;
+    printer.flush()?;
     Ok(())
 }

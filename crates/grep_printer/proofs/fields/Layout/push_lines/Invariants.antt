@@ -4,5 +4,6 @@ use Rattle.grep_printer.proofs.TextLemmas.{IsPushing}
 use Rattle.grep_printer.proofs.fields.Layout.push_lines.Given as goal
 
 abbrev pub invariant-loop-line : goal.invariant-loop-line
-invariant-loop-line l = IsPushing l.fn.self l.fn.text.items l.fn.place (lines (byte_of l.fn.self.terminator) l.fn.bytes)
+invariant-loop-line l =
+    IsPushing l.fn.self l.fn.kind l.fn.text.items l.fn.place (lines (byte_of l.fn.self.terminator) l.fn.bytes)
     l.text.items l.place l.line-iterator
