@@ -4,5 +4,6 @@ pub mod PartLemmas
 pub mod PartTextLemmas
 pub mod PrintedRunLemmas
 pub mod RunFoldLemmas
+pub mod SuccessiveLemmas
 pub mod SummaryLemmas
 pub mod TextLemmas

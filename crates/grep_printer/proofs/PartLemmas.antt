@@ -62,7 +62,7 @@ module _ (first_at : ℕ → Option (ℕ × ℕ)) (size limit : ℕ) where
       record { count = size + 1; enough = omega arith; found = refl; ordered = tt; behind = omega arith }
 
   -- one more search finds a match: its part, unless the match is passed over, and then those after
-  from-found : (count position : ℕ) (end : Option ℕ) (found : ℕ × ℕ)
+  pub from-found : (count position : ℕ) (end : Option ℕ) (found : ℕ × ℕ)
       → found_from first_at size limit position ≡ Some found
       → parts_from first_at size limit (suc count) position end
       ≡ with_part end found (parts_from first_at size limit count (position_after found) (Some found.1))

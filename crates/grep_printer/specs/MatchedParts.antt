@@ -2,7 +2,7 @@
 use Rattle.std.specs.Prelude.{◌≡◌, ℕ, zero, suc, ◌+◌, ◌≤◌, ◌&&◌, ◌==◌, Bool, false, if◌then◌else◌}
 use Rattle.std.specs.Prelude.{nat_lt, nat_le, List, [], ◌∷◌, Option, Some, None, String}
 use Rattle.std.specs.Global.{Global}
-use Rattle.std.specs.Option.{option_map_or}
+use Rattle.std.specs.Option.{option_and_then, option_map_or}
 use Rattle.grep_searcher.specs.declared.SearchError.{SearchError}
 use Rattle.grep_searcher.specs.declared.SearchError.TheVariants.{Message}
 
@@ -49,6 +49,31 @@ module _ (first_at : ℕ → Option (ℕ × ℕ)) (size limit : ℕ) where
   -- empty, and an empty match isn't a part if the one before ended there
   unfoldable pub parts_in : List (ℕ × ℕ)
   parts_in = parts_from (size + 1) 0 None
+
+  -- the first match from a position on that is a part, where the match before may have ended
+  abbrev pub next_part : ℕ → Option ℕ → Option (ℕ × ℕ)
+  next_part position end = option_and_then
+      (λ found. if is_passed end found then found_from (position_after found) else Some found)
+      (found_from position)
+
+  -- each part is the next one after the part before it, and there is none after the last
+  abbrev pub AreSuccessive : ℕ → Option ℕ → List (ℕ × ℕ) → Type 0
+  AreSuccessive position end [] = next_part position end ≡ None
+  AreSuccessive position end (part ∷ later) =
+      (next_part position end ≡ Some part)
+      × AreSuccessive (position_after part) (Some part.1) later
+
+  -- a match that is found lies in the bytes, and starts at the position or after it
+  abbrev pub FindsFrom : Type 0
+  FindsFrom =
+      (position : ℕ) (found : ℕ × ℕ) → first_at position ≡ Some found
+      → (position ≤ found.0) × (found.0 ≤ found.1) × (found.1 ≤ size)
+
+-- the parts are successive matches
+abbrev pub PartsAreSuccessive : Type 0
+PartsAreSuccessive =
+    (first_at : ℕ → Option (ℕ × ℕ)) (size limit : ℕ) → FindsFrom first_at size limit
+    → AreSuccessive first_at size limit 0 None (parts_in first_at size limit)
 
 -- an error is the matcher's, for some bytes, as a message
 abbrev pub IsMessageOf : {F : Type 0} → (List ℕ → F → Type 0) → List ℕ → SearchError Global

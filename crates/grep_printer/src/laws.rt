@@ -1,5 +1,6 @@
 //! What the printers make of a search: each law is the contract of a function that does nothing.
 ghost use Rattle.grep_printer.specs.JsonSteps.{RunsPrintJson};
+ghost use Rattle.grep_printer.specs.MatchedParts.{PartsAreSuccessive};
 ghost use Rattle.grep_printer.specs.StandardSteps.{RunsPrint};
 ghost use Rattle.grep_printer.specs.SummarySteps.{RunsSumUp};
 
@@ -10,6 +11,14 @@ use grep_searcher::{FindAt, Matcher};
 /// call, in order, up to the first after which the search doesn't go on, and of `finish`.
 pub fn runs_print<M: FindAt, W: Output>()
     ensures { RunsPrint M.facts M.first_at W.step }
+{}
+
+/// The parts that a `Standard` writes or counts are successive matches: each is the first from where
+/// the one before ended, or from one byte later if that one is empty, and isn't an empty one where
+/// the one before ended; after the last there is none. That is so of a matcher whose matches lie in
+/// the bytes and start no earlier than it was asked.
+pub fn parts_are_successive()
+    ensures { PartsAreSuccessive }
 {}
 
 /// A run of the sink of a `Summary` that ended in `Ok` has counted the matches up to the first

@@ -1,0 +1,129 @@
+-- The parts of some bytes are successive matches.
+use Rattle.std.proofs.Common.{◌≡◌, ◌⊎◌, inl, inr, ℕ, zero, suc, ◌+◌, ◌≤◌, List, [], ◌∷◌, Option, Some, None, Bool}
+use Rattle.std.proofs.Common.{true, false, arith, ap, sym, ◌∙◌, refl, subst}
+use Rattle.std.proofs.lemmas.Bool.Decides.{nat_tests}
+use Rattle.std.specs.Option.{option_and_then, option_map_or}
+use Rattle.std.specs.Prelude.{IfSome, if◌then◌else◌, nat_le, nat_lt, ◌==◌, ◌&&◌}
+use Rattle.grep_printer.proofs.PartLemmas.{after-later, from-found}
+use Rattle.grep_printer.specs.MatchedParts.{AreSuccessive, FindsFrom, PartsAreSuccessive, below, found_from, is_passed}
+use Rattle.grep_printer.specs.MatchedParts.{next_part, parts_from, parts_in, position_after, with_part}
+
+-- a match below a limit is the match
+below-is : (limit : ℕ) (first : Option (ℕ × ℕ)) (found : ℕ × ℕ) → below limit first ≡ Some found → first ≡ Some found
+below-is limit None found is = absurd (cc)
+below-is limit (Some other) found is = go (nat_lt other.0 limit) is
+  where
+    go : (low : Bool) → (if low then Some other else None) ≡ Some found → Some other ≡ Some found
+    go true is = is
+    go false is = absurd (cc)
+
+-- after a match that is passed over the search goes on one byte later
+passed-after : (end : Option ℕ) (found : ℕ × ℕ) → is_passed end found ≡ true → position_after found ≡ found.1 + 1
+passed-after None found passed = absurd (cc)
+passed-after (Some at) found passed = grind (arith, nat_tests)
+
+-- so the next match isn't passed over
+later-kept : (found other : ℕ × ℕ) → found.1 + 1 ≤ other.1 → is_passed (Some found.1) other ≡ false
+later-kept found other later = grind (arith, nat_tests)
+
+module _ (first_at : ℕ → Option (ℕ × ℕ)) (size limit : ℕ) (finds : FindsFrom first_at size limit) where
+  -- a match that is found is in order
+  found-lies : (position : ℕ) (found : ℕ × ℕ) → found_from first_at size limit position ≡ Some found
+      → (position ≤ found.0) × (found.0 ≤ found.1) × (found.1 ≤ size)
+  found-lies position found is = go (nat_le position size) is
+    where
+      go : (low : Bool) → (if low then below limit (first_at position) else None) ≡ Some found
+          → (position ≤ found.0) × (found.0 ≤ found.1) × (found.1 ≤ size)
+      go true is = finds position found (below-is limit (first_at position) found is)
+      go false is = absurd (cc)
+
+  -- which parts are successive depends on the next part alone
+  are-same : (position other : ℕ) (end before : Option ℕ) (parts : List (ℕ × ℕ))
+      → next_part first_at size limit position end ≡ next_part first_at size limit other before
+      → AreSuccessive first_at size limit other before parts → AreSuccessive first_at size limit position end parts
+  are-same position other end before [] same are = same ∙ are
+  are-same position other end before (part ∷ later) same are = (same ∙ are.0, are.1)
+
+  -- after a match that is passed over the next part is the next match
+  next-passed : (position : ℕ) (end : Option ℕ) (found : ℕ × ℕ) → found_from first_at size limit position ≡ Some found
+      → is_passed end found ≡ true
+      → next_part first_at size limit position end
+      ≡ next_part first_at size limit (position_after found) (Some found.1)
+  next-passed position end found is passed =
+      ap (λ (f : Option (ℕ × ℕ)). option_and_then
+      (λ m. if is_passed end m then found_from first_at size limit (position_after m) else Some m) f) is
+      ∙ (ap (λ b. if b then found_from first_at size limit (position_after found) else Some found) passed
+      ∙ sym (kept (found_from first_at size limit (position_after found)) refl))
+    where
+      kept : (next : Option (ℕ × ℕ)) → found_from first_at size limit (position_after found) ≡ next
+          → option_and_then
+          (λ m. if is_passed (Some found.1) m then found_from first_at size limit (position_after m) else Some m) next
+          ≡ next
+      kept None none = refl
+      kept (Some other) some =
+          let lies = found-lies (position_after found) other some in
+          let after = passed-after end found passed in
+          let later : found.1 + 1 ≤ other.1 = omega (arith, after, lies.0, lies.1) in
+          ap (λ b. if b then found_from first_at size limit (position_after other) else Some other)
+          (later-kept found other later)
+
+  -- a match that is found is the next part, unless it is passed over
+  with-one : (position : ℕ) (end : Option ℕ) (found : ℕ × ℕ) (later : List (ℕ × ℕ))
+      → found_from first_at size limit position ≡ Some found
+      → AreSuccessive first_at size limit (position_after found) (Some found.1) later
+      → AreSuccessive first_at size limit position end (with_part end found later)
+  with-one position end found later is are = go (is_passed end found) refl
+    where
+      go : (passed : Bool) → is_passed end found ≡ passed
+          → AreSuccessive first_at size limit position end (if passed then later else found ∷ later)
+      go true passed =
+          are-same position (position_after found) end (Some found.1) later (next-passed position end found is passed) are
+      go false kept = (
+        ap (λ (f : Option (ℕ × ℕ)). option_and_then
+            (λ m. if is_passed end m then found_from first_at size limit (position_after m) else Some m) f) is
+            ∙ ap (λ b. if b then found_from first_at size limit (position_after found) else Some found) kept,
+        are,
+      )
+
+  -- without a match there is no part
+  without-one : (position : ℕ) (end : Option ℕ) → found_from first_at size limit position ≡ None
+      → AreSuccessive first_at size limit position end []
+  without-one position end none = ap (λ (f : Option (ℕ × ℕ)). option_and_then
+      (λ m. if is_passed end m then found_from first_at size limit (position_after m) else Some m) f) none
+
+  -- so many searches find the successive parts, if they reach the end
+  from-are : (count position : ℕ) (end : Option ℕ) → size + 1 ≤ position + count
+      → AreSuccessive first_at size limit position end (parts_from first_at size limit count position end)
+  from-are zero position end enough = without-one position end (go (nat_le position size) refl)
+    where
+      go : (low : Bool) → nat_le position size ≡ low
+          → (if low then below limit (first_at position) else None) ≡ None
+      go true low = absurd (grind (arith, nat_tests))
+      go false low = refl
+  from-are (suc count) position end enough =
+      go (found_from first_at size limit position) refl
+      (λ (found : ℕ × ℕ) more. from-are count (position_after found) (Some found.1) more)
+    where
+      go : (first : Option (ℕ × ℕ)) → found_from first_at size limit position ≡ first
+          → ((found : ℕ × ℕ) → size + 1 ≤ position_after found + count
+          → AreSuccessive first_at size limit (position_after found) (Some found.1)
+          (parts_from first_at size limit count (position_after found) (Some found.1)))
+          → AreSuccessive first_at size limit position end
+          (parts_from first_at size limit (suc count) position end)
+      go None none later = subst (AreSuccessive first_at size limit position end)
+          (sym (ap (λ (f : Option (ℕ × ℕ)). option_map_or
+          (λ m. with_part end m (parts_from first_at size limit count (position_after m) (Some m.1))) f []) none))
+          (without-one position end none)
+      go (Some found) is later =
+          let lies = found-lies position found is in
+          let after : position + 1 ≤ position_after found = after-later position found lies.0 lies.1 in
+          subst (AreSuccessive first_at size limit position end)
+          (sym (from-found first_at size limit count position end found is))
+          (with-one position end found
+          (parts_from first_at size limit count (position_after found) (Some found.1)) is
+          (later found (omega (arith, after, enough))))
+
+-- all of them
+pub parts-are-successive : PartsAreSuccessive
+unfolding parts_in
+parts-are-successive first_at size limit finds = from-are first_at size limit finds (size + 1) 0 None (omega arith)
