@@ -5,5 +5,6 @@ pub mod InputSearchLemmas
 pub mod LentMatchLemmas
 pub mod LineCountLemmas
 pub mod MatchHandlerLemmas
+pub mod PassedCallLemmas
 pub mod SourceSearchLemmas
 pub mod ViewLemmas

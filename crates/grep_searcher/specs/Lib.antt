@@ -4,6 +4,7 @@ pub mod HitLines
 pub mod LentMatches
 pub mod LineCounts
 pub mod MatchHandlers
+pub mod PassedCalls
 pub use Rattle.grep_definitions.specs.Settings
 pub use Rattle.grep_definitions.specs.BuiltSettings
 pub use Rattle.grep_definitions.specs.Plans

@@ -12,6 +12,7 @@ ghost use Rattle.grep_searcher.specs.LineCounts.{ReadersCountLines};
 ghost use Rattle.grep_searcher.specs.MatchHandlers.{RunsHandle, RunsFindSelected, RunsCollect};
 ghost use Rattle.grep_searcher.specs.MatchHandlers.{RunsCollectLines, RunsHandFirst};
 ghost use Rattle.grep_searcher.specs.MatchHandlers.{RunsHandFirstLines};
+ghost use Rattle.grep_searcher.specs.PassedCalls.{ClosuresKeepCalls};
 ghost use Rattle.grep_definitions.specs.FileSearches.{IsFileRead};
 ghost use Rattle.grep_definitions.specs.SinkFolds.{RunsFold, RunsFoldAll, RunsFoldMatches};
 ghost use Rattle.grep_definitions.specs.SinkFolds.{SearchesRun, ReaderSearchesRun, SearchesFail};
@@ -19,7 +20,7 @@ ghost use Rattle.grep_definitions.specs.SinkFolds.{ReaderSearchesFail, KnownRead
 ghost use Rattle.grep_report.specs.ErrorMakers.{makers_of};
 
 use crate::sink::Sink;
-use crate::sinks::{Bytes, Lossy, MatchHandler, Matches, UTF8};
+use crate::sinks::{Bytes, Calls, Lossy, MatchHandler, Matches, SinkCall, UTF8};
 use grep_decode::Source;
 pub use grep_definitions::laws::{
     after_wins, after_wins_across, at_most_limit, at_most_limit_across, counted_reports_are_clear,
@@ -162,6 +163,13 @@ pub fn bytes_closures_keep_calls<F: FnMut(u64, &[u8]) -> Result<bool, io::Error>
 pub fn matches_are_lent<F: FnMut(&SinkMatch<'_>) -> Result<bool, io::Error>>(_: &Matches<F>)
     ensures lent { ClosuresAreLent F.step (λ (s : Matches F). s.0) }
     ensures kept { ClosuresKeepMatches F.step (λ (s : Matches F). s.0) }
+{}
+
+/// If each call of the closure of `Calls` that returns goes on and adds the call to what is kept,
+/// through one reference, a run that ended in `Ok` adds all calls of the plan, and the end. Pass
+/// the sink, since a closure's type has no name.
+pub fn calls_are_passed<F: FnMut(SinkCall<'_>) -> Result<bool, io::Error>>(_: &Calls<F>)
+    ensures { ClosuresKeepCalls F.step (λ (s : Calls F). s.0) }
 {}
 
 /// Without binary detection, a search of a slice with a lawful matcher, if it ended in `Ok`, is a

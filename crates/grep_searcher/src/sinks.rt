@@ -7,6 +7,7 @@ ghost use Rattle.std.specs.Prelude.{◌≡◌, Some, None, MatchResult};
 ghost use Rattle.std.specs.IoError.{error_kind};
 ghost use Rattle.std.specs.declared.io.ErrorKind.TheVariants.{Other};
 
+mod calls;
 mod collect;
 mod count;
 mod first;
@@ -17,6 +18,7 @@ mod on_match;
 
 use crate::searcher::Searcher;
 use crate::sink::Sink;
+pub use calls::{Calls, SinkCall};
 pub use collect::Collect;
 pub use count::Count;
 pub use first::First;

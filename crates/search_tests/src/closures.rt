@@ -1,7 +1,7 @@
 //! Sinks that call a closure, and boxed sinks.
 use crate::searches::search_slice;
 use grep_matcher::LiteralMatcher;
-use grep_searcher::sinks::{Bytes, Lossy, Matches, UTF8};
+use grep_searcher::sinks::{Bytes, Calls as EachCall, Lossy, Matches, SinkCall, UTF8};
 use grep_searcher::{SearchError, Searcher, SearcherBuilder, Sink, SinkError, SinkMatch};
 use grep_testing::Recorder;
 use std::alloc::{AllocError, Global};
@@ -207,6 +207,22 @@ fn first_offset(alloc: Global, bytes: &[u8]) -> io::Result<u64> {
 #[test]
 fn a_match_is_lent(rt: HostRuntime) {
     assert!(rt; matches!(first_offset(rt.alloc(), b"b\na\na\n"), Ok(2)));
+}
+
+// How many calls a search makes.
+fn call_count(alloc: Global, bytes: &[u8]) -> io::Result<u64> {
+    let mut calls: u64 = 0;
+    let mut sink = EachCall(|_: SinkCall<'_>| {
+        calls = calls.saturating_add(1);
+        Ok(true)
+    });
+    search_for_a(alloc, true, bytes, &mut sink)?;
+    Ok(calls)
+}
+
+#[test]
+fn each_call_is_passed(rt: HostRuntime) {
+    assert!(rt; matches!(call_count(rt.alloc(), b"b\na\n"), Ok(3)));
 }
 
 // Whether a search with contexts makes these calls of a recorder in a box.
