@@ -1,9 +1,9 @@
 //! The printer of JSON.
 ghost use Rattle.std.specs.Prelude.{◌≡◌, ◌⊎◌, ◌≤◌, ◌++◌, [], All, IfErr, MatchResult, OnErr, OnOk};
-ghost use Rattle.std.specs.Prelude.{if◌then◌else◌, is_ok, length, true, false};
+ghost use Rattle.std.specs.Prelude.{◌||◌, if◌then◌else◌, is_ok, length, not, true, false};
 ghost use Rattle.grep_searcher.specs.SearchErrors.{IsOutOfMemory};
 ghost use Rattle.grep_searcher.specs.SinkArguments.{context_call, match_call};
-ghost use Rattle.grep_output.specs.Outputs.{Writes};
+ghost use Rattle.grep_output.specs.Outputs.{Writes, flushes};
 ghost use Rattle.grep_printer.specs.JsonMessages.{begin_json, end_json, json_line, report_json};
 ghost use Rattle.grep_printer.specs.JsonMessages.{summary_json};
 ghost use Rattle.grep_printer.specs.JsonSteps.{FailsToWriteJson, FailsToWriteText, IsSameJson};
@@ -113,13 +113,6 @@ impl<W> Json<W> {
         self.has_failed
     }
 
-    /// The writer.
-    pub fn get_mut(&mut self) -> &mut W
-        ensures now { result.now ≡ self.old.writer }
-    {
-        &mut self.writer
-    }
-
     /// The writer back.
     pub fn into_inner(self) -> W
         ensures { result ≡ self.writer }
@@ -204,6 +197,17 @@ impl<W: Output> Json<W> {
         self.text = add_summary(alloc, text, stats, nanoseconds(elapsed))?;
         self.write_text()?;
         Ok(())
+    }
+
+    /// Flushes the writer. An error is the writer's own.
+    pub fn flush(&mut self) -> io::Result<()>
+        ensures flushed { W.step self.old.writer (flushes result) self.new.writer }
+        ensures always_begin_end { self.new.always_begin_end ≡ self.old.always_begin_end }
+        ensures has_failed { self.new.has_failed ≡ (self.old.has_failed || not (is_ok result)) }
+    {
+        let flushed = self.writer.flush();
+        self.has_failed = self.has_failed || flushed.is_err();
+        flushed
     }
 
     // Writes the message that a search ends.
