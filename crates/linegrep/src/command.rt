@@ -1,6 +1,6 @@
 //! The command line.
 use clap::{Arg, ArgAction, Command, Error, value_parser};
-use std::alloc::Global;
+use std::alloc::{AllocError, Global};
 
 // An option without a value: its name, its letter if it has one, and what it is for.
 struct Switch {
@@ -246,7 +246,8 @@ pub fn command<'a>(alloc: Global) -> Result<Command<'a>, Error> {
         .disable_help_flag(true)
         .args_override_self(true)
         .arg(operands(alloc))?
-        .arg(help(alloc))?;
+        .arg(help(alloc))?
+        .arg(json(alloc)?)?;
     for switch in &SWITCHES {
         command = command.arg(switch.arg(alloc))?;
     }
@@ -271,6 +272,17 @@ fn help<'a>(alloc: Global) -> Arg<'a> {
         .long("help")
         .action(ArgAction::Help)
         .help("Print this help")
+}
+
+// Messages in JSON can't be counts or paths.
+fn json<'a>(alloc: Global) -> Result<Arg<'a>, AllocError> {
+    Arg::new(alloc, "json")
+        .long("json")
+        .action(ArgAction::SetTrue)
+        .help("Write messages in JSON")
+        .conflicts_with("count")?
+        .conflicts_with("files-with-matches")?
+        .conflicts_with("files-without-match")
 }
 
 impl Switch {

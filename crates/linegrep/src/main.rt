@@ -4,6 +4,7 @@
 mod command;
 mod failures;
 mod globs;
+mod json_run;
 mod options;
 mod patterns;
 mod search;
@@ -50,10 +51,10 @@ fn search_operands(
     let searcher = searcher(rt.alloc(), matches, is_terminal)?;
     let mut input = Reading::new(rt.stdin());
     if is_terminal {
-        let printer = build_printer(rt.alloc(), matches, is_terminal, Writing::new(stdout));
+        let printer = build_printer(rt, matches, is_terminal, Writing::new(stdout));
         return search_all(rt, matches, operands, searcher, printer, &mut input);
     }
     let buffered = BufWriter::with_capacity(rt.alloc(), ROOM, stdout)?;
-    let printer = build_printer(rt.alloc(), matches, is_terminal, Writing::new(buffered));
+    let printer = build_printer(rt, matches, is_terminal, Writing::new(buffered));
     search_all(rt, matches, operands, searcher, printer, &mut input)
 }

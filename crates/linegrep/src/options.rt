@@ -1,11 +1,14 @@
 //! What the arguments ask for.
 use crate::failures::Failure;
+use crate::json_run::JsonRun;
 use clap::ArgMatches;
-use grep_printer::{SearchSeparator, Standard, StandardBuilder, Summary, SummaryKind};
+use grep_output::Output;
+use grep_printer::{JsonBuilder, SearchSeparator, Standard, StandardBuilder, Summary, SummaryKind};
 use grep_searcher::{
     BinaryDetection, ConfigError, Encoding, LineTerminator, Searcher, SearcherBuilder,
 };
 use std::alloc::{AllocError, Global};
+use std::rt::Clock;
 
 /// The searcher that the arguments ask for. Lines are numbered for a terminal, if nothing else is
 /// asked for. A failure is one of a setting, or of being out of memory.
@@ -40,18 +43,25 @@ pub enum Printer<W> {
     Lines(Standard<W>),
     /// Writes a count or a path for each file, or nothing.
     Summary(Summary<W>),
+    /// Writes messages in JSON.
+    Json(JsonRun<W>),
 }
 
 /// The printer that the arguments ask for, which writes to `writer`. A terminal gets headings.
-pub fn build_printer<W>(
-    alloc: Global,
+pub fn build_printer<T: Clock + AllocGlobal, W: Output>(
+    rt: &T,
     matches: &ArgMatches<'_>,
     is_terminal: bool,
     writer: W,
 ) -> Printer<W> {
+    let alloc = rt.alloc();
     let terminator = path_terminator(matches);
     if let Some(kind) = summary_kind(matches) {
         return Printer::Summary(Summary::new(alloc, kind, terminator, writer));
+    }
+    if matches.get_flag("json") {
+        let printer = JsonBuilder::new().build(alloc, writer);
+        return Printer::Json(JsonRun::new(rt, printer));
     }
     let heading = shows_headings(matches, is_terminal);
     let mut builder = StandardBuilder::new();
@@ -117,7 +127,10 @@ pub fn texts(
 
 fn shows_numbers(matches: &ArgMatches<'_>, is_terminal: bool) -> bool {
     !matches.get_flag("no-line-number")
-        && (matches.get_flag("line-number") || matches.get_flag("column") || is_terminal)
+        && (matches.get_flag("line-number")
+            || matches.get_flag("column")
+            || matches.get_flag("json")
+            || is_terminal)
 }
 
 // How many lines of context: by the option itself, or else by the one for both sides.

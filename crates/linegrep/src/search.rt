@@ -10,7 +10,7 @@ use grep_printer::{Standard, Summary};
 use grep_searcher::{BinaryDetection, FindAt, Matcher, SearchError, Searcher, Source};
 use std::fmt::Display;
 use std::process::ExitCode;
-use std::rt::Files;
+use std::rt::{Clock, Files};
 use std::{fs, io};
 
 // The name of standard input.
@@ -20,14 +20,17 @@ const STDIN: &str = "<stdin>";
 /// path, it searches the current folder under `-r`, and otherwise what `input` gives. The status is
 /// 0 if there is a match, 1 if there is none, and 2 if a file can't be read, of which standard error
 /// says why. If nothing is to be written, the first match ends it with 0.
-pub fn search_all<T: Files + Eprint + AllocGlobal + Clone + Drop, R: Source, W: Output + Drop>(
+pub fn search_all<T, R: Source, W: Output + Drop>(
     rt: &T,
     matches: &ArgMatches<'_>,
     operands: &Operands,
     searcher: Searcher,
     printer: Printer<W>,
     input: &mut R,
-) -> Result<ExitCode, Failure> {
+) -> Result<ExitCode, Failure>
+where
+    T: Files + Clock + Eprint + AllocGlobal + Clone + Drop,
+{
     let alloc = rt.alloc();
     let regex = compile(alloc, matches, &operands.patterns)?;
     let matcher = regex.matcher(alloc)?;
@@ -69,16 +72,18 @@ struct Run<'r, 'g, T, M, W> {
     has_error: bool,
 }
 
-// What came of one search.
+/// What came of one search.
 #[derive(Drop)]
-struct Searched {
-    has_match: bool,
-    result: Result<(), SearchError>,
+pub struct Searched {
+    /// Whether it found a match.
+    pub has_match: bool,
+    /// Why it ended early, if it did.
+    pub result: Result<(), SearchError>,
 }
 
 impl<'r, 'g, T, M, W> Run<'r, 'g, T, M, W>
 where
-    T: Files + Eprint + AllocGlobal + Clone + Drop,
+    T: Files + Clock + Eprint + AllocGlobal + Clone + Drop,
     M: FindAt,
     W: Output,
 {
@@ -160,6 +165,9 @@ where
                     shown,
                 )
             }
+            Printer::Json(run) => {
+                run.search_path(self.rt, &mut self.searcher, &self.matcher, path)
+            }
         };
         self.keep(path, searched)
     }
@@ -173,6 +181,9 @@ where
             }
             Printer::Summary(printer) => {
                 sum_up_input(&mut self.searcher, &self.matcher, printer, input, shown)
+            }
+            Printer::Json(run) => {
+                run.search_input(self.rt, &mut self.searcher, &self.matcher, input, STDIN)
             }
         };
         self.keep(STDIN, searched)
@@ -201,8 +212,8 @@ where
 
     // Writes what is left, and gives the status.
     fn finish(&mut self) -> Result<ExitCode, Failure> {
-        if let Err(error) = self.printer.flush() {
-            return Err(Failure::Output(error));
+        if let Err(error) = self.printer.finish(self.rt) {
+            return Err(Failure::Output(written_error(error)));
         }
         if self.has_error && !(self.is_quiet && self.has_match) {
             return Ok(ExitCode::from(2));
@@ -217,14 +228,20 @@ impl<W: Output> Printer<W> {
         match self {
             Printer::Lines(printer) => printer.has_failed(),
             Printer::Summary(printer) => printer.has_failed(),
+            Printer::Json(run) => run.has_failed(),
         }
     }
 
-    // Writes what the writer keeps.
-    fn flush(&mut self) -> io::Result<()> {
-        match self {
+    // Writes what all searches have come to, if that is asked for, and what the writer keeps.
+    fn finish<T: Clock>(&mut self, rt: &T) -> Result<(), SearchError> {
+        let flushed = match self {
             Printer::Lines(printer) => printer.flush(),
             Printer::Summary(printer) => printer.flush(),
+            Printer::Json(run) => return run.finish(rt),
+        };
+        match flushed {
+            Ok(()) => Ok(()),
+            Err(error) => Err(SearchError::Io(error)),
         }
     }
 }

@@ -1,0 +1,111 @@
+//! Searches of which the reports are written as JSON.
+use crate::search::Searched;
+use grep_output::Output;
+use grep_printer::{Json, JsonSink, Stats};
+use grep_searcher::{FindAt, SearchError, Searcher, Source};
+use std::rt::{Clock, Files};
+use std::time::{Duration, Instant};
+
+/// A printer of JSON, with what all searches have come to so far, and when the run began. Where the
+/// clock fails a time is 0.
+#[derive(Drop)]
+pub struct JsonRun<W> {
+    printer: Json<W>,
+    stats: Stats,
+    start: Option<Instant>,
+}
+
+impl<W: Output> JsonRun<W> {
+    /// A run that begins now.
+    pub fn new<T: Clock>(rt: &T, printer: Json<W>) -> JsonRun<W> {
+        JsonRun {
+            printer,
+            stats: Stats::new(),
+            start: Instant::now(rt).ok(),
+        }
+    }
+
+    /// Searches the file at a path.
+    pub fn search_path<T: Files + Clock, M: FindAt>(
+        &mut self,
+        rt: &T,
+        searcher: &mut Searcher,
+        matcher: &M,
+        path: &str,
+    ) -> Searched {
+        let start = Instant::now(rt).ok();
+        let mut sink = self.printer.sink(matcher, Some(path));
+        let result = searcher.search_path(rt, matcher, path, &mut sink);
+        let has_match = sink.has_match();
+        let ended = end(rt, &mut sink, start, result);
+        self.keep(has_match, ended)
+    }
+
+    /// Searches a reader, which messages name by a path.
+    pub fn search_input<T: Clock, R: Source, M: FindAt>(
+        &mut self,
+        rt: &T,
+        searcher: &mut Searcher,
+        matcher: &M,
+        input: &mut R,
+        path: &str,
+    ) -> Searched {
+        let start = Instant::now(rt).ok();
+        let mut sink = self.printer.sink(matcher, Some(path));
+        let result = searcher.search_reader(matcher, input, &mut sink);
+        let has_match = sink.has_match();
+        let ended = end(rt, &mut sink, start, result);
+        self.keep(has_match, ended)
+    }
+
+    /// Writes what all searches have come to, and what the writer keeps.
+    pub fn finish<T: Clock>(&mut self, rt: &T) -> Result<(), SearchError> {
+        self.printer
+            .write_summary(&self.stats, elapsed(rt, self.start))?;
+        match self.printer.flush() {
+            Ok(()) => Ok(()),
+            Err(error) => Err(SearchError::Io(error)),
+        }
+    }
+
+    /// Whether the writer failed.
+    pub fn has_failed(&self) -> bool {
+        self.printer.has_failed()
+    }
+
+    // Adds what a search has come to, unless it failed.
+    fn keep(&mut self, has_match: bool, ended: Result<Stats, SearchError>) -> Searched {
+        let result = match ended {
+            Ok(stats) => {
+                self.stats.add(&stats);
+                Ok(())
+            }
+            Err(error) => Err(error),
+        };
+        Searched { has_match, result }
+    }
+}
+
+// Writes that a search has ended, unless it failed, and gives what it has come to.
+fn end<T: Clock, M: FindAt, W: Output>(
+    rt: &T,
+    sink: &mut JsonSink<'_, M, W>,
+    start: Option<Instant>,
+    searched: Result<(), SearchError>,
+) -> Result<Stats, SearchError> {
+    match searched {
+        Ok(()) => sink.write_end(elapsed(rt, start)),
+        Err(error) => Err(error),
+    }
+}
+
+// How long it took since then.
+fn elapsed<T: Clock>(rt: &T, start: Option<Instant>) -> Duration {
+    match start {
+        Some(start) => match start.elapsed(rt) {
+            Ok(elapsed) => elapsed,
+            Err(_) => Duration::from_nanos(0),
+        },
+        None => Duration::from_nanos(0),
+    }
+}
