@@ -1,9 +1,9 @@
 -- The parts of some bytes are successive matches.
-use Rattle.std.proofs.Common.{◌≡◌, ◌⊎◌, inl, inr, ℕ, zero, suc, ◌+◌, ◌≤◌, List, [], ◌∷◌, Option, Some, None, Bool}
+use Rattle.std.proofs.Common.{◌≡◌, ℕ, zero, suc, ◌+◌, ◌≤◌, List, [], ◌∷◌, Option, Some, None, Bool}
 use Rattle.std.proofs.Common.{true, false, arith, ap, sym, ◌∙◌, refl, subst}
 use Rattle.std.proofs.lemmas.Bool.Decides.{nat_tests}
 use Rattle.std.specs.Option.{option_and_then, option_map_or}
-use Rattle.std.specs.Prelude.{IfSome, if◌then◌else◌, nat_le, nat_lt, ◌==◌, ◌&&◌}
+use Rattle.std.specs.Prelude.{if◌then◌else◌, nat_le, nat_lt}
 use Rattle.grep_printer.proofs.PartLemmas.{after-later, from-found}
 use Rattle.grep_printer.specs.MatchedParts.{AreSuccessive, FindsFrom, PartsAreSuccessive, below, found_from, is_passed}
 use Rattle.grep_printer.specs.MatchedParts.{next_part, parts_from, parts_in, position_after, with_part}

@@ -1,5 +1,5 @@
 -- The text that a printer of JSON writes for the calls of a search.
-use Rattle.std.specs.Prelude.{ℕ, Bool, true, false, ◌&&◌, if◌then◌else◌, List, [], ◌∷◌, ◌++◌, length}
+use Rattle.std.specs.Prelude.{ℕ, Bool, true, false, ◌&&◌, if◌then◌else◌, List, [], ◌++◌, length}
 use Rattle.std.specs.Prelude.{codes, Option, None, Some, is_some, not, unwrap_or}
 use Rattle.std.specs.Borrow.{Bor}
 use Rattle.grep_matcher.specs.Lines.{byte_of}

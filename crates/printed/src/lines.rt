@@ -69,7 +69,13 @@ pub fn write_limited(rt: &HostRuntime) -> Result<(), SearchError> {
     searcher.invert_match(true);
     write_lines(rt, "-n -C1 -M8 -v --column foo", &searcher, &printer, "foo")?;
     printer.only_matching(true);
-    write_lines(rt, "-n -C1 -M8 -v -o --column foo.*", &searcher, &printer, "foo.*")
+    write_lines(
+        rt,
+        "-n -C1 -M8 -v -o --column foo.*",
+        &searcher,
+        &printer,
+        "foo.*",
+    )
 }
 
 /// Writes the lines of matches across lines, and the parts of them.
