@@ -1,4 +1,6 @@
 //! The search of all that the arguments name.
+ghost use Rattle.grep_regex.specs.Views.{IsNamed};
+
 use crate::failures::{Failure, report_cause};
 use crate::globs::Globs;
 use crate::options::{Printer, shows_paths};
@@ -7,8 +9,10 @@ use crate::walk::{Found, Walk};
 use clap::ArgMatches;
 use grep_output::Output;
 use grep_printer::{Standard, Summary};
+use grep_regex::{Naming, Regex};
 use grep_searcher::{BinaryDetection, FindAt, Matcher, SearchError, Searcher, Source};
 use std::fmt::Display;
+use std::marker::Brand;
 use std::process::ExitCode;
 use std::rt::{Clock, Files};
 use std::{fs, io};
@@ -31,9 +35,26 @@ pub fn search_all<T, R: Source, W: Output + Drop>(
 where
     T: Files + Clock + Eprint + AllocGlobal + Clone + Drop,
 {
+    let regex = compile(rt.alloc(), matches, &operands.patterns)?;
+    search_named::<Brand, T, R, W>(rt, matches, operands, &regex, searcher, printer, input)
+}
+
+// Searches for a compiled expression, which `N` names: no call of its matcher compares texts.
+fn search_named<N: Naming, T, R: Source, W: Output + Drop>(
+    rt: &T,
+    matches: &ArgMatches<'_>,
+    operands: &Operands,
+    regex: &Regex,
+    searcher: Searcher,
+    printer: Printer<W>,
+    input: &mut R,
+) -> Result<ExitCode, Failure>
+where
+    T: Files + Clock + Eprint + AllocGlobal + Clone + Drop,
+    requires { IsNamed N.options N.patterns regex.now }
+{
     let alloc = rt.alloc();
-    let regex = compile(alloc, matches, &operands.patterns)?;
-    let matcher = regex.matcher(alloc)?;
+    let matcher = regex.named_matcher::<N>(alloc)?;
     let globs = Globs::read(alloc, matches)?;
     let is_recursive = matches.get_flag("recursive");
     let names_folder = is_recursive && names_folder(rt, &operands.paths);
