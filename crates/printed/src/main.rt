@@ -4,6 +4,7 @@
 
 mod files;
 mod lines;
+mod messages;
 mod summaries;
 
 use grep_searcher::SearchError;
@@ -27,6 +28,7 @@ fn write_all(rt: &HostRuntime) -> Result<(), SearchError> {
     lines::write_limited(rt)?;
     lines::write_across(rt)?;
     summaries::write_summaries(rt)?;
+    messages::write_messages(rt)?;
     Ok(())
 }
 
