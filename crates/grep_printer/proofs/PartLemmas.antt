@@ -1,7 +1,6 @@
 -- What the search for the parts of some bytes has found.
 use Rattle.std.proofs.Common.{◌≡◌, ℕ, zero, suc, ◌+◌, ◌≤◌, List, [], ◌∷◌, ◌++◌, Option, Some, None, Bool, true, false}
 use Rattle.std.proofs.Common.{ap, arith, sym, ◌∙◌, append_assoc, refl}
-use Rattle.std.proofs.lemmas.List.{append-nil}
 use Rattle.std.proofs.lemmas.Bool.Decides.{nat_tests}
 use Rattle.std.specs.Option.{option_map_or}
 use Rattle.std.specs.Prelude.{if◌then◌else◌}
@@ -135,15 +134,3 @@ module _ (first_at : ℕ → Option (ℕ × ℕ)) (size limit : ℕ) where
           → IsFinding (if passed then parts else parts ++ found ∷ []) (position_after found) (Some found.1)
       go true passed = finding-passed parts position end found finding is from inner within passed
       go false kept = finding-kept parts position end found finding is from inner within kept
-
-  -- there is no further match
-  pub finding-end : (parts : List (ℕ × ℕ)) (position : ℕ) (end : Option ℕ) → IsFinding parts position end
-      → found_from first_at size limit position ≡ None → parts ≡ parts_in first_at size limit
-  finding-end parts position end finding none =
-      sym (append-nil parts) ∙ (ap (λ (ps : List (ℕ × ℕ)). parts ++ ps) (sym (left finding.count))
-      ∙ finding.found)
-    where
-      left : (count : ℕ) → parts_from first_at size limit count position end ≡ []
-      left zero = refl
-      left (suc count) = ap (λ (f : Option (ℕ × ℕ)). option_map_or
-          (λ m. with_part end m (parts_from first_at size limit count (position_after m) (Some m.1))) f []) none

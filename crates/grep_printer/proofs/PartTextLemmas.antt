@@ -45,11 +45,6 @@ module _ (f : ℕ × ℕ → List ℕ) (high : ℕ) (start : List ℕ) (all : Li
   writing-done text rest writing none =
       sym (append-nil text) ∙ (ap (λ (t : List ℕ). text ++ t) (sym none) ∙ writing.pushed)
 
--- none is left
-pub flat_map-none : (f : ℕ × ℕ → List ℕ) (rest : List (ℕ × ℕ)) → length rest ≡ 0 → flat_map f rest ≡ []
-flat_map-none f [] none = refl
-flat_map-none f (part ∷ later) none = absurd (omega (arith, none))
-
 -- an end of parts is in order too
 pub ordered-after : (parts : List (ℕ × ℕ)) (position low high : ℕ) → AreInOrder low high parts
     → AreInOrder 0 high (parts_after position parts)

@@ -30,12 +30,14 @@ module _ (first_at : ℕ → Option (ℕ × ℕ)) (size limit : ℕ) (finds : Fi
   -- a match that is found is in order
   found-lies : (position : ℕ) (found : ℕ × ℕ) → found_from first_at size limit position ≡ Some found
       → (position ≤ found.0) × (found.0 ≤ found.1) × (found.1 ≤ size)
-  found-lies position found is = go (nat_le position size) is
+  found-lies position found is = go (nat_le position size) refl is
     where
-      go : (low : Bool) → (if low then below limit (first_at position) else None) ≡ Some found
+      go : (low : Bool) → nat_le position size ≡ low
+          → (if low then below limit (first_at position) else None) ≡ Some found
           → (position ≤ found.0) × (found.0 ≤ found.1) × (found.1 ≤ size)
-      go true is = finds position found (below-is limit (first_at position) found is)
-      go false is = absurd (cc)
+      go true low is =
+          finds position found (grind (arith, nat_tests)) (below-is limit (first_at position) found is)
+      go false low is = absurd (cc)
 
   -- which parts are successive depends on the next part alone
   are-same : (position other : ℕ) (end before : Option ℕ) (parts : List (ℕ × ℕ))

@@ -109,7 +109,8 @@ module _ {M W F : Type 0} (facts : M → MatcherFacts F)
     pub goes_on : goes ≡ true
     pub written : WritesAll write_step old.printer.now.writer
         (json_text_of facts first_at old settings call) new.printer.now.writer
-    pub progress : new.progress ≡ json_progress (json_frame facts first_at old settings) old.progress call
+    pub progress : new.progress
+        ≡ json_progress (json_frame facts first_at old settings) old.progress call
     pub has_failed : new.printer.now.has_failed ≡ old.printer.now.has_failed
 
   -- the writer failed after some first bytes of the text of a call
@@ -119,7 +120,8 @@ module _ {M W F : Type 0} (facts : M → MatcherFacts F)
     pub is_io : e ≡ Io error
     pub failed : FailsToWrite write_step old.printer.now.writer
         (json_text_of facts first_at old settings call) error new.printer.now.writer
-    pub progress : new.progress ≡ json_progress (json_frame facts first_at old settings) old.progress call
+    pub progress : new.progress
+        ≡ json_progress (json_frame facts first_at old settings) old.progress call
     pub has_failed : new.printer.now.has_failed ≡ true
 
   -- the writer had no call, and there was no memory, or the matcher failed

@@ -63,10 +63,10 @@ module _ (first_at : ℕ → Option (ℕ × ℕ)) (size limit : ℕ) where
       (next_part position end ≡ Some part)
       × AreSuccessive (position_after part) (Some part.1) later
 
-  -- a match that is found lies in the bytes, and starts at the position or after it
+  -- a match that is found from a position in the bytes lies in them, and starts there or later
   abbrev pub FindsFrom : Type 0
   FindsFrom =
-      (position : ℕ) (found : ℕ × ℕ) → first_at position ≡ Some found
+      (position : ℕ) (found : ℕ × ℕ) → position ≤ size → first_at position ≡ Some found
       → (position ≤ found.0) × (found.0 ≤ found.1) × (found.1 ≤ size)
 
 -- the parts are successive matches

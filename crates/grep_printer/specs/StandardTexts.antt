@@ -58,7 +58,7 @@ binary_message (Convert byte) path offset =
     ++ (codes "binary file matches (found \"\\0\" byte around offset "
     ++ (decimal offset ++ codes ")\n"))
 
--- the same, if such a byte was found
+-- the message about a binary byte, if one was found
 abbrev pub message_text : BinaryDetection → Option (Bor (List ℕ)) → Option ℕ → List ℕ
 message_text detection path None = []
 message_text detection path (Some offset) = binary_message detection path offset

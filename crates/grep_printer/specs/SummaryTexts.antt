@@ -86,7 +86,8 @@ count_after frame count (matches number offset bytes) = min (count + 1) (2 ^ 64 
 count_after frame count (context which number offset line) = count
 count_after frame count breaks = count
 count_after frame count (binary_data offset) = count
-count_after frame count (finishes bytes binary) = if is_left_out frame.binary_detection binary then 0 else count
+count_after frame count (finishes bytes binary) =
+    if is_left_out frame.binary_detection binary then 0 else count
 
 -- what a printer makes of some calls: how many matches were reported, and the text of all calls
 pub record Summed : Type 0 where

@@ -347,8 +347,9 @@ impl<'s, M: FindAt, W: Output> JsonSink<'s, M, W> {
     }
 
     /// Writes the message that the search ends, which took so long, if the search has ended and
-    /// something was written of it. It gives what was searched, found and written, or nothing if it
-    /// writes nothing. An error is the writer's, or one of being out of memory.
+    /// something was written of it; another call would write it again. It gives what was searched,
+    /// found and written, which is 0 each if it writes nothing. An error is the writer's, or one of
+    /// being out of memory.
     pub fn write_end(&mut self, elapsed: Duration) -> Result<Stats, SearchError>
         ensures same { IsSameJson self.old self.new }
         ensures progress { self.new.progress ≡ self.old.progress }
@@ -388,8 +389,8 @@ impl<'s, M: FindAt, W: Output> JsonSink<'s, M, W> {
         bytes: &[u8],
     ) -> Result<(), SearchError>
         ensures composing { IsComposingJson self.old self.new }
-        ensures submatches { OnOk result (self.new.printer.now.submatches.items
-            ≡ submatches_of (json_frame M.facts M.first_at self.old searcher.now.settings) bytes.now) }
+        ensures submatches { OnOk result (self.new.printer.now.submatches.items ≡ submatches_of
+            (json_frame M.facts M.first_at self.old searcher.now.settings) bytes.now) }
         ensures within { OnOk result
             (All (λ range. range.1 ≤ length bytes.now) self.new.printer.now.submatches.items) }
         ensures error { IfErr result (λ e. IsOutOfMemory e
@@ -407,8 +408,8 @@ impl<'s, M: FindAt, W: Output> JsonSink<'s, M, W> {
         bytes: &[u8],
     ) -> Result<(), SearchError>
         ensures composing { IsComposingJson self.old self.new }
-        ensures submatches { OnOk result (self.new.printer.now.submatches.items
-            ≡ context_submatches (json_frame M.facts M.first_at self.old searcher.now.settings) bytes.now) }
+        ensures submatches { OnOk result (self.new.printer.now.submatches.items ≡ context_submatches
+            (json_frame M.facts M.first_at self.old searcher.now.settings) bytes.now) }
         ensures within { OnOk result
             (All (λ range. range.1 ≤ length bytes.now) self.new.printer.now.submatches.items) }
         ensures error { IfErr result (λ e. IsOutOfMemory e

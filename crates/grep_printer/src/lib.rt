@@ -1,9 +1,9 @@
 //! Printers: sinks that write what a search reports to an output of bytes.
 //!
-//! `Standard` writes each reported line, as grep does, and `Summary` a count or a path for each
-//! search. `specs/StandardTexts.antt` and `specs/SummaryTexts.antt` define the text of each call of
-//! a search, and `CALLING.md` has an example. The printers follow those of ripgrep's crate
-//! grep-printer.
+//! `Standard` writes each reported line, as grep does, `Summary` a count or a path for each search,
+//! and `Json` messages for programs. `specs/StandardTexts.antt`, `specs/SummaryTexts.antt` and
+//! `specs/JsonTexts.antt` define the text of each call of a search, and `CALLING.md` has an example.
+//! The printers follow those of ripgrep's crate grep-printer.
 #![tactic(auto)]
 
 mod config;

@@ -158,8 +158,8 @@ impl<W: Output> Summary<W> {
 
 /// The sink of one search, which counts the matches, and writes the summary when the search ends. A
 /// search of which only the first match counts ends there. A search that a binary byte ended
-/// (`BinaryDetection::Quit`) counts for nothing, as in ripgrep: nothing is written of it, and it has
-/// no match.
+/// (`BinaryDetection::Quit`) counts for nothing, as in ripgrep: nothing is written of it, and its
+/// matches don't count.
 #[derive(Drop)]
 pub struct SummarySink<'s, W> {
     printer: &'s mut Summary<W>,

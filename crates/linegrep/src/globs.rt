@@ -34,12 +34,14 @@ struct Glob {
 }
 
 impl Globs {
-    /// Reads the globs of `-g` from parsed arguments. A failure is that of a glob that isn't well
+    /// Reads the globs of `-g` from parsed arguments; an empty one is left out. A failure is that of a glob that isn't well
     /// formed, or of being out of memory.
     pub fn read(alloc: Global, matches: &ArgMatches<'_>) -> Result<Globs, Failure> {
         let mut globs = Vec::new(alloc);
         for text in &texts(alloc, matches, "glob")? {
-            globs.push(compile(alloc, text.as_str())?)?;
+            if !text.is_empty() {
+                globs.push(compile(alloc, text.as_str())?)?;
+            }
         }
         let are_exclusions = globs.iter().all(|glob: &Glob| glob.is_exclusion);
         Ok(Globs {
@@ -234,14 +236,18 @@ impl Translation {
         self.push_text("]", &rest[end + 1..])
     }
 
-    // Adds members of a class after its first: a dash between two of them makes a range.
+    // Adds members of a class after its first: a dash between two of them makes a range, whose end
+    // may be a dash.
     fn push_members(&mut self, members: &[char]) -> Result<(), Error> {
+        let mut ends_range = false;
         for i in 0..members.len() {
-            if members[i] == '-' && i + 1 < members.len() {
+            let makes_range = !ends_range && members[i] == '-' && i + 1 < members.len();
+            if makes_range {
                 self.regex.push('-')?;
             } else {
                 self.push_member(members[i])?;
             }
+            ends_range = makes_range;
         }
         Ok(())
     }

@@ -147,6 +147,13 @@ where
             self.searcher
                 .set_binary_detection(BinaryDetection::quit(byte));
         }
+        let walked = self.walk(folder);
+        self.searcher.set_binary_detection(detection);
+        walked
+    }
+
+    // Searches what a walk through a folder finds.
+    fn walk(&mut self, folder: &str) -> Result<(), Failure> {
         let mut walk = Walk::new(self.rt, self.globs, self.shows_hidden, folder)?;
         for _ in 0..u64::MAX {
             match walk.next()? {
@@ -158,7 +165,6 @@ where
                 break;
             }
         }
-        self.searcher.set_binary_detection(detection);
         Ok(())
     }
 
@@ -327,7 +333,8 @@ fn sum_up_input<R: Source, M: Matcher, W: Output>(
 
 // Whether there is a folder at one of the paths, or no path at all.
 fn names_folder<T: Files>(rt: &T, paths: &[String]) -> bool {
-    paths.is_empty() || paths.iter().any(|path| is_folder(rt, path.as_str()))
+    paths.is_empty()
+        || paths.iter().any(|path| path.as_str() != "-" && is_folder(rt, path.as_str()))
 }
 
 // Whether there is a folder at a path.

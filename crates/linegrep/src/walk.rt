@@ -58,11 +58,14 @@ impl<'r, 'g, T: Files + AllocGlobal + Clone + Drop> Walk<'r, 'g, T> {
             match self.pending.pop() {
                 Some(Entry::File(path)) => return Ok(Some(Found::File(path))),
                 Some(Entry::Unread(path, error)) => return Ok(Some(Found::Unread(path, error))),
-                Some(Entry::Folder(path)) => {
-                    if let Err(error) = self.push_entries(path.as_str()) {
-                        return Ok(Some(Found::Unread(path, error)));
+                Some(Entry::Folder(path)) => match self.push_entries(path.as_str()) {
+                    Ok(()) => {}
+                    Err(error) if error.kind() == io::ErrorKind::OutOfMemory => return Err(error),
+                    Err(error) => {
+                        let name = String::from_str(self.rt.alloc(), name_of(path.as_str()))?;
+                        return Ok(Some(Found::Unread(name, error)));
                     }
-                }
+                },
                 None => return Ok(None),
             }
         }
@@ -73,7 +76,7 @@ impl<'r, 'g, T: Files + AllocGlobal + Clone + Drop> Walk<'r, 'g, T> {
     fn push_entries(&mut self, folder: &str) -> io::Result<()> {
         let alloc = self.rt.alloc();
         let mut entries = Vec::new(alloc);
-        let name = if folder.is_empty() { "." } else { folder };
+        let name = name_of(folder);
         for entry in fs::read_dir(self.rt, name)? {
             match entry {
                 Ok(entry) => {
@@ -89,12 +92,19 @@ impl<'r, 'g, T: Files + AllocGlobal + Clone + Drop> Walk<'r, 'g, T> {
         Ok(())
     }
 
-    // An entry of a folder, if it is one to visit.
+    // An entry of a folder, if it is one to visit. One that can't be looked at is left out like a
+    // file.
     fn entry(&self, folder: &str, name: &str) -> io::Result<Option<Entry>> {
         let path = self.join(folder, name)?;
         let kind = match fs::symlink_metadata(self.rt, path.as_str()) {
             Ok(metadata) => metadata.file_type(),
-            Err(error) => return Ok(Some(Entry::Unread(path, error))),
+            Err(error) => {
+                return Ok(if self.is_chosen(path.as_str(), name, false)? {
+                    Some(Entry::Unread(path, error))
+                } else {
+                    None
+                });
+            }
         };
         let is_folder = kind.is_dir();
         if !(is_folder || kind.is_file()) || !self.is_chosen(path.as_str(), name, is_folder)? {
@@ -134,4 +144,9 @@ impl Entry {
             Entry::Unread(path, _) => path.as_str(),
         }
     }
+}
+
+// The name of a folder for the system, which has none for an empty path.
+fn name_of(folder: &str) -> &str {
+    if folder.is_empty() { "." } else { folder }
 }
