@@ -1,17 +1,20 @@
 //! The first match of a reader, and the first ones of a slice.
-ghost use Rattle.std.specs.Prelude.{◌≡◌, ℕ, Bool, true, None, List, IfOk, IfErr};
+ghost use Rattle.std.specs.Prelude.{◌≡◌, ◌⊎◌, ℕ, Bool, true, None, List, IfOk, IfErr};
 ghost use Rattle.std.specs.declared.io.Error.{Error};
 ghost use Rattle.grep_searcher.specs.Asking.{IsLawful, refusal_of};
 ghost use Rattle.grep_searcher.specs.Inputs.{IsInput, searched_bytes, Taken, IsUnread};
 ghost use Rattle.grep_searcher.specs.LineCounts.{IsLineSearch};
 ghost use Rattle.grep_searcher.specs.Meanings.{IsInfallible};
+ghost use Rattle.grep_searcher.specs.SearchErrors.{IsOutOfMemory};
+ghost use Rattle.uses.specs.DecodingErrors.{IsDecodingError};
 ghost use Rattle.uses.specs.MatchedLines.{first_lines, first_selected};
 
 use grep_searcher::laws::{
-    first_match_is_first, reader_searches_run, runs_hand_first, runs_handle_matches, searches_run,
+    first_match_is_first, reader_searches_run, runs_hand_first, runs_handle_matches, searches_fail,
+    searches_run,
 };
 use grep_searcher::sinks::{First, KeptMatch, MatchHandler, OnMatch};
-use grep_searcher::{Matcher, SearchError, Searcher, SinkMatch, Source};
+use grep_searcher::{BinaryDetection, Matcher, SearchError, Searcher, SinkMatch, Source};
 use std::alloc::Global;
 
 /// Returns the number of the first selected line of what a reader gives, counted from 1, and its
@@ -84,8 +87,12 @@ impl MatchHandler for FirstMatch {
 /// its bytes; if the bytes have to be decoded, those of the decoded lines. The search ends at the
 /// last of them.
 ///
-/// The lines are promised of a search by line without binary detection, for a matcher that is
-/// lawful for the searcher's terminator.
+/// An error is made of the matcher's, of a configuration that the searcher refuses, or of being out
+/// of memory. If the bytes have to be decoded, it may also be of the heap limit, or of more than
+/// 2^64 - 1 decoded bytes.
+///
+/// All this is promised without binary detection, for a matcher that is lawful for the searcher's
+/// terminator, and the lines of a search by line.
 pub fn first_matches<M: Matcher + Drop>(
     alloc: Global,
     searcher: &mut Searcher,
@@ -99,8 +106,14 @@ pub fn first_matches<M: Matcher + Drop>(
         (searched_bytes searcher.old.settings bytes.now)) }
     ensures settings { searcher.new.settings ≡ searcher.old.settings }
     ensures buffers { searcher.old.has_buffers ≡ true → searcher.new.has_buffers ≡ true }
+    ensures error { IsInfallible (M.facts matcher).fails
+        → IsLawful (M.facts matcher) searcher.old.settings
+        → refusal_of searcher.old.settings (M.facts matcher).meaning ≡ None
+        → searcher.old.settings.binary_detection ≡ BinaryDetection.None → IfErr result (λ e.
+        IsOutOfMemory e ⊎ IsDecodingError searcher.old (M.facts matcher).meaning bytes.now e) }
 {
     let mut sink = OnMatch::new(First::new(alloc, n));
+    searches_fail::<Global, M, OnMatch<First>>();
     searcher.search_slice(matcher, bytes, &mut sink)?;
     searches_run::<Global, M, _>(&sink);
     runs_hand_first::<Global>();

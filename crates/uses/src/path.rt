@@ -23,7 +23,7 @@ use std::rt::Files;
 ///
 /// All this is promised for a matcher that is lawful for the searcher's terminator, and the count
 /// of a search by line without binary detection, for a file that was opened, if it says which bytes
-/// remain.
+/// remain. That it is the file at the path is the system's to say, and no contract's.
 pub fn count_in_path<R: Files, M: Matcher + Drop, P: AsPath>(
     rt: &R,
     searcher: &mut Searcher,
