@@ -6,8 +6,8 @@ use std::fs;
 use std::path::Path;
 use std::test::Fail;
 use uses::{
-    count_in_path, count_matching_lines, count_pattern_lines, count_with_prefix, first_match,
-    first_matches, has_match, in_context, matching_lines, numbered_lines,
+    count_in_path, count_in_reader, count_matching_lines, count_pattern_lines, count_with_prefix,
+    first_matches, has_match, in_context, json_lines, matching_lines, numbered_lines, reporter,
 };
 
 // Line 2 and line 4 have an `a`.
@@ -31,18 +31,20 @@ fn counted_by_a_pattern(rt: HostRuntime) -> Result<(), Fail> {
 }
 
 #[test]
-fn counted_with_a_prefix(rt: HostRuntime) {
-    assert!(rt; matches!(count_with_prefix(rt.alloc(), b"a", INPUT), Ok(1)));
+fn counted_with_a_prefix(rt: HostRuntime) -> Result<(), Fail> {
+    let mut searcher = Searcher::new(rt.alloc())?;
+    let count = count_with_prefix(&mut searcher, b"a", INPUT)?;
+    assert!(rt; count == 1);
+    Ok(())
 }
 
 #[test]
-fn first(rt: HostRuntime) -> Result<(), Fail> {
+fn counted_in_a_reader(rt: HostRuntime) -> Result<(), Fail> {
     let mut searcher = Searcher::new(rt.alloc())?;
     let matcher = LiteralMatcher::new(rt.alloc(), b"a")?;
     let mut reader: &[u8] = INPUT;
-    let found = first_match(&mut searcher, &matcher, &mut reader)?;
-    assert!(rt; matches!(found, Some((2, 2))));
-    assert!(rt; reader.is_empty());
+    let count = count_in_reader(&mut searcher, matcher, &mut reader)?;
+    assert!(rt; count == 2);
     Ok(())
 }
 
@@ -50,7 +52,8 @@ fn first(rt: HostRuntime) -> Result<(), Fail> {
 fn keeps_one(alloc: Global) -> Result<bool, SearchError> {
     let mut searcher = Searcher::new(alloc)?;
     let matcher = LiteralMatcher::new(alloc, b"a")?;
-    let kept = first_matches(alloc, &mut searcher, matcher, INPUT, 1)?;
+    let mut reader: &[u8] = INPUT;
+    let kept = first_matches(alloc, &mut searcher, matcher, &mut reader, 1)?;
     let expected: &[u8] = b"ab\n";
     Ok(kept.len() == 1 && kept.iter().all(|found| found.bytes() == expected))
 }
@@ -71,9 +74,21 @@ fn collected(rt: HostRuntime) -> Result<(), Fail> {
 }
 
 #[test]
+fn written_as_json(rt: HostRuntime) -> Result<(), Fail> {
+    let mut searcher = Searcher::new(rt.alloc())?;
+    let matcher = LiteralMatcher::new(rt.alloc(), b"a")?;
+    let text = json_lines(rt.alloc(), &mut searcher, matcher, b"x\nab\xFF\n")?;
+    let expected = "{\"line\":2,\"offset\":2,\"text\":\"ab\u{FFFD}\\n\"}\n";
+    assert!(rt; text.as_slice() == expected.as_bytes());
+    Ok(())
+}
+
+#[test]
 fn reported(rt: HostRuntime) -> Result<(), Fail> {
     let log = b"start\nopen\nerror: no file\nx\ny\nclose\nerror: closed\n";
-    let report = in_context(rt.alloc(), log, b"error")?;
+    let mut searcher = reporter(rt.alloc())?;
+    let matcher = LiteralMatcher::new(rt.alloc(), b"error")?;
+    let report = in_context(rt.alloc(), &mut searcher, matcher, log)?;
     let expected: &[u8] = b" open\n>error: no file\n--\n close\n>error: closed\n";
     assert!(rt; report.as_slice() == expected);
     Ok(())

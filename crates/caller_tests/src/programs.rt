@@ -334,9 +334,9 @@ fn many_lines(alloc: Global, is_numbered: bool) -> Result<Vec<u8>, AllocError> {
         }
         let length = if number == 15_000 { 100_000 } else { 1 };
         for _ in 0..length {
-            bytes.push(b'a').map_err(AllocError::from)?;
+            bytes.push(b'a')?;
         }
-        bytes.push(b'\n').map_err(AllocError::from)?;
+        bytes.push(b'\n')?;
     }
     Ok(bytes)
 }

@@ -15,7 +15,7 @@ pub mod RollingLemmas
 pub mod StreamBeginLemmas
 pub mod StreamFinishLemmas
 pub mod StreamViewLemmas
-pub mod ToldLemmas
+pub mod PassedByteLemmas
 pub mod UndetectedLemmas
 pub mod UnreadLemmas
 pub mod UntilLemmas

@@ -41,21 +41,21 @@ look-detects (Convert c) b is = absurd (none-some b is)
 module _ {S E F : Type 0} (step : Steps S E) (errors : ErrorMakers F E) (matcher : MatcherFacts F) (k : Settings)
     (bytes : List ℕ)
     (old : S) where
-  along : (result : Result (Unit {0}) E) {new : S}
+  along : {result : Result (Unit {0}) E} {new : S}
       → IsRun step k old (plan_of (search_turns k matcher.meaning bytes) (search_byte_count k matcher.meaning bytes))
       result new
       → IsRun step k old (search_plan k matcher.meaning bytes) result new
-  along result {new} run =
+  along {result} {new} run =
       subst (λ plan. IsRun step k old plan result new) (sym (plans-turns k matcher.meaning bytes)) run
 
-  pub searched-at : (b : ℕ) → quit_byte_of k.binary_detection ≡ Some b → (across : Bool) → across
+  pub searched-at : (b : ℕ) → quit_byte_of k.binary_detection ≡ Some b → {across : Bool} → across
       ≡ is_across k matcher.meaning
       → (result : Result (Unit {0}) E) (new : S)
       → IsSearchedUntil step errors matcher (calls_if k matcher.meaning across) b k bytes old result new
       → IsBytesSearched step errors matcher (look_at k.binary_detection false) k bytes old result new
-  searched-at b is across mode result new searched =
+  searched-at b is mode result new searched =
       subst (λ look. IsBytesSearched step errors matcher look k bytes old result new)
-      (sym (look-quit k.binary_detection b is))
+      (sym (look-quit _ b is))
       (go result (subst (λ m. IsSearchedUntil step errors matcher (calls_if k matcher.meaning m) b k bytes old result
       new) mode searched))
     where
@@ -76,17 +76,17 @@ module _ {S E F : Type 0} (step : Steps S E) (errors : ErrorMakers F E) (matcher
           → IsBytesSearched step errors matcher (look_at d false) k bytes old result new
           → IsSearchOf step errors matcher k (IsPoint k matcher.meaning bytes (look_at d false) (length bytes))
           (λ plan outcome. Unit {0}) bytes old result new
-      go no_detection is (Ok u) run = ran None refl (along (Ok u) run) tt
+      go no_detection is (Ok u) run = ran None refl (along run) tt
       go no_detection is (Err e) fault =
-          plain-fault step errors matcher (IsPoint k matcher.meaning bytes nowhere (length bytes)) (λ calls. refl)
+          plain-fault step _ _ _ (λ calls. refl)
           (λ plan outcome. Unit {0}) k bytes old e new fault
       go (Quit b) is (Ok u) run =
-          until-planned step errors matcher (λ plan outcome. Unit {0}) (λ p o. tt) b k is (length bytes) bytes old
-          (Ok u) new run
+          until-planned step _ _ (λ plan outcome. Unit {0}) (λ p o. tt) b k is (length bytes) bytes old
+          _ new run
       go (Quit b) is (Err e) fault =
-          quit-fault step errors matcher (λ plan outcome. Unit {0}) (λ p o. tt) b k is (length bytes) bytes old e new
+          quit-fault step _ _ (λ plan outcome. Unit {0}) (λ p o. tt) b k is (length bytes) bytes old e new
           fault
-      go (Convert b) is (Ok u) run = ran None refl (along (Ok u) run) tt
+      go (Convert b) is (Ok u) run = ran None refl (along run) tt
       go (Convert b) is (Err e) fault =
-          plain-fault step errors matcher (IsPoint k matcher.meaning bytes nowhere (length bytes)) (λ calls. refl)
-          (λ plan outcome. Unit {0}) k bytes old e new fault
+          plain-fault _ _ _ _ (λ calls. refl)
+          _ k _ old e new fault

@@ -2,7 +2,7 @@
 -- byte in each report.
 use Rattle.std.proofs.Common.{◌≡◌, ℕ, Bool, true, false, Option, Some, None, length, List, [], refl, sym, ap, subst}
 use Rattle.std.proofs.Common.{◌∙◌, inl, inr, ◌+◌, ◌∷◌, ◌≤◌, arith}
-use Rattle.std.specs.Prelude.{Result, Ok, Err, ◌&&◌, is_none}
+use Rattle.std.specs.Prelude.{Result, Ok, Err, ◌&&◌}
 use Rattle.std.specs.Option.{option_map}
 use Rattle.std.proofs.lemmas.Option.{none-some}
 use Rattle.std.proofs.lemmas.Bool.{false≢true}
@@ -10,7 +10,7 @@ use Rattle.std.proofs.lemmas.List.Elements.{All-nil, All-cons}
 use Rattle.std.specs.declared.io.Error.{Error}
 use Rattle.grep_decode.specs.DecoderStates.{Calls, DecoderState, Decodes}
 use Rattle.grep_decode.specs.Source.{ReadResult}
-use Rattle.grep_definitions.specs.BinaryBytes.{is_detecting, position_of, told}
+use Rattle.grep_definitions.specs.BinaryBytes.{is_detecting, planned_binary}
 use Rattle.grep_definitions.specs.CallOrder.{HasCalled, HasCalledTo}
 use Rattle.grep_definitions.specs.Inputs.{HasFailedRead, IsReadingError}
 use Rattle.grep_report.specs.ErrorMakers.{ErrorMakers}
@@ -26,7 +26,6 @@ use Rattle.grep_core.specs.SearchBuffers.{IsMadeOf, detection_of}
 use Rattle.grep_line_buffer.specs.BufferStates.{BufferState, held}
 use Rattle.grep_line_buffer.specs.Detections.{first_of, found_in}
 use Rattle.grep_line_buffer.specs.declared.detection.Detection.{Detection}
-use Rattle.grep_report.specs.BinaryDetections.{quit_byte_of}
 use Rattle.grep_report.specs.declared.binary_detection.BinaryDetection.{BinaryDetection}
 use Rattle.grep_report.specs.declared.binary_detection.BinaryDetection.TheVariants.{None as no_detection, Quit, Convert}
 use Rattle.grep_line_buffer.specs.declared.fill_error.FillError.{FillError}
@@ -35,14 +34,14 @@ use Rattle.grep_core.specs.QuittingSinks.{IsLookedAt, IsMadeAfter, Quits, count_
 use Rattle.grep_definitions.specs.Searches.{IsInOrder, ran_in_order, comes_between}
 
 -- a buffer that looks for no byte finds none
-pub undetected : (d : BinaryDetection) (detection : Detection) (binary : Option ℕ) (f : ℕ → ℕ) (t : ℕ) (given : List ℕ)
+pub undetected : (d : BinaryDetection) {detection : Detection} {binary : Option ℕ} (f : ℕ → ℕ) (t : ℕ) (given : List ℕ)
     → is_detecting d ≡ false → detection ≡ detection_of d → binary ≡ None
     → first_of binary (option_map f (found_in detection t given)) ≡ None
-undetected no_detection detection binary f t given none is clear =
+undetected no_detection {detection} f t given none is clear =
     ap (λ b. first_of b (option_map f (found_in detection t given))) clear
     ∙ ap (λ x. option_map f (found_in x t given)) is
-undetected (Quit b) detection binary f t given none is clear = absurd (false≢true (sym none))
-undetected (Convert b) detection binary f t given none is clear = absurd (false≢true (sym none))
+undetected (Quit b) f t given none is clear = absurd (false≢true (sym none))
+undetected (Convert b) f t given none is clear = absurd (false≢true (sym none))
 
 -- a fill finds none then
 pub clear-filled : (d : BinaryDetection) (old new : BufferState) (given : List ℕ)
@@ -51,7 +50,7 @@ pub clear-filled : (d : BinaryDetection) (old new : BufferState) (given : List �
     → old.detection ≡ detection_of d → (is_detecting d ≡ false → old.binary ≡ None) → is_detecting d ≡ false
     → new.binary ≡ None
 clear-filled d old new given found is clear none =
-    found ∙ undetected d old.detection old.binary (λ i. old.offset + length (held old) + i) old.terminator given none is
+    found ∙ undetected d (λ i. old.offset + length (held old) + i) _ given none is
     (clear none)
 
 and-left : (a b : Bool) → (a && b) ≡ true → a ≡ true
@@ -60,10 +59,10 @@ and-left false b is = absurd (false≢true is)
 
 module _ {R : Type 0} (remaining : R → Option (List ℕ)) (read_step : R → ReadResult → R → Type 0) (reader : R) where
   -- a decoder that has just been started read until a call failed
-  pub failed-read : (old new : DecoderState) (mid reader' : R) (given : List ℕ) (e : Error) → old.has_ended ≡ false
+  pub failed-read : {old new : DecoderState} {mid reader' : R} {given : List ℕ} {e : Error} → old.has_ended ≡ false
       → Decodes remaining read_step old reader given new mid → new.has_ended ≡ false → read_step mid (Err e) reader'
       → HasFailedRead remaining read_step reader e reader'
-  failed-read old new mid reader' given e started decodes unended last = (
+  failed-read {new} {mid} started decodes unended last = (
     mid,
     record {
       ended = false;
@@ -86,39 +85,27 @@ module _ {R : Type 0} (remaining : R → Option (List ℕ)) (read_step : R → R
   reading-error reader' Offset error fails is = inr (inr (inl is))
   reading-error reader' Memory error fails is = inr (inr (inr is))
 
--- how often the sink was told of a binary byte, by whether its offset is known
-abbrev pub told_once : Option ℕ → ℕ
-told_once None = 0
-told_once (Some offset) = 1
+-- how many binary bytes were reported, by whether the offset of one is known
+abbrev pub known_count : Option ℕ → ℕ
+known_count None = 0
+known_count (Some offset) = 1
 
 -- at most once
-pub once : (binary : Option ℕ) → told_once binary ≤ 1
+pub once : (binary : Option ℕ) → known_count binary ≤ 1
 once None = omega arith
 once (Some offset) = omega arith
 
 module _ {S E : Type 0} (step : Steps S E) (k : Settings) where
   -- what a call came to, by what it returned
-  call-passes : (old new : S) (call : Call) (end : ℕ) (result : Result Bool E)
+  call-passes : {old new : S} {call : Call} (end : ℕ) {result : Result Bool E}
       → comes_between (is_detecting k.binary_detection) call ≡ true → is_binary_data call ≡ false
       → step old k call result new → HasCalled step k 0 old (outcome_of end result) new
-  call-passes old new call end result inner plain made =
-      order.called-one step k call end old result new made inner plain
+  call-passes {old} {new} {call} end {result} inner plain made =
+      order.called-one step k _ end old _ new made inner plain
 
-  stopped-to : {told : ℕ} (old new : S) (end : ℕ) → HasCalled step k told old (stopped (counted end)) new
-      → HasCalledTo step k told old end new
-  stopped-to old new end called = record { outcome = stopped (counted end); ends = refl; called = called }
-
-  -- a binary byte is known only if it is looked for
-  abbrev pub DetectsNoted : Noted S → Type 0
-  DetectsNoted n = (offset : ℕ) → n.binary ≡ Some offset → is_detecting k.binary_detection ≡ true
-
-  -- no offset is known if no byte is looked for
-  pub undetected-none : (n : Noted S) → DetectsNoted n → is_detecting k.binary_detection ≡ false → n.binary ≡ None
-  undetected-none n detects none = go n.binary refl
-    where
-      go : (binary : Option ℕ) → n.binary ≡ binary → binary ≡ None
-      go None is = refl
-      go (Some offset) is = absurd (false≢true (sym none ∙ detects offset is))
+  stopped-to : {bound : ℕ} {old new : S} (end : ℕ) → HasCalled step k bound old (stopped (counted end)) new
+      → HasCalledTo step k bound old end new
+  stopped-to end called = record { outcome = stopped (counted end); ends = refl; called = called }
 
   -- a binary byte of a buffer is noted
   module _ (binary : Option ℕ) (none : is_detecting k.binary_detection ≡ false → binary ≡ None) (old new : Noted S)
@@ -130,33 +117,32 @@ module _ {S E : Type 0} (step : Steps S E) (k : Settings) where
           go true same = same
           go false same = absurd (none-some offset (sym (none same) ∙ is))
 
-      pub detects-passed : (goes_on : Bool) → DetectsNoted old → PassesBinary step k binary old goes_on new
-          → DetectsNoted new
-      detects-passed goes_on detects (inl (offset, is, unknown, now, called)) = λ other same. detected
-          offset
-          is
-      detects-passed goes_on detects (inr (why, goes, same)) = subst DetectsNoted (sym same) detects
+      -- no offset is known if no byte is looked for
+      pub clear-passed : (goes_on : Bool) → (is_detecting k.binary_detection ≡ false → old.binary ≡ None)
+          → PassesBinary step k binary old goes_on new → is_detecting k.binary_detection ≡ false → new.binary ≡ None
+      clear-passed goes_on clear (inl (offset, is, unknown, now, called)) blind = absurd (none-some offset (sym (none blind) ∙ is))
+      clear-passed goes_on clear (inr (why, goes, same)) blind = ap (λ (n : Noted S). n.binary) same ∙ clear blind
 
       -- the calls so far with it: at most one call is `binary_data`
-      module _ (start : S) (so_far : HasCalled step k (told_once old.binary) start all_true old.sink) where
+      module _ (start : S) (so_far : HasCalled step k (known_count old.binary) start all_true old.sink) where
         before : old.binary ≡ None → HasCalled step k 0 start all_true old.sink
-        before unknown = subst (λ b. HasCalled step k (told_once b) start all_true old.sink) unknown so_far
+        before unknown = subst (λ b. HasCalled step k (known_count b) start all_true old.sink) unknown so_far
 
         pub passes-on : PassesBinary step k binary old true new
-            → HasCalled step k (told_once new.binary) start all_true new.sink
+            → HasCalled step k (known_count new.binary) start all_true new.sink
         passes-on (inl (offset, is, unknown, now, (returned, called, goes))) =
-            let true_is : returned ≡ true = and-left returned (is_none (quit_byte_of k.binary_detection)) (sym goes) in
-            subst (λ b. HasCalled step k (told_once b) start all_true new.sink) (sym now)
-            (order.called-after step k (omega arith) start old.sink all_true new.sink (before unknown)
-            (order.called-binary step k offset 0 old.sink (Ok true) new.sink
-            (subst (λ r. step old.sink k (binary_data offset) (Ok r) new.sink) true_is called) (detected offset is)))
+            let true_is : returned ≡ true = and-left _ _ (sym goes) in
+            subst (λ b. HasCalled step k (known_count b) start all_true new.sink) (sym now)
+            (order.called-after _ k (omega arith) _ _ _ _ (before unknown)
+            (order.called-binary _ k _ 0 _ _ _
+            (subst (λ r. step old.sink k (binary_data offset) (Ok r) new.sink) true_is called) (detected _ is)))
         passes-on (inr (why, goes, same)) =
-            subst (λ (n : Noted S). HasCalled step k (told_once n.binary) start all_true n.sink) (sym same) so_far
+            subst (λ (n : Noted S). HasCalled step k (known_count n.binary) start all_true n.sink) (sym same) so_far
 
-        pub passes-off : (count : ℕ) → PassesBinary step k binary old false new
+        pub passes-off : {count : ℕ} → PassesBinary step k binary old false new
             → HasCalledTo step k 1 start count new.sink
-        passes-off count (inl (offset, is, unknown, now, (returned, called, goes))) =
-            order.called-after-to step k (omega arith) start old.sink count new.sink (before unknown)
+        passes-off {count} (inl (offset, is, unknown, now, (returned, called, goes))) =
+            order.called-after-to _ k (omega arith) _ _ _ _ (before unknown)
             (go returned called)
           where
             go : (returned : Bool) → step old.sink k (binary_data offset) (Ok returned) new.sink
@@ -164,18 +150,18 @@ module _ {S E : Type 0} (step : Steps S E) (k : Settings) where
             go true called = record {
               outcome = all_true;
               ends = tt;
-              called = order.called-binary step k offset count old.sink (Ok true) new.sink called
-                  (detected offset is);
+              called = order.called-binary _ k _ count _ _ _ called
+                  (detected _ is);
             }
-            go false called = stopped-to old.sink new.sink count
-                (order.called-binary step k offset count old.sink (Ok false) new.sink called (detected offset is))
-        passes-off count (inr (why, goes, same)) = absurd (false≢true goes)
+            go false called = stopped-to count
+                (order.called-binary _ k _ count _ _ _ called (detected _ is))
+        passes-off (inr (why, goes, same)) = absurd (false≢true goes)
 
         pub fails-at : (e : E) → FailsAtBinary step k binary old e new
             → HasCalled step k 1 start (failed e) new.sink
         fails-at e (offset, is, unknown, called) =
-            order.called-after step k (omega arith) start old.sink (failed e) new.sink (before unknown)
-            (order.called-binary step k offset 0 old.sink (Err e) new.sink called (detected offset is))
+            order.called-after _ k (omega arith) _ _ _ _ (before unknown)
+            (order.called-binary _ k _ 0 _ _ _ called (detected _ is))
 
   module _ (may_call : S → Type 0) (detecting : is_detecting k.binary_detection ≡ true) where
     -- no byte was found yet
@@ -187,17 +173,17 @@ module _ {S E : Type 0} (step : Steps S E) (k : Settings) where
         (λ q count. count_to q.found count)
 
     -- a call that is made, and the break before it that was held back
-    made-after : (has_break : Bool) (old new : S) (call : Call) (end : ℕ) (result : Result Bool E)
+    made-after : (has_break : Bool) {old new : S} (call : Call) (end : ℕ) (result : Result Bool E)
         → comes_between (is_detecting k.binary_detection) call ≡ true → is_binary_data call ≡ false
         → IsMadeAfter step may_call has_break old k call result new
         → HasCalled step k 0 old (outcome_of end result) new
-    made-after false old new call end result inner plain made = call-passes old new call end result inner plain made
-    made-after true old new call end result inner plain (inl (mid, may, gap, made)) =
-        order.called-then step k old mid (outcome_of end result) new
-        (call-passes old mid breaks end (Ok true) refl refl gap)
-        (call-passes mid new call end result inner plain made)
-    made-after true old new call end result inner plain (inr (ends, gap)) =
-        call-passes old new breaks end result refl refl gap
+    made-after false {old} {new} call end result inner plain made = call-passes end inner plain made
+    made-after true {old} {new} call end result inner plain (inl (mid, may, gap, made)) =
+        order.called-then _ k old mid _ new
+        (call-passes end refl refl gap)
+        (call-passes end inner plain made)
+    made-after true {old} {new} call end result inner plain (inr (ends, gap)) =
+        call-passes end refl refl gap
 
     -- what is made while no byte is found
     clear : (old : Quitting S) (result : Result Bool E) (end : ℕ) (new : Quitting S) → new.found ≡ None
@@ -205,20 +191,20 @@ module _ {S E : Type 0} (step : Steps S E) (k : Settings) where
     clear old (Ok true) end new none called = (none, called)
     clear old (Ok false) end new none called =
         subst (λ found. HasCalledTo step k 1 old.sink.now (count_to found end) new.sink.now) (sym none)
-        (stopped-to old.sink.now new.sink.now end (most called))
+        (stopped-to end (most called))
       where
         most : HasCalled step k 0 old.sink.now (stopped (counted end)) new.sink.now
             → HasCalled step k 1 old.sink.now (stopped (counted end)) new.sink.now
-        most = order.called-most step k (omega arith) old.sink.now (stopped (counted end)) new.sink.now
+        most = order.called-most _ k (omega arith) _ _ _
     clear old (Err e) end new none called =
-        order.called-most step k (omega arith) old.sink.now (failed e) new.sink.now called
+        order.called-most _ k (omega arith) _ _ _ called
 
     -- a byte is found in a report
-    quits : (old : Quitting S) (result : Result Bool E) (end offset : ℕ) (new : Quitting S) → new.found ≡ Some offset
+    quits : (old : Quitting S) {result : Result Bool E} (end offset : ℕ) (new : Quitting S) → new.found ≡ Some offset
         → (returned : Result Bool E) → result ≡ ended returned
         → step old.sink.now k (binary_data offset) returned new.sink.now
         → QuitPasses old result end new
-    quits old result end offset new is (Ok goes_on) ends made =
+    quits old end offset new is (Ok goes_on) ends made =
         subst (λ r. QuitPasses old r end new) (sym ends)
         (subst (λ found. HasCalledTo step k 1 old.sink.now (count_to found end) new.sink.now) (sym is)
         (go goes_on made))
@@ -229,14 +215,14 @@ module _ {S E : Type 0} (step : Steps S E) (k : Settings) where
             record {
               outcome = all_true;
               ends = tt;
-              called = order.called-binary step k offset offset old.sink.now (Ok true) new.sink.now made detecting;
+              called = order.called-binary _ k _ offset _ _ _ made detecting;
             }
         go false made =
-            stopped-to old.sink.now new.sink.now offset
-            (order.called-binary step k offset offset old.sink.now (Ok false) new.sink.now made detecting)
-    quits old result end offset new is (Err e) ends made =
+            stopped-to _
+            (order.called-binary _ k _ _ _ _ _ made detecting)
+    quits old end offset new is (Err e) ends made =
         subst (λ r. QuitPasses old r end new) (sym ends)
-        (order.called-binary step k offset end old.sink.now (Err e) new.sink.now made detecting)
+        (order.called-binary _ k _ end _ _ _ made detecting)
 
     looked-at : (found : Option ℕ) (from : ℕ) (call : Call) (end : ℕ) (old : Quitting S) (result : Result Bool E)
         (new : Quitting S)
@@ -244,10 +230,10 @@ module _ {S E : Type 0} (step : Steps S E) (k : Settings) where
         → old.found ≡ None → IsLookedAt step may_call found from (watch_of old) k call result (watch_of new)
         → QuitPasses old result end new
     looked-at None from call end old result new inner plain none (same, unbroken, made) =
-        clear old result end new (same ∙ none) (made-after old.has_break old.sink.now new.sink.now call end result inner
+        clear old _ end new (same ∙ none) (made-after _ call end _ inner
         plain made)
     looked-at (Some index) from call end old result new inner plain none (is, unbroken, (returned, ends, made)) =
-        quits old result end (from + index) new is returned ends made
+        quits old end _ new is _ ends made
 
     pub quits-one : (call : Call) (end : ℕ) (old : Quitting S) (result : Result Bool E) (new : Quitting S)
         → comes_between (is_detecting k.binary_detection) call ≡ true → is_binary_data call ≡ false → FoundNone old
@@ -255,15 +241,15 @@ module _ {S E : Type 0} (step : Steps S E) (k : Settings) where
         → QuitPasses old result end new
     quits-one begins end old result new inner plain none made = absurd (false≢true inner)
     quits-one (matches number from bytes) end old result new inner plain none (name, byte, made) =
-        looked-at (position_of old.byte bytes) from (matches number from bytes) end old result new refl refl none made
+        looked-at _ from _ end old _ new refl refl none made
     quits-one (context kind number from bytes) end old result new inner plain none (name, byte, made) =
-        looked-at (position_of old.byte bytes) from (context kind number from bytes) end old result new refl refl none
+        looked-at _ from _ end old _ new refl refl none
         made
     quits-one breaks end old result new inner plain none (name, byte, (held, goes)) =
         subst (λ r. QuitPasses old r end new) (sym goes) (
           ap (λ w. w.found) held ∙ none,
           subst (λ s. HasCalled step k 0 old.sink.now all_true s) (sym (ap (λ w. w.sink) held))
-              (order.called-none step k old.sink.now),
+              (order.called-none _ k _),
         )
     quits-one (binary_data offset) end old result new inner plain none made = absurd (false≢true (sym plain))
     quits-one (finishes count binary) end old result new inner plain none made = absurd (false≢true inner)
@@ -273,19 +259,19 @@ module _ {S E : Type 0} (step : Steps S E) (k : Settings) where
     quits-begun old result new none (name, byte, (same, unbroken, made)) = (same ∙ none, made)
 
     -- a search that ends at a byte before its first line
-    pub quit-in-order : {F : Type 0} (errors : ErrorMakers F E) (matcher : MatcherFacts F) {IsOfReading : Error → Type 0}
-        (offset : ℕ) (old : S) (result : Result (Unit {0}) E) (new : S) → IsRun step k old (first_quit offset) result
+    pub quit-in-order : {F : Type 0} {errors : ErrorMakers F E} {matcher : MatcherFacts F} {IsOfReading : Error → Type 0}
+        (offset : ℕ) {old : S} {result : Result (Unit {0}) E} {new : S} → IsRun step k old (first_quit offset) result
         new
         → IsInOrder step errors matcher k IsOfReading old result new
-    quit-in-order errors matcher offset old result new run =
-        let quit : Planned = told (record { position = 1; offset = offset; count = 0 }) in
+    quit-in-order offset run =
+        let quit : Planned = planned_binary (record { position = 1; offset = offset; count = 0 }) in
         ran_in_order (first_quit offset) (record {
           first = planned begins 0;
           later = quit ∷ [];
           all = refl;
           begin = (refl, refl);
           inner = All-cons (order.IsInner k) quit [] detecting (All-nil (order.IsInner k));
-          once = omega (arith, order.told-cons quit []);
+          once = omega (arith, order.binary-cons quit []);
           plain = λ none. absurd (false≢true (sym none ∙ detecting));
         }) (λ none. absurd (false≢true (sym none ∙ detecting))) run
 

@@ -4,12 +4,12 @@ use Rattle.std.proofs.Common.{sym, ap, subst, ◌∙◌, length, take, Err}
 use Rattle.std.proofs.lemmas.List.{append-nil}
 use Rattle.std.proofs.lemmas.Option.{none-some}
 use Rattle.std.specs.List.{concat}
+use Rattle.grep_decode.specs.DecoderStates.{DecoderState}
 use Rattle.grep_decode.specs.Source.{ReadResult}
-use Rattle.grep_lines.specs.LineLaws.{LinesJoin, LinesAppend}
 use Rattle.grep_matcher.specs.Meanings.{Meaning, MatcherFacts}
 use Rattle.grep_report.specs.declared.binary_detection.BinaryDetection.{BinaryDetection}
-use Rattle.grep_definitions.specs.Asking.{search_plan, is_across}
-use Rattle.grep_definitions.specs.BinaryBytes.{on_stream, view_of, BinaryPoint, plan_with, quits, told}
+use Rattle.grep_definitions.specs.Asking.{search_plan}
+use Rattle.grep_definitions.specs.BinaryBytes.{on_stream, view_of, BinaryPoint, plan_with, quits, planned_binary}
 use Rattle.grep_definitions.specs.Searches.{IsCutAt, IsStreamPoint, IsReaderSearch, ran}
 use Rattle.grep_definitions.specs.Inputs.{IsInput, searched_bytes, Taken}
 use Rattle.grep_definitions.specs.DecodedInputs.{passes_unchanged}
@@ -20,14 +20,15 @@ use Rattle.grep_definitions.specs.Plans.{failed}
 use Rattle.grep_definitions.specs.Settings.{Settings}
 use Rattle.grep_definitions.proofs.BoolLemmas.{clash}
 use Rattle.grep_definitions.proofs.FirstTurnLemmas.{turns-begin}
-use Rattle.grep_definitions.proofs.SearchModeLemmas.{plan-by_line}
-use Rattle.grep_definitions.proofs.PlannedStreamLemmas.{stream-point, told-made}
+use Rattle.grep_definitions.proofs.PlannedStreamLemmas.{stream-point, binary-made}
 use Rattle.grep_core.specs.Rolls.{IsEnding, IsStreamCounted}
+use Rattle.grep_core.proofs.HeldLemmas.{IsStream}
+use Rattle.grep_core.proofs.PassedByteLemmas.{calls-are as same-calls}
 
-module _ {R : Type 0} (remaining : R → Option (List ℕ)) (read_step : R → ReadResult → R → Type 0)
-    (join : LinesJoin) (append : LinesAppend) {S E : Type 0} (step : Steps S E) (k : Settings) (meaning : Meaning)
-    (by_line : is_across k meaning ≡ false) (built : k.passthru ≡ true → k.before_context ≡ 0)
-    (reader : R) (old : S) (reader' : R) (taken : Taken remaining read_step reader reader') (seen : List ℕ)
+module _ {R : Type 0} {remaining : R → Option (List ℕ)} {read_step : R → ReadResult → R → Type 0}
+    {S E : Type 0} (step : Steps S E) {k : Settings} {meaning : Meaning} {decoder : DecoderState}
+    (stream : IsStream remaining read_step k meaning decoder) {reader reader' : R} (old : S)
+    (taken : Taken remaining read_step reader reader') (seen : List ℕ)
     (offset : ℕ) (cut : (bytes : List ℕ) → IsInput k taken.ended taken.pieces bytes → IsCutAt k meaning bytes seen
     offset)
     (mid : S) (before : AreMade step k old (LineSearch.turns k meaning seen) all_true mid) where
@@ -44,7 +45,7 @@ module _ {R : Type 0} (remaining : R → Option (List ℕ)) (read_step : R → R
   finish = record { count = length seen; binary = Some offset }
 
   calls-are : (bytes : List ℕ) → (plan bytes).calls ≡ LineSearch.turns k meaning bytes
-  calls-are bytes = ap (λ (p : Plan). p.calls) (plan-by_line k meaning bytes by_line)
+  calls-are = same-calls k meaning stream.by_line
 
   abbrev One : List ℕ → Type 0
   One = IsInput k taken.ended taken.pieces
@@ -60,16 +61,16 @@ module _ {R : Type 0} (remaining : R → Option (List ℕ)) (read_step : R → R
       before
 
   abbrev at-seen : (bytes : List ℕ) → One bytes → IsStreamPoint k meaning bytes front point
-  at-seen bytes one = stream-point k meaning bytes seen offset (cut bytes one) front [] (sym (append-nil front))
+  at-seen bytes one = stream-point k _ bytes seen _ (cut bytes one) front [] (sym (append-nil front))
 
   -- the calls for the lines that were seen come first
   calls-begin : (bytes : List ℕ) → One bytes → (later : List Planned) × ((plan (view_of k bytes)).calls ≡ front ++
       later)
   calls-begin bytes one =
       let there = (cut bytes one).front in
-      let begun = turns-begin join append k meaning seen there.front.after there.closed built in (
+      let begun = turns-begin stream.join stream.append k meaning seen _ there.closed stream.built in (
         begun.0,
-        calls-are (view_of k bytes)
+        calls-are _
             ∙ (ap (LineSearch.turns k meaning) there.front.whole ∙ begun.1
             ∙ ap (λ cs. cs ++ begun.0) (sym (calls-are seen))),
       )
@@ -77,21 +78,21 @@ module _ {R : Type 0} (remaining : R → Option (List ℕ)) (read_step : R → R
   abbrev at-each : (bytes : List ℕ) → One bytes → IsStreamPoint k meaning bytes (plan (view_of k bytes)).calls point
   at-each bytes one =
       let later = calls-begin bytes one in
-      stream-point k meaning bytes seen offset (cut bytes one) (plan (view_of k bytes)).calls later.0 later.1
+      stream-point k _ bytes seen _ (cut bytes one) _ _ later.1
 
-  module _ (outcome : Outcome E) (last : S) (called : AreMade step k mid (told point ∷ []) outcome last)
+  module _ (outcome : Outcome E) (last : S) (called : AreMade step k mid (planned_binary point ∷ []) outcome last)
       (ends : outcome ≡ all_true → quits k.binary_detection ≡ true) where
     made-along : (p : Plan) → take point.position p.calls ≡ front
         → AreMade step k old (plan_with k.binary_detection (Some point) p).calls outcome last
-    made-along p same = told-made step k k.binary_detection (quits k.binary_detection) refl point p front same old mid
-        outcome last made-front called ends
+    made-along p same = binary-made step k _ _ refl point p front same old mid
+        _ last made-front called ends
 
     -- in an error of `binary_data`
-    pub failed-there : {F : Type 0} (errors : ErrorMakers F E) (facts : MatcherFacts F) (has_buffers : Bool) (e : E)
+    pub failed-there : {F : Type 0} {errors : ErrorMakers F E} (facts : MatcherFacts F) {has_buffers : Bool} {e : E}
         → outcome ≡ failed e
         → IsReaderSearch remaining read_step step errors (record facts { meaning = meaning })
         (record { settings = k; has_buffers = has_buffers }) on_stream reader old (Err e) reader' last
-    failed-there errors facts has_buffers e fails =
+    failed-there facts {e} fails =
         let along : (p : Plan) → take point.position p.calls ≡ front
         → IsRun step k old (plan_with k.binary_detection (Some point) p) (Err e) last =
         λ p same. record {
@@ -108,7 +109,7 @@ module _ {R : Type 0} (remaining : R → Option (List ℕ)) (read_step : R → R
           over_seen = ran (Some point) at-seen (along (plan seen) (at-seen some is-one).before) tt;
           each = λ bytes one. ran (Some point) (at-each bytes one)
               (along (plan (view_of k bytes)) (at-each bytes one).before) tt;
-          whole = λ across. absurd (clash across by_line);
+          whole = λ across. absurd (clash across stream.by_line);
         }
 
     abbrev if-false : Outcome E → Finish
@@ -117,7 +118,7 @@ module _ {R : Type 0} (remaining : R → Option (List ℕ)) (read_step : R → R
     if-false (failed e) = finish
 
     ending : (d : BinaryDetection) (q : Bool) → quits d ≡ q → (o : Outcome E)
-        → AreMade step k mid (told point ∷ []) o last
+        → AreMade step k mid (planned_binary point ∷ []) o last
         → (o ≡ all_true → q ≡ true) → ((e : E) → o ≡ failed e → ⊥) → (p : Plan)
         → IsEnding o (plan_with d (Some point) p).finish finish
     ending d true is all_true called ends succeeds p = rw is refl
@@ -141,12 +142,12 @@ module _ {R : Type 0} (remaining : R → Option (List ℕ)) (read_step : R → R
       at_seen = at-seen;
       over_seen = record {
         made = made-along (plan seen) (at-seen some is-one).before;
-        ending = ending k.binary_detection (quits k.binary_detection) refl outcome called ends succeeds (plan seen);
+        ending = ending _ _ refl _ called ends succeeds (plan seen);
       };
       at_each = at-each;
       over_each = λ bytes one. record {
         made = made-along (plan (view_of k bytes)) (at-each bytes one).before;
-        ending = ending k.binary_detection (quits k.binary_detection) refl outcome called ends succeeds
+        ending = ending _ _ refl _ called ends succeeds
             (plan (view_of k bytes));
       };
       all = λ all goes_on bytes one. absurd (none-some offset (sym (goes_on (ends all))));

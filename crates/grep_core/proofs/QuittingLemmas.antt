@@ -6,7 +6,7 @@ use Rattle.std.specs.Prelude.{is_some}
 use Rattle.std.specs.List.{position}
 use Rattle.std.proofs.lemmas.Bool.{true≢false, false≢true}
 use Rattle.grep_definitions.specs.BinaryBytes.{position_of, call_at, holds_byte, offset_at, plan_with, point_at}
-use Rattle.grep_definitions.specs.BinaryBytes.{point_unless, told, with_offset}
+use Rattle.grep_definitions.specs.BinaryBytes.{point_unless, planned_binary, with_offset}
 use Rattle.grep_report.specs.declared.binary_detection.BinaryDetection.TheVariants.{Quit}
 use Rattle.grep_definitions.specs.Settings.{Settings}
 use Rattle.grep_definitions.specs.Plans.{Call, Planned, begins, matches, context, breaks, binary_data, finishes}
@@ -111,17 +111,17 @@ module _ {S E : Type 0} (step : Steps S E) (may_call : S → Type 0) (k : Settin
         → HasQuit turns old outcome new
 
   -- one more call before them, that doesn't hold the byte
-  quits-more : (turn : Planned) (later : List Planned) (old mid : S) (outcome : Outcome E) (new : Watch S)
+  quits-more : (turn : Planned) {later : List Planned} {old mid : S} {outcome : Outcome E} {new : Watch S}
       → holds_byte b turn ≡ false → IsApart b turn later → step old k turn.call (Ok true) mid
       → HasQuit later mid outcome new → HasQuit (turn ∷ later) old outcome new
-  quits-more turn later old mid outcome new free apart made (unheld none clear reported) =
+  quits-more turn {later} {mid} free apart made (unheld none clear reported) =
       unheld (first.position-never (holds_byte b) turn later free none) clear (inl (mid, made, reported))
-  quits-more turn later old mid outcome new free apart made (ended_before n is clear some reported) =
+  quits-more turn {later} {old} {mid} {outcome} {new} free apart made (ended_before n is clear some reported) =
       ended_before (suc n) (first.position-later (holds_byte b) turn later n free is) clear some
       (subst (λ l. AreMade step k old l outcome new.sink)
       (sym (before-more b turn later n (apart-at b turn later n apart is)))
       (inl (mid, made, reported)))
-  quits-more turn later old mid outcome new free apart made (ended_at n is found last reported returned called end) =
+  quits-more turn {later} {old} {mid} free apart made (ended_at n is found last reported returned called end) =
       ended_at (suc n) (first.position-later (holds_byte b) turn later n free is) found last
       (subst (λ l. AreMade step k old l all_true last)
       (sym (before-more b turn later n (apart-at b turn later n apart is)))
@@ -159,19 +159,19 @@ module _ {S E : Type 0} (step : Steps S E) (may_call : S → Type 0) (k : Settin
   first-call turn later old outcome new (inr (inr (e, is, made))) = (Err e, new, made, (is, refl))
 
   -- a report that is made
-  quits-report : (turn : Planned) (later : List Planned) (old : S) (mid : Watch S) (outcome : Outcome E) (new : Watch S)
+  quits-report : (turn : Planned) {later : List Planned} {old : S} (mid : Watch S) {outcome : Outcome E} {new : Watch S}
       → (result : Result Bool E) → is_break turn.call ≡ false → holds_byte b turn ≡ false
       → step old k turn.call result mid.sink → mid.found ≡ None → Went turn result mid later outcome new
       → (AreMade Q k mid later outcome new → HasQuit later mid.sink outcome new)
       → HasQuit (turn ∷ later) old outcome new
-  quits-report turn later old mid outcome new (Ok true) is free made clear went rest =
-      quits-more turn later old mid.sink outcome new free (inl is) made (rest went)
-  quits-report turn later old mid outcome new (Ok false) is free made clear (stops, same) rest =
-      quits-none turn later old outcome new free (inl is) (ap (λ (w : Watch S). w.found) same ∙ clear)
-      (λ all. not-stopped turn.if_false (sym all ∙ stops))
+  quits-report turn {later} {old} mid {outcome} {new} (Ok true) is free made clear went rest =
+      quits-more turn free (inl is) made (rest went)
+  quits-report turn {later} {old} mid {outcome} {new} (Ok false) is free made clear (stops, same) rest =
+      quits-none turn later old _ new free (inl is) (ap (λ (w : Watch S). w.found) same ∙ clear)
+      (λ all. not-stopped _ (sym all ∙ stops))
       (λ rest. inr (inl (stops, subst (λ (w : Watch S). step old k turn.call (Ok false) w.sink) (sym same) made)))
-  quits-report turn later old mid outcome new (Err e) is free made clear (fails, same) rest =
-      quits-none turn later old outcome new free (inl is) (ap (λ (w : Watch S). w.found) same ∙ clear)
+  quits-report turn {later} {old} mid {outcome} {new} (Err e) is free made clear (fails, same) rest =
+      quits-none turn later old _ new free (inl is) (ap (λ (w : Watch S). w.found) same ∙ clear)
       (λ all. not-failed e (sym all ∙ fails))
       (λ rest. inr (inr (e, fails, subst (λ (w : Watch S). step old k turn.call (Err e) w.sink) (sym same) made)))
 
@@ -212,9 +212,9 @@ module _ {S E : Type 0} (step : Steps S E) (may_call : S → Type 0) (k : Settin
   quits [] no_turns old outcome new whole clear (all, same) =
       unheld refl (ap (λ (w : Watch S). w.found) same ∙ clear) (all, ap (λ (w : Watch S). w.sink) same)
   quits (turn ∷ later) (joined_report is joined) old outcome new whole clear reported =
-      let made = first-call turn later old outcome new reported in
-      go (λ mid none empty. quits later joined mid outcome new none empty)
-      (position_of b (reported_bytes turn.call)) refl made.0 made.1 (looked turn.call old made.0 made.1 is made.2)
+      let made = first-call turn later old _ new reported in
+      go (λ mid none empty. quits _ joined mid _ new none empty)
+      (position_of b (reported_bytes turn.call)) refl made.0 made.1 (looked _ old _ _ is made.2)
       made.3
     where
       go : QuitsFrom later outcome new
@@ -224,14 +224,14 @@ module _ {S E : Type 0} (step : Steps S E) (may_call : S → Type 0) (k : Settin
           → HasQuit (turn ∷ later) old.sink outcome new
       go quits_later None free result mid (same, none, made) went =
           let alone = subst (λ c. IsMadeAfter step may_call c old.sink k turn.call result mid.sink) whole made in
-          quits-report turn later old.sink mid outcome new result (report-no-break turn.call is) (ap is_some free) alone
+          quits-report turn mid _ (report-no-break _ is) (ap is_some free) alone
           (same ∙ clear) went
           (quits_later mid none (same ∙ clear))
       go quits_later (Some index) holds result mid (found, whole_now, (returned, ends, called)) went =
-          let end = end-of turn later mid outcome new returned
+          let end = end-of turn later mid _ new _
           (subst (λ r. Went turn r mid later outcome new) ends went) in
           let offset : offset_at b (turn ∷ later) 0 ≡ reported_from turn.call + index =
-          ap (λ i. reported_from turn.call + i) (first.position-is (λ x. x == b) (reported_bytes turn.call) index
+          ap (λ i. reported_from turn.call + i) (first.position-is (λ x. x == b) _ index
           holds) in
           ended_at 0 (first.position-first (holds_byte b) turn later (ap is_some holds))
           (ap (λ (w : Watch S). w.found) end.0 ∙ found ∙ ap (λ n. Some n) (sym offset)) old.sink
@@ -242,16 +242,16 @@ module _ {S E : Type 0} (step : Steps S E) (may_call : S → Type 0) (k : Settin
           (sym end.0) called))
           end.1
   quits (gap ∷ turn ∷ later) (joined_break off is same_end joined) old outcome new whole clear reported =
-      let made = first-call gap (turn ∷ later) old outcome new reported in
+      let made = first-call gap _ old _ new reported in
       let held : (made.1 ≡ record old { has_break = true }) × (made.0 ≡ Ok true) =
       subst (λ call. Q old k call made.0 made.1) off made.2 in
       let rest : AreMade Q k (record old { has_break = true }) (turn ∷ later) outcome new =
       subst (λ w. AreMade Q k w (turn ∷ later) outcome new) held.0
       (subst (λ r. Went gap r made.1 (turn ∷ later) outcome new) held.1 made.3) in
-      let next = first-call turn later (record old { has_break = true }) outcome new rest in
-      go (λ mid none empty. quits later joined mid outcome new none empty)
+      let next = first-call turn later _ _ new rest in
+      go (λ mid none empty. quits _ joined mid _ new none empty)
       (position_of b (reported_bytes turn.call)) refl next.0 next.1
-      (looked turn.call (record old { has_break = true }) next.0 next.1 is next.2) next.3
+      (looked _ _ _ _ is next.2) next.3
     where
       gap-free : holds_byte b gap ≡ false
       gap-free = rw off refl
@@ -269,22 +269,22 @@ module _ {S E : Type 0} (step : Steps S E) (may_call : S → Type 0) (k : Settin
           → IsMadeAfter step may_call true old.sink k turn.call result mid.sink → Went turn result mid later outcome new
           → HasQuit (gap ∷ turn ∷ later) old.sink outcome new
       after quits_later result mid free none whole (inl (m, may, broken, made)) went =
-          quits-more gap (turn ∷ later) old.sink m outcome new gap-free (apart free)
+          quits-more gap gap-free (apart free)
           (subst (λ call. step old.sink k call (Ok true) m) (sym off) broken)
-          (quits-report turn later m mid outcome new result (report-no-break turn.call is) free made none went
+          (quits-report turn mid _ (report-no-break _ is) free made none went
           (quits_later mid whole none))
       after quits_later (Ok true) mid free none whole (inr (never, broken)) went = absurd (never refl)
       after quits_later (Ok false) mid free none whole (inr (never, broken)) (stops, same) =
-          quits-none gap (turn ∷ later) old.sink outcome new gap-free (apart free)
+          quits-none gap _ _ _ new gap-free (apart free)
           (ap (λ (w : Watch S). w.found) same ∙ none)
-          (λ all. not-stopped turn.if_false (sym all ∙ stops))
+          (λ all. not-stopped _ (sym all ∙ stops))
           (λ rest. inr (inl (
             stops ∙ ap (λ f. stopped f) (sym same_end),
             subst (λ call. step old.sink k call (Ok false) new.sink) (sym off)
                 (subst (λ (w : Watch S). step old.sink k breaks (Ok false) w.sink) (sym same) broken),
           )))
       after quits_later (Err e) mid free none whole (inr (never, broken)) (fails, same) =
-          quits-none gap (turn ∷ later) old.sink outcome new gap-free (apart free)
+          quits-none gap _ _ _ new gap-free (apart free)
           (ap (λ (w : Watch S). w.found) same ∙ none)
           (λ all. not-failed e (sym all ∙ fails))
           (λ rest. inr (inr (
@@ -302,10 +302,10 @@ module _ {S E : Type 0} (step : Steps S E) (may_call : S → Type 0) (k : Settin
       go quits_later None free result mid (same, whole, made) went =
           after quits_later result mid (ap is_some free) (same ∙ clear) whole made went
       go quits_later (Some index) holds result mid (found, whole_now, (returned, ends, called)) went =
-          let end = end-of turn later mid outcome new returned
+          let end = end-of turn later mid _ new _
           (subst (λ r. Went turn r mid later outcome new) ends went) in
           let offset : offset_at b (gap ∷ turn ∷ later) 1 ≡ reported_from turn.call + index =
-          ap (λ i. reported_from turn.call + i) (first.position-is (λ x. x == b) (reported_bytes turn.call) index
+          ap (λ i. reported_from turn.call + i) (first.position-is (λ x. x == b) _ index
           holds) in
           ended_at 1 (first.position-later (holds_byte b) gap (turn ∷ later) 0 gap-free
           (first.position-first (holds_byte b) turn later (ap is_some holds)))
@@ -317,16 +317,16 @@ module _ {S E : Type 0} (step : Steps S E) (may_call : S → Type 0) (k : Settin
           end.1
 
   -- and of `begin` and some turns
-  pub quits-begun : (end : ℕ) (turns : List Planned) → AreJoined turns
-      → (old : Watch S) (outcome : Outcome E) (new : Watch S)
+  pub quits-begun : (end : ℕ) {turns : List Planned} → AreJoined turns
+      → (old : Watch S) {outcome : Outcome E} {new : Watch S}
       → old.has_break ≡ false → old.found ≡ None
       → AreMade Q k old (planned begins end ∷ turns) outcome new
       → HasQuit (planned begins end ∷ turns) old.sink outcome new
-  quits-begun end turns joined old outcome new whole clear reported =
+  quits-begun end {turns} joined old {outcome} {new} whole clear reported =
       let begin : Planned = (planned begins end) in
-      let made = first-call begin turns old outcome new reported in
-      quits-report begin turns old.sink made.1 outcome new made.0 refl refl made.2.2 (made.2.0 ∙ clear) made.3
-      (quits turns joined made.1 outcome new (made.2.1 ∙ whole) (made.2.0 ∙ clear))
+      let made = first-call begin turns old _ new reported in
+      quits-report begin _ _ refl refl made.2.2 (made.2.0 ∙ clear) made.3
+      (quits _ joined _ _ new (made.2.1 ∙ whole) (made.2.0 ∙ clear))
 
   -- `finish` after them
   finish-passed : (outcome : Outcome E) (mid : Watch S) (count : ℕ) (finish : Finish) (result : Result (Unit {0}) E)
@@ -343,26 +343,26 @@ module _ {S E : Type 0} (step : Steps S E) (may_call : S → Type 0) (k : Settin
   finish-passed (failed e) mid count finish result new plain clear is (fails, same) =
       (fails, ap (λ (w : Watch S). w.sink) same)
 
-  pub quits-run : (turns : List Planned) (old : S) (count : ℕ) (outcome : Outcome E) (mid : Watch S)
-      (result : Result (Unit {0}) E) (new : Watch S) → IsPlain outcome → HasQuit turns old outcome mid
+  pub quits-run : {turns : List Planned} {old : S} (count : ℕ) {outcome : Outcome E} {mid : Watch S}
+      {result : Result (Unit {0}) E} (new : Watch S) → IsPlain outcome → HasQuit turns old outcome mid
       → IsFinished Q k outcome mid (counted count) result new
       → IsRun step k old (plan_with (Quit b) (point_unless b turns None) (plan_of turns count)) result new.sink
-  quits-run turns old count outcome mid result new plain (unheld none clear reported) finished =
+  quits-run count {outcome} {mid} {result} new plain (unheld none clear reported) finished =
       rw none (record {
         outcome = outcome;
         mid = mid.sink;
         made = reported;
-        finished = finish-passed outcome mid count (counted count) result new plain clear (λ is. refl) finished;
+        finished = finish-passed _ mid count _ _ new plain clear (λ is. refl) finished;
       })
-  quits-run turns old count outcome mid result new plain (ended_before n is clear some reported) finished =
+  quits-run {turns} {old} count {outcome} {mid} {result} new plain (ended_before n is clear some reported) finished =
       rw is (record {
         outcome = outcome;
         mid = mid.sink;
-        made = AreMade-ended step k (calls_before b turns n) (told (point_at b turns n) ∷ []) old outcome mid.sink some
+        made = AreMade-ended step k _ _ old _ _ some
             reported;
-        finished = finish-passed outcome mid count _ result new plain clear (λ is. absurd (some is)) finished;
+        finished = finish-passed _ mid count _ _ new plain clear (λ is. absurd (some is)) finished;
       })
-  quits-run turns old count outcome mid result new plain
+  quits-run {turns} {old} count {outcome} {mid} {result} new plain
       (ended_at n is found last reported returned called end) finished =
       rw is (at returned called end finished)
     where
@@ -375,10 +375,10 @@ module _ {S E : Type 0} (step : Steps S E) (may_call : S → Type 0) (k : Settin
           let made = subst (λ o. IsFinished Q k o mid (counted count) result new) stops finished in
           subst (λ f. step mid.sink k (finishes (count_to f end.count) f) (finish_result result) new.sink) found made.2
 
-      with-told : (o : Outcome E) → AreMade step k last (told (point_at b turns n) ∷ []) o mid.sink
-          → AreMade step k old (calls_before b turns n ++ told (point_at b turns n) ∷ []) o mid.sink
-      with-told o made =
-          AreMade-append step k (calls_before b turns n) (told (point_at b turns n) ∷ []) old last o mid.sink reported
+      with-binary : (o : Outcome E) → AreMade step k last (planned_binary (point_at b turns n) ∷ []) o mid.sink
+          → AreMade step k old (calls_before b turns n ++ planned_binary (point_at b turns n) ∷ []) o mid.sink
+      with-binary o made =
+          AreMade-append step k _ _ old last o _ reported
           made
 
       at : (returned : Result Bool E) → step last k (binary_data offset) returned mid.sink → IsEnd outcome returned
@@ -387,28 +387,28 @@ module _ {S E : Type 0} (step : Steps S E) (may_call : S → Type 0) (k : Settin
       at (Ok true) called (end, stops) finished = record {
         outcome = all_true;
         mid = mid.sink;
-        made = with-told all_true (inl (mid.sink, called, (refl, refl)));
+        made = with-binary all_true (inl (mid.sink, called, (refl, refl)));
         finished = closed end stops finished;
       }
       at (Ok false) called (end, stops) finished = record {
         outcome = stopped (with_offset offset (counted offset));
         mid = mid.sink;
-        made = with-told _ (inr (inl (refl, called)));
+        made = with-binary _ (inr (inl (refl, called)));
         finished = closed end stops finished;
       }
       at (Err e) called fails finished =
           let made = subst (λ o. IsFinished Q k o mid (counted count) result new) fails finished in record {
             outcome = failed e;
             mid = mid.sink;
-            made = with-told (failed e) (inr (inr (e, refl, called)));
+            made = with-binary (failed e) (inr (inr (e, refl, called)));
             finished = (made.0, ap (λ (w : Watch S). w.sink) made.1);
           }
 
   -- all of them were made: no report holds the byte
-  pub quits-all : (turns : List Planned) (old : S) (new : Watch S) → HasQuit turns old all_true new
+  pub quits-all : {turns : List Planned} {old : S} {new : Watch S} → HasQuit turns old all_true new
       → (position (holds_byte b) turns ≡ None) × AreMade step k old turns all_true new.sink
-  quits-all turns old new (unheld none clear reported) = (none, reported)
-  quits-all turns old new (ended_before n is clear some reported) = absurd (some refl)
-  quits-all turns old new (ended_at n is found last reported (Ok goes_on) called (end, stops)) =
+  quits-all (unheld none clear reported) = (none, reported)
+  quits-all (ended_before n is clear some reported) = absurd (some refl)
+  quits-all (ended_at n is found last reported (Ok goes_on) called (end, stops)) =
       absurd (not-stopped end stops)
-  quits-all turns old new (ended_at n is found last reported (Err e) called fails) = absurd (not-failed e fails)
+  quits-all (ended_at n is found last reported (Err e) called fails) = absurd (not-failed e fails)

@@ -22,12 +22,12 @@ module _ {R : Type 0} (remaining : R → Option (List ℕ)) (read_step : R → R
       (old : S)
       (result : Result (Unit {0}) E) (reader' : R) (new : S) where
     -- along the calls of that mode
-    plainly-in : (mode : Bool) → is_across state.settings matcher.meaning ≡ mode
+    plainly-in : {mode : Bool} → is_across state.settings matcher.meaning ≡ mode
         → IsSourceSearchedIn step errors matcher (calls_if state.settings matcher.meaning mode) remaining read_step
         state reader old
         result reader' new
         → IsPlainlySearched remaining read_step step errors matcher state reader old result reader' new
-    plainly-in mode is searched = go result
+    plainly-in is searched = go result
         (subst (λ m. IsSourceSearchedIn step errors matcher (calls_if state.settings matcher.meaning m) remaining
         read_step state reader old
         result reader' new) (sym is) searched)
@@ -56,12 +56,12 @@ module _ {R : Type 0} (remaining : R → Option (List ℕ)) (read_step : R → R
             → IsAcrossSearched remaining read_step step errors matcher (look_at d false) state reader old result reader'
             new
             → IsRead remaining read_step step errors matcher state (look_at d false) reader old result reader' new
-        go no_detection is searched = plain-planned remaining read_step step errors matcher state
-            across reader old result reader' new (plainly-in true across searched)
-        go (Quit b) is searched = contents-planned remaining read_step step errors matcher b state is across reader old
-            result reader' new searched
-        go (Convert b) is searched = plain-planned remaining read_step step errors matcher state
-            across reader old result reader' new (plainly-in true across searched)
+        go no_detection is searched = plain-planned _ _ step _ _ state
+            across _ old _ _ new (plainly-in across searched)
+        go (Quit b) is searched = contents-planned _ _ step _ _ b state is across _ old
+            _ _ new searched
+        go (Convert b) is searched = plain-planned _ _ step _ _ state
+            across _ old _ _ new (plainly-in across searched)
 
     -- a search by line looks on the stream, or nowhere
     pub read-by_line : is_across state.settings matcher.meaning ≡ false
@@ -75,7 +75,7 @@ module _ {R : Type 0} (remaining : R → Option (List ℕ)) (read_step : R → R
       where
         go : (d : BinaryDetection) → state.settings.binary_detection ≡ d
             → IsRead remaining read_step step errors matcher state (look_at d true) reader old result reader' new
-        go no_detection is = undetected-read remaining read_step step errors matcher state is reader old result reader'
+        go no_detection is = undetected-read _ _ step _ _ state is _ old _ _
             new searched
         go (Quit b) is = searched
         go (Convert b) is = searched

@@ -26,6 +26,10 @@ use Rattle.grep_definitions.specs.Settings.{Settings}
 use Rattle.grep_core.specs.SearchBuffers.{IsFitting, detection_of}
 use Rattle.grep_core.proofs.StreamViewLemmas.{before-held, view-held, view-length, view-none}
 
+-- the law of a decoder that is done
+abbrev pub DoneGivesNothing : Type 0
+DoneGivesNothing = (d : DecoderState) (more : List ℕ) → IsDone d → still_to_give d more ≡ []
+
 -- nothing is to come after the end
 unread-nothing : (ended : Bool) → unread ended [] ≡ []
 unread-nothing true = refl
@@ -74,9 +78,8 @@ looks-unsettled (Fresh label sniff) looks settled = settled
 looks-unsettled Passing looks settled = looks
 looks-unsettled (Decoding label) looks settled = looks
 
-module _ {R : Type 0} (remaining : R → Option (List ℕ)) (step : R → ReadResult → R → Type 0) (settings : Settings)
-    (capacity : ℕ)
-    (reader : R) (given : List ℕ) (d : DecoderState) (reader' : R)
+module _ {R : Type 0} {remaining : R → Option (List ℕ)} {step : R → ReadResult → R → Type 0} (settings : Settings)
+    {capacity : ℕ} {reader reader' : R} {given : List ℕ} {d : DecoderState}
     (reads : Decodes remaining step (started capacity settings.encoding settings.bom_sniffing) reader given d reader')
   where
     -- what was taken of the reader
@@ -84,14 +87,14 @@ module _ {R : Type 0} (remaining : R → Option (List ℕ)) (step : R → ReadRe
     taken = record { ended = d.has_ended; pieces = reads.pieces; calls = reads.calls; takes = reads.takes }
 
     -- what it gave is the front of the bytes that are searched, and all of them once it is done
-    pub input-is : ((d : DecoderState) (more : List ℕ) → IsDone d → still_to_give d more ≡ []) → (bytes : List ℕ)
+    pub input-is : DoneGivesNothing → (bytes : List ℕ)
         → IsInput settings d.has_ended reads.pieces bytes → (later : List ℕ) × (bytes ≡ given ++ later)
         × (IsDone d → later ≡ [])
     unfolding searched_bytes
     input-is none bytes (more, end, is) = (still_to_give d more, is ∙ reads.gives more end, none d more)
 
     -- what is made of it begins with what was made of that
-    pub front-is : ((d : DecoderState) (more : List ℕ) → IsDone d → still_to_give d more ≡ [])
+    pub front-is : DoneGivesNothing
         → (made : List ℕ → List ℕ)
         (shown : List ℕ) → ((later : List ℕ) → (back : List ℕ) × (made (given ++ later) ≡ shown ++ back))
         → (bytes : List ℕ)
@@ -102,7 +105,7 @@ module _ {R : Type 0} (remaining : R → Option (List ℕ)) (step : R → ReadRe
         (front.0, ap made text.1 ∙ front.1)
 
     -- and its view is all of it once it is done, if no byte cut it
-    pub view-is : ((d : DecoderState) (more : List ℕ) → IsDone d → still_to_give d more ≡ []) → (shown : List ℕ)
+    pub view-is : DoneGivesNothing → (shown : List ℕ)
         → ((later : List ℕ) → view_of settings (given ++ later) ≡ shown ++ view_of settings later) → (bytes : List ℕ)
         → IsInput settings d.has_ended reads.pieces bytes
         → (later : List ℕ) × (view_of settings bytes ≡ shown ++ later) × (IsDone d → later ≡ [])
@@ -110,8 +113,8 @@ module _ {R : Type 0} (remaining : R → Option (List ℕ)) (step : R → ReadRe
         let text = input-is none bytes input in (
           view_of settings text.0,
           ap (view_of settings) text.1 ∙ shows text.0,
-          λ done. ap (view_of settings) (text.2 done) ∙ view-none settings.binary_detection
-              (byte_of settings.line_terminator),
+          λ done. ap (view_of settings) (text.2 done) ∙ view-none _
+              _,
         )
 
     -- the bytes that are searched, if the input ended here
@@ -126,14 +129,14 @@ module _ {R : Type 0} (remaining : R → Option (List ℕ)) (step : R → ReadRe
 
     mode-is : IsSettled d.mode → d.mode ≡ mode_of mark settings.encoding
     mode-is settled =
-        sym (mode-stays d.mode (d.held ++ unread d.has_ended []) settled) ∙ (sym (reads.settles [] (λ _. refl))
+        sym (mode-stays _ _ settled) ∙ (sym (reads.settles [] (λ _. refl))
         ∙ ap (λ xs. mode_of (found_mark settings.encoding settings.bom_sniffing xs) settings.encoding)
         (append-nil (concat reads.pieces)))
 
     module _ (unchanged : passes_unchanged settings (concat reads.pieces) ≡ true) (settled : IsSettled d.mode) where
       pub passes : d.mode ≡ Passing
       unfolding passes_unchanged
-      passes = mode-is settled ∙ mode-passing settings.encoding mark unchanged
+      passes = mode-is settled ∙ mode-passing _ mark unchanged
 
       -- at most three bytes more were taken than given
       pub taken-few : (d.mode ≡ Passing → (length d.ready ≤ 3) × (d.held ≡ []))
@@ -147,7 +150,7 @@ module _ {R : Type 0} (remaining : R → Option (List ℕ)) (step : R → ReadRe
           let left : still_to_give d [] ≡ [] =
           ap (λ xs. xs ++ decode_by d.mode (d.held ++ unread d.has_ended [])) ready
           ∙ (ap (λ m. decode_by m (d.held ++ unread d.has_ended [])) passes
-          ∙ (ap (λ xs. xs ++ unread d.has_ended []) (held passes) ∙ unread-nothing d.has_ended)) in
+          ∙ (ap (λ xs. xs ++ unread d.has_ended []) (held passes) ∙ unread-nothing _)) in
           sym (decoded-is ∙ (ap (λ xs. given ++ xs) left ∙ append-nil given))
 
     -- a decoder that looks for a mark has given nothing, and holds all that was taken
@@ -155,7 +158,7 @@ module _ {R : Type 0} (remaining : R → Option (List ℕ)) (step : R → ReadRe
         → IsSettled d.mode ⊎ (looks_for_mark settings ≡ true) × (given ≡ []) × (length (concat reads.pieces) < 3)
     unsettled (inl settled) = inl settled
     unsettled (inr (looks, few)) =
-        let waits = reads.unsettled (looks-unsettled d.mode looks) in
+        let waits = reads.unsettled (looks-unsettled _ looks) in
         inr (subst LooksForMark waits.0 looks, waits.1, omega (arith, few, ap length waits.2))
 
     settled-enough : IsSettled d.mode ⊎ LooksForMark d.mode × (length d.held ≤ 2)
@@ -176,7 +179,7 @@ module _ {R : Type 0} (remaining : R → Option (List ℕ)) (step : R → ReadRe
         (settled : IsSettled d.mode) where
       waiting-bytes : AreWaiting (encoding_of settings (concat reads.pieces)) d.held
       unfolding encoding_of
-      waiting-bytes = mode-waits settings.encoding mark d.held (subst (λ m. IsWaiting m d.held) (mode-is settled) waits)
+      waiting-bytes = mode-waits _ mark _ (subst (λ m. IsWaiting m d.held) (mode-is settled) waits)
 
       waiting-text : (more : List ℕ) → searched_bytes settings (concat reads.pieces ++ more)
           ≡ given ++ by_label (encoding_of settings (concat reads.pieces)) (d.held ++ more)
@@ -186,10 +189,10 @@ module _ {R : Type 0} (remaining : R → Option (List ℕ)) (step : R → ReadRe
           ∙ (ap (λ xs. given ++ (xs ++ decode_by d.mode (d.held ++ unread d.has_ended more))) ready
           ∙ (ap (λ b. given ++ decode_by d.mode (d.held ++ unread b more)) unended
           ∙ (ap (λ m. given ++ decode_by m (d.held ++ more)) (mode-is settled)
-          ∙ ap (λ xs. given ++ xs) (mode-decodes settings.encoding mark (d.held ++ more)))))
+          ∙ ap (λ xs. given ++ xs) (mode-decodes _ mark _))))
 
     -- what was decoded when the reader failed
-    pub decoded-so_far : ((d : DecoderState) (more : List ℕ) → IsDone d → still_to_give d more ≡ []) → d.has_ended
+    pub decoded-so_far : DoneGivesNothing → d.has_ended
         ≡ false
         → d.ready ≡ [] → IsWaiting d.mode d.held → IsDecodedSoFar settings reads.pieces given
     decoded-so_far none unended ready waits = record {
@@ -214,44 +217,37 @@ module _ {R : Type 0} (remaining : R → Option (List ℕ)) (step : R → ReadRe
         few = waits-few d.mode d.held waits
 
 -- what the first fill of a buffer had read before the reader's last call
-module _ {R : Type 0} (remaining : R → Option (List ℕ)) (step : R → ReadResult → R → Type 0) (k : Settings)
-    (capacity : ℕ)
-    (none : (d : DecoderState) (more : List ℕ) → IsDone d → still_to_give d more ≡ [])
+module _ {R : Type 0} {remaining : R → Option (List ℕ)} {step : R → ReadResult → R → Type 0} {k : Settings}
+    {buffer : BufferState} {decoder : DecoderState} {reader : R} (none : DoneGivesNothing)
     (more : (d d1 d2 : DecoderState) (r r1 r2 : R) (given later : List ℕ) → Decodes remaining step d r given d1 r1
     → Decodes remaining step d1 r1 later d2 r2 → Decodes remaining step d r (given ++ later) d2 r2)
-    (buffer : BufferState) (fitting : IsFitting k.heap_limit (byte_of k.line_terminator) buffer)
-    (empty : buffer
-    ≡ empty_buffer buffer.size buffer.limit buffer.terminator (detection_of k.binary_detection))
-    (decoder : DecoderState) (begun : decoder ≡ started capacity k.encoding k.bom_sniffing) (reader : R) where
-  abbrev t : ℕ
-  t = byte_of k.line_terminator
-
-  for-line : (reader' : R) → HasWaitedForLine remaining step buffer decoder reader reader'
+    (fitting : IsFitting k.heap_limit (byte_of k.line_terminator) buffer)
+    (empty : buffer ≡ empty_buffer buffer.size buffer.limit buffer.terminator (detection_of k.binary_detection))
+    (begun : decoder ≡ started decoder.capacity k.encoding k.bom_sniffing) where
+  for-line : {reader' : R} → HasWaitedForLine remaining step buffer decoder reader reader'
       → IsReadForLine remaining step k reader reader'
-  for-line reader' waited =
+  for-line waited =
       let last = waited.last in
       let given = waited.given in
       let bd = k.binary_detection in
+      let t = byte_of k.line_terminator in
       let detects : buffer.detection ≡ detection_of bd = ap (λ b. b.detection) empty in
-      let reads : Decodes remaining step (started capacity k.encoding k.bom_sniffing) reader given last.waiting
-      last.mid =
-      subst (λ xs. Decodes remaining step (started capacity k.encoding k.bom_sniffing) reader xs last.waiting last.mid)
-      (append-nil given)
+      let reads = subst (λ xs. Decodes remaining step (started decoder.capacity k.encoding k.bom_sniffing) reader xs
+      last.waiting last.mid) (append-nil given)
       (subst (λ d. Decodes remaining step d reader (given ++ []) last.waiting last.mid) begun
-      (more decoder waited.waiting last.waiting reader waited.mid last.mid given [] waited.decodes last.decodes)) in
-      let decoded = decoded-so_far remaining step k capacity reader given last.waiting last.mid reads none last.unended
-      last.empty last.waits in
+      (more _ _ _ _ _ _ given [] waited.decodes last.decodes)) in
+      let decoded = decoded-so_far k reads none last.unended last.empty last.waits in
       let uncut : is_quit (detection_of bd) ≡ true → found_in (detection_of bd) t given ≡ None =
       λ quits. ap (λ c. found_in (detection_of bd) c given) (sym fitting.terminator)
       ∙ (ap (λ x. found_in x buffer.terminator given) (sym detects)
       ∙ waited.uncut (ap is_quit detects ∙ quits)) in
-      let held : detected (detection_of bd) t given ≡ view_of k given = view-held bd t given uncut in
+      let held = view-held bd t given uncut in
       let shown : detected buffer.detection buffer.terminator given ≡ view_of k given =
       ap (λ x. detected x buffer.terminator given) detects
       ∙ (ap (λ c. detected (detection_of bd) c given) fitting.terminator ∙ held) in
       record {
         mid = last.mid;
-        before = taken remaining step k capacity reader given last.waiting last.mid reads;
+        before = taken k reads;
         unended = last.unended;
         piece = last.piece;
         last = last.called;
@@ -268,12 +264,12 @@ module _ {R : Type 0} (remaining : R → Option (List ℕ)) (step : R → ReadRe
         };
       }
 
-  pub read-once : (lines : BufferState) (d : DecoderState) (r r' : R)
+  pub read-once : {lines : BufferState} {d : DecoderState} {r r' : R}
       → (lines ≡ buffer) × (d ≡ decoder) × (r ≡ reader)
       → (lines.has_ended ≡ false → is_cut lines ≡ false → HasReadNothing d
       → HasWaitedForLine remaining step lines d r r')
       → IsReadForLine remaining step k reader r'
-  read-once lines d r r' same filled = for-line r'
+  read-once {lines} {d} {r} {r'} same filled = for-line
       (subst (λ s. HasWaitedForLine remaining step buffer decoder s r') same.2
       (subst (λ s. HasWaitedForLine remaining step buffer s r r') same.1
       (subst (λ s. HasWaitedForLine remaining step s d r r') same.0

@@ -32,33 +32,33 @@ module _ {S E F : Type 0} (step : Steps S E) (errors : ErrorMakers F E) (matcher
   state = record { settings = k; has_buffers = has_buffers }
 
   -- `finish` follows calls that didn't fail
-  finished-after : (plan : Plan) (outcome : Outcome E) (result : Result (Unit {0}) E) (new : S)
+  finished-after : (plan : Plan) (outcome : Outcome E) (result : Result (Unit {0}) E) {new : S}
       → IsEnding outcome plan.finish finish → step last k (finishes finish.count finish.binary) (finish_result result)
       new
       → IsFinished step k outcome last plan.finish result new
-  finished-after plan all_true result new is made =
+  finished-after plan all_true result {new} is made =
       subst (λ (f : Finish). step last k (finishes f.count f.binary) (finish_result result) new) is made
-  finished-after plan (stopped if_false) result new is made =
+  finished-after plan (stopped if_false) result {new} is made =
       subst (λ (f : Finish). step last k (finishes f.count f.binary) (finish_result result) new) is made
-  finished-after plan (failed e) result new never made = absurd never
+  finished-after plan (failed e) result never made = absurd never
 
-  run-over : (plan : Plan) (outcome : Outcome E) (result : Result (Unit {0}) E) (new : S)
+  run-over : {plan : Plan} {outcome : Outcome E} {result : Result (Unit {0}) E} {new : S}
       → IsMadeTo step k old plan outcome finish last
       → step last k (finishes finish.count finish.binary) (finish_result result) new
       → IsRun step k old plan result new
-  run-over plan outcome result new to made = record {
+  run-over {plan} {outcome} {result} {new} to made = record {
     outcome = outcome;
     mid = last;
     made = to.made;
-    finished = finished-after plan outcome result new to.ending made;
+    finished = finished-after plan _ _ to.ending made;
   }
 
-  ended : (result : Result (Unit {0}) E) (new : S) → HasBegun step k matcher.meaning remaining read_step reader old
+  ended : (result : Result (Unit {0}) E) {new : S} → HasBegun step k matcher.meaning remaining read_step reader old
       reader'
       → IsStreamCounted step k matcher.meaning remaining read_step reader old finish reader' last
       → step last k (finishes finish.count finish.binary) (finish_result result) new
       → IsReaderSearch remaining read_step step errors matcher state on_stream reader old result reader' new
-  ended result new begun counted made =
+  ended result {new} begun counted made =
       let meaning = matcher.meaning in
       let plan : Plan = plan_with k.binary_detection counted.point (search_plan k meaning counted.seen) in
       record {
@@ -70,7 +70,7 @@ module _ {S E F : Type 0} (step : Steps S E) (errors : ErrorMakers F E) (matcher
               outcome = counted.outcome;
               mid = last;
               made = counted.over_seen.made;
-              finished = finished-after plan counted.outcome result new counted.over_seen.ending made;
+              finished = finished-after plan _ _ counted.over_seen.ending made;
             })
             (read result (
               (λ all goes_on bytes input.
@@ -88,13 +88,12 @@ module _ {S E F : Type 0} (step : Steps S E) (errors : ErrorMakers F E) (matcher
                 once = begun.once;
                 ahead = λ limit limited passes.
                     subst (λ (f : Finish). length (concat counted.taken.pieces) ≤ f.count + limit + 3)
-                    (sym (after-is counted.outcome plan.finish finish counted.over_seen.ending))
-                    (counted.ahead limit limited (passes-unchanged k (concat counted.taken.pieces) passes));
+                    (sym (after-is _ _ _ counted.over_seen.ending))
+                    (counted.ahead limit limited (passes-unchanged k _ passes));
               }),
             ));
         each = λ bytes input. ran counted.point (counted.at_each bytes input)
-            (run-over (plan_with k.binary_detection counted.point (search_plan k meaning (view_of k bytes)))
-            counted.outcome result new (counted.over_each bytes input) made)
+            (run-over (counted.over_each bytes input) made)
             (read result tt);
         whole = λ across. absurd (clash across by_line);
       }
@@ -103,10 +102,10 @@ module _ {S E F : Type 0} (step : Steps S E) (errors : ErrorMakers F E) (matcher
       read (Ok u) p = p
       read (Err e) p = tt
 
-  pub stream-finished : (result : Result (Unit {0}) E) (new : S)
+  pub stream-finished : (result : Result (Unit {0}) E) {new : S}
       → HasBegun step k matcher.meaning remaining read_step reader old reader'
       → IsStreamCounted step k matcher.meaning remaining read_step reader old finish reader' last
       → step last k (finishes finish.count finish.binary) (finish_result result) new
       → IsRead remaining read_step step errors matcher state on_stream reader old result reader' new
-  stream-finished (Ok u) new begun counted made = ended (Ok u) new begun counted made
-  stream-finished (Err e) new begun counted made = inl (ended (Err e) new begun counted made)
+  stream-finished (Ok u) {new} begun counted made = ended _ begun counted made
+  stream-finished (Err e) {new} begun counted made = inl (ended _ begun counted made)

@@ -69,7 +69,7 @@ before-front no_detection t xs ys = (ys, refl)
 before-front (Quit b) t xs ys = ⊎_elim
     (λ some. (
       [],
-      detected-cut (quits_at b) t xs ys refl (position_or_len (λ x. x == b) xs) (position-at (λ x. x == b) xs some)
+      detected-cut (quits_at b) t xs ys refl _ (position-at (λ x. x == b) xs some)
           ∙ sym (append-nil (detected (quits_at b) t xs)),
     ))
     (λ all. (
@@ -133,7 +133,7 @@ pub first-kept : (d : BinaryDetection) (t : ℕ) (xs ys : List ℕ) (offset : �
     ≡ Some offset
     → binary_position d t (xs ++ ys) ≡ Some offset
 first-kept d t xs ys offset is =
-    sym (found-is d t (xs ++ ys)) ∙ (found-append (detection_of d) t xs ys
+    sym (found-is d t _) ∙ (found-append _ t xs ys
     ∙ ap (λ o. first_of o (option_map (λ i. length xs + i) (found_in (detection_of d) t ys))) is)
 
 pub first-none : (first other : Option ℕ) → first_of first other ≡ None → first ≡ None
@@ -145,8 +145,8 @@ pub clear-front : (d : BinaryDetection) (t : ℕ) (xs ys : List ℕ) (count : �
     → found_in (detection_of d) t xs ≡ None → binary_position d t (take count (xs ++ ys)) ≡ None
 clear-front d t xs ys count within none =
     ap (binary_position d t) (take-append-le count xs ys within)
-    ∙ (sym (found-is d t (take count xs))
-    ∙ first-none (found_in (detection_of d) t (take count xs))
+    ∙ (sym (found-is d t _)
+    ∙ first-none _
     (option_map (λ i. length (take count xs) + i) (found_in (detection_of d) t (drop count xs)))
     (sym (found-append (detection_of d) t (take count xs) (drop count xs))
     ∙ (ap (found_in (detection_of d) t) (take-append-drop count xs) ∙ none)))
@@ -159,9 +159,9 @@ some-below n (Some i) offset is = let same : n + i ≡ offset = cc in omega (ari
 pub found-after : (d : BinaryDetection) (t : ℕ) (xs ys : List ℕ) (offset : ℕ) → found_in (detection_of d) t xs ≡ None
     → found_in (detection_of d) t (xs ++ ys) ≡ Some offset → length xs ≤ offset
 found-after d t xs ys offset none is =
-    some-below (length xs) (found_in (detection_of d) t ys) offset
+    some-below _ _ _
     (ap (λ o. first_of o (option_map (λ i. length xs + i) (found_in (detection_of d) t ys))) (sym none)
-    ∙ (sym (found-append (detection_of d) t xs ys) ∙ is))
+    ∙ (sym (found-append _ t xs ys) ∙ is))
 
 -- a position is the number of bytes before the first one
 position-is : (p : ℕ → Bool) (xs : List ℕ) (offset : ℕ) → position p xs ≡ Some offset
@@ -185,7 +185,7 @@ pub found-below : (d : BinaryDetection) (t : ℕ) (xs : List ℕ) (offset : ℕ)
     ⊎ ((offset ≤ length (detected (detection_of d) t xs)) × (is_quit (detection_of d) ≡ true))
 found-below no_detection t xs offset is = absurd (cc)
 found-below (Quit b) t xs offset is =
-    let at = position-is (λ x. x == b) xs offset is in
+    let at = position-is (λ x. x == b) xs _ is in
     inr (
       omega (arith, at.0, at.1, length-take-le (position_or_len (λ x. x == b) xs) xs (omega (arith, at.0, at.1))),
       refl,
@@ -197,4 +197,4 @@ found-below (Convert b) t xs offset is = go (b == t) is
         ⊎ ((offset ≤ length (map (λ x. if x == b then t else x) xs)) × (false ≡ true))
     go true is = absurd (cc)
     go false is =
-        inl (omega (arith, (position-is (λ x. x == b) xs offset is).1, length-map xs (λ x. if x == b then t else x)))
+        inl (omega (arith, (position-is (λ x. x == b) xs _ is).1, length-map xs (λ x. if x == b then t else x)))

@@ -22,8 +22,8 @@ module _ {R : Type 0} (remaining : R → Option (List ℕ)) (read_step : R → R
   abbrev k : Settings
   k = state.settings
 
-  view-is : (bytes : List ℕ) → view_of k bytes ≡ bytes
-  view-is bytes = ap (λ d. stream_view d (byte_of k.line_terminator) bytes) none
+  view-is : {bytes : List ℕ} → view_of k bytes ≡ bytes
+  view-is {bytes} = ap (λ d. stream_view d (byte_of k.line_terminator) bytes) none
 
   -- there is no first binary byte
   no-point : (bytes : List ℕ) (n : ℕ) (calls : List Planned) (point : Option BinaryPoint)
@@ -33,18 +33,18 @@ module _ {R : Type 0} (remaining : R → Option (List ℕ)) (read_step : R → R
       absurd (none-some point.offset
       (sym (ap (λ d. binary_position d (byte_of k.line_terminator) bytes) none) ∙ at.cut.first))
 
-  -- another claim of where the sink is told, and of how far was read
-  search-with : (IsAt IsAt2 : Points) (HasRead HasRead2 : Plan → Outcome E → Type 0) (bytes : List ℕ)
-      (old : S) (result : Result (Unit {0}) E) (new : S)
+  -- another claim of where `binary_data` comes, and of how far was read
+  search-with : {IsAt IsAt2 : Points} {HasRead HasRead2 : Plan → Outcome E → Type 0} {bytes : List ℕ}
+      {old : S} (result : Result (Unit {0}) E) {new : S}
       → ((calls : List Planned) (point : Option BinaryPoint) → IsAt calls point → IsAt2 calls point)
       → ((plan : Plan) (outcome : Outcome E) → HasRead plan outcome → HasRead2 plan outcome)
       → IsSearchOf step errors matcher k IsAt HasRead bytes old result new
       → IsSearchOf step errors matcher k IsAt2 HasRead2 bytes old result new
-  search-with IsAt IsAt2 HasRead HasRead2 bytes old (Ok u) new maps reads (ran point at run read) =
+  search-with {bytes} (Ok u) maps reads (ran point at run read) =
       ran point (maps (search_plan k matcher.meaning bytes).calls point at) run (reads _ _ read)
-  search-with IsAt IsAt2 HasRead HasRead2 bytes old (Err e) new maps reads (ran point at run read) =
+  search-with {bytes} (Err e) maps reads (ran point at run read) =
       ran point (maps (search_plan k matcher.meaning bytes).calls point at) run tt
-  search-with IsAt IsAt2 HasRead HasRead2 bytes old (Err e) new maps reads
+  search-with (Err e) maps reads
       (asked haystack error calls asks fails message (point, at, goes, made)) =
       asked haystack error calls asks fails message (point, maps calls point at, goes, made)
 
@@ -54,13 +54,13 @@ module _ {R : Type 0} (remaining : R → Option (List ℕ)) (read_step : R → R
   search-undetected reader old result reader' new search = record {
     taken = search.taken;
     seen = search.seen;
-    front = λ bytes input. subst (λ xs. IsFront k xs search.seen) (view-is bytes) (search.front bytes input);
-    over_seen = search-with _ _ _ _ search.seen old result new
-        (λ calls point at bytes input. no-point bytes (length search.seen) calls point (at bytes input))
+    front = λ bytes input. subst (λ xs. IsFront k xs search.seen) (view-is) (search.front bytes input);
+    over_seen = search-with _
+        (λ calls point at bytes input. no-point bytes _ calls _ (at bytes input))
         (λ plan outcome read. (
           (λ all goes_on bytes input. subst (λ xs. (selection_in k matcher.meaning xs (is_across k matcher.meaning)).end
               ≤ line_count k search.seen)
-              (view-is bytes) (read.0 all goes_on bytes input)),
+              (view-is) (read.0 all goes_on bytes input)),
           (λ by_line.
               let far = read.1 by_line in
               record {
@@ -74,18 +74,17 @@ module _ {R : Type 0} (remaining : R → Option (List ℕ)) (read_step : R → R
         )) search.over_seen;
     each = λ bytes input. subst (λ xs. IsSearchOf step errors matcher k
         (IsPoint k matcher.meaning bytes nowhere (length search.seen)) (λ plan outcome. Unit {0}) xs old result new)
-        (view-is bytes)
-        (search-with _ (IsPoint k matcher.meaning bytes nowhere (length search.seen)) _ (λ plan outcome. Unit {0})
-        (view_of k bytes) old result new
-        (λ calls point at. no-point bytes (length search.seen) calls point at) (λ plan outcome read. tt)
+        (view-is)
+        (search-with _
+        (λ calls point at. no-point bytes _ calls point at) (λ plan outcome read. tt)
         (search.each bytes input));
     whole = search.whole;
   }
 
-  cut-undetected : (reader : R) (old : S) (e : E) (reader' : R) (new : S)
+  cut-undetected : {reader : R} {old : S} {e : E} {reader' : R} {new : S}
       → IsCutSearch remaining read_step step errors matcher state on_stream reader old e reader' new
       → IsCutSearch remaining read_step step errors matcher state nowhere reader old e reader' new
-  cut-undetected reader old e reader' new search = record {
+  cut-undetected search = record {
     mid = search.mid;
     taken = search.taken;
     seen = search.seen;
@@ -96,8 +95,8 @@ module _ {R : Type 0} (remaining : R → Option (List ℕ)) (read_step : R → R
     calls = λ begun.
         let there = search.calls begun in (
           there.0,
-          (λ bytes input. no-point bytes (length search.seen)
-              (search_plan k matcher.meaning search.seen).calls there.0 (there.1 bytes input)),
+          (λ bytes input. no-point bytes _
+              _ _ (there.1 bytes input)),
           there.2,
           there.3,
         );
@@ -107,7 +106,7 @@ module _ {R : Type 0} (remaining : R → Option (List ℕ)) (read_step : R → R
   pub undetected-read : (reader : R) (old : S) (result : Result (Unit {0}) E) (reader' : R) (new : S)
       → IsRead remaining read_step step errors matcher state on_stream reader old result reader' new
       → IsRead remaining read_step step errors matcher state nowhere reader old result reader' new
-  undetected-read reader old (Ok u) reader' new search = search-undetected reader old (Ok u) reader' new search
+  undetected-read reader old (Ok u) reader' new search = search-undetected _ old _ _ new search
   undetected-read reader old (Err e) reader' new (inl search) =
-      inl (search-undetected reader old (Err e) reader' new search)
-  undetected-read reader old (Err e) reader' new (inr search) = inr (cut-undetected reader old e reader' new search)
+      inl (search-undetected _ old _ _ new search)
+  undetected-read reader old (Err e) reader' new (inr search) = inr (cut-undetected search)

@@ -6,7 +6,7 @@ use Rattle.std.proofs.lemmas.List.{append_cancel_left}
 use Rattle.std.proofs.lemmas.List.Elements.{All-append}
 use Rattle.std.specs.Prelude.{All, IfSome}
 use Rattle.std.specs.declared.io.Error.{Error}
-use Rattle.grep_decode.specs.DecoderStates.{DecoderState, Decodes, IsDone, IsWaiting, started, still_to_give}
+use Rattle.grep_decode.specs.DecoderStates.{DecoderState, Decodes, IsWaiting, started}
 use Rattle.grep_decode.specs.Source.{ReadResult}
 use Rattle.grep_line_buffer.specs.declared.fill_error.FillError.{FillError}
 use Rattle.grep_line_buffer.specs.declared.fill_error.FillError.TheVariants.{Read, HeapLimit, Offset, Memory}
@@ -14,24 +14,21 @@ use Rattle.grep_line_buffer.specs.BufferStates.{BufferState, held, is_cut, Grows
 use Rattle.grep_line_buffer.specs.BufferStates.{IsWithin}
 use Rattle.grep_line_buffer.specs.Detections.{detected}
 use Rattle.grep_line_buffer.specs.Fills.{FailsToFill, FillFails, Fills, IfRead, UnlessRead}
-use Rattle.grep_lines.specs.LineLaws.{LinesJoin, LinesAppend}
 use Rattle.grep_matcher.specs.Meanings.{Meaning}
 use Rattle.grep_matcher.specs.Lines.{byte_of}
 use Rattle.grep_definitions.specs.Reports.{is_at}
 use Rattle.grep_definitions.specs.BinaryBytes.{before_quit, view_of}
-use Rattle.grep_definitions.specs.Inputs.{GoesOnAfter, IsCrowded, IsInput, IsCut, Taken, CutsShort, of_limit, of_memory}
-use Rattle.grep_definitions.specs.Inputs.{of_offset}
-use Rattle.grep_definitions.specs.Asking.{is_across}
-use Rattle.grep_definitions.specs.Inputs
-use Rattle.grep_definitions.specs.Settings.{Settings}
+use Rattle.grep_definitions.specs.Inputs.{CutsShort, IsCrowded, IsCut, IsInput, StopsInLines, Taken, of_limit, of_lines}
+use Rattle.grep_definitions.specs.Inputs.{of_memory, of_offset, of_reader}
+use Rattle.grep_definitions.specs.Settings.{Settings, SearcherState}
 use Rattle.grep_definitions.specs.Plans.{Steps}
 use Rattle.grep_walk.specs.declared.walk.Walk.{Walk}
-use Rattle.grep_core.specs.HeldViews.{HoldsGiven}
-use Rattle.grep_core.specs.Rolls.{IsBetween, IsRolling}
+use Rattle.grep_core.specs.Rolls.{IsRolling}
 use Rattle.grep_core.specs.SearchBuffers.{IsFitting, IsMadeOf, least_size}
-use Rattle.grep_walk.proofs.FrontLemmas.{crowded}
+use Rattle.grep_definitions.proofs.FrontLemmas.{crowded}
 use Rattle.grep_walk.specs.Origins.{Origin}
 use Rattle.grep_core.proofs.HeldLemmas as holding
+use Rattle.grep_core.proofs.HeldLemmas.{IsHeld, IsStream}
 use Rattle.grep_core.proofs.ReadingLemmas as reading
 use Rattle.grep_core.proofs.RollLemmas as rolls
 use Rattle.grep_core.proofs.StreamViewLemmas as views
@@ -53,41 +50,84 @@ may-grow (Some most) size least within below = ⊎_elim
     (cases_lt 65536 most)
 
 -- a fill leaves a buffer at least as large
-pub grown : (least : ℕ) (old new : BufferState) → GrowsIfFull old new → least ≤ old.size → least ≤ new.size
-grown least old new (inl same) low = omega (arith, same, low)
-grown least old new (inr (more, full, few)) low = omega (arith, more, low)
+pub grown : {least : ℕ} (old new : BufferState) → GrowsIfFull old new → least ≤ old.size → least ≤ new.size
+grown old new (inl same) low = omega (arith, same, low)
+grown old new (inr (more, full, few)) low = omega (arith, more, low)
 
-module _ {R : Type 0} (remaining : R → Option (List ℕ)) (read_step : R → ReadResult → R → Type 0)
-    (join : LinesJoin) (append : LinesAppend) {S E : Type 0} (step : Steps S E) (k : Settings) (meaning : Meaning) where
+module _ {R : Type 0} (remaining : R → Option (List ℕ)) (read_step : R → ReadResult → R → Type 0) where
+  -- why an input wasn't searched to its end, and what was taken then
+  pub record IsShort (state : SearcherState) (meaning : Meaning) (reader : R) (given seen : List ℕ) (reader' : R)
+      (io : Error) : Type 0 where
+    pub mid : R
+    pub taken : Taken remaining read_step reader mid
+    pub begins : (bytes : List ℕ) → IsInput state.settings taken.ended taken.pieces bytes
+        → (later : List ℕ) × (bytes ≡ given ++ later)
+    pub cause : IsCut remaining read_step state meaning reader mid reader' taken seen true io
+
+  -- a fill of a buffer failed
+  pub record HasNotFilled (k : Settings) (old : BufferState) (d : DecoderState) (r : R) (new : BufferState)
+      (d' : DecoderState) (r' : R) (error : FillError) : Type 0 where
+    pub fitting : IsFitting k.heap_limit (byte_of k.line_terminator) old
+    pub allowed : is_at 0 k.heap_limit ≡ false
+    pub same : IsSameBuffer old new
+    pub grows : GrowsIfFull old new
+    pub within : IsWithin new.limit new.size
+    pub fails : FillFails old new error
+    pub reads : UnlessRead {X = Bool} (Err error) (Fills remaining read_step old d r new d' r')
+    pub read : IfRead {X = Bool} (Err error) (λ e. FailsToFill remaining read_step e old d r new d' r')
+    pub uncut : IfRead {X = Bool} (Err error) (λ _. is_cut new ≡ false)
+    pub empty : IfRead {X = Bool} (Err error) (λ _. d'.ready ≡ [])
+    pub waits : IfRead {X = Bool} (Err error) (λ _. IsWaiting d'.mode d'.held)
+
+module _ {R : Type 0} {remaining : R → Option (List ℕ)} {read_step : R → ReadResult → R → Type 0} {S E : Type 0}
+    {step : Steps S E} {k : Settings} {meaning : Meaning} {decoder d : DecoderState} {reader r : R}
+    {first : Origin S} {old : BufferState} {w : Walk} {now : S} (has_buffers : Bool)
+    (stream : IsStream remaining read_step k meaning decoder)
+    (so_far : IsRolling step k meaning remaining read_step decoder reader first old d r w now) where
   abbrev t : ℕ
   t = byte_of k.line_terminator
 
+  abbrev seen : List ℕ
+  seen = so_far.gone ++ old.shown
+
+  abbrev IsShortTo : R → Error → Type 0
+  IsShortTo reader' io = IsShort remaining read_step (record { settings = k; has_buffers = has_buffers }) meaning reader
+      so_far.given seen reader' io
+
   -- a fill that failed, after these bytes were given since the one before
-  module _ (capacity : ℕ) (reader reader' : R) (d' : DecoderState) (gone : List ℕ) (old new : BufferState) (first :
-      Origin S)
-      (w : Walk) (now : S)
-      (between : IsBetween step k meaning gone old first w now) (fitting : IsFitting k.heap_limit t old)
-      (same : IsSameBuffer old new)
-      (has_buffers : Bool) (grows : GrowsIfFull old new) (within : IsWithin new.limit new.size)
-      (allowed : is_at 0 k.heap_limit ≡ false)
-      (none : (d : DecoderState) (more : List ℕ) → IsDone d → still_to_give d more ≡ [])
-      (given : List ℕ) (whole : held new ≡ held old ++ given) where
-    abbrev seen : List ℕ
-    seen = gone ++ old.shown
+  module _ {new : BufferState} {d' : DecoderState} {r' mid : R} {error : FillError}
+      (fill : HasNotFilled remaining read_step k old d r new d' r' error)
+      (fills : Fills remaining read_step old d r new d' mid) where
+    abbrev given : List ℕ
+    given = detected old.detection old.terminator fills.given
+
+    abbrev raw : List ℕ
+    raw = so_far.given ++ fills.given
+
+    held-now : IsHeld remaining read_step k so_far.gone raw old new decoder d' reader mid
+    held-now = record {
+      holds = holding.held-next stream.continues so_far.between.offset so_far.uncut so_far.holds fills;
+      detects = so_far.detects;
+      ends_at = fill.fitting.terminator;
+      same = fill.same;
+    }
+
+    abbrev reads-now : Decodes remaining read_step (started decoder.capacity k.encoding k.bom_sniffing) reader raw d' mid
+    reads-now = holding.reads stream held-now
 
     -- what is gone and held is what was seen, and the bytes after it
-    seen-is : gone ++ held new ≡ seen ++ (old.rest ++ given)
-    seen-is = ap (λ xs. gone ++ xs) whole ∙ (ap (λ xs. gone ++ xs) (append_assoc old.shown old.rest given)
-        ∙ sym (append_assoc gone old.shown (old.rest ++ given)))
+    seen-is : so_far.gone ++ held new ≡ seen ++ (old.rest ++ given)
+    seen-is = ap (λ xs. so_far.gone ++ xs) (fills.appended ∙ append_assoc old.shown old.rest given)
+        ∙ sym (append_assoc so_far.gone old.shown (old.rest ++ given))
 
-    text-is : (later bytes : List ℕ) → bytes ≡ (gone ++ held new) ++ later → bytes ≡ seen
-        ++ ((old.rest ++ given) ++ later)
-    text-is later bytes is = is ∙ (ap (λ xs. xs ++ later) seen-is ∙ append_assoc seen (old.rest ++ given) later)
+    text-is : {bytes : List ℕ} (later : List ℕ) → bytes ≡ (so_far.gone ++ held new) ++ later
+        → bytes ≡ seen ++ ((old.rest ++ given) ++ later)
+    text-is later is = is ∙ (ap (λ xs. xs ++ later) seen-is ∙ append_assoc seen (old.rest ++ given) later)
 
     room-is : length (held new) ≡ length old.shown + length (old.rest ++ given)
     room-is = omega (
       arith,
-      ap length whole,
+      ap length fills.appended,
       length-append (held old) given,
       length-append old.shown old.rest,
       length-append old.rest given,
@@ -97,201 +137,118 @@ module _ {R : Type 0} (remaining : R → Option (List ℕ)) (read_step : R → R
     unended-is : HasNoLine old new → All (λ b. b ≢ t) (old.rest ++ given)
     unended-is no_line =
         let tail : given ≡ new.rest = append_cancel_left (held old) given new.rest
-        (sym whole ∙ ap (λ xs. xs ++ new.rest) no_line.shown) in
-        All-append (λ b. b ≢ t) old.rest given between.unfinished
-        (subst (All (λ b. b ≢ t)) (sym tail) (subst (λ c. All (λ b. b ≢ c) new.rest) fitting.terminator no_line.none))
+        (sym fills.appended ∙ ap (λ xs. xs ++ new.rest) no_line.shown) in
+        All-append (λ b. b ≢ t) old.rest given so_far.between.unfinished
+        (subst (All (λ b. b ≢ t)) (sym tail)
+        (subst (λ c. All (λ b. b ≢ c) new.rest) fill.fitting.terminator no_line.none))
 
     limit-is : new.limit ≡ k.heap_limit
-    limit-is = same.limit ∙ fitting.limit
+    limit-is = fill.same.limit ∙ fill.fitting.limit
 
     -- a buffer that is full cuts an input short that goes on with what was given
-    crowded-there : (later bytes : List ℕ) (least : ℕ) → HasNoLine old new → bytes ≡ (gone ++ held new) ++ later
+    crowded-there : {bytes : List ℕ} (later : List ℕ) (least : ℕ) → HasNoLine old new
+        → bytes ≡ (so_far.gone ++ held new) ++ later
         → length (held new) ≡ new.size → 0 < least → least ≤ new.size → IsCrowded k meaning bytes seen least
-    crowded-there later bytes least no_line is full some enough = subst (λ xs. IsCrowded k meaning xs seen least)
-        (sym (text-is later bytes is))
-        (crowded join append k meaning gone old.shown (old.rest ++ given) later least between.opens between.shut
+    crowded-there later least no_line is full some enough = subst (λ xs. IsCrowded k meaning xs seen least)
+        (sym (text-is later is))
+        (crowded k _ _ _ _ later least
+        so_far.between.opens so_far.between.shut
         (unended-is no_line)
-        between.few some (omega (arith, enough, full, room-is)))
+        so_far.between.few some (omega (arith, enough, full, room-is)))
 
     -- the buffer's error does
-    cuts-short : (error : FillError) (io : Error) → IsMadeOf error io → FillFails old new error
+    cuts-short : (error : FillError) {io : Error} → IsMadeOf error io → FillFails old new error
         → ((e : Error) → error ≡ Read e → ⊥)
-        → (later bytes : List ℕ) → bytes ≡ (gone ++ held new) ++ later → CutsShort k meaning bytes seen io
-    cuts-short (Read e) io made fails other later bytes is = absurd (other e refl)
-    cuts-short HeapLimit io made (no_line, at) other later bytes is =
+        → {bytes : List ℕ} (later : List ℕ) → bytes ≡ (so_far.gone ++ held new) ++ later
+        → CutsShort k meaning bytes seen io
+    cuts-short (Read e) made fails other later is = absurd (other e refl)
+    cuts-short HeapLimit made (no_line, at) other later is =
         let limit = sym limit-is ∙ at.limit in
         of_limit new.size limit made
-        (crowded-there later bytes new.size no_line is at.full (limit-above k.heap_limit new.size allowed limit)
+        (crowded-there later _ no_line is at.full (limit-above _ _ fill.allowed limit)
         (omega arith))
-    cuts-short Offset io made fails other later bytes is = of_offset made (omega (
+    cuts-short Offset made fails other later is = of_offset made (omega (
       arith,
       fails.past,
-      same.offset,
-      between.offset,
+      fill.same.offset,
+      so_far.between.offset,
       ap length is,
-      length-append (gone ++ held new) later,
-      length-append gone (held new),
+      length-append (so_far.gone ++ held new) later,
+      length-append so_far.gone (held new),
     ))
-    cuts-short Memory io made (no_line, may) other later bytes is =
-        let large = may-grow k.heap_limit new.size (grown (least_size k.heap_limit) old new grows fitting.size)
-        (subst (λ m. IsWithin m new.size) limit-is within) (λ is. may.limit (limit-is ∙ is)) in
-        of_memory made large.0 (crowded-there later bytes 65536 no_line is may.full (omega arith) large.1)
+    cuts-short Memory made (no_line, may) other later is =
+        let large = may-grow _ _ (grown old new fill.grows fill.fitting.size)
+        (subst (λ m. IsWithin m new.size) limit-is fill.within) (λ is. may.limit (limit-is ∙ is)) in
+        of_memory made large.0 (crowded-there later 65536 no_line is may.full (omega arith) large.1)
 
     -- what is gone and held is the front of the view of every input that begins with what was given so far, also before
     -- a byte that ends the search. It holds none
-    module _ (raw : List ℕ) (fronts : (later : List ℕ) → (back : List ℕ)
-        × (view_of k (raw ++ later) ≡ (gone ++ held new) ++ back))
-        (befores : (later : List ℕ)
-        → (back : List ℕ) × (before_quit k.binary_detection (view_of k (raw ++ later)) ≡ (gone ++ held new) ++ back))
-        (unquit : before_quit k.binary_detection (gone ++ held new) ≡ gone ++ held new) where
-      unquit-seen : before_quit k.binary_detection seen ≡ seen
-      unquit-seen = views.before-kept k.binary_detection seen (old.rest ++ given)
-          (ap (before_quit k.binary_detection) (sym seen-is) ∙ (unquit ∙ seen-is))
+    stops : StopsInLines remaining read_step (record { settings = k; has_buffers = has_buffers }) meaning reader mid r'
+        (reading.taken k reads-now) seen
+    stops = (
+      stream.by_line,
+      views.before-kept _ seen _
+          (ap (before_quit k.binary_detection) (sym seen-is) ∙ (holding.unquit-held held-now ∙ seen-is)),
+      λ bytes input.
+          let text = reading.front-is k reads-now stream.none (view_of k) _
+          (holding.fronts-there held-now) bytes input in
+          rolls.goes-on stream.join stream.append so_far.between _
+          (text-is _ text.1),
+    )
 
-      goes-on : (bytes later : List ℕ) → view_of k bytes ≡ (gone ++ held new) ++ later
-          → GoesOnAfter k meaning (view_of k bytes) seen
-      goes-on bytes later is = rolls.goes-on join append step k meaning gone old first w now between (view_of k bytes)
-          ((old.rest ++ given) ++ later) (text-is later (view_of k bytes) is)
+    begins-to : (bytes : List ℕ) → IsInput k d'.has_ended reads-now.pieces bytes
+        → (later : List ℕ) × (bytes ≡ so_far.given ++ later)
+    begins-to bytes input =
+        let text = reading.input-is k reads-now stream.none bytes input in
+        (fills.given ++ text.0, text.1 ∙ append_assoc so_far.given fills.given text.0)
 
-      -- why no more of it is read, by line
-      module _ (by_line : is_across k meaning ≡ false) where
-        abbrev IsShortBy : (mid : R) → Taken remaining read_step reader mid → Error → Type 0
-        IsShortBy mid taken error = IsCut remaining read_step (record { settings = k; has_buffers = has_buffers })
-            meaning reader mid reader' taken seen true error
+    -- the reader's own error
+    short-read : {e : Error} → is_cut new ≡ false → HasNoLine old new → length (held new) < new.size
+        → d'.has_ended ≡ false
+        → read_step mid (Err e) r' → d'.ready ≡ [] → IsWaiting d'.mode d'.held → IsShortTo r' e
+    short-read uncut no_line room unended failed ready waits =
+        let decoded = reading.decoded-so_far k reads-now stream.none unended ready waits in
+        let shows = holding.view-there held-now uncut in
+        let unquit = holding.unquit-held held-now in
+        record {
+          mid = mid;
+          taken = reading.taken k reads-now;
+          begins = begins-to;
+          cause = of_reader stops (unended, failed) raw (record { none = decoded.none; all = decoded.all })
+              (record {
+                rest = old.rest ++ given;
+                whole = shows ∙ seen-is;
+                unended = unended-is no_line;
+                room = λ limit is. omega (
+                  arith,
+                  subst (λ m. IsWithin m new.size) (limit-is ∙ is) fill.within,
+                  room,
+                  room-is,
+                );
+                unquit = ap (before_quit k.binary_detection) shows ∙ (unquit ∙ sym shows);
+              });
+        }
 
-        goes-on-there : (mid : R)
-            (reads : Decodes remaining read_step (started capacity k.encoding k.bom_sniffing) reader raw d' mid)
-            (bytes : List ℕ) → IsInput k d'.has_ended reads.pieces bytes → GoesOnAfter k meaning (view_of k bytes) seen
-        goes-on-there mid reads bytes input =
-            let text = reading.front-is remaining read_step k capacity reader raw d' mid reads none (view_of k)
-            (gone ++ held new) fronts bytes input in
-            goes-on bytes text.0 text.1
+  -- the buffer's own error
+  short-by : (error : FillError) {io : Error} {new : BufferState} {d' : DecoderState} {r' : R} → IsMadeOf error io
+      → ((e : Error) → error ≡ Read e → ⊥)
+      → HasNotFilled remaining read_step k old d r new d' r' error → Fills remaining read_step old d r new d' r'
+      → IsShortTo r' io
+  short-by error {new} {r'} made other fill fills = record {
+    mid = r';
+    taken = reading.taken k (reads-now fill fills);
+    begins = begins-to fill fills;
+    cause = of_lines (stops fill fills) refl (λ bytes input.
+        let before = reading.front-is k (reads-now fill fills) stream.none (λ xs. before_quit k.binary_detection (view_of k xs))
+        _ (holding.before-there (held-now fill fills)) bytes input in
+        cuts-short fill fills error made fill.fails other _ before.1);
+  }
 
-        -- the buffer's own error
-        pub short-cut : (error : FillError) (io : Error) → IsMadeOf error io → FillFails old new error
-            → ((e : Error) → error ≡ Read e → ⊥)
-            → (reads : Decodes remaining read_step (started capacity k.encoding k.bom_sniffing) reader raw d' reader')
-            → IsShortBy reader' (reading.taken remaining read_step k capacity reader raw d' reader' reads) io
-        short-cut error io made fails other reads =
-            Inputs.of_lines (by_line, unquit-seen, goes-on-there reader' reads) refl
-            (λ bytes input.
-            let before = reading.front-is remaining read_step k capacity reader raw d' reader' reads none
-            (λ xs. before_quit k.binary_detection (view_of k xs)) (gone ++ held new) befores bytes input in
-            cuts-short error io made fails other before.0 (before_quit k.binary_detection (view_of k bytes)) before.1)
-
-        -- the reader's own error
-        pub short-read : (error : Error) (mid : R) → view_of k raw ≡ gone ++ held new
-            → (reads : Decodes remaining read_step (started capacity k.encoding k.bom_sniffing) reader raw d' mid)
-            → HasNoLine old new → length (held new) < new.size → d'.has_ended ≡ false
-            → read_step mid (Err error) reader' → d'.ready ≡ [] → IsWaiting d'.mode d'.held
-            → IsShortBy mid (reading.taken remaining read_step k capacity reader raw d' mid reads) error
-        short-read error mid shows reads no_line room unended failed ready waits =
-            let decoded = reading.decoded-so_far remaining read_step k capacity reader raw d' mid reads none unended
-            ready waits in
-            Inputs.of_reader (by_line, unquit-seen, goes-on-there mid reads) (unended, failed) raw
-            (record { none = decoded.none; all = decoded.all })
-            (record {
-              rest = old.rest ++ given;
-              whole = shows ∙ seen-is;
-              unended = unended-is no_line;
-              room = λ limit is. omega (
-                arith,
-                subst (λ m. IsWithin m new.size) (limit-is ∙ is) within,
-                room,
-                room-is,
-              );
-              unquit = ap (before_quit k.binary_detection) shows ∙ (unquit ∙ sym shows);
-            })
-
-  -- a fill that failed of a search that reads on
-  module _ (capacity : ℕ) (reader : R) (decoder : DecoderState)
-      (begun : decoder ≡ started capacity k.encoding k.bom_sniffing) (first : Origin S)
-      (old new : BufferState) (d d' : DecoderState) (r r' : R) (w : Walk) (now : S)
-      (so_far : IsRolling step k meaning remaining read_step decoder reader first old d r w now)
-      (fitting : IsFitting k.heap_limit t old) (same : IsSameBuffer old new)
-      (reads : (r2 : R) → Fills remaining read_step old d r new d' r2
-      → (more : List ℕ) × HoldsGiven remaining read_step so_far.gone old.detection old.terminator new decoder reader
-      (so_far.given ++ more) d' r2)
-      (has_buffers : Bool) (grows : GrowsIfFull old new) (within : IsWithin new.limit new.size)
-      (allowed : is_at 0 k.heap_limit ≡ false)
-      (none : (d : DecoderState) (more : List ℕ) → IsDone d → still_to_give d more ≡ []) where
-    -- what was given so far
-    module _ (r2 : R) (fills : Fills remaining read_step old d r new d' r2) where
-      abbrev raw : List ℕ
-      raw = so_far.given ++ (reads r2 fills).0
-
-      from_start : Decodes remaining read_step (started capacity k.encoding k.bom_sniffing) reader raw d' r2
-      from_start = subst (λ x. Decodes remaining read_step x reader raw d' r2) begun (reads r2 fills).1.decodes
-
-      fronts : (later : List ℕ) → (back : List ℕ) × (view_of k (raw ++ later) ≡ (so_far.gone ++ held new) ++ back)
-      fronts = holding.fronts-there remaining read_step k so_far.gone raw old new decoder d' reader r2
-          (reads r2 fills).1
-          so_far.detects fitting.terminator same
-
-      befores : (later : List ℕ)
-          → (back : List ℕ) × (before_quit k.binary_detection (view_of k (raw ++ later)) ≡ (so_far.gone ++ held new)
-          ++ back)
-      befores = holding.before-there remaining read_step k so_far.gone raw old new decoder d' reader r2
-          (reads r2 fills).1
-          so_far.detects fitting.terminator same
-
-      unquit : before_quit k.binary_detection (so_far.gone ++ held new) ≡ so_far.gone ++ held new
-      unquit = holding.unquit-held remaining read_step k so_far.gone raw old new decoder d' reader r2 (reads r2 fills).1
-          so_far.detects fitting.terminator same
-
-      view-is : is_cut new ≡ false → view_of k raw ≡ so_far.gone ++ held new
-      view-is = holding.view-there remaining read_step k so_far.gone raw old new decoder d' reader r2 (reads r2 fills).1
-          so_far.detects fitting.terminator same
-
-    -- why the input wasn't searched to its end, and what was taken then
-    module _ (by_line : is_across k meaning ≡ false) where
-      pub record IsShort (io : Error) : Type 0 where
-        pub mid : R
-        pub taken : Taken remaining read_step reader mid
-        pub begins : (bytes : List ℕ) → IsInput k taken.ended taken.pieces bytes
-            → (later : List ℕ) × (bytes ≡ so_far.given ++ later)
-        pub cause : IsCut remaining read_step (record { settings = k; has_buffers = has_buffers }) meaning reader mid r'
-            taken (so_far.gone ++ old.shown) true io
-
-      begins-to : (r2 : R) (fills : Fills remaining read_step old d r new d' r2) (bytes : List ℕ)
-          → IsInput k d'.has_ended (from_start r2 fills).pieces bytes
-          → (later : List ℕ) × (bytes ≡ so_far.given ++ later)
-      begins-to r2 fills bytes input =
-          let text = reading.input-is remaining read_step k capacity reader (raw r2 fills) d' r2 (from_start r2 fills)
-          none bytes input in
-          ((reads r2 fills).0 ++ text.0, text.1 ∙ append_assoc so_far.given (reads r2 fills).0 text.0)
-
-      short-by : (error : FillError) (io : Error) → IsMadeOf error io → FillFails old new error
-          → ((e : Error) → error ≡ Read e → ⊥)
-          → Fills remaining read_step old d r new d' r' → IsShort io
-      short-by error io made fails other fills = record {
-        mid = r';
-        taken = reading.taken remaining read_step k capacity reader (raw r' fills) d' r' (from_start r' fills);
-        begins = begins-to r' fills;
-        cause = short-cut capacity reader r' d' so_far.gone old new first w now so_far.between fitting same has_buffers
-            grows within allowed none (detected old.detection old.terminator fills.given) fills.appended (raw r' fills)
-            (fronts r' fills) (befores r' fills) (unquit r' fills) by_line error io made fails other
-            (from_start r' fills);
-      }
-
-      pub short-filled : (error : FillError) (io : Error) → IsMadeOf error io → FillFails old new error
-          → UnlessRead {X = Bool} (Err error) (Fills remaining read_step old d r new d' r')
-          → IfRead {X = Bool} (Err error) (λ e. FailsToFill remaining read_step e old d r new d' r')
-          → IfRead {X = Bool} (Err error) (λ _. is_cut new ≡ false)
-          → IfRead {X = Bool} (Err error) (λ _. d'.ready ≡ [])
-          → IfRead {X = Bool} (Err error) (λ _. IsWaiting d'.mode d'.held) → IsShort io
-      short-filled (Read e) io made fails cut read uncut empty waits = subst IsShort (sym made) (record {
-        mid = read.mid;
-        taken = reading.taken remaining read_step k capacity reader (raw read.mid read.fills) d' read.mid
-            (from_start read.mid read.fills);
-        begins = begins-to read.mid read.fills;
-        cause = short-read capacity reader r' d' so_far.gone old new first w now so_far.between fitting same has_buffers
-            grows within allowed none (detected old.detection old.terminator read.fills.given) read.fills.appended
-            (raw read.mid read.fills) (fronts read.mid read.fills) (befores read.mid read.fills)
-            (unquit read.mid read.fills) by_line e read.mid (view-is read.mid read.fills uncut)
-            (from_start read.mid read.fills) fails.0 fails.1 read.unended read.failed empty waits;
-      })
-      short-filled HeapLimit io made fails cut read uncut empty waits = short-by HeapLimit io made fails
-          (λ e is. cc) cut
-      short-filled Offset io made fails cut read uncut empty waits = short-by Offset io made fails (λ e is. cc) cut
-      short-filled Memory io made fails cut read uncut empty waits = short-by Memory io made fails (λ e is. cc) cut
+  pub short-filled : (error : FillError) {io : Error} {new : BufferState} {d' : DecoderState} {r' : R}
+      → IsMadeOf error io → HasNotFilled remaining read_step k old d r new d' r' error → IsShortTo r' io
+  short-filled (Read e) {r'} made fill = subst (IsShortTo r') (sym made)
+      (short-read fill fill.read.fills fill.uncut fill.fails.0 fill.fails.1 fill.read.unended fill.read.failed fill.empty
+      fill.waits)
+  short-filled HeapLimit made fill = short-by _ made (λ e is. cc) fill fill.reads
+  short-filled Offset made fill = short-by _ made (λ e is. cc) fill fill.reads
+  short-filled Memory made fill = short-by _ made (λ e is. cc) fill fill.reads

@@ -53,8 +53,8 @@ is-breaks (finishes count binary) is = absurd (false≢true is)
 report-of : (call : Call) → is_break call ≡ false → is_of_line call ≡ true → is_report call ≡ true
 report-of call other line = rw other at line
 
-same-finish : (f g : Finish) → f.count ≡ g.count → f.binary ≡ None → g.binary ≡ None → f ≡ g
-same-finish f g counts none none' =
+same-finish : {f g : Finish} → f.count ≡ g.count → f.binary ≡ None → g.binary ≡ None → f ≡ g
+same-finish {f} {g} counts none none' =
     ap (λ n. record { count = n; binary = f.binary }) counts
     ∙ ap (λ b. record { count = g.count; binary = b }) (none ∙ sym none')
 
@@ -67,16 +67,21 @@ joined-of (turn ∷ []) (here, paired) (line, plain, lines) = go (is_break turn.
     go true is = absurd (here is)
     go false is = joined_report (report-of turn.call is line) no_turns
 joined-of (turn ∷ next ∷ later) (here, (there, paired)) (line, plain, (line', plain', lines)) =
-    go (is_break turn.call) refl (joined-of later paired lines)
-    (joined-of (next ∷ later) (there, paired) (line', plain', lines))
+    go (is_break turn.call) refl (joined-of _ paired lines)
+    (joined-of _ (there, paired) (line', plain', lines))
   where
     go : (c : Bool) → is_break turn.call ≡ c → AreJoined later → AreJoined (next ∷ later)
         → AreJoined (turn ∷ next ∷ later)
     go true is two one =
         let report = here is in
-        joined_break (is-breaks turn.call is) (report-of next.call report.0 line')
-        (same-finish turn.if_false next.if_false (sym report.1) plain plain') two
+        joined_break (is-breaks _ is) (report-of next.call report.0 line')
+        (same-finish (sym report.1) plain plain') two
     go false is two one = joined_report (report-of turn.call is line) one
+
+-- the calls of a search between `begin` and `finish`
+record AreTurns (turns : List Planned) : Type 0 where
+  paired : AreBreaksPaired turns
+  lines : AreOfLines turns
 
 lines-append : (front back : List Planned) → AreOfLines front → AreOfLines back → AreOfLines (front ++ back)
 lines-append [] back none lines = lines
@@ -89,7 +94,7 @@ lines-joined f i (suc n) each = lines-append (f i) (joined_from f (i + 1) n) (ea
 lines-through : (offset : ℕ) (turns : List Planned) → AreOfLines turns
     → AreOfLines (filter (λ turn. nat_le turn.if_false.count offset) turns)
 lines-through offset [] lines = tt
-lines-through offset (turn ∷ later) (line, plain, lines) = go (nat_le turn.if_false.count offset) (lines-through offset
+lines-through offset (turn ∷ later) (line, plain, lines) = go (nat_le turn.if_false.count offset) (lines-through _
     later lines)
   where
     rest : List Planned
@@ -104,7 +109,7 @@ made-plain : {S E : Type 0} (step : Steps S E) (k : Settings) (turns : List Plan
     (outcome : Outcome E) (new : S) → AreMade step k old turns outcome new → IsPlain outcome
 made-plain step k [] lines old outcome new (is, same) = subst IsPlain (sym is) tt
 made-plain step k (turn ∷ later) (line, plain, lines) old outcome new (inl (mid, made, rest)) =
-    made-plain step k later lines mid outcome new rest
+    made-plain step k later lines mid _ new rest
 made-plain step k (turn ∷ later) (line, plain, lines) old outcome new (inr (inl (is, made))) =
     subst IsPlain (sym is) plain
 made-plain step k (turn ∷ later) (line, plain, lines) old outcome new (inr (inr (e, is, made))) =
@@ -117,7 +122,7 @@ module _ {S E : Type 0} (step : Steps S E) (may_call : S → Type 0) (k : Settin
       → (new.byte ≡ b) × AreMade (quitting step may_call b) k (watch_of old) turns outcome (watch_of new)
   watched [] old outcome new is (all, same) = (ap (λ (q : Quitting S). q.byte) same ∙ is, (all, ap watch_of same))
   watched (turn ∷ later) old outcome new is (inl (mid, made, rest)) =
-      let next = watched later mid outcome new (made.1 ∙ is) rest in (
+      let next = watched later mid _ new (made.1 ∙ is) rest in (
         next.0,
         inl (
           watch_of mid,
@@ -144,23 +149,22 @@ module _ {S E : Type 0} (step : Steps S E) (may_call : S → Type 0) (k : Settin
   )
 
   -- a search by a sink that has made no call yet ended in `finish`
-  pub until-run : (turns : List Planned) → AreJoined turns → AreOfLines turns → (count : ℕ) (old : Quitting S)
+  until-run : {turns : List Planned} → AreTurns turns → (count : ℕ) {old : Quitting S}
       → old.byte ≡ b → old.has_break ≡ false
-      → old.found ≡ None → (result : Result (Unit {0}) E) (new : Quitting S)
+      → old.found ≡ None → {result : Result (Unit {0}) E} {new : Quitting S}
       → IsRun (Quits step may_call) k old (plan_of (planned begins 0 ∷ turns) count) result new
       → IsRun step k old.sink.now (plan_with (Quit b) (point_unless b (planned begins 0 ∷ turns) None)
       (plan_of (planned begins 0 ∷ turns) count)) result new.sink.now
-  until-run turns joined lines count old is whole clear result new run =
+  until-run {turns} are count {old} is whole clear {result} {new} run =
       let all : List Planned = planned begins 0 ∷ turns in
-      let made = watched all old run.outcome run.mid is run.made in
-      quitting_calls.quits-run step may_call k b all old.sink.now count run.outcome (watch_of run.mid) result
-      (watch_of new) (plain run.made)
-      (quitting_calls.quits-begun step may_call k b 0 turns joined (watch_of old) run.outcome (watch_of run.mid) whole
-      clear made.1)
+      let made = watched all old _ _ is run.made in
+      quitting_calls.quits-run step may_call k b count _ (plain run.made)
+      (quitting_calls.quits-begun step may_call k b 0 (joined-of turns are.paired are.lines) _ whole clear
+      made.1)
       (closed run.outcome made.0 run.finished)
     where
       plain : AreMade (Quits step may_call) k old (planned begins 0 ∷ turns) run.outcome run.mid → IsPlain run.outcome
-      plain (inl (mid, made, rest)) = made-plain (Quits step may_call) k turns lines mid run.outcome run.mid rest
+      plain (inl (mid, made, rest)) = made-plain (Quits step may_call) k turns are.lines mid _ _ rest
       plain (inr (inl (is, made))) = subst IsPlain (sym is) refl
       plain (inr (inr (e, is, made))) = subst IsPlain (sym is) tt
 
@@ -201,49 +205,45 @@ module _ (k : Settings) (meaning : Meaning) (bytes : List ℕ) where
   broken-lines false end report lines = lines
 
   -- the calls after `begin`
-  abbrev line_turns : List Planned
-  line_turns = joined_from (LineSearch.turns_at k meaning bytes) 0 (LineSearch.turn_count k meaning bytes)
+  abbrev after : Bool → List Planned
+  after true = joined_from (AcrossLines.turns_at k meaning bytes) 0 (AcrossLines.turn_count k meaning bytes)
+  after false = joined_from (LineSearch.turns_at k meaning bytes) 0 (LineSearch.turn_count k meaning bytes)
 
-  abbrev unit_turns : List Planned
-  unit_turns = joined_from (AcrossLines.turns_at k meaning bytes) 0 (AcrossLines.turn_count k meaning bytes)
-
-  lines-by_line : AreOfLines line_turns
-  lines-by_line = lines-joined (LineSearch.turns_at k meaning bytes) 0 (LineSearch.turn_count k meaning bytes)
-      (λ i. broken-lines (LineSearch.breaks_before k meaning bytes i) _ (LineSearch.report k meaning bytes i
-      (LineSearch.kind k meaning bytes i)) (line-report i (LineSearch.kind k meaning bytes i)))
-
-  joined-by_line : AreJoined line_turns
-  joined-by_line = joined-of line_turns (pairs.paired-by_line k meaning bytes).1 lines-by_line
-
-  lines-across : AreOfLines unit_turns
-  lines-across = lines-joined (AcrossLines.turns_at k meaning bytes) 0 (AcrossLines.turn_count k meaning bytes)
-      (λ i. broken-lines (AcrossLines.breaks_before k meaning bytes i) _ (AcrossLines.report k meaning bytes i
-      (AcrossLines.kind k meaning bytes i)) (unit-report i (AcrossLines.kind k meaning bytes i)))
-
-  joined-across : AreJoined unit_turns
-  joined-across = joined-of unit_turns (pairs.paired-across k meaning bytes).1 lines-across
+  are-turns : (across : Bool) → AreTurns (after across)
+  are-turns true = record {
+    paired = (pairs.paired-across k meaning bytes).1;
+    lines = lines-joined _ 0 (AcrossLines.turn_count k meaning bytes)
+        (λ i. broken-lines (AcrossLines.breaks_before k meaning bytes i) _ _
+        (unit-report i (AcrossLines.kind k meaning bytes i)));
+  }
+  are-turns false = record {
+    paired = (pairs.paired-by_line k meaning bytes).1;
+    lines = lines-joined _ 0 (LineSearch.turn_count k meaning bytes)
+        (λ i. broken-lines (LineSearch.breaks_before k meaning bytes i) _ _
+        (line-report i (LineSearch.kind k meaning bytes i)));
+  }
 
 -- where the byte is in the bytes that are looked at first
-pub first-found : (b : ℕ) (bytes : List ℕ) (n : ℕ) (found : Option ℕ) → n ≡ min (length bytes) first_look
+pub first-found : (b : ℕ) (bytes : List ℕ) {n : ℕ} {found : Option ℕ} → n ≡ min (length bytes) first_look
     → IsFirstByte (is_byte b) (take n bytes) found → position_of b (take first_look bytes) ≡ found
-first-found b bytes n found is first =
+first-found b bytes {n} {found} is first =
     ap (position_of b) (sym (ap (λ m. take m bytes) (is ∙ min_comm (length bytes) first_look)
     ∙ take_min first_look bytes))
-    ∙ position-found b (take n bytes) found first
+    ∙ position-found b _ found first
 
 -- `begin`, `binary_data` and `finish`, whatever the second returned
-pub first-quit : {S E : Type 0} (step : Steps S E) (k : Settings) (offset : ℕ) (old first mid new : S) (goes_on : Bool)
-    (result : Result (Unit {0}) E) → step old k begins (Ok true) first
+pub first-quit : {S E : Type 0} {step : Steps S E} {k : Settings} (offset : ℕ) {old : S} (first mid : S) {new : S} (goes_on : Bool)
+    {result : Result (Unit {0}) E} → step old k begins (Ok true) first
     → step first k (binary_data offset) (Ok goes_on) mid
     → step mid k (finishes 0 (Some offset)) (finish_result result) new
     → IsRun step k old (first_quit offset) result new
-first-quit step k offset old first mid new true result begun called finish = record {
+first-quit offset first mid true begun called finish = record {
   outcome = all_true;
   mid = mid;
   made = inl (first, begun, inl (mid, called, (refl, refl)));
   finished = finish;
 }
-first-quit step k offset old first mid new false result begun called finish = record {
+first-quit offset first mid false begun called finish = record {
   outcome = stopped (with_offset offset (counted 0));
   mid = mid;
   made = inl (first, begun, inr (inl (refl, called)));
@@ -251,13 +251,13 @@ first-quit step k offset old first mid new false result begun called finish = re
 }
 
 -- a search that ended before its first line
-pub quit-searched : {S E F : Type 0} (step : Steps S E) (errors : ErrorMakers F E) (matcher : MatcherFacts F)
-    (k : Settings) (b : ℕ)
-    (bytes : List ℕ) (across : Bool) (offset : ℕ) → position_of b (take first_look bytes) ≡ Some offset → (old : S)
-    (result : Result (Unit {0}) E) (new : S)
+pub quit-searched : {S E F : Type 0} {step : Steps S E} (errors : ErrorMakers F E) (matcher : MatcherFacts F)
+    {k : Settings} (b : ℕ)
+    (bytes : List ℕ) (across : Bool) (offset : ℕ) → position_of b (take first_look bytes) ≡ Some offset → {old : S}
+    {result : Result (Unit {0}) E} {new : S}
     → IsRun step k old (first_quit offset) result new
     → IsSearchedUntil step errors matcher (calls_if k matcher.meaning across) b k bytes old result new
-quit-searched step errors matcher k b bytes across offset is old result new run = go across result
+quit-searched {step} errors matcher {k} b bytes across offset is {old} {result} {new} run = go across result
     (run-until across)
   where
     run-until : (across : Bool)
@@ -277,66 +277,46 @@ module _ {S E F : Type 0} (step : Steps S E) (may_call : S → Type 0) (errors :
     (is : old.byte ≡ b)
     (whole : old.has_break ≡ false) (clear : old.found ≡ None) where
   -- a search that ended in `finish`
-  pub searched-until : (across : Bool) (result : Result (Unit {0}) E) (new : Quitting S)
+  searched-until : (across : Bool) {result : Result (Unit {0}) E} {new : Quitting S}
       → IsRun (Quits step may_call) k old (plan_of ((calls_if k matcher.meaning across).turns bytes)
       ((calls_if k matcher.meaning across).byte_count bytes)) result new
       → IsRunUntil step errors matcher (calls_if k matcher.meaning across) b k bytes old.sink.now result new.sink.now
-  searched-until true result new run =
-      rw none (until-run step may_call k b (unit_turns k matcher.meaning bytes) (joined-across k matcher.meaning bytes)
-      (lines-across k matcher.meaning bytes)
-      ((calls_if k matcher.meaning true).byte_count bytes) old is whole clear result new run)
-  searched-until false result new run =
-      rw none (until-run step may_call k b (line_turns k matcher.meaning bytes) (joined-by_line k matcher.meaning bytes)
-      (lines-by_line k matcher.meaning bytes)
-      ((calls_if k matcher.meaning false).byte_count bytes) old is whole clear result new run)
+  searched-until true run = rw none (until-run _ may_call k b (are-turns k matcher.meaning bytes true)
+      _ is whole clear run)
+  searched-until false run = rw none (until-run _ may_call k b (are-turns k matcher.meaning bytes false)
+      _ is whole clear run)
 
-  -- the matcher's error came after calls that were all made
-  fault-made : (across : Bool) (haystack : List ℕ) (error : F) (made later : List Planned) (e : E) (new : Quitting S)
-      → made ≡ planned begins 0 ∷ later → AreJoined later
-      → (calls_if k matcher.meaning across).IsAsked bytes haystack made → matcher.fails haystack error
-      → errors.is_message error e → AreMade (Quits step may_call) k old made all_true new
-      → IsQuitFault step errors matcher (calls_if k matcher.meaning across) b k bytes old.sink.now e new.sink.now
-  fault-made across haystack error made later e new begun joined asked fails message reported =
-      let seen = watched step may_call k b made old all_true new is reported in
-      let all = quitting_calls.quits-all step may_call k b (planned begins 0 ∷ later) old.sink.now
-      (watch_of new)
-      (quitting_calls.quits-begun step may_call k b 0 later joined (watch_of old) all_true (watch_of new) whole clear
-      (subst (λ l. AreMade (quitting step may_call b) k (watch_of old) l all_true (watch_of new)) begun seen.1)) in
-      of_quit_matcher haystack error made asked fails message
-      (rw none (subst (λ l. point_unless b l None ≡ None) (sym begun) (rw all.0 refl)))
-      (subst (λ l. AreMade step k old.sink.now l all_true new.sink.now) (sym begun) all.1)
-
-  -- those whose turn ends at or before some offset
-  through : (across : Bool) (turns : List Planned) → AreBreaksPaired turns → AreOfLines turns → (offset : ℕ)
-      → (haystack : List ℕ) (error : F) (made : List Planned) (e : E) (new : Quitting S)
+  -- the matcher's error came after calls that were all made: those whose turn ends at or before some offset
+  through : (across : Bool) {turns : List Planned} → AreTurns turns → (offset : ℕ) (haystack : List ℕ) (error : F)
+      {made : List Planned} {e : E} (new : Quitting S)
       → made ≡ filter (λ turn. nat_le turn.if_false.count offset) (planned begins 0 ∷ turns)
       → (calls_if k matcher.meaning across).IsAsked bytes haystack made → matcher.fails haystack error
       → errors.is_message error e → AreMade (Quits step may_call) k old made all_true new
       → IsQuitFault step errors matcher (calls_if k matcher.meaning across) b k bytes old.sink.now e new.sink.now
-  through across turns paired lines offset haystack error made e new before asked fails message reported =
+  through across {turns} all offset haystack error {made} new before asked fails message reported =
       let later : List Planned = filter (λ turn. nat_le turn.if_false.count offset) turns in
-      let begun : made ≡ planned begins 0 ∷ later = before
-      ∙ (rw (le-leb 0 offset (omega arith)) refl) in
-      fault-made across haystack error made later e new begun
-      (joined-of later (pairs.paired-through offset turns paired) (lines-through offset turns lines))
-      asked fails message reported
+      let begun : made ≡ planned begins 0 ∷ later = before ∙ (rw (le-leb 0 offset (omega arith)) refl) in
+      let seen = watched step may_call k b made old _ new is reported in
+      let calls = quitting_calls.quits-all step may_call k b (quitting_calls.quits-begun step may_call k b 0
+      (joined-of _ (pairs.paired-through _ turns all.paired) (lines-through _ turns all.lines)) _
+      whole clear
+      (subst (λ l. AreMade (quitting step may_call b) k (watch_of old) l all_true (watch_of new)) begun seen.1)) in
+      of_quit_matcher haystack error made asked fails message
+      (rw none (subst (λ l. point_unless b l None ≡ None) (sym begun) (rw calls.0 refl)))
+      (subst (λ l. AreMade step k old.sink.now l all_true new.sink.now) (sym begun) calls.1)
 
   -- a search that ended in an error before
-  pub fault-until : (across : Bool) (e : E) (new : Quitting S)
+  pub fault-until : (across : Bool) {e : E} {new : Quitting S}
       → IsFaultIn (Quits step may_call) errors matcher (calls_if k matcher.meaning across) k bytes old e new
       → IsQuitFault step errors matcher (calls_if k matcher.meaning across) b k bytes old.sink.now e new.sink.now
-  fault-until across e new (of_sink run) = of_quit_sink (searched-until across (Err e) new run)
-  fault-until true e new (of_matcher haystack error made asked fails message reported) =
-      through true (unit_turns k matcher.meaning bytes) (pairs.paired-across k matcher.meaning bytes).1
-      (lines-across k matcher.meaning bytes) (LineSearch.start k matcher.meaning bytes asked.index)
-      haystack error made e new asked.before asked fails message reported
-  fault-until false e new (of_matcher haystack error made asked fails message reported) =
-      through false (line_turns k matcher.meaning bytes) (pairs.paired-by_line k matcher.meaning bytes).1
-      (lines-by_line k matcher.meaning bytes) (LineSearch.start k matcher.meaning bytes asked.index)
-      haystack error made e new asked.before asked fails message reported
+  fault-until across (of_sink run) = of_quit_sink (searched-until _ run)
+  fault-until true (of_matcher haystack error made asked fails message reported) =
+      through true (are-turns k matcher.meaning bytes true) _ _ error _ asked.before asked fails message reported
+  fault-until false (of_matcher haystack error made asked fails message reported) =
+      through false (are-turns k matcher.meaning bytes false) _ _ error _ asked.before asked fails message reported
 
   -- `finish` ends what was counted
-  pub until-finished : (across : Bool) (count : ℕ) (outcome : Outcome E) (mid : Quitting S)
+  pub until-finished : (across : Bool) {count : ℕ} {outcome : Outcome E} {mid : Quitting S}
       (result : Result (Unit {0}) E)
       (new : Quitting S)
       → Counted (Quits step may_call) k old ((calls_if k matcher.meaning across).turns bytes)
@@ -344,12 +324,12 @@ module _ {S E F : Type 0} (step : Steps S E) (may_call : S → Type 0) (errors :
       → Quits step may_call mid k (finishes count None) (finish_result result) new
       → IsSearchedUntil step errors matcher (calls_if k matcher.meaning across) b k bytes old.sink.now result
       new.sink.now
-  until-finished across count outcome mid (Ok u) new counted finish =
-      searched-until across (Ok u) new (run-finish (Quits step may_call) k old
-      ((calls_if k matcher.meaning across).turns bytes)
-      ((calls_if k matcher.meaning across).byte_count bytes) count outcome mid (Ok u) new counted finish)
-  until-finished across count outcome mid (Err e) new counted finish =
-      of_quit_sink (searched-until across (Err e) new (run-finish (Quits step may_call) k old
-      ((calls_if k matcher.meaning across).turns bytes) ((calls_if k matcher.meaning across).byte_count bytes) count
-      outcome mid (Err e) new
+  until-finished across {count} {outcome} {mid} (Ok u) new counted finish =
+      searched-until _ (run-finish _ k old
+      _
+      _ _ _ mid _ new counted finish)
+  until-finished across {count} {outcome} {mid} (Err e) new counted finish =
+      of_quit_sink (searched-until _ (run-finish _ k old
+      _ _ _
+      _ mid _ new
       counted finish))

@@ -1,4 +1,4 @@
--- How a sink is told of the first binary byte of a stream. The contracts of private functions cite
+-- How the first binary byte of a stream is reported. The contracts of private functions cite
 -- these definitions; no public contract does.
 use Rattle.std.specs.Prelude.{◌≡◌, ◌⊎◌, ◌&&◌, Bool, true, ℕ, Option, None, Some}
 use Rattle.std.specs.Prelude.{is_none, is_some, Ok, Err}
@@ -6,7 +6,7 @@ use Rattle.grep_report.specs.BinaryDetections.{quit_byte_of}
 use Rattle.grep_definitions.specs.Settings.{Settings}
 use Rattle.grep_definitions.specs.Plans.{binary_data, Steps}
 
--- a sink's state, and the offset of the first binary byte if the sink was told of it
+-- a sink's state, and the offset of the first binary byte if it was reported
 pub record Noted (S : Type 0) : Type 0 where
   pub sink : S
   pub binary : Option ℕ

@@ -3,7 +3,7 @@
 -- does.
 use Rattle.std.specs.Prelude.{◌≡◌, ◌⊎◌, ℕ, ◌+◌, Bool, true, false, Option, None, Some, Result, Ok}
 use Rattle.std.specs.Prelude.{Err, [], ◌∷◌}
-use Rattle.grep_definitions.specs.BinaryBytes.{position_of, told, with_offset}
+use Rattle.grep_definitions.specs.BinaryBytes.{position_of, planned_binary, with_offset}
 use Rattle.grep_definitions.specs.Settings.{Settings}
 use Rattle.grep_definitions.specs.Plans.{Call, begins, matches, context, breaks, binary_data}
 use Rattle.grep_definitions.specs.Plans.{finishes, Steps, Plan, counted, planned}
@@ -19,7 +19,8 @@ pub record Watch (S : Type 0) : Type 0 where
 -- the plan of a search that ends at a byte before its first line
 abbrev pub first_quit : ℕ → Plan
 first_quit offset = record {
-  calls = planned begins 0 ∷ told (record { position = 1; offset = offset; count = 0 }) ∷ [];
+  calls = planned begins 0
+      ∷ planned_binary (record { position = 1; offset = offset; count = 0 }) ∷ [];
   finish = with_offset offset (counted 0);
 }
 

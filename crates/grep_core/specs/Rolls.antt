@@ -186,7 +186,7 @@ module _ {S E : Type 0} (step : Steps S E) (settings : Settings) (meaning : Mean
   -- Of each input that begins with what was given, these lines were seen when the byte was found,
   -- at most so many bytes. Their calls had been made, and all returned true, as `binary_data` did:
   -- so the walk goes on from the state after it, before which those calls were made.
-  pub record HasTold (given : List ℕ) (at : ℕ) (old : S) (offset : ℕ) (next : Origin S)
+  pub record HasPassedByte (given : List ℕ) (at : ℕ) (old : S) (offset : ℕ) (next : Origin S)
       : Type 0 where
     pub seen : List ℕ
     pub mid : S
@@ -198,11 +198,12 @@ module _ {S E : Type 0} (step : Steps S E) (settings : Settings) (meaning : Mean
     pub cut : (later : List ℕ) → IsCutAt settings meaning (given ++ later) seen offset
 
   -- or it wasn't
-  abbrev pub IsTold : List ℕ → ℕ → S → Option ℕ → Origin S → Type 0
-  IsTold given at old None next = next ≡ fresh old
-  IsTold given at old (Some offset) next = HasTold given at old offset next
+  pub data IsStartAt (given : List ℕ) (at : ℕ) (old : S) (next : Origin S) : Option ℕ → Type 0 where
+    not_passed : next ≡ fresh old → IsStartAt given at old next None
+    was_passed : (offset : ℕ) → HasPassedByte given at old offset next
+        → IsStartAt given at old next (Some offset)
 
-  -- a search that reads on, and what was told to its sink
+  -- a search that reads on, and what was reported to its sink
   pub record IsReadingOn {R : Type 0} (remaining : R → Option (List ℕ))
       (read_step : R → ReadResult → R → Type 0) (decoder : DecoderState) (reader : R) (old : S)
       (buffer : BufferState) (decoder' : DecoderState) (reader' : R) (w : Walk)
@@ -210,7 +211,7 @@ module _ {S E : Type 0} (step : Steps S E) (settings : Settings) (meaning : Mean
     pub start : Origin S
     pub rolling : IsRolling step settings meaning remaining read_step decoder reader start buffer
         decoder' reader' w now.sink
-    pub told : IsTold rolling.given w.offset old now.binary start
+    pub passed : IsStartAt rolling.given w.offset old start now.binary
 
 -- what `finish` has after calls that didn't fail
 abbrev pub IsEnding : {E : Type 0} → Outcome E → Finish → Finish → Type 0

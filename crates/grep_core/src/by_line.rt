@@ -17,7 +17,6 @@ ghost use Rattle.grep_report.specs.ErrorMakers.{makers_of};
 
 use crate::calls::Calls;
 use crate::search::Search;
-use grep_lines::laws::{lines_append, lines_join};
 use grep_matcher::Matcher;
 use grep_report::SinkError;
 use grep_walk::{NOTHING_AHEAD, WALK_START, Walk};
@@ -123,8 +122,6 @@ impl<'c, A: Allocator + Copy, T> Search<'c, A, T> {
             sink.old result walk.new.offset sink.new }
         ensures may_call { C.may_call sink.new }
     {
-        lines_join();
-        lines_append();
         let terminator = self.terminator();
         let mut start = start;
         let mut ahead = NOTHING_AHEAD;

@@ -196,7 +196,7 @@ impl<'c, A: Allocator + Copy, T> Search<'c, A, T> {
 
     // Searches the decoded bytes of a reader as a buffer shows them. Makes each call but `begin`
     // and `finish`, and returns the byte count; `binary` is the offset of the first binary byte once
-    // the sink was told of it. The caller ensures that the buffer is empty and detects what is set,
+    // it was reported. The caller ensures that the buffer is empty and detects what is set,
     // that the decoder was started with the searcher's label, that `begin` returned true and nothing
     // else was called, and that some line may be reported or a binary byte is looked for.
     fn read_by_line<M: Matcher, R: Source, C: Calls<T>>(
@@ -281,7 +281,7 @@ impl<'c, A: Allocator + Copy, T> Search<'c, A, T> {
         }
     }
 
-    // Calls `binary_data` if a binary byte was found of which the sink wasn't told, and notes its
+    // Calls `binary_data` if a binary byte was found that wasn't reported, and notes its
     // offset. Returns whether the search goes on.
     fn passes_binary<C: Calls<T>>(
         &self,

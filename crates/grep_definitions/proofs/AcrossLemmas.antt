@@ -126,7 +126,7 @@ module _ (k : Settings) (meaning : Meaning) (bytes : List ℕ) where
           (λ j yes. (both_true (free k.max_matches j) _ yes).0) in
           let same : count_below (free k.max_matches) m
           ≡ count_below (free (Some limit)) m = ap (λ o. count_below (free o) m) is in
-          omega (arith, few, alone)
+          omega (arith, alone)
       go false =
           let same : count_below (begins_run (held k.max_matches)) m ≡ count_below (begins_run (held (Some limit))) m =
           ap (λ o. count_below (begins_run (held o)) m) is in
@@ -176,7 +176,7 @@ module _ (k : Settings) (meaning : Meaning) (bytes : List ℕ) where
               arith,
               above,
               line_start-le (byte_of k.line_terminator) bytes (i + 1)
-                  (AcrossLines.unit_end k meaning bytes i) (omega (arith, unit.later)),
+                  (AcrossLines.unit_end k meaning bytes i) (omega arith),
             );
             from = refl;
             to = unit.size;
@@ -191,7 +191,7 @@ module _ (k : Settings) (meaning : Meaning) (bytes : List ℕ) where
         above = above;
         from = refl;
         to = sym (line_start-more (byte_of k.line_terminator) bytes i inside);
-        alone = λ j low high. absurd (omega (arith, low, high));
+        alone = λ j low high. absurd (omega arith);
       })
 
   -- the reports ascend

@@ -21,7 +21,8 @@ use Rattle.grep_definitions.proofs.BoolLemmas.{both_true, clash}
 use Rattle.grep_definitions.proofs.LineStartLemmas.{line_start-ascends}
 use Rattle.grep_definitions.proofs.ListLemmas.{All-joined_from, filter-all, filter-none}
 use Rattle.grep_definitions.proofs.SearchLawLemmas.{kind-selected}
-use Rattle.grep_definitions.proofs.TurnEndLemmas.{line_start-le}
+use Rattle.grep_definitions.proofs.TurnEndLemmas.{ended-by, line_start-le}
+use Rattle.grep_definitions.specs.Reports.{through}
 use Rattle.grep_definitions.proofs.UnitLemmas.{unit-lines}
 
 module _ (k : Settings) (meaning : Meaning) (bytes : List ℕ) where
@@ -62,7 +63,7 @@ module _ (k : Settings) (meaning : Meaning) (bytes : List ℕ) where
       go : (o : Option ℕ) → first_below later count ≡ o
           → i < unwrap_or (option_map (unit_end k meaning bytes) o) (j + 1)
       go None is = ⊎_elim
-          (λ low. omega (arith, low))
+          (λ low. omega arith)
           (λ precedes.
           let found = some_below-find nearer count precedes in
           absurd (clash (some_below-some later count found.0 found.1 (weaker found.0 found.2))
@@ -109,10 +110,10 @@ module _ (k : Settings) (meaning : Meaning) (bytes : List ℕ) where
           (AcrossLines.report k meaning bytes j (Some kind)) low (report kind low))
 
   -- a line that a walk at line i passed unreported, or has still to come to, has a turn that ends after line i
-  module _ (v i left : ℕ) (near : Near k meaning bytes v i left) where
+  module _ {v i left : ℕ} (near : Near k meaning bytes v i left) where
     from-here : (j : ℕ) → v ≤ j → SelectsFrom i j
     from-here j low q less inside hit = ⊎_elim
-        (λ early. absurd (clash hit (near.passed q (omega (arith, low, less)) early).0))
+        (λ early. absurd (clash hit (near.passed q (omega arith) early).0))
         (λ over. over)
         (cases_lt q i)
 
@@ -120,7 +121,7 @@ module _ (k : Settings) (meaning : Meaning) (bytes : List ℕ) where
     ends-late j low inside = ends-turns_at (at (i + 1)) j (λ kind is. go kind is (cases_lt j i))
       where
         after : i ≤ j → at (i + 1) ≤ at (j + 1)
-        after over = higher (i + 1) (j + 1) (omega (arith, over))
+        after over = higher (i + 1) (j + 1) (omega arith)
 
         next : (i ≤ j) ⊎ (AcrossLines.precedes_selected k meaning bytes j ≡ true)
             → at (i + 1) ≤ at (AcrossLines.lines_through_next k meaning bytes j)
@@ -134,11 +135,7 @@ module _ (k : Settings) (meaning : Meaning) (bytes : List ℕ) where
         go matched is (inr over) =
             let here = kind-selected (selected j) (AcrossLines.follows_selected k meaning bytes j)
             (AcrossLines.precedes_selected k meaning bytes j) k.passthru is in
-            higher (i + 1) (unit_end k meaning bytes j) (omega (
-              arith,
-              over,
-              (unit-lines k meaning bytes j inside here).later,
-            ))
+            higher (i + 1) (unit_end k meaning bytes j) (omega (arith, (unit-lines k meaning bytes j inside here).later))
         go (in_context After) is (inr over) = after over
         go (in_context Other) is (inr over) = after over
         go (in_context Before) is (inr over) = next (inl over)
@@ -152,7 +149,7 @@ module _ (k : Settings) (meaning : Meaning) (bytes : List ℕ) where
             let same : in_context c ≡ in_context Before = let e = sym is ∙ before in cc in
             subst (λ o. at (i + 1) ≤ turn_end k meaning bytes j (Some o)) (sym same) (next (inr precedes)))
             (λ (last : AcrossLines.precedes_selected k meaning bytes j ≡ false).
-            let plain : k.passthru ≡ false = ⊎_elim (λ yes. absurd (omega (arith, near.bare yes, low, less))) (λ no. no)
+            let plain : k.passthru ≡ false = ⊎_elim (λ yes. absurd (omega (arith, near.bare yes))) (λ no. no)
             (cases_Bool k.passthru) in
             let none : AcrossLines.kind k meaning bytes j ≡ None = rw (misses, alone, last, plain) refl in
             absurd (let e = sym none ∙ is in cc))
@@ -162,25 +159,8 @@ module _ (k : Settings) (meaning : Meaning) (bytes : List ℕ) where
     pub through-is : i < count → All (λ turn. turn.if_false.count ≤ at i) (front k meaning bytes v)
         → turns_through k meaning bytes (at i) ≡ front k meaning bytes v
     through-is inside ended =
-        let split = ap (filter passes) (front-through k meaning bytes v count (omega (arith, near.low, inside)))
-        ∙ filter-append passes (front k meaning bytes v) later in
-        let early = filter-all passes (front k meaning bytes v)
-        (All-weaker (λ turn. turn.if_false.count ≤ at i) (λ turn. passes turn ≡ true)
-        (λ turn low. le-leb turn.if_false.count (at i) low) (front k meaning bytes v) ended) in
-        let late = filter-none passes later
-        (All-joined_from (λ turn. passes turn ≡ false) (T k meaning bytes) v (count - v)
-        (λ j low high. All-weaker (λ turn. at (i + 1) ≤ turn.if_false.count) (λ turn. passes turn ≡ false) fails
-        (T k meaning bytes j)
-        (ends-late j low (omega (arith, high, near.low, inside))))) in
-        split ∙ (ap (λ xs. xs ++ filter passes later) early
-        ∙ (ap (λ xs. front k meaning bytes v ++ xs) late ∙ append-nil (front k meaning bytes v)))
-      where
-        passes : Planned → Bool
-        passes turn = nat_le turn.if_false.count (at i)
-
-        later : List Planned
-        later = joined_from (T k meaning bytes) v (count - v)
-
-        fails : (turn : Planned) → at (i + 1) ≤ turn.if_false.count → passes turn ≡ false
-        fails turn low = lt-leb turn.if_false.count (at i)
-            (omega (arith, low, line_start-ascends AreLines-lines (byte_of k.line_terminator) bytes i inside))
+        ap (through (at i)) (front-through k meaning bytes v count (omega arith))
+        ∙ ended-by (at i) (front k meaning bytes v) (T k meaning bytes) v (count - v) ended (λ j low high.
+        All-weaker (λ turn. at (i + 1) ≤ turn.if_false.count) (λ turn. at i < turn.if_false.count)
+        (λ turn low. omega (arith, line_start-ascends AreLines-lines (byte_of k.line_terminator) bytes i inside))
+        (T k meaning bytes j) (ends-late j low (omega arith)))

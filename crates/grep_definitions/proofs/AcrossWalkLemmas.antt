@@ -21,7 +21,7 @@ use Rattle.grep_definitions.specs.AcrossLines.{is_selected, continues_unit, turn
 use Rattle.grep_definitions.proofs.BelowLemmas.{joined_from-add, joined_from-equal, joined_from-none, headed-through}
 use Rattle.grep_definitions.proofs.RunLemmas.{run_end, IsRunEnd-run_end, IsRunEnd-one}
 use Rattle.grep_definitions.proofs.SelectionLemmas
-use Rattle.grep_definitions.proofs.LineSliceLemmas.{slice-line}
+use Rattle.grep_definitions.proofs.LineSliceLemmas.{number-line, slice-line}
 
 module _ (k : Settings) (meaning : Meaning) (bytes : List ℕ) where
   abbrev pub n : ℕ
@@ -63,40 +63,36 @@ module _ (k : Settings) (meaning : Meaning) (bytes : List ℕ) where
   pub front-through : (v i : ℕ) → v ≤ i → front i ≡ front v ++ joined_from T v (i - v)
   front-through = headed-through (planned begins 0) T
 
-  number-is : (i : ℕ) → i < n → number k meaning bytes i ≡ number_of k i
-  number-is i inside =
-      ap (λ c. if k.line_number then Some (c + 1) else None) (lines-numbered (byte_of k.line_terminator) bytes i inside)
-
   -- before the first line
   pub near-none : Near 0 0 0
   near-none = SelectionLemmas.IsNear-none k S no_line n n
 
   -- lines that aren't selected are passed unreported
-  pub near-skipped : (v i e : ℕ) → Near v i 0 → k.passthru ≡ false → i ≤ e → e ≤ n
+  pub near-skipped : {v i : ℕ} (e : ℕ) → Near v i 0 → k.passthru ≡ false → i ≤ e → e ≤ n
       → ((j : ℕ) → i ≤ j → j < e → S j ≡ false) → Near v e 0
-  near-skipped v i e near plain low high missed =
+  near-skipped {v} {i} e near plain low high missed =
       let sum : i + (e - i) ≡ e = omega arith in
       subst (λ x. Near v x 0) sum
-      (SelectionLemmas.IsNear-skipped k S no_line n n plain v i (e - i) near
-      (λ j from below. missed j from (omega (arith, below))))
+      (SelectionLemmas.IsNear-skipped plain i (e - i) near
+      (λ j from below. missed j from (omega arith)))
 
   -- one such line, and its calls
-  pub near-missed : Bare → (v i left : ℕ) → Near v i left → i < n → S i ≡ false
+  pub near-missed : Bare → {v i left : ℕ} → Near v i left → i < n → S i ≡ false
       → Near (if nat_lt 0 left || k.passthru then i + 1 else v) (i + 1) (left - 1)
-  near-missed bare v i left near inside missed =
-      SelectionLemmas.IsNear-missed k S no_line n n v i left near (λ is. (bare is).1) inside missed
+  near-missed bare near inside missed =
+      SelectionLemmas.IsNear-missed near (λ is. (bare is).1) inside missed
 
-  pub front-missed : Bare → (v i left : ℕ) → Near v i left → i < n → S i ≡ false
+  pub front-missed : Bare → {v i left : ℕ} → Near v i left → i < n → S i ≡ false
       → front (if nat_lt 0 left || k.passthru then i + 1 else v)
       ≡ front v ++ (if nat_lt 0 left then context_turns After (number_of k i) (starts i) (starts (i + 1))
       (span i (i + 1))
       else (if k.passthru then context_turns Other (number_of k i) (starts i) (starts (i + 1)) (span i (i + 1))
       else []))
-  front-missed bare v i left near inside missed =
-      SelectionLemmas.headed-missed k S no_line n n v i left near (planned begins 0) T _ _ after other
+  front-missed bare {v} {i} {left} near inside missed =
+      SelectionLemmas.headed-missed near (planned begins 0) T _ _ after other
     where
       is_number : number k meaning bytes i ≡ number_of k i
-      is_number = number-is i inside
+      is_number = number-line k bytes i inside
 
       is_line : line k meaning bytes i ≡ span i (i + 1)
       is_line = sym (slice-line k bytes i)
@@ -104,14 +100,14 @@ module _ (k : Settings) (meaning : Meaning) (bytes : List ℕ) where
       after : 0 < left → T i ≡ context_turns After (number_of k i) (starts i) (starts (i + 1)) (span i (i + 1))
       after some =
           let kind : AcrossLines.kind k meaning bytes i ≡ Some (in_context After) =
-          SelectionLemmas.kind-after k S no_line n n v i left near missed some in
+          SelectionLemmas.kind-after near missed some in
           rw (kind, and-false (nat_lt 0 (A + B)), is_number, is_line) refl
 
       other : left ≡ 0 → k.passthru ≡ true → T i ≡ context_turns Other (number_of k i) (starts i) (starts (i + 1))
           (span i (i + 1))
       other none is_p =
           let kind : AcrossLines.kind k meaning bytes i ≡ Some (in_context Other) =
-          SelectionLemmas.kind-other k S no_line n n v i left near missed none is_p (bare is_p).1 in
+          SelectionLemmas.kind-other near missed none is_p (bare is_p).1 in
           rw (kind, and-false (nat_lt 0 (A + B)), is_number, is_line) refl
 
   -- after a unit
@@ -121,7 +117,7 @@ module _ (k : Settings) (meaning : Meaning) (bytes : List ℕ) where
       subst (λ x. Near x x k.after_context) sum
       (SelectionLemmas.IsNear-hit k S no_line n n (e - 1) (omega arith) (hits (e - 1) (omega arith) (omega arith)))
 
-  module _ (v i left e : ℕ) (near : Near v i left) (some : i < e) (high : e ≤ n)
+  module _ {v i left : ℕ} (e : ℕ) (near : Near v i left) (some : i < e) (high : e ≤ n)
       (hits : (j : ℕ) → i ≤ j → j < e → S j ≡ true)
       (closed : k.invert_match ≡ false → e < n → S e ≡ false) (alone : k.invert_match ≡ true → e ≡ i + 1) where
     inside : i < n
@@ -145,7 +141,7 @@ module _ (k : Settings) (meaning : Meaning) (bytes : List ℕ) where
     passed-is j low less = ⊎_elim far close (cases_lt B (i - j))
       where
         is_kind : AcrossLines.kind k meaning bytes j ≡ (if nat_le (i - j) B then Some (in_context Before) else None)
-        is_kind = SelectionLemmas.kind-passed k S no_line n n v i left near inside inside hit j low less
+        is_kind = SelectionLemmas.kind-passed near inside inside hit j low less
 
         far : B < i - j → T j ≡ before_turns k v j i (number k meaning bytes j) (starts j) (starts e)
             (line k meaning bytes j)
@@ -163,8 +159,8 @@ module _ (k : Settings) (meaning : Meaning) (bytes : List ℕ) where
             ∙ ap (λ b. if b then Some (in_context Before) else None) test in
             let gap : (nat_lt 0 (A + B) && true && not (is_reported (j - 1)) && some_below is_reported j)
             ≡ is_gap k v j i =
-            SelectionLemmas.gap-passed k S no_line n n v i left near inside inside hit j low less inner in
-            let found = SelectionLemmas.next-passed k S no_line n n v i left near inside inside hit j low less in
+            SelectionLemmas.gap-passed near inside inside hit j low less inner in
+            let found = SelectionLemmas.next-passed near inside inside hit j low less in
             rw (kind, gap, found, end-is, test) refl
 
     -- those of its first line
@@ -173,8 +169,8 @@ module _ (k : Settings) (meaning : Meaning) (bytes : List ℕ) where
         let kind : AcrossLines.kind k meaning bytes i ≡ Some matched = rw hit refl in
         let gap : (nat_lt 0 (A + B) && true && not (is_reported (i - 1)) && some_below is_reported i)
         ≡ (nat_lt 0 A && is_gap k v i i) =
-        SelectionLemmas.gap-hit k S no_line n n v i left near inside inside hit in
-        let is_number = number-is i inside in
+        SelectionLemmas.gap-hit near inside inside hit in
+        let is_number = number-line k bytes i inside in
         rw (kind, gap, first, is_number, end-is) refl
 
     -- a later line of it has none
@@ -193,21 +189,21 @@ module _ (k : Settings) (meaning : Meaning) (bytes : List ℕ) where
         rw (kind, reported, and-false (nat_lt 0 (A + B) && true), goes_on) refl
 
   -- the calls of a unit: those of the lines before it, and the match at its first line
-  pub front-unit : (v i left e : ℕ) → Near v i left → i < e → e ≤ n → ((j : ℕ) → i ≤ j → j < e → S j ≡ true)
+  pub front-unit : {v i left : ℕ} (e : ℕ) → Near v i left → i < e → e ≤ n → ((j : ℕ) → i ≤ j → j < e → S j ≡ true)
       → (k.invert_match ≡ false → e < n → S e ≡ false) → (k.invert_match ≡ true → e ≡ i + 1)
       → continues_unit k meaning bytes i ≡ false
       → front e ≡ front v ++ (pending_turns k bytes v i (starts e) v (i - v)
       ++ match_turns k v i (starts i) (starts e) (span i e))
-  front-unit v i left e near some high hits closed alone first =
+  front-unit {v} {i} e near some high hits closed alone first =
       let reach = near.low in
-      let sum : e - v ≡ (i - v) + suc (e - (i + 1)) = omega (arith, reach) in
-      let at : v + (i - v) ≡ i = omega (arith, reach) in
+      let sum : e - v ≡ (i - v) + suc (e - (i + 1)) = omega arith in
+      let at : v + (i - v) ≡ i = omega arith in
       let pending = joined_from-equal T _ v (i - v) (λ j low below.
-      passed-is v i left e near some high hits closed alone j low (omega (arith, below, reach))) in
+      passed-is e near some high hits closed alone j low (omega arith)) in
       let rest = joined_from-none T (i + 1) (e - (i + 1)) (λ j low below.
-      later-is v i left e near some high hits closed alone j (omega (arith, low)) (omega (arith, below))) in
-      let here = hit-is v i left e near some high hits closed alone first in
-      front-through v e (omega (arith, reach))
+      later-is e near some high hits closed alone j (omega arith) (omega arith)) in
+      let here = hit-is e near some high hits closed alone first in
+      front-through v e (omega arith)
       ∙ ap (λ xs. front v ++ xs)
       (ap (joined_from T v) sum ∙ (joined_from-add T v (i - v) (suc (e - (i + 1)))
       ∙ (ap (λ m. joined_from T v (i - v) ++ joined_from T m (suc (e - (i + 1)))) at
@@ -216,14 +212,14 @@ module _ (k : Settings) (meaning : Meaning) (bytes : List ℕ) where
       ∙ ap (λ xs. xs ++ match_turns k v i (starts i) (starts e) (span i e)) pending)))))
 
   -- after the last line
-  pub front-done : (v left : ℕ) → Near v n left → AcrossLines.turns k meaning bytes ≡ front v
-  front-done v left near =
+  pub front-done : {v left : ℕ} → Near v n left → AcrossLines.turns k meaning bytes ≡ front v
+  front-done {v} near =
       front-through v n near.low
       ∙ (ap (λ xs. front v ++ xs) (joined_from-none T v (n - v) none) ∙ append-nil (front v))
     where
       none : (j : ℕ) → v ≤ j → j < v + (n - v) → T j ≡ []
       none j low below =
           let kind : AcrossLines.kind k meaning bytes j ≡ None =
-          SelectionLemmas.kind-done k S no_line n n v n left near (λ q late inner. absurd (omega arith)) j low
-          (omega (arith, near.low, below)) in
+          SelectionLemmas.kind-done near (λ q late inner. absurd (omega arith)) j low
+          (omega arith) in
           rw (kind, and-false (nat_lt 0 (A + B))) refl

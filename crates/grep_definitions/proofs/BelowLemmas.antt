@@ -37,7 +37,7 @@ first_below-of p (suc n) q is = go (some_below p n) (p n) refl is (λ found. fir
   where
     go : (s h : Bool) → p n ≡ h → (if s then first_below p n else (if h then Some n else None)) ≡ Some q
         → (first_below p n ≡ Some q → (q < n) × (p q ≡ true)) → (q < suc n) × (p q ≡ true)
-    go true h is_h found before = let below = before found in (omega (arith, below.0), below.1)
+    go true h is_h found before = let below = before found in (omega arith, below.1)
     go false true is_h found before = let same : n ≡ q = cc in (omega arith, ap p (sym same) ∙ is_h)
     go false false is_h found before = absurd (cc)
 
@@ -59,10 +59,10 @@ first_below-late p i n m none is = ⊎_elim
     (cases_lt m i)
 
 pub count_below-le : (p : ℕ → Bool) (i q : ℕ) → i ≤ q → count_below p i ≤ count_below p q
-count_below-le p i zero le = let same : i ≡ zero = omega arith in let e = ap (count_below p) same in omega (arith, e)
+count_below-le p i zero le = let same : i ≡ zero = omega arith in let e = ap (count_below p) same in omega arith
 count_below-le p i (suc q) le = ⊎_elim
     (λ less. let before = count_below-le p i q (omega arith) in go (p q) before)
-    (λ over. let same : i ≡ suc q = omega arith in let e = ap (count_below p) same in omega (arith, e))
+    (λ over. let same : i ≡ suc q = omega arith in let e = ap (count_below p) same in omega arith)
     (cases_lt i (suc q))
   where
     go : (h : Bool) → count_below p i ≤ count_below p q
@@ -184,7 +184,7 @@ some_below-find p (suc n) is = go (p n) refl (λ h. some_below-find p n h)
     go true here later = (n, omega arith, here)
     go false here later =
         let found = later (sym (or-false (some_below p n)) ∙ rw here at is) in
-        (found.0, omega (arith, found.1), found.2)
+        (found.0, omega arith, found.2)
 
 -- if no number passes, there is no first
 pub first_below-nowhere : (p : ℕ → Bool) (n : ℕ) → some_below p n ≡ false → first_below p n ≡ None
@@ -231,7 +231,7 @@ count_below-within p low size (suc n) inside =
   where
     go : (b : Bool) → p n ≡ b → count_below p n ≤ min n (low + size) - low
         → (if b then count_below p n + 1 else count_below p n) ≤ min (suc n) (low + size) - low
-    go true is before = let here = inside n (omega arith) is in omega (arith, here.0, here.1)
+    go true is before = let here = inside n (omega arith) is in omega arith
     go false is before = omega arith
 
 -- if none of the first numbers passes, none of them counts

@@ -28,24 +28,24 @@ module _ (settings : Settings) (bytes : List ℕ) where
   quit_in_reports = plan_with (Quit 0) (point_unless 0 all_calls None) (search_plan settings has_a bytes)
 
 -- some calls, and `binary_data` after them, with the offset of the byte and the count of the search that ends there
-abbrev told_plan : List Planned → ℕ → ℕ → Plan
-told_plan calls offset count =
-    record { calls = calls ++ record { call = binary_data offset; if_false = told_finish } ∷ []; finish = told_finish }
+abbrev plan_to_byte : List Planned → ℕ → ℕ → Plan
+plan_to_byte calls offset count =
+    record { calls = calls ++ record { call = binary_data offset; if_false = finish_at_byte } ∷ []; finish = finish_at_byte }
   where
-    told_finish : Finish
-    told_finish = record { count = count; binary = Some offset }
+    finish_at_byte : Finish
+    finish_at_byte = record { count = count; binary = Some offset }
 
 -- a text whose last byte is the byte 0
 abbrev nul_at_end : List ℕ
 nul_at_end = codes "a" ++ 0 ∷ []
 
 -- the byte is among the first, so no line is searched: no report is made, and no byte counts
-quit_at_first_look : quit_plan default_settings nul_at_end ≡ told_plan (begun ∷ []) 1 0
+quit_at_first_look : quit_plan default_settings nul_at_end ≡ plan_to_byte (begun ∷ []) 1 0
 quit_at_first_look = refl
 
 -- nor does it matter that no match may be reported
 quit_at_limit_zero : quit_plan (record default_settings { max_matches = Some 0 }) nul_at_end
-    ≡ told_plan (begun ∷ []) 1 0
+    ≡ plan_to_byte (begun ∷ []) 1 0
 quit_at_limit_zero = refl
 
 -- a text without the byte has no such point, so its plan is as ever
@@ -58,12 +58,12 @@ abbrev nul_in_lines : List ℕ
 nul_in_lines = codes "a\nb" ++ 0 ∷ codes "\na" ++ 0 ∷ codes "\na\n"
 
 quit_at_report : quit_in_reports default_settings nul_in_lines
-    ≡ told_plan (begun ∷ match_call 1 0 (codes "a\n") 2 ∷ []) 6 6
+    ≡ plan_to_byte (begun ∷ match_call 1 0 (codes "a\n") 2 ∷ []) 6 6
 quit_at_report = refl
 
 -- a context line is a report
 quit_at_context : quit_in_reports (record default_settings { after_context = 1 }) nul_in_lines
-    ≡ told_plan (begun ∷ match_call 1 0 (codes "a\n") 2 ∷ []) 3 3
+    ≡ plan_to_byte (begun ∷ match_call 1 0 (codes "a\n") 2 ∷ []) 3 3
 quit_at_context = refl
 
 -- the break before such a report isn't made
@@ -71,12 +71,12 @@ abbrev nul_after_break : List ℕ
 nul_after_break = codes "a\nx\nx\na" ++ 0 ∷ codes "\n"
 
 break_not_made : quit_in_reports (record default_settings { after_context = 1 }) nul_after_break
-    ≡ told_plan (begun ∷ match_call 1 0 (codes "a\n") 2 ∷ context_call After 2 2 (codes "x\n") 4 ∷ []) 7 7
+    ≡ plan_to_byte (begun ∷ match_call 1 0 (codes "a\n") 2 ∷ context_call After 2 2 (codes "x\n") 4 ∷ []) 7 7
 break_not_made = refl
 
 -- one before a line that comes before it is
 break_before_context_made : quit_in_reports (record default_settings { before_context = 1 }) nul_after_break
-    ≡ told_plan
+    ≡ plan_to_byte
     (begun ∷ match_call 1 0 (codes "a\n") 2 ∷ break_call 9 ∷ context_call Before 3 4 (codes "x\n") 9 ∷ []) 7 7
 break_before_context_made = refl
 
@@ -89,8 +89,8 @@ long_with_byte : IsTooLong 10 2 (get_or (lines 10 nul_in_lines) 1 [])
 long_with_byte = inl (omega arith)
 
 short_before_byte : IsTooLong 10 2 (get_or (lines 10 (before_quit (Quit 0) nul_in_lines)) 1 []) → ⊥
-short_before_byte (inl long) = omega (arith, long)
-short_before_byte (inr (full, unended)) = omega (arith, full)
+short_before_byte (inl long) = omega arith
+short_before_byte (inr (full, unended)) = omega arith
 
 -- a byte that is converted ends its line
 converted : stream_view (Convert 0) 10 nul_in_lines ≡ codes "a\nb\n\na\n\na\n"

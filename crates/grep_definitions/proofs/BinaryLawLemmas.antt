@@ -12,7 +12,7 @@ use Rattle.grep_matcher.specs.Lines.{byte_of}
 use Rattle.grep_lines.specs.LineLaws.{LinesJoin}
 use Rattle.grep_definitions.specs.BinaryBytes.{binary_position, position_of, stream_view, BinaryPoint, call_at}
 use Rattle.grep_definitions.specs.BinaryBytes.{contents_point, first_look, point_at, point_unless, holds_byte}
-use Rattle.grep_definitions.specs.Reports.{calls_at, joined_from, Kind, matched, in_context}
+use Rattle.grep_definitions.specs.Reports.{calls_at, joined_from}
 use Rattle.grep_definitions.specs.LineSearch
 use Rattle.grep_definitions.specs.Settings.{Settings}
 use Rattle.grep_definitions.specs.Asking.{is_across, selection_in}
@@ -118,7 +118,7 @@ module _ (k : Settings) (meaning : Meaning) (bytes : List ℕ) where
         All-cons P (planned begins 0)
         (joined_from (LineSearch.turns_at k meaning bytes) 0 (LineSearch.turn_count k meaning bytes)) (λ low. refl)
         (All-joined_from P (LineSearch.turns_at k meaning bytes) 0 (LineSearch.turn_count k meaning bytes)
-        (λ i low high. each i (omega (arith, high, turn_count-le k meaning bytes))))
+        (λ i low high. each i (omega (arith, turn_count-le k meaning bytes))))
       where
         P : Planned → Type 0
         P turn = turn.if_false.count ≤ count → holds_byte b turn ≡ false
@@ -128,7 +128,7 @@ module _ (k : Settings) (meaning : Meaning) (bytes : List ℕ) where
             (λ none. ap (λ xs. is_some (position_of b xs)) none)
             (λ line.
             let late = ends-late k meaning bytes i i (omega arith) j d below in
-            ap (λ xs. is_some (position_of b xs)) line ∙ ap is_some (line-clear i inside (omega (arith, late, low))))
+            ap (λ xs. is_some (position_of b xs)) line ∙ ap is_some (line-clear i inside (omega arith)))
             (reports-line k meaning bytes i j d below)
 
 pub counted_reports-clear : CountedReportsAreClear
@@ -140,7 +140,7 @@ seen_lines-clear join b k meaning bytes seen quits front clear =
     All-cons P (planned begins 0)
     (joined_from (LineSearch.turns_at k meaning seen) 0 (LineSearch.turn_count k meaning seen)) refl
     (All-joined_from P (LineSearch.turns_at k meaning seen) 0 (LineSearch.turn_count k meaning seen)
-    (λ i low high. each i (omega (arith, high, turn_count-le k meaning seen))))
+    (λ i low high. each i (omega (arith, turn_count-le k meaning seen))))
   where
     P : Planned → Type 0
     P turn = holds_byte b turn ≡ false

@@ -54,10 +54,10 @@ module _ (t : ℕ) (bytes : List ℕ) where
       let stop = block_end-edge m in
       ap (λ b. nat_le (block_start t bytes m) (line_start t bytes i) && b)
       (same-tests (line_start t bytes (i + 1)) (block_end t bytes m) (line_start t bytes i) (block_end t bytes m)
-      (λ early over. omega (arith, early, over, rises t bytes i here))
+      (λ early over. omega (arith, rises t bytes i here))
       (λ over late. ⊎_elim
-      (λ less. omega (arith, late, stop.1.begins, line_start-le t bytes (i + 1) stop.0 (omega (arith, less))))
-      (λ more. omega (arith, over, stop.1.begins, line_start-le t bytes stop.0 i more))
+      (λ less. omega (arith, line_start-le t bytes (i + 1) stop.0 (omega (arith, less))))
+      (λ more. omega (arith, line_start-le t bytes stop.0 i more))
       (cases_lt i stop.0)))
 
   -- a later position has no fewer lines before it
@@ -77,7 +77,7 @@ module _ (t : ℕ) (bytes : List ℕ) where
   pub block_start-low : (m : ℕ × ℕ) → m.0 < length bytes → block_start t bytes m ≤ m.0
   block_start-low m below =
       let line = holder t bytes m.0 below in
-      omega (arith, block_start-line t bytes m line.0 line.1 line.2 line.3, line.2)
+      omega (arith, block_start-line t bytes m line.0 line.1 line.2 line.3)
 
   -- a match that starts before a line start and ends no later has its block before it
   pub block_end-within : (m : ℕ × ℕ) (e k : ℕ) → IsLineStart t bytes e k → e ≤ length bytes → m.0 < e → m.0 ≤ m.1
@@ -86,8 +86,8 @@ module _ (t : ℕ) (bytes : List ℕ) where
   block_end-within m e k here within low order high = ⊎_elim
       (λ some.
       let line = holder t bytes (m.1 - 1) (omega arith) in
-      let last = block_end-line t bytes m line.0 some line.1 (omega (arith, line.2)) (omega (arith, line.3)) in
-      omega (arith, last, next line.0 (omega (arith, line.2))))
+      let last = block_end-line t bytes m line.0 some line.1 (omega arith) (omega arith) in
+      omega (arith, next line.0 (omega (arith, line.2))))
       (λ none.
       let line = holder t bytes m.0 (omega arith) in
       let same : m.1 ≡ m.0 = omega arith in
@@ -95,14 +95,14 @@ module _ (t : ℕ) (bytes : List ℕ) where
         arith,
         block_end-empty t bytes m.0 line.0 line.1 line.2 line.3,
         ap (λ x. block_end t bytes (m.0, x)) same,
-        next line.0 (omega (arith, line.2)),
+        next line.0 (omega arith),
       ))
       (cases_lt m.0 m.1)
     where
       next : (b : ℕ) → line_start t bytes b < e → line_start t bytes (b + 1) ≤ e
       next b low = ⊎_elim
-          (λ less. omega (arith, here.begins, line_start-le t bytes (b + 1) k (omega (arith, less))))
-          (λ more. absurd (omega (arith, low, here.begins, line_start-le t bytes k b more)))
+          (λ less. omega (arith, line_start-le t bytes (b + 1) k (omega (arith, less))))
+          (λ more. absurd (omega (arith, line_start-le t bytes k b more)))
           (cases_lt b k)
 
   -- a block that doesn't start at the end has a line
@@ -112,16 +112,9 @@ module _ (t : ℕ) (bytes : List ℕ) where
   block-some m order low high below = ⊎_elim
       (λ some. some)
       (λ none.
-      let line = holder t bytes m.0 (omega (arith, low, order, high, none, below)) in
-      let same : m.1 ≡ m.0 = omega (arith, low, order, high, none) in
-      absurd (omega (
-        arith,
-        block_end-empty t bytes m.0 line.0 line.1 line.2 line.3,
-        ap (λ x. block_end t bytes (m.0, x)) same,
-        line.3,
-        low,
-        none,
-      )))
+      let line = holder t bytes m.0 (omega arith) in
+      let same : m.1 ≡ m.0 = omega arith in
+      absurd (omega (arith, block_end-empty t bytes m.0 line.0 line.1 line.2 line.3, ap (λ x. block_end t bytes (m.0, x)) same)))
       (cases_lt (block_start t bytes m) (block_end t bytes m))
 
   -- the bytes from a line on
@@ -133,7 +126,7 @@ module _ (t : ℕ) (bytes : List ℕ) where
         let joined = ap length (concat-append (take a (lines t bytes)) (take k (drop a (lines t bytes)))) in
         let rest = ap (λ ls. length (concat (take k ls))) at.rest in
         let sizes = length-append (concat (take a (lines t bytes))) (concat (take k (drop a (lines t bytes)))) in
-        omega (arith, cut, joined, sizes, rest, at.start)
+        omega arith
 
     lines_before-part : (p : ℕ) → e ≤ p → lines_before t bytes p ≡ a + lines_before t (drop e bytes) (p - e)
     lines_before-part p low =
@@ -166,7 +159,7 @@ module _ (t : ℕ) (bytes : List ℕ) where
             ≡ (nat_lt m.0 m.1 && slice_index bytes (m.1 - 1) == t)
         closed = ⊎_elim
             (λ some.
-            let sum : e + (o.1 - 1) ≡ m.1 - 1 = omega (arith, is, inner some) in
+            let sum : e + (o.1 - 1) ≡ m.1 - 1 = omega (arith, inner some) in
             let byte : slice_index (drop e bytes) (o.1 - 1) ≡ slice_index bytes (m.1 - 1) =
             get_or-drop e bytes (o.1 - 1) 0 ∙ ap (slice_index bytes) sum in
             rw (alike, byte) refl)

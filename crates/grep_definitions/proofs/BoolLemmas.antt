@@ -20,28 +20,10 @@ both_true false b is = cc
 pub and-both : (a b : Bool) → a ≡ true → b ≡ true → (a && b) ≡ true
 and-both a b p q = rw (p, q) refl
 
-pub and-swap : (a b : Bool) → (a && b) ≡ (b && a)
-and-swap true true = refl
-and-swap true false = refl
-and-swap false true = refl
-and-swap false false = refl
-
--- both parts of a disjunction that doesn't hold, and one of one that does
-pub neither : (a b : Bool) → (a || b) ≡ false → (a ≡ false) × (b ≡ false)
-neither true b is = cc
-neither false b is = (refl, is)
-
+-- one part of a disjunction that holds
 pub or-cases : (a b : Bool) → (a || b) ≡ true → (a ≡ true) ⊎ (b ≡ true)
 or-cases true b is = inl refl
 or-cases false b is = inr is
-
--- a number isn't 0 if only that test can have failed
-pub above_zero : (a b : Bool) (x : ℕ) → (a && b && x == 0) ≡ false → a ≡ true → b ≡ true → 0 < x
-above_zero a b x is is_a is_b = ⊎_elim
-    (λ some. some)
-    (λ none. absurd (clash (let z = eq-eqb x 0 (omega arith) in let all : (a && b && x == 0)
-    ≡ true = rw (is_a, is_b, z) refl in all) is))
-    (cases_lt 0 x)
 
 -- a disjunction holds if one of its parts does
 pub or-second : (a b : Bool) → b ≡ true → (a || b) ≡ true

@@ -149,5 +149,5 @@ module _ (k : Settings) (meaning : Meaning) (bytes : List ℕ) where
     paired-joined (AcrossLines.turns_at k meaning bytes) 0 (AcrossLines.turn_count k meaning bytes)
         (λ j low high. report-across j (AcrossLines.kind k meaning bytes j)
         (AcrossLines.breaks_before k meaning bytes j)
-        (λ is. (breaks-need _ _ _ _ is).0) (unit-unbroken j (omega (arith, high)))),
+        (λ is. (breaks-need _ _ _ _ is).0) (unit-unbroken j (omega arith))),
   )

@@ -9,7 +9,7 @@ use Rattle.std.proofs.lemmas.List.Elements.{All-nil, All-cons, All-append, All-h
 use Rattle.grep_definitions.specs.BinaryBytes.{is_detecting}
 use Rattle.grep_definitions.specs.CallOrder.{AreInner, after_begin, EndsAt, HasCalled, HasBegunWith, HasCalledTo}
 use Rattle.grep_definitions.specs.CallOrder.{HasBegunTo, HasFailedIn, of_call, of_question, BeginsInOrder, EndsInOrder}
-use Rattle.grep_definitions.specs.CallOrder.{GoesOnInOrder, ReadsInOrder, told_in}
+use Rattle.grep_definitions.specs.CallOrder.{GoesOnInOrder, ReadsInOrder, binary_count}
 use Rattle.grep_report.specs.ErrorMakers.{ErrorMakers}
 use Rattle.grep_matcher.specs.Meanings.{MatcherFacts}
 use Rattle.grep_definitions.specs.Settings.{Settings}
@@ -52,52 +52,52 @@ inner-match k v i offset end line =
     inner-broken k (nat_lt 0 k.after_context && is_gap k v i i) (matches (number_of k i) offset line) end refl
 
 -- how many calls are `binary_data`
-told-append : (front back : List Planned) → told_in (front ++ back) ≡ told_in front + told_in back
-told-append = sum_by-append (λ turn. cond (is_binary_data turn.call) 1 0)
+binary-append : (front back : List Planned) → binary_count (front ++ back) ≡ binary_count front + binary_count back
+binary-append = sum_by-append (λ turn. cond (is_binary_data turn.call) 1 0)
 
-pub told-cons : (turn : Planned) (later : List Planned)
-    → told_in (turn ∷ later) ≡ cond (is_binary_data turn.call) 1 0 + told_in later
-told-cons = sum_by-cons (λ turn. cond (is_binary_data turn.call) 1 0)
+pub binary-cons : (turn : Planned) (later : List Planned)
+    → binary_count (turn ∷ later) ≡ cond (is_binary_data turn.call) 1 0 + binary_count later
+binary-cons = sum_by-cons (λ turn. cond (is_binary_data turn.call) 1 0)
 
-told-with : (binary : Option ℕ) (turns : List Planned) → told_in (map (with_binary binary) turns) ≡ told_in turns
-told-with binary [] = refl
-told-with binary (turn ∷ later) =
-    told-cons (with_binary binary turn) (map (with_binary binary) later)
-    ∙ (ap (λ n. cond (is_binary_data turn.call) 1 0 + n) (told-with binary later) ∙ sym (told-cons turn later))
+binary-with : (binary : Option ℕ) (turns : List Planned) → binary_count (map (with_binary binary) turns) ≡ binary_count turns
+binary-with binary [] = refl
+binary-with binary (turn ∷ later) =
+    binary-cons (with_binary binary turn) (map (with_binary binary) later)
+    ∙ (ap (λ n. cond (is_binary_data turn.call) 1 0 + n) (binary-with binary later) ∙ sym (binary-cons turn later))
 
 -- one call that isn't, also after a break
-told-one : (call : Call) (end : ℕ) → is_binary_data call ≡ false → told_in (one_turn call end) ≡ 0
-told-one call end plain = told-cons (planned call end) [] ∙ ap (λ b. cond b 1 0 + 0) plain
+binary-one : (call : Call) (end : ℕ) → is_binary_data call ≡ false → binary_count (one_turn call end) ≡ 0
+binary-one call end plain = binary-cons (planned call end) [] ∙ ap (λ b. cond b 1 0 + 0) plain
 
-told-broken : (gap : Bool) (call : Call) (end : ℕ) → is_binary_data call ≡ false
-    → told_in (broken_turns gap call end) ≡ 0
-told-broken true call end plain =
-    told-cons (planned breaks end) (one_turn call end) ∙ ap (λ n. 0 + n) (told-one call end plain)
-told-broken false call end plain = told-one call end plain
+binary-broken : (gap : Bool) (call : Call) (end : ℕ) → is_binary_data call ≡ false
+    → binary_count (broken_turns gap call end) ≡ 0
+binary-broken true call end plain =
+    binary-cons (planned breaks end) (one_turn call end) ∙ ap (λ n. 0 + n) (binary-one call end plain)
+binary-broken false call end plain = binary-one call end plain
 
-told-before : (k : Settings) (v j i : ℕ) (number : Option ℕ) (offset end : ℕ) (line : List ℕ)
-    → told_in (before_turns k v j i number offset end line) ≡ 0
-told-before k v j i number offset end line =
-    elim (nat_le (i - j) k.before_context) as (λ near. told_in
+binary-before : (k : Settings) (v j i : ℕ) (number : Option ℕ) (offset end : ℕ) (line : List ℕ)
+    → binary_count (before_turns k v j i number offset end line) ≡ 0
+binary-before k v j i number offset end line =
+    elim (nat_le (i - j) k.before_context) as (λ near. binary_count
     (if near then broken_turns (is_gap k v j i) (context Before number offset line) end else []) ≡ 0) [
-      | true ↦ told-broken (is_gap k v j i) (context Before number offset line) end refl
+      | true ↦ binary-broken (is_gap k v j i) (context Before number offset line) end refl
       | false ↦ refl
     ]
 
 -- none of the calls is if at most none is
-none-told : (turn : Planned) (later : List Planned) → told_in (turn ∷ later) ≤ 0
-    → (is_binary_data turn.call ≡ false) × (told_in later ≤ 0)
-none-told turn later few = go (is_binary_data turn.call) refl
+none-binary : (turn : Planned) (later : List Planned) → binary_count (turn ∷ later) ≤ 0
+    → (is_binary_data turn.call ≡ false) × (binary_count later ≤ 0)
+none-binary turn later few = go (is_binary_data turn.call) refl
   where
-    go : (b : Bool) → is_binary_data turn.call ≡ b → (is_binary_data turn.call ≡ false) × (told_in later ≤ 0)
+    go : (b : Bool) → is_binary_data turn.call ≡ b → (is_binary_data turn.call ≡ false) × (binary_count later ≤ 0)
     go true is =
         let one : cond (is_binary_data turn.call) 1 0 ≡ 1 = ap {B = ℕ} (λ b. cond b 1 0) is in
-        absurd (omega (arith, few, told-cons turn later, one))
-    go false is = (is, omega (arith, few, told-cons turn later))
+        absurd (omega (arith, few, binary-cons turn later, one))
+    go false is = (is, omega (arith, few, binary-cons turn later))
 
 module _ {S E : Type 0} (step : Steps S E) (k : Settings) where
   -- no call
-  pub called-none : {told : ℕ} (old : S) → HasCalled step k told old all_true old
+  pub called-none : {bound : ℕ} (old : S) → HasCalled step k bound old all_true old
   called-none old = record {
     turns = [];
     inner = All-nil (IsInner k);
@@ -106,14 +106,14 @@ module _ {S E : Type 0} (step : Steps S E) (k : Settings) where
   }
 
   -- one call, by what it returned
-  pub called-one : {told : ℕ} (call : Call) (end : ℕ) (old : S) (result : Result Bool E) (new : S)
+  pub called-one : {bound : ℕ} (call : Call) (end : ℕ) (old : S) (result : Result Bool E) (new : S)
       → step old k call result new → comes_between (is_detecting k.binary_detection) call ≡ true
-      → is_binary_data call ≡ false → HasCalled step k told old (outcome_of end result) new
+      → is_binary_data call ≡ false → HasCalled step k bound old (outcome_of end result) new
   called-one call end old result new made inner plain =
       record {
         turns = one_turn call end;
         inner = inner-one k call end inner;
-        few = omega (arith, told-one call end plain);
+        few = omega (arith, binary-one call end plain);
         reported = AreMade-one step k call end old result new made;
       }
 
@@ -125,7 +125,7 @@ module _ {S E : Type 0} (step : Steps S E) (k : Settings) where
       record {
         turns = one_turn (binary_data offset) end;
         inner = inner-one k (binary_data offset) end detecting;
-        few = omega (arith, told-cons (planned (binary_data offset) end) []);
+        few = omega (arith, binary-cons (planned (binary_data offset) end) []);
         reported = AreMade-one step k (binary_data offset) end old result new made;
       }
 
@@ -138,7 +138,7 @@ module _ {S E : Type 0} (step : Steps S E) (k : Settings) where
       record {
         turns = before_turns k v j i number offset end line;
         inner = inner-before k v j i number offset end line;
-        few = omega (arith, told-before k v j i number offset end line);
+        few = omega (arith, binary-before k v j i number offset end line);
         reported = reported;
       }
 
@@ -151,27 +151,27 @@ module _ {S E : Type 0} (step : Steps S E) (k : Settings) where
         inner = inner-match k v i offset end line;
         few = omega (
           arith,
-          told-broken (nat_lt 0 k.after_context && is_gap k v i i)
+          binary-broken (nat_lt 0 k.after_context && is_gap k v i i)
               (matches (number_of k i) offset line) end refl,
         );
         reported = reported;
       }
 
   -- calls after calls that all returned true
-  pub called-after : {before after told : ℕ} → before + after ≤ told → (old mid : S) (outcome : Outcome E) (new : S)
+  pub called-after : {before after bound : ℕ} → before + after ≤ bound → (old mid : S) (outcome : Outcome E) (new : S)
       → HasCalled step k before old all_true mid → HasCalled step k after mid outcome new
-      → HasCalled step k told old outcome new
+      → HasCalled step k bound old outcome new
   called-after enough old mid outcome new first later =
       record {
         turns = first.turns ++ later.turns;
         inner = All-append (IsInner k) first.turns later.turns first.inner later.inner;
-        few = omega (arith, enough, told-append first.turns later.turns, first.few, later.few);
+        few = omega (arith, binary-append first.turns later.turns);
         reported = AreMade-append step k first.turns later.turns old mid outcome new first.reported later.reported;
       }
 
-  pub called-after-to : {before after told : ℕ} → before + after ≤ told → (old mid : S) (count : ℕ) (new : S)
+  pub called-after-to : {before after bound : ℕ} → before + after ≤ bound → (old mid : S) (count : ℕ) (new : S)
       → HasCalled step k before old all_true mid → HasCalledTo step k after mid count new
-      → HasCalledTo step k told old count new
+      → HasCalledTo step k bound old count new
   called-after-to enough old mid count new first to =
       record {
         outcome = to.outcome;
@@ -180,23 +180,23 @@ module _ {S E : Type 0} (step : Steps S E) (k : Settings) where
       }
 
   -- reports after them
-  pub called-then : {told : ℕ} (old mid : S) (outcome : Outcome E) (new : S) → HasCalled step k told old all_true mid
-      → HasCalled step k 0 mid outcome new → HasCalled step k told old outcome new
+  pub called-then : {bound : ℕ} (old mid : S) (outcome : Outcome E) (new : S) → HasCalled step k bound old all_true mid
+      → HasCalled step k 0 mid outcome new → HasCalled step k bound old outcome new
   called-then = called-after (omega arith)
 
   -- more of them may be `binary_data`
-  pub called-most : {told most : ℕ} → told ≤ most → (old : S) (outcome : Outcome E) (new : S)
-      → HasCalled step k told old outcome new → HasCalled step k most old outcome new
+  pub called-most : {bound most : ℕ} → bound ≤ most → (old : S) (outcome : Outcome E) (new : S)
+      → HasCalled step k bound old outcome new → HasCalled step k most old outcome new
   called-most enough old outcome new called = record {
     turns = called.turns;
     inner = called.inner;
-    few = omega (arith, enough, called.few);
+    few = omega arith;
     reported = called.reported;
   }
 
   -- `begin`, by what it returned
-  pub begun-one : {told : ℕ} (old : S) (result : Result Bool E) (new : S) → step old k begins result new
-      → HasBegunWith step k told old (outcome_of 0 result) new
+  pub begun-one : {bound : ℕ} (old : S) (result : Result Bool E) (new : S) → step old k begins result new
+      → HasBegunWith step k bound old (outcome_of 0 result) new
   begun-one old result new made = record {
     turns = [];
     inner = All-nil (IsInner k);
@@ -205,8 +205,8 @@ module _ {S E : Type 0} (step : Steps S E) (k : Settings) where
   }
 
   -- calls after `begin`
-  pub begun-then : {told : ℕ} (old mid : S) (outcome : Outcome E) (new : S) → step old k begins (Ok true) mid
-      → HasCalled step k told mid outcome new → HasBegunWith step k told old outcome new
+  pub begun-then : {bound : ℕ} (old mid : S) (outcome : Outcome E) (new : S) → step old k begins (Ok true) mid
+      → HasCalled step k bound mid outcome new → HasBegunWith step k bound old outcome new
   begun-then old mid outcome new begun called = record {
     turns = called.turns;
     inner = called.inner;
@@ -214,14 +214,14 @@ module _ {S E : Type 0} (step : Steps S E) (k : Settings) where
     reported = inl (mid, begun, called.reported);
   }
 
-  pub begun-to : {told : ℕ} (old mid : S) (count : ℕ) (new : S) → step old k begins (Ok true) mid
-      → HasCalledTo step k told mid count new → HasBegunTo step k told old count new
+  pub begun-to : {bound : ℕ} (old mid : S) (count : ℕ) (new : S) → step old k begins (Ok true) mid
+      → HasCalledTo step k bound mid count new → HasBegunTo step k bound old count new
   begun-to old mid count new begun to =
       record { outcome = to.outcome; ends = to.ends; called = begun-then old mid to.outcome new begun to.called }
 
   -- `begin` returned false, or true and nothing followed
-  pub begun-to-0 : {told : ℕ} (old : S) (begun : Bool) (new : S) → step old k begins (Ok begun) new
-      → HasBegunTo step k told old 0 new
+  pub begun-to-0 : {bound : ℕ} (old : S) (begun : Bool) (new : S) → step old k begins (Ok begun) new
+      → HasBegunTo step k bound old 0 new
   begun-to-0 old true new made = record { outcome = all_true; ends = tt; called = begun-one old (Ok true) new made }
   begun-to-0 old false new made = record {
     outcome = stopped (counted 0);
@@ -255,7 +255,7 @@ module _ {S E : Type 0} (step : Steps S E) (k : Settings) where
   module _ {F : Type 0} (errors : ErrorMakers F E) (matcher : MatcherFacts F) where
     -- `begin` and such calls are in order, if `finish` has an offset only if binary bytes are looked for
     in-order : (binary : Option ℕ) → (is_detecting k.binary_detection ≡ false → binary ≡ None) → (turns : List Planned)
-        → AreInner k turns → told_in turns ≤ 1
+        → AreInner k turns → binary_count turns ≤ 1
         → AreInOrder step errors matcher k (map (with_binary binary) (after_begin turns))
     in-order binary plain turns inner few = record {
       first = with_binary binary (planned begins 0);
@@ -263,22 +263,22 @@ module _ {S E : Type 0} (step : Steps S E) (k : Settings) where
       all = refl;
       begin = (refl, refl);
       inner = All-map (IsInner k) (with_binary binary) turns inner;
-      once = omega (arith, few, told-with binary turns);
+      once = omega (arith, binary-with binary turns);
       plain = λ none. All-map (λ (call : Planned). call.if_false.binary ≡ None) (with_binary binary) (after_begin turns)
           (λ n d below. plain none);
     }
 
-    begun-in-order : {told : ℕ} → told ≤ 1 → (old new : S) → HasBegunWith step k told old all_true new
+    begun-in-order : {bound : ℕ} → bound ≤ 1 → (old new : S) → HasBegunWith step k bound old all_true new
         → HasBegun step errors matcher k old new
     begun-in-order once old new begun = (
       map (with_binary None) (after_begin begun.turns),
-      in-order None (λ none. refl) begun.turns begun.inner (omega (arith, once, begun.few)),
+      in-order None (λ none. refl) begun.turns begun.inner (omega arith),
       made-binary step k None (after_begin begun.turns) old all_true new begun.reported,
     )
 
-    ordered-run : {IsOfReading : Error → Type 0} {told : ℕ} → told ≤ 1 → (old mid : S) (count : ℕ) (binary : Option ℕ)
+    ordered-run : {IsOfReading : Error → Type 0} {bound : ℕ} → bound ≤ 1 → (old mid : S) (count : ℕ) (binary : Option ℕ)
         (result : Result (Unit {0}) E) (new : S)
-        → (is_detecting k.binary_detection ≡ false → binary ≡ None) → HasBegunTo step k told old count mid
+        → (is_detecting k.binary_detection ≡ false → binary ≡ None) → HasBegunTo step k bound old count mid
         → step mid k (finishes count binary) (finish_result result) new
         → IsInOrder step errors matcher k IsOfReading old result new
     ordered-run once old mid count binary result new noted to made =
@@ -286,7 +286,7 @@ module _ {S E : Type 0} (step : Steps S E) (k : Settings) where
         ran_in_order (record {
           calls = map (with_binary binary) (after_begin turns);
           finish = record { count = count; binary = binary };
-        }) (in-order binary noted turns to.called.inner (omega (arith, once, to.called.few))) noted (record {
+        }) (in-order binary noted turns to.called.inner (omega arith)) noted (record {
           outcome = outcome_with binary to.outcome;
           mid = mid;
           made = made-binary step k binary (after_begin turns) old to.outcome mid to.called.reported;
@@ -294,13 +294,13 @@ module _ {S E : Type 0} (step : Steps S E) (k : Settings) where
         })
 
     -- an error of a call ends a run
-    ordered-failed : {IsOfReading : Error → Type 0} {told : ℕ} → told ≤ 1 → (old : S) (e : E) (new : S)
-        → HasBegunWith step k told old (failed e) new → IsInOrder step errors matcher k IsOfReading old (Err e) new
+    ordered-failed : {IsOfReading : Error → Type 0} {bound : ℕ} → bound ≤ 1 → (old : S) (e : E) (new : S)
+        → HasBegunWith step k bound old (failed e) new → IsInOrder step errors matcher k IsOfReading old (Err e) new
     ordered-failed once old e new begun =
         ran_in_order (record {
           calls = map (with_binary None) (after_begin begun.turns);
           finish = record { count = 0; binary = None };
-        }) (in-order None (λ none. refl) begun.turns begun.inner (omega (arith, once, begun.few))) (λ none. refl)
+        }) (in-order None (λ none. refl) begun.turns begun.inner (omega arith)) (λ none. refl)
         (record {
           outcome = failed e;
           mid = new;
@@ -315,24 +315,24 @@ module _ {S E : Type 0} (step : Steps S E) (k : Settings) where
     called-to old count false new to = to
 
     -- an error after calls that all returned true
-    pub failed-then : {told : ℕ} (old mid : S) (e : E) (new : S) → HasCalled step k told old all_true mid
+    pub failed-then : {bound : ℕ} (old mid : S) (e : E) (new : S) → HasCalled step k bound old all_true mid
         → HasFailedIn step k errors matcher (HasCalled step k 0 mid) e new
-        → HasFailedIn step k errors matcher (HasCalled step k told old) e new
+        → HasFailedIn step k errors matcher (HasCalled step k bound old) e new
     failed-then old mid e new first (of_call called) = of_call (called-then old mid (failed e) new first called)
     failed-then old mid e new first (of_question haystack error fails made called) =
         of_question haystack error fails made (called-then old mid all_true new first called)
 
     -- or after `begin`
-    pub failed-begun : {told : ℕ} (old mid : S) (e : E) (new : S) → step old k begins (Ok true) mid
-        → HasFailedIn step k errors matcher (HasCalled step k told mid) e new
-        → HasFailedIn step k errors matcher (HasBegunWith step k told old) e new
+    pub failed-begun : {bound : ℕ} (old mid : S) (e : E) (new : S) → step old k begins (Ok true) mid
+        → HasFailedIn step k errors matcher (HasCalled step k bound mid) e new
+        → HasFailedIn step k errors matcher (HasBegunWith step k bound old) e new
     failed-begun old mid e new begun (of_call called) = of_call (begun-then old mid (failed e) new begun called)
     failed-begun old mid e new begun (of_question haystack error fails made called) =
         of_question haystack error fails made (begun-then old mid all_true new begun called)
 
     -- or of `begin` itself
-    pub failed-begin : {told : ℕ} (old : S) (e : E) (new : S) → step old k begins (Err e) new
-        → HasFailedIn step k errors matcher (HasBegunWith step k told old) e new
+    pub failed-begin : {bound : ℕ} (old : S) (e : E) (new : S) → step old k begins (Err e) new
+        → HasFailedIn step k errors matcher (HasBegunWith step k bound old) e new
     failed-begin old e new made = of_call (begun-one old (Err e) new made)
 
     pub order-begun : (old mid : S) (result : Result ℕ E) (new : S) → step old k begins (Ok true) mid
@@ -359,8 +359,8 @@ module _ {S E : Type 0} (step : Steps S E) (k : Settings) where
           fails
 
     -- it ends the search
-    pub order-failed : (IsOfReading : Error → Type 0) {told : ℕ} → told ≤ 1 → (old : S) (e : E) (new : S)
-        → HasFailedIn step k errors matcher (HasBegunWith step k told old) e new
+    pub order-failed : (IsOfReading : Error → Type 0) {bound : ℕ} → bound ≤ 1 → (old : S) (e : E) (new : S)
+        → HasFailedIn step k errors matcher (HasBegunWith step k bound old) e new
         → IsInOrder step errors matcher k IsOfReading old (Err e) new
     order-failed IsOfReading once old e new (of_call begun) = ordered-failed once old e new begun
     order-failed IsOfReading once old e new (of_question haystack error fails made begun) =
@@ -377,10 +377,10 @@ module _ {S E : Type 0} (step : Steps S E) (k : Settings) where
         called)))
 
     -- a search that comes to `finish` runs in order
-    pub order-finished : (IsOfReading : Error → Type 0) {told : ℕ} → told ≤ 1 → (old mid : S) (count : ℕ)
+    pub order-finished : (IsOfReading : Error → Type 0) {bound : ℕ} → bound ≤ 1 → (old mid : S) (count : ℕ)
         (binary : Option ℕ) (result : Result (Unit {0}) E) (new : S) → (is_detecting k.binary_detection ≡ false → binary
         ≡ None)
-        → HasBegunTo step k told old count mid → step mid k (finishes count binary) (finish_result result) new
+        → HasBegunTo step k bound old count mid → step mid k (finishes count binary) (finish_result result) new
         → IsInOrder step errors matcher k IsOfReading old result new
     order-finished IsOfReading once old mid count binary result new noted to made =
         ordered-run once old mid count binary result new noted to made
@@ -428,12 +428,12 @@ module _ {S T E : Type 0} (step : Steps S E) (around : Steps T E) (k : Settings)
       → comes_between (is_detecting k.binary_detection) call ≡ true → is_binary_data call ≡ false → Holds old
       → around old k call result new → Passes old result end new) where
     passed-all : (turns : List Planned) (old : T) (outcome : Outcome E) (new : T) → AreInner k turns
-        → told_in turns ≤ 0 → Holds old → AreMade around k old turns outcome new → HasPassed old outcome new
+        → binary_count turns ≤ 0 → Holds old → AreMade around k old turns outcome new → HasPassed old outcome new
     passed-all [] old outcome new inner few holds (is, same) =
         subst (λ o. HasPassed old o new) (sym is) (subst (λ t. HasPassed old all_true t) (sym same)
         (holds, called-none step k (view old)))
     passed-all (turn ∷ later) old outcome new inner few holds (inl (mid, made, reported)) =
-        let plain = none-told turn later few in
+        let plain = none-binary turn later few in
         let here = one turn.call turn.if_false.count old (Ok true) mid (All-head (IsInner k) turn later inner) plain.0
         holds made in
         passed-then old mid outcome new here.1
@@ -441,11 +441,11 @@ module _ {S T E : Type 0} (step : Steps S E) (around : Steps T E) (k : Settings)
     passed-all (turn ∷ later) old outcome new inner few holds (inr (inl (is, made))) =
         subst (λ o. HasPassed old o new) (sym is)
         (one turn.call turn.if_false.count old (Ok false) new (All-head (IsInner k) turn later inner)
-        (none-told turn later few).0 holds made)
+        (none-binary turn later few).0 holds made)
     passed-all (turn ∷ later) old outcome new inner few holds (inr (inr (e, is, made))) =
         subst (λ o. HasPassed old o new) (sym is)
         (one turn.call turn.if_false.count old (Err e) new (All-head (IsInner k) turn later inner)
-        (none-told turn later few).0 holds made)
+        (none-binary turn later few).0 holds made)
 
     passed-ended : (old : T) (count : ℕ) (outcome : Outcome E) (new : T) → EndsAt outcome count
         → HasPassed old outcome new
@@ -469,7 +469,7 @@ module _ {S T E : Type 0} (step : Steps S E) (around : Steps T E) (k : Settings)
         passed-begun old e new holds with_turns =
             go with_turns.turns with_turns.inner with_turns.few with_turns.reported
           where
-            go : (turns : List Planned) → AreInner k turns → told_in turns ≤ 0
+            go : (turns : List Planned) → AreInner k turns → binary_count turns ≤ 0
                 → AreMade around k old (after_begin turns) (failed e) new
                 → HasBegunWith step k 1 (view old) (failed e) (view new)
             go turns inner few (inl (mid, made, reported)) =
@@ -487,7 +487,7 @@ module _ {S T E : Type 0} (step : Steps S E) (around : Steps T E) (k : Settings)
         passed-begun-true old new holds with_turns =
             go with_turns.turns with_turns.inner with_turns.few with_turns.reported
           where
-            go : (turns : List Planned) → AreInner k turns → told_in turns ≤ 0
+            go : (turns : List Planned) → AreInner k turns → binary_count turns ≤ 0
                 → AreMade around k old (after_begin turns) all_true new
                 → HasBegunWith step k 1 (view old) all_true (view new)
             go turns inner few (inl (mid, made, reported)) =
@@ -504,7 +504,7 @@ module _ {S T E : Type 0} (step : Steps S E) (around : Steps T E) (k : Settings)
             go to.outcome to.ends to.called.turns to.called.inner to.called.few to.called.reported
           where
             go : (outcome : Outcome E) → EndsAt outcome count → (turns : List Planned) → AreInner k turns
-                → told_in turns ≤ 0 → AreMade around k old (after_begin turns) outcome new
+                → binary_count turns ≤ 0 → AreMade around k old (after_begin turns) outcome new
                 → HasBegunTo step k 1 (view old) (count_of new count) (view new)
             go outcome ends turns inner few (inl (mid, made, reported)) =
                 let first = begun old (Ok true) mid holds made in

@@ -46,20 +46,20 @@ module _ (k : Settings) (meaning : Meaning) (bytes : List ℕ) where
   IsNear-none = SelectionLemmas.IsNear-none k is_selected is_trailing n turned
 
   -- if no line from the i-th on is selected, the lines that were passed have no calls
-  pub turns_at-done : (v i left : ℕ) → IsNear k meaning bytes v i left
+  pub turns_at-done : {v i left : ℕ} → IsNear k meaning bytes v i left
       → ((q : ℕ) → i ≤ q → q < n → is_selected q ≡ false)
       → (j : ℕ) → v ≤ j → j < i → turns_at k meaning bytes j ≡ []
-  turns_at-done v i left near silent j low high =
+  turns_at-done {v} {i} {left} near silent j low high =
       let kind : LineSearch.kind k meaning bytes j ≡ None =
-      SelectionLemmas.kind-done k is_selected is_trailing n turned v i left near silent j low high in
+      SelectionLemmas.kind-done near silent j low high in
       rw (kind, and-false (nat_lt 0 (A + B))) refl
 
   -- a line follows a selected one just if some of the context is left
-  pub follows-selected : (v i left : ℕ) → IsNear k meaning bytes v i left
+  pub follows-selected : {v i left : ℕ} → IsNear k meaning bytes v i left
       → LineSearch.follows_selected k meaning bytes i ≡ nat_lt 0 left
-  follows-selected v i left near = SelectionLemmas.follows-here k is_selected is_trailing n turned v i left near
+  follows-selected near = SelectionLemmas.follows-here near
 
-  module _ (v i left : ℕ) (near : IsNear k meaning bytes v i left) (inside : i < n) (has : i < turned) where
+  module _ {v i left : ℕ} (near : IsNear k meaning bytes v i left) (inside : i < n) (has : i < turned) where
     -- a line after a selected one
     pub turns_at-after : (start end : ℕ) (line : List ℕ) → is_selected i ≡ false → 0 < left
         → LineSearch.number k meaning bytes i
@@ -69,11 +69,11 @@ module _ (k : Settings) (meaning : Meaning) (bytes : List ℕ) where
     turns_at-after start end line misses some is_number is_start is_end is_line = go (is_trailing i) refl
       where
         kind : LineSearch.kind k meaning bytes i ≡ Some (if is_trailing i then matched else in_context After)
-        kind = SelectionLemmas.kind-after k is_selected is_trailing n turned v i left near misses some
+        kind = SelectionLemmas.kind-after near misses some
 
         gap : (nat_lt 0 (A + B) && true && not (is_reported (i - 1)) && some_below is_reported i)
             ≡ (nat_lt 0 A && is_gap k v i i)
-        gap = SelectionLemmas.gap-after k is_selected is_trailing n turned v i left near some
+        gap = SelectionLemmas.gap-after near some
 
         go : (b : Bool) → is_trailing i ≡ b → turns_at k meaning bytes i ≡ after_turns k b v i start end line
         go true is =
@@ -92,12 +92,12 @@ module _ (k : Settings) (meaning : Meaning) (bytes : List ℕ) where
         ≡ context_turns Other (number_of k i) start end line
     turns_at-other start end line misses empty bare none is_number is_start is_end is_line =
         let kind : LineSearch.kind k meaning bytes i ≡ Some (in_context Other) =
-        SelectionLemmas.kind-other k is_selected is_trailing n turned v i left near misses empty bare none in
+        SelectionLemmas.kind-other near misses empty bare none in
         rw (kind, and-false (nat_lt 0 (A + B)), is_number, is_end, is_start, is_line) refl
 
     pub IsNear-missed : (k.passthru ≡ true → k.before_context ≡ 0) → is_selected i ≡ false
         → IsNear k meaning bytes (if nat_lt 0 left || k.passthru then i + 1 else v) (i + 1) (left - 1)
-    IsNear-missed bare = SelectionLemmas.IsNear-missed k is_selected is_trailing n turned v i left near bare has
+    IsNear-missed bare = SelectionLemmas.IsNear-missed near bare has
 
     module _ (hit : is_selected i ≡ true) where
       pub IsNear-hit : IsNear k meaning bytes (i + 1) (i + 1) A
@@ -112,7 +112,7 @@ module _ (k : Settings) (meaning : Meaning) (bytes : List ℕ) where
       turns_at-passed j start end line low less is_start is_end is_line = ⊎_elim far close (cases_lt B (i - j))
         where
           is_kind : LineSearch.kind k meaning bytes j ≡ (if nat_le (i - j) B then Some (in_context Before) else None)
-          is_kind = SelectionLemmas.kind-passed k is_selected is_trailing n turned v i left near inside has hit j low
+          is_kind = SelectionLemmas.kind-passed near inside has hit j low
               less
 
           far : B < i - j → turns_at k meaning bytes j ≡ before_turns k v j i (LineSearch.number k meaning bytes j)
@@ -131,9 +131,9 @@ module _ (k : Settings) (meaning : Meaning) (bytes : List ℕ) where
               ∙ ap (λ b. if b then Some (in_context Before) else None) test in
               let gap : (nat_lt 0 (A + B) && true && not (is_reported (j - 1)) && some_below is_reported j)
               ≡ is_gap k v j i =
-              SelectionLemmas.gap-passed k is_selected is_trailing n turned v i left near inside has hit j low less
+              SelectionLemmas.gap-passed near inside has hit j low less
               inner in
-              let found = SelectionLemmas.next-passed k is_selected is_trailing n turned v i left near inside has hit j
+              let found = SelectionLemmas.next-passed near inside has hit j
               low less in
               rw (kind, gap, found, is_start, is_end, is_line, test) refl
 
@@ -145,5 +145,5 @@ module _ (k : Settings) (meaning : Meaning) (bytes : List ℕ) where
           let kind : LineSearch.kind k meaning bytes i ≡ Some matched = rw hit refl in
           let gap : (nat_lt 0 (A + B) && true && not (is_reported (i - 1)) && some_below is_reported i)
           ≡ (nat_lt 0 A && is_gap k v i i) =
-          SelectionLemmas.gap-hit k is_selected is_trailing n turned v i left near inside has hit in
+          SelectionLemmas.gap-hit near inside has hit in
           rw (kind, gap, slice-line k bytes i, is_number, is_end, is_start, is_line) refl

@@ -159,7 +159,7 @@ module _ (join : LinesJoin) (append : LinesAppend) (k : Settings) (meaning : Mea
           })) in
           let no = late.unpreceded in cc)) (λ out. out) (cases_lt beyond.0 n) in
           let here = some_below-some (near_before front i) n j below
-          (near-to front i j (record { beyond = after_i; within = omega (arith, near.within, far); chosen = holds })) in
+          (near-to front i j (record { beyond = after_i; within = omega arith; chosen = holds })) in
           let no = late.unpreceded in
           cc
 
@@ -179,7 +179,7 @@ module _ (join : LinesJoin) (append : LinesAppend) (k : Settings) (meaning : Mea
           let within = leb-true (j - match.0) k.after_context both.0 in
           let chosen = both.1 in
           let earlier : match.0 < i = ⊎_elim (λ less. less)
-          (λ out. absurd (let no = late-unselected i match.0 late out (omega (arith, match.1)) in cc))
+          (λ out. absurd (let no = late-unselected i match.0 late out (omega arith) in cc))
           (cases_lt match.0 i) in
           let here = some_below-some (near_after i) i match.0 earlier
           (and-both (nat_le (i - match.0) k.after_context) (selected match.0)
@@ -196,7 +196,7 @@ module _ (join : LinesJoin) (append : LinesAppend) (k : Settings) (meaning : Mea
       found holds =
           let match = some_below-find (near_before front j) n holds in
           let near = near-from front j match.0 match.2 in
-          let no = late-unselected i match.0 late (omega (arith, near.beyond)) match.1 in
+          let no = late-unselected i match.0 late (omega arith) match.1 in
           let chosen = near.chosen in
           cc
 
@@ -206,7 +206,7 @@ module _ (join : LinesJoin) (append : LinesAppend) (k : Settings) (meaning : Mea
     late-kind i j late low below =
         let near = near-from whole i _ (some_below-find (near_before whole i) all late.precedes).2 in
         let plain : k.passthru
-        ≡ false = ⊎_elim (λ holds. absurd (let none = built holds in omega (arith, none, near.within, near.beyond)))
+        ≡ false = ⊎_elim (λ holds. absurd (let none = built holds in omega arith))
         (λ no. no)
         (cases_Bool k.passthru) in
         rw (
@@ -362,7 +362,7 @@ module _ (join : LinesJoin) (append : LinesAppend) (k : Settings) (meaning : Mea
           let none : first_below q n ≡ None = first_below-nowhere q n (sym (some_below-same p q n same) ∙ is) in
           let far = first_below-late p n (n + length (lines (byte_of k.line_terminator) back)) u is at in
           let more = grows u in
-          inr (ap (option_map f) none, f u, ap (option_map f) (sum ∙ at), omega (arith, far, more))
+          inr (ap (option_map f) none, f u, ap (option_map f) (sum ∙ at), omega arith)
 
   -- so is the bound by the stop
   stop-bounds : Bounds (LineSearch.turns_by_stop k meaning whole) (LineSearch.turns_by_stop k meaning front)
@@ -464,7 +464,7 @@ module _ (join : LinesJoin) (append : LinesAppend) (k : Settings) (meaning : Mea
   split : (t : ℕ) → t ≤ n → Same t ⊎ ((i : ℕ) × (i < t) × IsLate i × Same i)
   split zero inside = inl (λ j below. absurd (omega arith))
   split (suc t) inside = elim (split t (omega arith)) [
-    | inr late ↦ inr (late.0, omega (arith, late.1), late.2, late.3)
+    | inr late ↦ inr (late.0, omega arith, late.2, late.3)
     | inl same ↦ elim (kind-same t (omega arith)) [
       | inr late ↦ inr (t, omega arith, late, same)
       | inl here ↦ inl (λ j below. ⊎_elim (λ less. same j less) (λ out. at_last j t here below out) (cases_lt j t))
@@ -502,11 +502,11 @@ module _ (join : LinesJoin) (append : LinesAppend) (k : Settings) (meaning : Mea
       | inr late ↦
           let i = late.0 in
           let below = late.1 in
-          let sum : count_whole ≡ i + (count_whole - i) = omega (arith, count-same, late.1) in
-          let part : count_front ≡ i + (count_front - i) = omega (arith, late.1) in
-          let here = joined-same i late.3 (omega (arith, late.1)) in
+          let sum : count_whole ≡ i + (count_whole - i) = omega (arith, count-same) in
+          let part : count_front ≡ i + (count_front - i) = omega arith in
+          let here = joined-same i late.3 (omega arith) in
           let empty = joined_from-none (LineSearch.turns_at k meaning front) (0 + i) (count_front - i)
-          (λ j low high. late-turns built i j late.2 (omega arith) (omega (arith, count-same, late.1))) in (
+          (λ j low high. late-turns built i j late.2 (omega arith) (omega (arith, count-same))) in (
             joined_from (LineSearch.turns_at k meaning whole) (0 + i) (count_whole - i),
             ap (λ m. planned begins 0 ∷ joined_from (LineSearch.turns_at k meaning whole) 0 m) sum
                 ∙ ap (λ ts. planned begins 0 ∷ ts)
@@ -526,7 +526,7 @@ module _ (join : LinesJoin) (append : LinesAppend) (k : Settings) (meaning : Mea
         meaning whole v))
       where
         front_turned : n ≡ count_front
-        front_turned = omega (arith, count-same, turned)
+        front_turned = omega (arith, count-same)
 
         -- a line that was passed has no call
         passed-kind : (j : ℕ) → v ≤ j → j < n → LineSearch.kind k meaning front j ≡ None
@@ -535,13 +535,13 @@ module _ (join : LinesJoin) (append : LinesAppend) (k : Settings) (meaning : Mea
             let unselected : selected j ≡ false = sym (same_selected j below) ∙ out.0 in
             let unfollowed : LineSearch.follows_selected k meaning front j ≡ false =
             sym (prefix.follows-same join append k meaning front back closed j below) ∙ out.1 in
-            let plain : k.passthru ≡ false = ⊎_elim (λ yes. absurd (omega (arith, near.bare yes, low, below)))
+            let plain : k.passthru ≡ false = ⊎_elim (λ yes. absurd (omega (arith, near.bare yes)))
             (λ no. no) (cases_Bool k.passthru) in
             let unpreceded : LineSearch.precedes_selected k meaning front j ≡ false = ⊎_elim
             (λ holds. absurd (let found = some_below-find (near_before front j) n holds in
             let match = near-from front j found.0 found.2 in
             clash match.chosen (sym (same_selected found.0 found.1)
-            ∙ (near.passed found.0 (omega (arith, low, match.beyond)) found.1).0)))
+            ∙ (near.passed found.0 (omega arith) found.1).0)))
             (λ no. no) (cases_Bool (LineSearch.precedes_selected k meaning front j)) in
             rw (unselected, unfollowed, unpreceded, plain) refl
 
@@ -556,7 +556,7 @@ module _ (join : LinesJoin) (append : LinesAppend) (k : Settings) (meaning : Mea
             whole i)
         ended-at i below =
             let f = LineSearch.turns_at k meaning whole in
-            let one : v ≡ i + suc (v - (i + 1)) = omega (arith, below) in
+            let one : v ≡ i + suc (v - (i + 1)) = omega arith in
             let from_zero : 0 + i ≡ i = omega arith in
             let split : joined_from f 0 v ≡ joined_from f 0 i ++ (f i ++ joined_from f (i + 1) (v - (i + 1))) =
             ap (joined_from f 0) one ∙ (joined_from-add f 0 i (suc (v - (i + 1)))
@@ -591,9 +591,9 @@ module _ (join : LinesJoin) (append : LinesAppend) (k : Settings) (meaning : Mea
                 let far : n ≤ q = ⊎_elim
                 (λ less. absurd (clash (sym (same_selected q less) ∙ both.1)
                 (late-unselected i q late (omega (arith, beyond)) less))) (λ out. out) (cases_lt q n) in
-                let up = line_start-ascends join (byte_of k.line_terminator) whole n (omega (arith, far, found.0)) in
-                let le = line_start-le (byte_of k.line_terminator) whole (n + 1) (q + 1) (omega (arith, far)) in
-                rw is (omega (arith, up, le))
+                let up = line_start-ascends join (byte_of k.line_terminator) whole n (omega (arith, found.0)) in
+                let le = line_start-le (byte_of k.line_terminator) whole (n + 1) (q + 1) (omega arith) in
+                rw is (omega arith)
 
         not-late : (i : ℕ) → i < v → IsLate i → ⊥
         not-late i below late =
@@ -612,7 +612,7 @@ module _ (join : LinesJoin) (append : LinesAppend) (k : Settings) (meaning : Mea
             let low : end ≤ LineSearch.start k meaning whole n = go (LineSearch.breaks_before k meaning whole i)
             (context Before (LineSearch.number k meaning whole i) (LineSearch.start k meaning whole i)
             (LineSearch.line k meaning whole i)) end all_ended in
-            omega (arith, low, late-through i late)
+            omega (arith, late-through i late)
           where
             go : (b : Bool) (call : Call) (end : ℕ)
                 → All (λ (turn : Planned). turn.if_false.count ≤ LineSearch.start k meaning whole n)
@@ -624,14 +624,14 @@ module _ (join : LinesJoin) (append : LinesAppend) (k : Settings) (meaning : Mea
 
         same-kinds : Same v
         same-kinds j below = ⊎_elim (λ same. same) (λ late. absurd (not-late j below late))
-            (kind-same j (omega (arith, below, near.low)))
+            (kind-same j (omega arith))
 
         pub turns-seen : LineSearch.turns_before k meaning whole v ≡ LineSearch.turns k meaning front
         turns-seen =
             let begin : Planned = (planned begins 0) in
             let f = LineSearch.turns_at k meaning front in
-            let same = ap (λ ts. begin ∷ ts) (joined-same v same-kinds (omega (arith, front_turned, near.low))) in
+            let same = ap (λ ts. begin ∷ ts) (joined-same v same-kinds (omega (arith, front_turned))) in
             let none = joined_from-none f v (count_front - v)
-            (λ j low high. passed-turns j low (omega (arith, high, front_turned, near.low))) in
-            same ∙ sym (headed-through begin f v count_front (omega (arith, front_turned, near.low))
+            (λ j low high. passed-turns j low (omega (arith, front_turned))) in
+            same ∙ sym (headed-through begin f v count_front (omega (arith, front_turned))
             ∙ (ap (λ ts. (begin ∷ joined_from f 0 v) ++ ts) none ∙ append-nil (begin ∷ joined_from f 0 v)))

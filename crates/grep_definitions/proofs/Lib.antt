@@ -15,9 +15,11 @@ pub mod MatchCountLemmas
 pub mod DecodedLemmas
 pub mod FirstLineLemmas
 pub mod FirstTurnLemmas
+pub mod FrontLemmas
 pub mod KnownReaderLemmas
 pub mod LimitLemmas
 pub mod LineLengthLemmas
+pub mod LineRangeLemmas
 pub mod LineReportLemmas
 pub mod LineSliceLemmas
 pub mod LineStartLemmas

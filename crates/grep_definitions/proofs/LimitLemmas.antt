@@ -79,8 +79,8 @@ module _ (k : Settings) (meaning : Meaning) (bytes : List ℕ) where
       ∙ (ap (λ o. LineSearch.turns_by_limit k meaning bytes o) limit.1
       ∙ ap (option_map (λ m. suc (m + k.after_context))) is)
 
-  stop_bound : (i left c : ℕ) → IsOpen k meaning bytes i left c → IfSome by_stop (λ b. i < b)
-  stop_bound i left c opened = go k.stop_on_nonmatch refl
+  stop_bound : {i left c : ℕ} → IsOpen k meaning bytes i left c → IfSome by_stop (λ b. i < b)
+  stop_bound {i} {left} {c} opened = go k.stop_on_nonmatch refl
     where
       inner : (found : Option ℕ) → first_below ends n ≡ found → k.stop_on_nonmatch ≡ true
           → IfSome (option_map suc found) (λ b. i < b)
@@ -92,8 +92,8 @@ module _ (k : Settings) (meaning : Meaning) (bytes : List ℕ) where
       go false is = tt
       go true is = inner (first_below ends n) refl is
 
-  limit_bound : (i left c : ℕ) → i ≤ n → IsOpen k meaning bytes i left c → IfSome by_limit (λ b. i < b)
-  limit_bound i left c inside opened = go k.passthru refl
+  limit_bound : {i left c : ℕ} → i ≤ n → IsOpen k meaning bytes i left c → IfSome by_limit (λ b. i < b)
+  limit_bound {i} {left} {c} inside opened = go k.passthru refl
     where
       inner : (found : Option ℕ) → first_below fills n ≡ found → k.passthru ≡ false
           → IfSome (option_map (λ m. suc (m + k.after_context)) found) (λ b. i < b)
@@ -103,7 +103,7 @@ module _ (k : Settings) (meaning : Meaning) (bytes : List ℕ) where
           let f = opened.filled plain full in
           let more = first_below-more fills i n f.0 inside f.1 in
           let same : m ≡ f.0 = cc in
-          omega (arith, f.2, f.3))
+          omega arith)
           (λ free. let late = first_below-late fills i n m (opened.unfilled free) is in omega arith)
           (cases_Bool (is_at c k.max_matches))
 
@@ -130,30 +130,30 @@ module _ (k : Settings) (meaning : Meaning) (bytes : List ℕ) where
       go false is = by k.max_matches refl is
 
   -- the line that the walk is at has a turn
-  pub turn_above : (i left c : ℕ) → IsOpen k meaning bytes i left c → i < n → i < turned
-  turn_above i left c opened inside = at_most-above by_limit i (at_most by_stop n)
-      (limit_bound i left c (omega arith) opened)
-      (at_most-above by_stop i n (stop_bound i left c opened) inside)
+  pub turn_above : {i left c : ℕ} → IsOpen k meaning bytes i left c → i < n → i < turned
+  turn_above {i} {left} {c} opened inside = at_most-above by_limit i (at_most by_stop n)
+      (limit_bound (omega arith) opened)
+      (at_most-above by_stop i n (stop_bound opened) inside)
 
   -- at the end each line has one
-  pub turn_all : (left c : ℕ) → IsOpen k meaning bytes n left c → turned ≡ n
-  turn_all left c opened =
-      let s = at_most-over by_stop n (stop_bound n left c opened) in
-      ap (λ m. at_most by_limit m) s ∙ at_most-over by_limit n (limit_bound n left c (omega arith) opened)
+  pub turn_all : {left c : ℕ} → IsOpen k meaning bytes n left c → turned ≡ n
+  turn_all {left} {c} opened =
+      let s = at_most-over by_stop n (stop_bound opened) in
+      ap (λ m. at_most by_limit m) s ∙ at_most-over by_limit n (limit_bound (omega arith) opened)
 
-  pub selected-is : (i left c : ℕ) → IsOpen k meaning bytes i left c → SelectedLines.is_selected k meaning bytes i
+  pub selected-is : {i left c : ℕ} → IsOpen k meaning bytes i left c → SelectedLines.is_selected k meaning bytes i
       ≡ is_chosen i
-  selected-is i left c opened = go k.stop_on_nonmatch refl
+  selected-is {i} {left} {c} opened = go k.stop_on_nonmatch refl
     where
       go : (s : Bool) → k.stop_on_nonmatch ≡ s → (is_chosen i && not (s && some_below ends i)) ≡ is_chosen i
       go false is = and-true _
       go true is = rw (opened.unended is) (and-true _)
 
-  pub chosen-is : (i left c : ℕ) → IsOpen k meaning bytes i left c → is_chosen i
+  pub chosen-is : {i left c : ℕ} → IsOpen k meaning bytes i left c → is_chosen i
       ≡ (hits i && not (is_at c k.max_matches))
-  chosen-is i left c opened = ap (λ b. hits i && b) opened.below
+  chosen-is {i} {left} {c} opened = ap (λ b. hits i && b) opened.below
 
-  module _ (i left c : ℕ) (opened : IsOpen k meaning bytes i left c) (inside : i < n) where
+  module _ {i left c : ℕ} (opened : IsOpen k meaning bytes i left c) (inside : i < n) where
     module _ (yes : is_chosen i ≡ true) where
       abbrev parts : (hits i ≡ true) × (is_below (count_below hits i) k.max_matches ≡ true)
       parts = both_true _ _ yes
@@ -200,7 +200,7 @@ module _ (k : Settings) (meaning : Meaning) (bytes : List ℕ) where
           let bound = by_limit-is i plain found in
           let same : i + k.after_context ≡ i = omega arith in record {
             last = at_most-some by_limit i (at_most by_stop n) (bound ∙ ap (λ m. Some (suc m)) same)
-                (at_most-above by_stop i n (stop_bound i left c opened) inside);
+                (at_most-above by_stop i n (stop_bound opened) inside);
             silent = λ q low below. selected-none q (
                 let no = is_below-le k.max_matches (count_below hits (i + 1)) (count_below hits q)
                 (count_below-le hits (i + 1) q low)
@@ -247,7 +247,7 @@ module _ (k : Settings) (meaning : Meaning) (bytes : List ℕ) where
             filled = λ plain full. let f = opened.filled plain full in (
               f.0,
               first_below-more fills i j f.0 (omega arith) f.1,
-              omega (arith, f.2, f.3),
+              omega arith,
               omega (arith, goes plain full),
             );
           }
@@ -257,10 +257,10 @@ module _ (k : Settings) (meaning : Meaning) (bytes : List ℕ) where
           let f = opened.filled plain full in
           let found = first_below-more fills i n f.0 (omega arith) f.1 in
           let bound = by_limit-is f.0 plain found in
-          let same : f.0 + k.after_context ≡ i = omega (arith, f.2, f.3) in
+          let same : f.0 + k.after_context ≡ i = omega arith in
           let shut : is_below (count_below hits i) k.max_matches ≡ false = opened.below ∙ ap not full in record {
             last = at_most-some by_limit i (at_most by_stop n) (bound ∙ ap (λ m. Some (suc m)) same)
-                (at_most-above by_stop i n (stop_bound i left c opened) inside);
+                (at_most-above by_stop i n (stop_bound opened) inside);
             silent = λ q low below. selected-none q (
                 let no_more = is_below-le k.max_matches (count_below hits i) (count_below hits q)
                 (count_below-le hits i q (omega arith)) shut in
@@ -274,7 +274,7 @@ module _ (k : Settings) (meaning : Meaning) (bytes : List ℕ) where
           let bound : by_stop ≡ Some (suc i) = rw (stop, found) refl in
           let last = at_most-some by_stop i n bound inside in record {
             last = ap (λ m. at_most by_limit m) last ∙ at_most-next by_limit i
-                (limit_bound i left c (omega arith) opened);
+                (limit_bound (omega arith) opened);
             silent = λ q low below. let over = some_below-some ends q i (omega arith) ended in rw (stop, over)
                 (and-false _);
           }

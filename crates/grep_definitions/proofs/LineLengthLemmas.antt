@@ -15,9 +15,9 @@ pieces-within : (pieces : List (List ℕ)) → All (λ piece. length piece ≤ l
 pieces-within [] = All-nil (λ piece. length piece ≤ 0)
 pieces-within (piece ∷ later) =
     let both = length-append piece (concat later) in
-    All-cons (λ p. length p ≤ length (piece ++ concat later)) piece later (omega (arith, both))
+    All-cons (λ p. length p ≤ length (piece ++ concat later)) piece later (omega arith)
     (All-weaker (λ p. length p ≤ length (concat later)) (λ p. length p ≤ length (piece ++ concat later))
-    (λ p within. omega (arith, both, within)) later (pieces-within later))
+    (λ p within. omega arith) later (pieces-within later))
 
 -- no line is longer than the bytes
 pub lines-within : LinesJoin → (t : ℕ) (bytes : List ℕ) → All (λ line. length line ≤ length bytes) (lines t bytes)
@@ -40,9 +40,9 @@ pieces-end t (piece ∷ next ∷ later) filled ended closed =
     let both = length-append piece rest in
     All-cons (λ p. slice_index p (length p - 1) ≡ t) piece (next ∷ later) ended.0
     (pieces-end t (next ∷ later) (All-tail (λ p. 0 < length p) piece (next ∷ later) filled) ended.1 (λ some.
-    let last : length piece + (length rest - 1) ≡ length (piece ++ rest) - 1 = omega (arith, both, some) in
+    let last : length piece + (length rest - 1) ≡ length (piece ++ rest) - 1 = omega arith in
     sym (get_or-append-add piece rest (length rest - 1) 0)
-    ∙ (ap (λ i. get_or (piece ++ rest) i 0) last ∙ closed (omega (arith, both, some)))))
+    ∙ (ap (λ i. get_or (piece ++ rest) i 0) last ∙ closed (omega arith))))
 
 -- every line of bytes that are empty or end in the terminator ends in it
 pub lines-end : LinesJoin → (t : ℕ) (bytes : List ℕ) → (0 < length bytes → slice_index bytes (length bytes - 1) ≡ t)

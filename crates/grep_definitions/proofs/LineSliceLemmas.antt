@@ -1,5 +1,6 @@
 -- The bytes of a line as a part of all bytes, and the report of a line that is a match.
-use Rattle.std.proofs.Common.{◌≡◌, ℕ, ◌+◌, ◌-◌, List, [], ◌∷◌, Some, refl, sym, ap, ◌∙◌, arith, length, ⊎_elim}
+use Rattle.std.proofs.Common.{◌≡◌, ℕ, ◌+◌, ◌-◌, ◌<◌, List, [], ◌∷◌, Some, None, refl, sym, ap, ◌∙◌, arith, length, ⊎_elim}
+use Rattle.std.proofs.Common.{if◌then◌else◌}
 use Rattle.std.proofs.lemmas.Bool.{cases_lt}
 use Rattle.std.proofs.lemmas.List.{get_or_past, take_all}
 use Rattle.std.specs.Prelude.{drop, take, slice_range}
@@ -10,7 +11,8 @@ use Rattle.grep_definitions.specs.LineSearch
 use Rattle.grep_definitions.specs.Plans.{matches, planned}
 use Rattle.grep_definitions.specs.Reports.{line, line_count, matched, number, start}
 use Rattle.grep_definitions.specs.Settings.{Settings}
-use Rattle.grep_lines.proofs.LineStepLemmas.{IsStep-line}
+use Rattle.grep_lines.proofs.LineStepLemmas.{IsStep-line, lines-numbered}
+use Rattle.grep_definitions.specs.LineTurns.{number_of}
 
 module _ (k : Settings) (bytes : List ℕ) where
   -- the bytes of a line, also past the last one
@@ -21,9 +23,14 @@ module _ (k : Settings) (bytes : List ℕ) where
       let none : line k bytes i ≡ [] = get_or_past all i [] past in
       let same : start k bytes (i + 1) ≡ start k bytes i = ap (λ ls. length (concat ls))
       (take_all (i + 1) all (omega arith) ∙ sym (take_all i all past)) in
-      let nothing : start k bytes (i + 1) - start k bytes i ≡ 0 = omega (arith, same) in
+      let nothing : start k bytes (i + 1) - start k bytes i ≡ 0 = omega arith in
       ap (λ m. take m (drop (start k bytes i) bytes)) nothing ∙ sym none)
       (cases_lt i (line_count k bytes))
+
+  -- the number of a line
+  pub number-line : (i : ℕ) → i < line_count k bytes → number k bytes i ≡ number_of k i
+  number-line i inside =
+      ap (λ c. if k.line_number then Some (c + 1) else None) (lines-numbered (byte_of k.line_terminator) bytes i inside)
 
   -- by line a match is reported with its line
   pub line-report : (meaning : Meaning) (i : ℕ) → LineSearch.report k meaning bytes i (Some matched)

@@ -27,7 +27,7 @@ line_start-next t bytes i = ⊎_elim
     (λ beyond.
     let all : List (List ℕ) = lines t bytes in
     let same = ap (λ ls. length (concat ls)) (take_all (i + 1) all (omega arith) ∙ sym (take_all i all beyond)) in
-    omega (arith, same))
+    omega arith)
     (cases_lt i (length (lines t bytes)))
 
 module _ (join : LinesJoin) (t : ℕ) (bytes : List ℕ) where
@@ -37,7 +37,7 @@ module _ (join : LinesJoin) (t : ℕ) (bytes : List ℕ) where
       let filled : 0 < length (get_or (lines t bytes) i []) = All-get_or (λ line. 0 < length line) (lines t bytes) i []
       below
       (join t bytes).filled in
-      omega (arith, line_start-more t bytes i below, filled)
+      omega (arith, line_start-more t bytes i below)
 
   -- no line begins after the end of the bytes
   pub line_start-within : (i : ℕ) → line_start t bytes i ≤ length bytes
@@ -46,7 +46,6 @@ module _ (join : LinesJoin) (t : ℕ) (bytes : List ℕ) where
       let cut = ap (λ ls. length (concat ls)) (take-append-drop i all) in
       omega (
         arith,
-        cut,
         ap length (concat-append (take i all) (drop i all)),
         length-append (concat (take i all))
             (concat (drop i all)),

@@ -234,7 +234,7 @@ module _ (numbered : LinesAreNumbered) (k : Settings) (meaning : Meaning) (bytes
   match_calls-turns =
       match_calls-joined (LineSearch.turns_at k meaning bytes) 0 turned
       ∙ joined_from-equal _ match_at 0 turned (λ j low high. match_calls-line j
-      (omega (arith, high, turn_count-le k meaning bytes)))
+      (omega (arith, turn_count-le k meaning bytes)))
       ∙ sym (map-passing (match_of k bytes) (is_matched k meaning bytes) 0 turned)
 
   pub length-match_calls : length (match_calls (LineSearch.turns k meaning bytes))
@@ -260,7 +260,7 @@ module _ (numbered : LinesAreNumbered) (k : Settings) (meaning : Meaning) (bytes
           let none = first_below-none selected n is in
           first_below-nowhere (is_matched k meaning bytes) turned (some_below-none _ turned
           (λ j less. unmatched j (λ i low. some_below-false selected n i none
-          (omega (arith, less, turn_count-le k meaning bytes)))))
+          (omega (arith, turn_count-le k meaning bytes)))))
       go (Some q) is =
           let taken = (first_below-of selected n q is).1 in
           first_below-here (is_matched k meaning bytes) turned q (selected-turned q taken) (rw taken refl)

@@ -254,7 +254,7 @@ module _ {R : Type 0} (remaining : R → Option (List ℕ)) (read_step : R → R
   plain-planned state across reader old (Err e) reader' new (ReaderRuns.of_reading seen error unread made reported) =
       inr (plain-cut state (λ by_line. absurd (clash across by_line)) reader old e reader' new seen error unread made reported)
 
-  -- another claim of where the sink is told
+  -- another claim of where `binary_data` comes
   search-map : {k : Settings} (IsAt IsAt2 : Points) (HasRead : Plan → Outcome E → Type 0) (bytes : List ℕ)
       (old : S) (result : Result (Unit {0}) E) (new : S)
       → ((calls : List Planned) (point : Option BinaryPoint) → IsAt calls point → IsAt2 calls point)

@@ -1,11 +1,11 @@
--- Where a stream is told of a binary byte, in the plan of a search by line.
+-- Where a binary byte of a stream is reported, in the plan of a search by line.
 use Rattle.std.proofs.Common.{◌≡◌, ℕ, Bool, true, false, List, [], ◌∷◌, ◌++◌, Some, refl, ap, ◌∙◌, arith, length, map}
 use Rattle.std.proofs.Common.{take, drop, length-append}
 use Rattle.std.proofs.Math.Seq.{take-append_seam}
 use Rattle.grep_matcher.specs.Meanings.{Meaning}
 use Rattle.grep_report.specs.declared.binary_detection.BinaryDetection.{BinaryDetection}
 use Rattle.grep_definitions.specs.Asking.{search_plan}
-use Rattle.grep_definitions.specs.BinaryBytes.{BinaryPoint, quits, plan_with, told, after_told}
+use Rattle.grep_definitions.specs.BinaryBytes.{BinaryPoint, quits, plan_with, planned_binary, after_binary}
 use Rattle.grep_definitions.specs.Searches.{IsStreamPoint, IsCutAt}
 use Rattle.grep_definitions.specs.Plans.{Steps, Planned, Plan, Outcome, all_true, AreMade}
 use Rattle.grep_definitions.specs.Settings.{Settings}
@@ -14,21 +14,21 @@ use Rattle.grep_definitions.proofs.SinkRunLemmas.{AreMade-append, AreMade-ended}
 
 module _ {S E : Type 0} (step : Steps S E) (k : Settings) where
   -- calls that end with `binary_data`, along a plan that it ends or in which it doesn't return true
-  pub told-made : (d : BinaryDetection) (q : Bool) → quits d ≡ q
+  pub binary-made : (d : BinaryDetection) (q : Bool) → quits d ≡ q
       → (point : BinaryPoint) (plan : Plan) (front : List Planned)
       → take point.position plan.calls ≡ front → (old mid : S) (outcome : Outcome E) (last : S)
-      → AreMade step k old front all_true mid → AreMade step k mid (told point ∷ []) outcome last
+      → AreMade step k old front all_true mid → AreMade step k mid (planned_binary point ∷ []) outcome last
       → (outcome ≡ all_true → q ≡ true)
       → AreMade step k old (plan_with d (Some point) plan).calls outcome last
-  told-made d true is point plan front same old mid outcome last made called ends =
-      rw (is, same) (AreMade-append step k front (told point ∷ []) old mid outcome last made called)
-  told-made d false is point plan front same old mid outcome last made called ends =
-      rw (is, same) (AreMade-append step k front (told point ∷ map (after_told point) (drop point.position plan.calls))
+  binary-made d true is point plan front same old mid outcome last made called ends =
+      rw (is, same) (AreMade-append step k front (planned_binary point ∷ []) old mid outcome last made called)
+  binary-made d false is point plan front same old mid outcome last made called ends =
+      rw (is, same) (AreMade-append step k front (planned_binary point ∷ map (after_binary point) (drop point.position plan.calls))
       old mid outcome last made
-      (AreMade-ended step k (told point ∷ []) (map (after_told point) (drop point.position plan.calls)) mid outcome last
+      (AreMade-ended step k (planned_binary point ∷ []) (map (after_binary point) (drop point.position plan.calls)) mid outcome last
       (λ all. absurd (clash (ends all) refl)) called))
 
--- where the sink is told, if these calls come first
+-- where `binary_data` comes, if these calls come first
 abbrev pub stream-point : (k : Settings) (meaning : Meaning) (bytes seen : List ℕ) (offset : ℕ)
     → IsCutAt k meaning bytes seen offset
     → (calls later : List Planned) → calls ≡ (search_plan k meaning seen).calls ++ later

@@ -24,7 +24,7 @@ module _ {X : Type 0} (p : X → Bool) where
   position-none (x ∷ xs) all =
       let past = position_or_len_is p (x ∷ xs) (length (x ∷ xs)) x (omega arith) (λ k below. all k x below)
       (λ less. absurd (omega arith)) in
-      position-past (x ∷ xs) (omega (arith, past))
+      position-past (x ∷ xs) (omega arith)
 
   pub none-passes : (xs : List X) → position p xs ≡ None → All (λ x. p x ≡ false) xs
   none-passes xs none k d below = ⊎_elim
@@ -36,5 +36,5 @@ module _ {X : Type 0} (p : X → Bool) where
       ≡ None
   position-take-before n xs i is low =
       position-none (take n xs) (λ k d below.
-      let short : k < n = omega (arith, below, length-take n xs) in
-      ap p (get_or-take n xs k d short) ∙ (position-Some p xs i d is).2 k (omega (arith, short, low)))
+      let short : k < n = omega (arith, length-take n xs) in
+      ap p (get_or-take n xs k d short) ∙ (position-Some p xs i d is).2 k (omega arith))

@@ -27,7 +27,7 @@ in_order-none low = record {
   in_order = (
     All-nil (λ report. 0 < length (reported_bytes report)),
     λ i j d less inside.
-        absurd (omega (arith, inside)),
+        absurd (omega arith),
   );
   after = All-nil (λ report. low ≤ reported_from report);
 }
@@ -36,7 +36,7 @@ in_order-lower : (low high : ℕ) (reports : List Call) → low ≤ high → InO
 in_order-lower low high reports le follow = record {
   in_order = follow.in_order;
   after = All-weaker (λ report. high ≤ reported_from report) (λ report. low ≤ reported_from report)
-      (λ report above. omega (arith, above, le)) reports follow.after;
+      (λ report above. omega (arith, above)) reports follow.after;
 }
 
 -- a report in front of those after it
@@ -45,11 +45,11 @@ in_order-cons : (low : ℕ) (report : Call) (later : List Call) → low ≤ repo
     → InOrderFrom low (report ∷ later)
 in_order-cons low report later above some follow = record {
   in_order = (
-    All-cons (λ r. 0 < length (reported_bytes r)) report later (omega (arith, some)) follow.in_order.0,
+    All-cons (λ r. 0 < length (reported_bytes r)) report later (omega arith) follow.in_order.0,
     AllPairs-cons (λ one other. reported_to one ≤ reported_from other) report later follow.after follow.in_order.1,
   );
   after = All-cons (λ r. low ≤ reported_from r) report later above
-      (in_order-lower low (reported_to report) later (omega (arith, above, some)) follow).after;
+      (in_order-lower low (reported_to report) later (omega (arith, above)) follow).after;
 }
 
 -- a break is no report
@@ -84,21 +84,21 @@ module _ (f : ℕ → List Planned) (start : ℕ → ℕ) where
         let here = none i (omega arith) less in
         rw here (in_order-from m (i + 1) q (omega arith) (omega arith) (λ j above below. none j (omega arith) below)))
         (λ (over : q ≤ i).
-        let same : q ≡ i = omega (arith, over, low) in
+        let same : q ≡ i = omega arith in
         subst (λ x. InOrderFrom (start x) (report_calls (f i) ++ rest)) (sym same) (⊎_elim
         (λ silent. subst (λ calls. InOrderFrom (start i) (calls ++ rest)) (sym silent)
-        (in_order-lower (start i) (start (i + 1)) rest (let up = rises i (omega arith) in omega (arith, up))
+        (in_order-lower (start i) (start (i + 1)) rest (let up = rises i (omega arith) in omega arith)
         (in_order-from m (i + 1) (i + 1) (omega arith) (omega arith)
-        (λ j above below. absurd (omega (arith, above, below))))))
+        (λ j above below. absurd (omega (arith, above))))))
         (λ (reported : IsReported i). subst (λ calls. InOrderFrom (start i) (calls ++ rest)) (sym reported.reports)
-        (in_order-cons (start i) reported.call rest (omega (arith, reported.from))
-        (omega (arith, reported.from, reported.to, reported.above))
+        (in_order-cons (start i) reported.call rest (omega arith)
+        (omega arith)
         (subst (λ x. InOrderFrom x rest) (sym reported.to)
-        (in_order-from m (i + 1) reported.next (omega arith) (omega (arith, reported.later))
+        (in_order-from m (i + 1) reported.next (omega arith) (omega arith)
         (λ j above below. reported.alone j (omega (arith, above)) below)))))
         (each i (omega arith))))
         (cases_lt i q))
 
     pub in_order-joined : AreInOrder (report_calls (joined_from f 0 n))
     in_order-joined = (in_order-from n 0 0 (omega arith) (omega arith)
-        (λ j low below. absurd (omega (arith, below)))).in_order
+        (λ j low below. absurd (omega arith))).in_order

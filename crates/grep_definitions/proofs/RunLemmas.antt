@@ -91,7 +91,7 @@ module _ (p : ℕ → Bool) (n : ℕ) where
           let parts = both_true (nat_lt i q) (not (p q)) found.1 in
           record {
             low = omega (arith, ltb-true i q parts.0);
-            high = omega (arith, found.0);
+            high = omega arith;
             inner = λ j low below. passes j low (first_below-before (λ j. nat_lt i j && not (p j)) n q j is below);
             closed = λ below. not_false (p q) parts.1;
           }
@@ -99,9 +99,9 @@ module _ (p : ℕ → Bool) (n : ℕ) where
   -- no run from number i on ends at two numbers
   pub IsRunEnd-one : (i d e : ℕ) → IsRunEnd i d → IsRunEnd i e → d ≡ e
   IsRunEnd-one i d e one other = ⊎_elim
-      (λ less. absurd (clash (other.inner d one.low less) (one.closed (omega (arith, other.high)))))
+      (λ less. absurd (clash (other.inner d one.low less) (one.closed (omega arith))))
       (λ over. ⊎_elim
-      (λ more. absurd (clash (one.inner e other.low more) (other.closed (omega (arith, one.high)))))
+      (λ more. absurd (clash (one.inner e other.low more) (other.closed (omega arith))))
       (λ under. omega arith)
       (cases_lt e d))
       (cases_lt d e)
@@ -112,7 +112,7 @@ module _ (p : ℕ → Bool) (n : ℕ) where
     low = ⊎_elim
         (λ less. omega arith)
         (λ over.
-        let same : e ≡ i = omega (arith, run.low) in
+        let same : e ≡ i = omega arith in
         absurd (clash here (ap p (sym same) ∙ run.closed (omega arith))))
         (cases_lt i e);
     high = run.high;
@@ -138,7 +138,7 @@ module _ (p : ℕ → Bool) (n : ℕ) where
         → (continues i ≡ false → joined_from whole i m ≡ joined_from each i m)
         × ((e : ℕ) → IsRunEnd i e → continues i ≡ true → joined_from whole i m ≡ joined_from each e (n - e))
     joined-from zero i all =
-        (λ _. refl, λ e run _. let nothing : n - e ≡ zero = omega (arith, run.low) in rw nothing refl)
+        (λ _. refl, λ e run _. let nothing : n - e ≡ zero = omega arith in rw nothing refl)
     joined-from (suc m) i all =
         let rest = joined-from m (i + 1) (omega arith) in
         ⊎_elim
@@ -146,8 +146,8 @@ module _ (p : ℕ → Bool) (n : ℕ) where
           λ begins.
               let run = IsRunEnd-run_end i (omega arith) yes in
               let next = IsRunEnd-next i (run_end i) (omega arith) yes run in
-              let cut : suc m ≡ (run_end i - i) + (n - run_end i) = omega (arith, run.low, run.high) in
-              let on : i + (run_end i - i) ≡ run_end i = omega (arith, run.low) in
+              let cut : suc m ≡ (run_end i - i) + (n - run_end i) = omega arith in
+              let on : i + (run_end i - i) ≡ run_end i = omega arith in
               let split : joined_from each i (suc m) ≡ joined_from each i (run_end i - i)
               ++ joined_from each (run_end i) (n - run_end i) =
               ap (joined_from each i) cut ∙ joined_from-add each i (run_end i - i) (n - run_end i)
@@ -163,7 +163,7 @@ module _ (p : ℕ → Bool) (n : ℕ) where
           λ e run _.
               let here : e ≡ i = ⊎_elim
               (λ less. absurd (clash (run.inner i (omega arith) less) no))
-              (λ over. omega (arith, run.low))
+              (λ over. omega arith)
               (cases_lt i e) in
               let count : suc m ≡ n - i = omega arith in
               same ∙ (rw (here, ← count) refl),
@@ -211,7 +211,7 @@ module _ (p : ℕ → Bool) (n : ℕ) where
           λ e run _.
               let same : e ≡ i = ⊎_elim
               (λ less. absurd (clash (run.inner i (omega arith) less) none))
-              (λ over. omega (arith, run.low))
+              (λ over. omega arith)
               (cases_lt i e) in
               rw (none, same) (later.0, λ some. let low = later.1 some in omega arith),
         ))

@@ -192,7 +192,7 @@ module _ (k : Settings) (meaning : Meaning) (bytes : List ℕ) where
       is_kind = let follows = follows-near i j hit less close in rw (misses, follows) refl
 
       shown : LineSearch.is_reported k meaning bytes (i - 1) ≡ true
-      shown = shown-near (i - 1) j (omega (arith, has)) hit (omega (arith, less)) (omega (arith, close))
+      shown = shown-near (i - 1) j (omega arith) hit (omega arith) (omega arith)
 
       go : (t : Bool) → SelectedLines.is_trailing k meaning bytes i ≡ t → T i
           ≡ planned (if t then matches (LineSearch.number k meaning bytes i) (start i) (LineSearch.line k meaning bytes
@@ -220,8 +220,8 @@ module _ (k : Settings) (meaning : Meaning) (bytes : List ℕ) where
         later = omega arith;
         above = line_start-ascends join (byte_of k.line_terminator) bytes i inside;
         from = from;
-        to = omega (arith, from, ap length own, line_start-more (byte_of k.line_terminator) bytes i inside);
-        alone = λ j above below. absurd (omega (arith, above, below));
+        to = omega (arith, ap length own, line_start-more (byte_of k.line_terminator) bytes i inside);
+        alone = λ j above below. absurd (omega arith);
       }
 
       go : (o : Option Kind) → report_calls (T i) ≡ report_calls (LineSearch.report k meaning bytes i o)
@@ -233,8 +233,8 @@ module _ (k : Settings) (meaning : Meaning) (bytes : List ℕ) where
   -- the reports ascend
   pub in_order-by_line : LinesJoin → AreInOrder (report_calls (LineSearch.turns k meaning bytes))
   in_order-by_line join = in_order-joined T start (LineSearch.turn_count k meaning bytes)
-      (λ i below. line_start-ascends join (byte_of k.line_terminator) bytes i (omega (arith, below, turn_count-le)))
-      (λ i below. reported-line join i (omega (arith, below, turn_count-le)))
+      (λ i below. line_start-ascends join (byte_of k.line_terminator) bytes i (omega (arith, turn_count-le)))
+      (λ i below. reported-line join i (omega (arith, turn_count-le)))
 
   -- whether a line is trailing in the context after a selected line
   abbrev late : ℕ → Bool
@@ -324,7 +324,7 @@ module _ (k : Settings) (meaning : Meaning) (bytes : List ℕ) where
                 (λ early. early)
                 (λ over. absurd (clash late.room (shut-later first late.line over shut)))
                 (cases_lt late.line first) in
-                (low, omega (arith, high, late.near, late.before))),
+                (low, omega (arith, late.near, late.before))),
           )
 
   -- the calls tell no more matches than the limit has and those in the context after the last of them, and none at

@@ -17,26 +17,8 @@ use Rattle.grep_definitions.proofs.BoolLemmas.{clash}
 
 -- of n lines, some are selected, some are trailing, and so many have a turn
 module _ (k : Settings) (selected trailing : ℕ → Bool) (n turned : ℕ) where
-  abbrev A : ℕ
-  A = k.after_context
-
-  abbrev B : ℕ
-  B = k.before_context
-
-  abbrev Near : ℕ → ℕ → ℕ → Type 0
-  Near v i left = IsNear k selected trailing n turned v i left
-
-  abbrev follows : ℕ → Bool
-  follows = Selections.follows k selected trailing n turned
-
-  abbrev precedes : ℕ → Bool
-  precedes = Selections.precedes k selected trailing n turned
-
-  abbrev is_reported : ℕ → Bool
-  is_reported = Selections.is_reported k selected trailing n turned
-
   -- before the first line
-  pub IsNear-none : Near 0 0 0
+  pub IsNear-none : IsNear k selected trailing n turned 0 0 0
   IsNear-none = record {
     low = omega arith;
     few = omega arith;
@@ -48,316 +30,338 @@ module _ (k : Settings) (selected trailing : ℕ → Bool) (n turned : ℕ) wher
   }
 
   -- after a selected line
-  pub IsNear-hit : (i : ℕ) → i < turned → selected i ≡ true → Near (i + 1) (i + 1) A
+  pub IsNear-hit : (i : ℕ) → i < turned → selected i ≡ true → IsNear k selected trailing n turned (i + 1) (i + 1) k.after_context
   IsNear-hit i has hit = record {
     low = omega arith;
     few = omega arith;
     close = λ above. refl;
     window = λ x low. ⊎_elim
-        (λ less. some_below-some (λ j. nat_le (x - j) A && selected j) (i + 1) i (omega arith)
-        (let near = le-leb (x - i) A (omega arith) in rw (near, hit) refl)
-        ∙ sym (lt-ltb (x - (i + 1)) A less))
-        (λ over. some_below-none (λ j. nat_le (x - j) A && selected j) (i + 1)
-        (λ j below. let far = lt-leb (x - j) A (omega arith) in rw far refl)
-        ∙ sym (le-ltb (x - (i + 1)) A over))
-        (cases_lt (x - (i + 1)) A);
+        (λ less. some_below-some (λ j. nat_le (x - j) k.after_context && selected j) (i + 1) i (omega arith)
+        (let near = le-leb (x - i) k.after_context (omega arith) in rw (near, hit) refl)
+        ∙ sym (lt-ltb (x - (i + 1)) k.after_context less))
+        (λ over. some_below-none (λ j. nat_le (x - j) k.after_context && selected j) (i + 1)
+        (λ j below. let far = lt-leb (x - j) k.after_context (omega arith) in rw far refl)
+        ∙ sym (le-ltb (x - (i + 1)) k.after_context over))
+        (cases_lt (x - (i + 1)) k.after_context);
     passed = λ j low high. absurd (omega arith);
     shown = λ above. let back : (i + 1) - 1 ≡ i = omega arith in let test = lt-ltb i turned has in rw (back, hit, test)
         refl;
     bare = λ _. refl;
   }
 
-  module _ (v i left : ℕ) (near : Near v i left) where
-    -- a line that was passed unreported is never reported under passthru
-    never_bare : (j : ℕ) → v ≤ j → j < i → k.passthru ≡ false
-    never_bare j low less = ⊎_elim (λ yes. absurd (omega (arith, near.bare yes))) (λ no. no) (cases_Bool k.passthru)
+-- what a walk at line i knows of the lines before it
+module _ {k : Settings} {selected trailing : ℕ → Bool} {n turned v i left : ℕ}
+    (near : IsNear k selected trailing n turned v i left) where
+  abbrev A : ℕ
+  A = k.after_context
 
-    -- if no line from the i-th on is selected, the lines that were passed aren't reported
-    pub kind-done : ((q : ℕ) → i ≤ q → q < n → selected q ≡ false) → (j : ℕ) → v ≤ j → j < i
-        → Selections.kind k selected trailing n turned j ≡ None
-    kind-done silent j low high =
-        let out = near.passed j low high in
-        let alone : precedes j ≡ false = some_below-none _ n none in
-        let plain = never_bare j low high in
-        rw (out.0, out.1, alone) (ap (λ p. if p then Some (in_context Other) else None) plain)
+  abbrev B : ℕ
+  B = k.before_context
+
+  abbrev Near : ℕ → ℕ → ℕ → Type 0
+  Near = IsNear k selected trailing n turned
+
+  abbrev follows : ℕ → Bool
+  follows = Selections.follows k selected trailing n turned
+
+  abbrev precedes : ℕ → Bool
+  precedes = Selections.precedes k selected trailing n turned
+
+  abbrev is_reported : ℕ → Bool
+  is_reported = Selections.is_reported k selected trailing n turned
+
+  -- a line that was passed unreported is never reported under passthru
+  never_bare : (j : ℕ) → v ≤ j → j < i → k.passthru ≡ false
+  never_bare j low less = ⊎_elim (λ yes. absurd (omega (arith, near.bare yes))) (λ no. no) (cases_Bool k.passthru)
+
+  -- if no line from the i-th on is selected, the lines that were passed aren't reported
+  pub kind-done : ((q : ℕ) → i ≤ q → q < n → selected q ≡ false) → (j : ℕ) → v ≤ j → j < i
+      → Selections.kind k selected trailing n turned j ≡ None
+  kind-done silent j low high =
+      let out = near.passed j low high in
+      let alone : precedes j ≡ false = some_below-none _ n none in
+      let plain = never_bare j low high in
+      rw (out.0, out.1, alone) (ap (λ p. if p then Some (in_context Other) else None) plain)
+    where
+      miss : (q : ℕ) → q < n → nat_lt j q ≡ true → selected q ≡ false
+      miss q below is = ⊎_elim (λ early. (near.passed q (omega (arith, ltb-true j q is)) early).0)
+          (λ late. silent q late below)
+          (cases_lt q i)
+
+      none : (q : ℕ) → q < n → (nat_lt j q && nat_le (q - j) B && selected q) ≡ false
+      none q below = go (nat_lt j q) refl
+        where
+          go : (less : Bool) → nat_lt j q ≡ less → (nat_lt j q && nat_le (q - j) B && selected q) ≡ false
+          go false is = rw is refl
+          go true is = let out = miss q below is in rw out (and-false _)
+
+  -- line i follows a selected line just if some of the window is left
+  pub follows-here : follows i ≡ nat_lt 0 left
+  follows-here = let zero_off : i - i ≡ 0 = omega arith in near.window i (omega arith)
+      ∙ ap (λ d. nat_lt d left) zero_off
+
+  -- the next line's window
+  window-more : (next : ℕ)
+      → ((x : ℕ) → i + 1 ≤ x → (nat_lt (x - i) left || (nat_le (x - i) A && selected i)) ≡ nat_lt (x - (i + 1)) next)
+      → (x : ℕ)
+      → i + 1 ≤ x → some_below (λ j. nat_le (x - j) A && selected j) (i + 1) ≡ nat_lt (x - (i + 1)) next
+  window-more next goes x low = unfolded (i + 1) (omega arith)
+    where
+      unfolded : (m : ℕ) → m ≡ suc i → some_below (λ j. nat_le (x - j) A && selected j) m ≡ nat_lt (x - (i + 1)) next
+      unfolded m is = rw (is, near.window x (omega arith)) (goes x low)
+
+  -- a line that is not selected and follows none stays unreported so far
+  pub IsNear-pass : selected i ≡ false → left ≡ 0 → k.passthru ≡ false → Near v (i + 1) 0
+  IsNear-pass misses empty shut = record {
+    low = omega arith;
+    few = omega arith;
+    close = λ above. absurd (omega arith);
+    window = window-more 0
+        (λ x low. let ended = le-ltb (x - i) left (omega arith) in let ended_next = le-ltb (x - (i + 1)) 0
+        (omega arith) in
+        rw (ended, misses, and-false (nat_le (x - i) A), ended_next) refl);
+    passed = λ j low high. ⊎_elim (λ less. near.passed j low less)
+        (λ over. let same : j ≡ i = omega arith in let out = le-ltb 0 left (omega arith) in
+        (rw same misses, rw same (follows-here ∙ out))) (cases_lt j i);
+    shown = near.shown;
+    bare = λ yes. absurd (clash yes shut);
+  }
+
+  -- a line after a selected one
+  pub kind-after : selected i ≡ false → 0 < left
+      → Selections.kind k selected trailing n turned i ≡ Some (if trailing i then matched else in_context After)
+  kind-after misses some = let follows_it = follows-here ∙ lt-ltb 0 left some in rw (misses, follows_it) refl
+
+  -- no break comes before it, since the line before it is reported
+  pub gap-after : 0 < left
+      → (nat_lt 0 (A + B) && true && not (is_reported (i - 1)) && some_below is_reported i)
+      ≡ (nat_lt 0 A && is_gap k v i i)
+  gap-after some =
+      let same = near.close some in
+      let first : 0 < i = ⊎_elim (λ less. less) (λ none. absurd (begins (omega (arith, none)))) (cases_lt 0 i) in
+      let shown : is_reported (i - 1) ≡ true = ap (λ x. is_reported (x - 1)) (sym same) ∙ near.shown (omega arith) in
+      let late = le-ltb v i (omega arith) in
+      rw (shown, late) (unbroken (nat_lt 0 (A + B)) (some_below is_reported i)
+      ∙ sym (joined (nat_lt 0 A) (nat_lt 0 v) (nat_eq (i - i) B)))
+    where
+      begins : i ≡ 0 → ⊥
+      begins none = clash (lt-ltb 0 left some) (sym follows-here ∙ ap follows none)
+
+      unbroken : (a b : Bool) → (((a && true) && false) && b) ≡ false
+      unbroken true b = refl
+      unbroken false b = refl
+
+      joined : (a b c : Bool) → (a && ((b && false) && c)) ≡ false
+      joined true true c = refl
+      joined true false c = refl
+      joined false b c = refl
+
+  pub IsNear-after : i < turned → (rest : ℕ) → selected i ≡ false → left ≡ rest + 1 → Near (i + 1) (i + 1) rest
+  IsNear-after has rest misses is = record {
+    low = omega arith;
+    few = omega arith;
+    close = λ above. refl;
+    window = window-more rest (λ x low. rw (misses, and-false (nat_le (x - i) A))
+        (or-false (nat_lt (x - i) left) ∙ shifted x low));
+    passed = λ j low high. absurd (omega arith);
+    shown = λ above. let back : (i + 1) - 1 ≡ i = omega arith in let kind = kind-after misses (omega arith) in
+        let test = lt-ltb i turned has in rw (back, kind, test) refl;
+    bare = λ _. refl;
+  }
+    where
+      shifted : (x : ℕ) → i + 1 ≤ x → nat_lt (x - i) left ≡ nat_lt (x - (i + 1)) rest
+      shifted x low = ⊎_elim (λ less. lt-ltb (x - i) left less ∙ sym (lt-ltb (x - (i + 1)) rest (omega arith)))
+          (λ over. le-ltb (x - i) left over ∙ sym (le-ltb (x - (i + 1)) rest (omega arith))) (cases_lt (x - i) left)
+
+  precedes-bare : k.before_context ≡ 0 → precedes i ≡ false
+  precedes-bare none = some_below-none _ n (λ q below. go q (nat_lt i q) refl)
+    where
+      go : (q : ℕ) (less : Bool) → nat_lt i q ≡ less → (nat_lt i q && nat_le (q - i) k.before_context && selected q)
+          ≡ false
+      go q false is = rw is refl
+      go q true is = let high = ltb-true i q is in let out = lt-leb (q - i) k.before_context (omega arith) in
+          rw (is, out) refl
+
+  -- a line that is reported under passthru alone
+  pub kind-other : selected i ≡ false → left ≡ 0 → k.passthru ≡ true → k.before_context ≡ 0
+      → Selections.kind k selected trailing n turned i ≡ Some (in_context Other)
+  kind-other misses empty bare none = let follows_it = follows-here
+      ∙ le-ltb 0 left (omega arith) in let ahead = precedes-bare none in
+      rw (misses, follows_it, ahead, bare) refl
+
+  pub IsNear-other : i < turned → selected i ≡ false → left ≡ 0 → k.passthru ≡ true → k.before_context ≡ 0
+      → Near (i + 1) (i + 1) 0
+  IsNear-other has misses empty bare none = record {
+    low = omega arith;
+    few = omega arith;
+    close = λ above. refl;
+    window = window-more 0
+        (λ x low. let ended = le-ltb (x - i) left (omega arith) in let ended_next = le-ltb (x - (i + 1)) 0
+        (omega arith) in
+        rw (ended, misses, and-false (nat_le (x - i) A), ended_next) refl);
+    passed = λ j low high. absurd (omega arith);
+    shown = λ above. let back : (i + 1) - 1 ≡ i = omega arith in let kind = kind-other misses empty bare none in
+        let test = lt-ltb i turned has in rw (back, kind, test) refl;
+    bare = λ _. refl;
+  }
+
+  -- after any line that isn't selected
+  pub IsNear-missed : (k.passthru ≡ true → k.before_context ≡ 0) → i < turned → selected i ≡ false
+      → Near (if nat_lt 0 left || k.passthru then i + 1 else v) (i + 1) (left - 1)
+  IsNear-missed bare has misses = go (nat_lt 0 left) k.passthru refl refl
+    where
+      go : (b p : Bool) → nat_lt 0 left ≡ b → k.passthru ≡ p → Near (if b || p then i + 1 else v) (i + 1) (left - 1)
+      go true p is_b is_p = let some = ltb-true 0 left is_b in IsNear-after has (left - 1) misses (omega arith)
+      go false true is_b is_p =
+          let none : left ≡ 0 = let le = ltb-false 0 left is_b in omega arith in
+          let rest : 0 ≡ left - 1 = omega arith in
+          subst (λ l. Near (i + 1) (i + 1) l) rest (IsNear-other has misses none is_p (bare is_p))
+      go false false is_b is_p =
+          let none : left ≡ 0 = let le = ltb-false 0 left is_b in omega arith in
+          let rest : 0 ≡ left - 1 = omega arith in
+          subst (λ l. Near v (i + 1) l) rest (IsNear-pass misses none is_p)
+
+  -- what is joined over the lines grows by that line's part, if it is reported
+  pub headed-missed : {X : Type 0} (first : X) (f : ℕ → List X) (after other : List X) → (0 < left → f i ≡ after)
+      → (left ≡ 0 → k.passthru ≡ true → f i ≡ other)
+      → headed first f (if nat_lt 0 left || k.passthru then i + 1 else v)
+      ≡ headed first f v ++ (if nat_lt 0 left then after else (if k.passthru then other else []))
+  headed-missed first f after other is_after is_other = go (nat_lt 0 left) k.passthru refl refl
+    where
+      go : (b p : Bool) → nat_lt 0 left ≡ b → k.passthru ≡ p
+          → headed first f (if b || p then i + 1 else v) ≡ headed first f v
+          ++ (if b then after else (if p then other else []))
+      go true p is_b is_p =
+          let some = ltb-true 0 left is_b in
+          headed-one first f v i (near.close some) ∙ ap (λ xs. headed first f v ++ xs) (is_after some)
+      go false true is_b is_p =
+          let none : left ≡ 0 = let le = ltb-false 0 left is_b in omega arith in
+          headed-one first f v i (near.bare is_p) ∙ ap (λ xs. headed first f v ++ xs) (is_other none is_p)
+      go false false is_b is_p = sym (append-nil (headed first f v))
+
+  -- if line i is selected
+  module _ (inside : i < n) (has : i < turned) (hit : selected i ≡ true) where
+    reported-here : is_reported i ≡ true
+    reported-here = let test = lt-ltb i turned has in rw (hit, test) refl
+
+    -- a passed line is before the match if it is near
+    precedes-passed : (j : ℕ) → v ≤ j → j < i → precedes j ≡ nat_le (i - j) B
+    precedes-passed j low less = ⊎_elim is_far is_close (cases_lt B (i - j))
       where
-        miss : (q : ℕ) → q < n → nat_lt j q ≡ true → selected q ≡ false
-        miss q below is = ⊎_elim (λ early. (near.passed q (omega (arith, ltb-true j q is)) early).0)
-            (λ late. silent q late below)
-            (cases_lt q i)
+        is_close : i - j ≤ B → precedes j ≡ nat_le (i - j) B
+        is_close close = some_below-some _ n i inside
+            (let a = lt-ltb j i less in let b = le-leb (i - j) B close in rw (a, b, hit) refl)
+            ∙ sym (le-leb (i - j) B close)
 
-        none : (q : ℕ) → q < n → (nat_lt j q && nat_le (q - j) B && selected q) ≡ false
-        none q below = go (nat_lt j q) refl
+        is_far : B < i - j → precedes j ≡ nat_le (i - j) B
+        is_far far = some_below-none _ n none ∙ sym (lt-leb (i - j) B far)
           where
-            go : (less : Bool) → nat_lt j q ≡ less → (nat_lt j q && nat_le (q - j) B && selected q) ≡ false
-            go false is = rw is refl
-            go true is = let out = miss q below is in rw out (and-false _)
+            none : (q : ℕ) → q < n → (nat_lt j q && nat_le (q - j) B && selected q) ≡ false
+            none q below = ⊎_elim
+                (λ early. ⊎_elim (λ follows_it. let c = (near.passed q (omega arith) early).0 in rw c (and-false _))
+                (λ ahead. let c = le-ltb j q ahead in rw c refl) (cases_lt j q))
+                (λ late. let c = lt-leb (q - j) B (omega arith) in rw (c, and-false (nat_lt j q)) refl)
+                (cases_lt q i)
 
-    -- line i follows a selected line just if some of the window is left
-    pub follows-here : follows i ≡ nat_lt 0 left
-    follows-here = let zero_off : i - i ≡ 0 = omega arith in near.window i (omega arith)
-        ∙ ap (λ d. nat_lt d left) zero_off
+    pub kind-passed : (j : ℕ) → v ≤ j → j < i
+        → Selections.kind k selected trailing n turned j
+        ≡ (if nat_le (i - j) B then Some (in_context Before) else None)
+    kind-passed j low less = let out = near.passed j low less in let p = precedes-passed j low less in
+        let plain = never_bare j low less in rw (out.0, out.1, p, plain) refl
 
-    -- the next line's window
-    window-more : (next : ℕ)
-        → ((x : ℕ) → i + 1 ≤ x → (nat_lt (x - i) left || (nat_le (x - i) A && selected i)) ≡ nat_lt (x - (i + 1)) next)
-        → (x : ℕ)
-        → i + 1 ≤ x → some_below (λ j. nat_le (x - j) A && selected j) (i + 1) ≡ nat_lt (x - (i + 1)) next
-    window-more next goes x low = unfolded (i + 1) (omega arith)
+    reported-passed : (j : ℕ) → v ≤ j → j < i → is_reported j ≡ nat_le (i - j) B
+    reported-passed j low less = let test = lt-ltb j turned (omega arith) in let kind = kind-passed j low less in
+        rw (kind, test) (settled (nat_le (i - j) B))
       where
-        unfolded : (m : ℕ) → m ≡ suc i → some_below (λ j. nat_le (x - j) A && selected j) m ≡ nat_lt (x - (i + 1)) next
-        unfolded m is = rw (is, near.window x (omega arith)) (goes x low)
+        settled : (b : Bool) → is_some (if b then Some (in_context Before) else None) ≡ b
+        settled true = refl
+        settled false = refl
 
-    -- a line that is not selected and follows none stays unreported so far
-    pub IsNear-pass : selected i ≡ false → left ≡ 0 → k.passthru ≡ false → Near v (i + 1) 0
-    IsNear-pass misses empty shut = record {
-      low = omega (arith, near.low);
-      few = omega arith;
-      close = λ above. absurd (omega arith);
-      window = window-more 0
-          (λ x low. let ended = le-ltb (x - i) left (omega arith) in let ended_next = le-ltb (x - (i + 1)) 0
-          (omega arith) in
-          rw (ended, misses, and-false (nat_le (x - i) A), ended_next) refl);
-      passed = λ j low high. ⊎_elim (λ less. near.passed j low less)
-          (λ over. let same : j ≡ i = omega arith in let out = le-ltb 0 left (omega arith) in
-          (rw same misses, rw same (follows-here ∙ out))) (cases_lt j i);
-      shown = near.shown;
-      bare = λ yes. absurd (clash yes shut);
-    }
+    -- whether a break comes before line j, which is reported
+    break-here : (j : ℕ) → v ≤ j → j ≤ i → i - j ≤ B → is_reported j ≡ true
+        → (not (is_reported (j - 1)) && some_below is_reported j)
+        ≡ is_gap k v j i
+    break-here j low high close shown = ⊎_elim after_report first_report (cases_lt 0 v)
+      where
+        -- the line before is reported
+        joined : is_reported (j - 1) ≡ true → is_gap k v j i ≡ false
+            → (not (is_reported (j - 1)) && some_below is_reported j)
+            ≡ is_gap k v j i
+        joined shown unbroken = rw (shown, unbroken) refl
 
-    -- a line after a selected one
-    pub kind-after : selected i ≡ false → 0 < left
-        → Selections.kind k selected trailing n turned i ≡ Some (if trailing i then matched else in_context After)
-    kind-after misses some = let follows_it = follows-here ∙ lt-ltb 0 left some in rw (misses, follows_it) refl
+        first_report : v ≤ 0 → (not (is_reported (j - 1)) && some_below is_reported j) ≡ is_gap k v j i
+        first_report none =
+            let out = le-ltb 0 v none in
+            let unbroken : is_gap k v j i ≡ false = rw out refl in
+            ⊎_elim
+            (λ above. ⊎_elim
+            (λ inner. joined (reported-passed (j - 1) (omega arith) (omega arith)
+            ∙ le-leb (i - (j - 1)) B (omega arith)) unbroken)
+            (λ outer. let silent = some_below-none is_reported j
+            (λ q below. reported-passed q (omega arith) (omega arith) ∙ lt-leb (i - q) B (omega arith)) in
+            rw (silent, unbroken) (and-false _))
+            (cases_lt (i - j) B))
+            (λ zero_j. let same : j - 1 ≡ j = omega arith in joined (ap is_reported same ∙ shown) unbroken)
+            (cases_lt 0 j)
 
-    -- no break comes before it, since the line before it is reported
-    pub gap-after : 0 < left
-        → (nat_lt 0 (A + B) && true && not (is_reported (i - 1)) && some_below is_reported i)
+        after_report : 0 < v → (not (is_reported (j - 1)) && some_below is_reported j) ≡ is_gap k v j i
+        after_report some = ⊎_elim
+            (λ above.
+            let prior = reported-passed (j - 1) (omega arith) (omega arith) in
+            let earlier = some_below-some is_reported j (v - 1) (omega arith) (near.shown some) in
+            let a = lt-ltb 0 v some in
+            let b = lt-ltb v j above in
+            rw (prior, earlier, a, b) (and-true _ ∙ ⊎_elim
+            (λ inner. let p = le-leb (i - (j - 1)) B (omega arith) in let q = ne_eqb (i - j) B (λ e. omega arith) in
+            rw (p, q) refl)
+            (λ outer. let p = lt-leb (i - (j - 1)) B (omega arith) in let q = eq-eqb (i - j) B (omega arith) in
+            rw (p, q) refl)
+            (cases_lt (i - j) B)))
+            (λ at. let same : v - 1 ≡ j - 1 = omega arith in let b = le-ltb v j at in
+            joined (ap is_reported (sym same) ∙ near.shown some) (rw (b, and-false (nat_lt 0 v)) refl))
+            (cases_lt v j)
+
+    -- the break before a passed line, and before the match
+    pub gap-passed : (j : ℕ) → v ≤ j → j < i → i - j ≤ B
+        → (nat_lt 0 (A + B) && true && not (is_reported (j - 1)) && some_below is_reported j) ≡ is_gap k v j i
+    gap-passed j low less close =
+        let wide : nat_lt 0 (A + B) ≡ true = lt-ltb 0 (A + B) (omega arith) in
+        let gap = break-here j low (omega arith) close (reported-passed j low less ∙ le-leb (i - j) B close) in
+        rw wide gap
+
+    pub gap-hit : (nat_lt 0 (A + B) && true && not (is_reported (i - 1)) && some_below is_reported i)
         ≡ (nat_lt 0 A && is_gap k v i i)
-    gap-after some =
-        let same = near.close some in
-        let first : 0 < i = ⊎_elim (λ less. less) (λ none. absurd (begins (omega (arith, none)))) (cases_lt 0 i) in
-        let shown : is_reported (i - 1) ≡ true = ap (λ x. is_reported (x - 1)) (sym same) ∙ near.shown (omega arith) in
-        let late = le-ltb v i (omega arith) in
-        rw (shown, late) (unbroken (nat_lt 0 (A + B)) (some_below is_reported i)
-        ∙ sym (joined (nat_lt 0 A) (nat_lt 0 v) (nat_eq (i - i) B)))
+    gap-hit = guard (not (is_reported (i - 1))) (some_below is_reported i)
+        (break-here i near.low (omega arith) (omega arith) reported-here)
       where
-        begins : i ≡ 0 → ⊥
-        begins none = clash (lt-ltb 0 left some) (sym follows-here ∙ ap follows none)
+        guard : (r s : Bool) → (r && s) ≡ is_gap k v i i → (((nat_lt 0 (A + B) && true) && r) && s)
+            ≡ (nat_lt 0 A && is_gap k v i i)
+        guard r s same = ⊎_elim
+            (λ some. let a = lt-ltb 0 A some in let w = lt-ltb 0 (A + B) (omega arith) in rw (a, w) same)
+            (λ none. ⊎_elim
+            (λ some. let a = le-ltb 0 A none in let w = lt-ltb 0 (A + B) (omega arith) in
+            let apart = ne_eqb (i - i) B (λ e. omega arith) in rw (a, w)
+            (same ∙ rw (apart) (and-false (nat_lt 0 v && nat_lt v i))))
+            (λ both. let a = le-ltb 0 A none in let w = le-ltb 0 (A + B) (omega arith) in rw (a, w) refl)
+            (cases_lt 0 B))
+            (cases_lt 0 A)
 
-        unbroken : (a b : Bool) → (((a && true) && false) && b) ≡ false
-        unbroken true b = refl
-        unbroken false b = refl
+    -- the next selected line after a passed one
+    pub next-passed : (j : ℕ) → v ≤ j → j < i → first_below (λ q. nat_lt j q && selected q) n ≡ Some i
+    next-passed j low less =
+        first_below-here (λ q. nat_lt j q && selected q) n i inside (let a = lt-ltb j i less in rw (a, hit) refl)
+        (some_below-none _ i (λ q below. ⊎_elim (λ follows_it. let c = (near.passed q (omega arith) below).0 in rw c
+        (and-false _))
+        (λ ahead. let c = le-ltb j q ahead in rw c refl) (cases_lt j q)))
 
-        joined : (a b c : Bool) → (a && ((b && false) && c)) ≡ false
-        joined true true c = refl
-        joined true false c = refl
-        joined false b c = refl
-
-    pub IsNear-after : i < turned → (rest : ℕ) → selected i ≡ false → left ≡ rest + 1 → Near (i + 1) (i + 1) rest
-    IsNear-after has rest misses is = record {
-      low = omega arith;
-      few = omega (arith, near.few);
-      close = λ above. refl;
-      window = window-more rest (λ x low. rw (misses, and-false (nat_le (x - i) A))
-          (or-false (nat_lt (x - i) left) ∙ shifted x low));
-      passed = λ j low high. absurd (omega arith);
-      shown = λ above. let back : (i + 1) - 1 ≡ i = omega arith in let kind = kind-after misses (omega arith) in
-          let test = lt-ltb i turned has in rw (back, kind, test) refl;
-      bare = λ _. refl;
-    }
-      where
-        shifted : (x : ℕ) → i + 1 ≤ x → nat_lt (x - i) left ≡ nat_lt (x - (i + 1)) rest
-        shifted x low = ⊎_elim (λ less. lt-ltb (x - i) left less ∙ sym (lt-ltb (x - (i + 1)) rest (omega arith)))
-            (λ over. le-ltb (x - i) left over ∙ sym (le-ltb (x - (i + 1)) rest (omega arith))) (cases_lt (x - i) left)
-
-    precedes-bare : k.before_context ≡ 0 → precedes i ≡ false
-    precedes-bare none = some_below-none _ n (λ q below. go q (nat_lt i q) refl)
-      where
-        go : (q : ℕ) (less : Bool) → nat_lt i q ≡ less → (nat_lt i q && nat_le (q - i) k.before_context && selected q)
-            ≡ false
-        go q false is = rw is refl
-        go q true is = let high = ltb-true i q is in let out = lt-leb (q - i) k.before_context (omega arith) in
-            rw (is, out) refl
-
-    -- a line that is reported under passthru alone
-    pub kind-other : selected i ≡ false → left ≡ 0 → k.passthru ≡ true → k.before_context ≡ 0
-        → Selections.kind k selected trailing n turned i ≡ Some (in_context Other)
-    kind-other misses empty bare none = let follows_it = follows-here
-        ∙ le-ltb 0 left (omega arith) in let ahead = precedes-bare none in
-        rw (misses, follows_it, ahead, bare) refl
-
-    pub IsNear-other : i < turned → selected i ≡ false → left ≡ 0 → k.passthru ≡ true → k.before_context ≡ 0
-        → Near (i + 1) (i + 1) 0
-    IsNear-other has misses empty bare none = record {
-      low = omega arith;
-      few = omega arith;
-      close = λ above. refl;
-      window = window-more 0
-          (λ x low. let ended = le-ltb (x - i) left (omega arith) in let ended_next = le-ltb (x - (i + 1)) 0
-          (omega arith) in
-          rw (ended, misses, and-false (nat_le (x - i) A), ended_next) refl);
-      passed = λ j low high. absurd (omega arith);
-      shown = λ above. let back : (i + 1) - 1 ≡ i = omega arith in let kind = kind-other misses empty bare none in
-          let test = lt-ltb i turned has in rw (back, kind, test) refl;
-      bare = λ _. refl;
-    }
-
-    -- after any line that isn't selected
-    pub IsNear-missed : (k.passthru ≡ true → k.before_context ≡ 0) → i < turned → selected i ≡ false
-        → Near (if nat_lt 0 left || k.passthru then i + 1 else v) (i + 1) (left - 1)
-    IsNear-missed bare has misses = go (nat_lt 0 left) k.passthru refl refl
-      where
-        go : (b p : Bool) → nat_lt 0 left ≡ b → k.passthru ≡ p → Near (if b || p then i + 1 else v) (i + 1) (left - 1)
-        go true p is_b is_p = let some = ltb-true 0 left is_b in IsNear-after has (left - 1) misses (omega arith)
-        go false true is_b is_p =
-            let none : left ≡ 0 = let le = ltb-false 0 left is_b in omega arith in
-            let rest : 0 ≡ left - 1 = omega arith in
-            subst (λ l. Near (i + 1) (i + 1) l) rest (IsNear-other has misses none is_p (bare is_p))
-        go false false is_b is_p =
-            let none : left ≡ 0 = let le = ltb-false 0 left is_b in omega arith in
-            let rest : 0 ≡ left - 1 = omega arith in
-            subst (λ l. Near v (i + 1) l) rest (IsNear-pass misses none is_p)
-
-    -- what is joined over the lines grows by that line's part, if it is reported
-    pub headed-missed : {X : Type 0} (first : X) (f : ℕ → List X) (after other : List X) → (0 < left → f i ≡ after)
-        → (left ≡ 0 → k.passthru ≡ true → f i ≡ other)
-        → headed first f (if nat_lt 0 left || k.passthru then i + 1 else v)
-        ≡ headed first f v ++ (if nat_lt 0 left then after else (if k.passthru then other else []))
-    headed-missed first f after other is_after is_other = go (nat_lt 0 left) k.passthru refl refl
-      where
-        go : (b p : Bool) → nat_lt 0 left ≡ b → k.passthru ≡ p
-            → headed first f (if b || p then i + 1 else v) ≡ headed first f v
-            ++ (if b then after else (if p then other else []))
-        go true p is_b is_p =
-            let some = ltb-true 0 left is_b in
-            headed-one first f v i (near.close some) ∙ ap (λ xs. headed first f v ++ xs) (is_after some)
-        go false true is_b is_p =
-            let none : left ≡ 0 = let le = ltb-false 0 left is_b in omega arith in
-            headed-one first f v i (near.bare is_p) ∙ ap (λ xs. headed first f v ++ xs) (is_other none is_p)
-        go false false is_b is_p = sym (append-nil (headed first f v))
-
-    -- if line i is selected
-    module _ (inside : i < n) (has : i < turned) (hit : selected i ≡ true) where
-      reported-here : is_reported i ≡ true
-      reported-here = let test = lt-ltb i turned has in rw (hit, test) refl
-
-      -- a passed line is before the match if it is near
-      precedes-passed : (j : ℕ) → v ≤ j → j < i → precedes j ≡ nat_le (i - j) B
-      precedes-passed j low less = ⊎_elim is_far is_close (cases_lt B (i - j))
-        where
-          is_close : i - j ≤ B → precedes j ≡ nat_le (i - j) B
-          is_close close = some_below-some _ n i inside
-              (let a = lt-ltb j i less in let b = le-leb (i - j) B close in rw (a, b, hit) refl)
-              ∙ sym (le-leb (i - j) B close)
-
-          is_far : B < i - j → precedes j ≡ nat_le (i - j) B
-          is_far far = some_below-none _ n none ∙ sym (lt-leb (i - j) B far)
-            where
-              none : (q : ℕ) → q < n → (nat_lt j q && nat_le (q - j) B && selected q) ≡ false
-              none q below = ⊎_elim
-                  (λ early. ⊎_elim (λ follows_it. let c = (near.passed q (omega arith) early).0 in rw c (and-false _))
-                  (λ ahead. let c = le-ltb j q ahead in rw c refl) (cases_lt j q))
-                  (λ late. let c = lt-leb (q - j) B (omega arith) in rw (c, and-false (nat_lt j q)) refl)
-                  (cases_lt q i)
-
-      pub kind-passed : (j : ℕ) → v ≤ j → j < i
-          → Selections.kind k selected trailing n turned j
-          ≡ (if nat_le (i - j) B then Some (in_context Before) else None)
-      kind-passed j low less = let out = near.passed j low less in let p = precedes-passed j low less in
-          let plain = never_bare j low less in rw (out.0, out.1, p, plain) refl
-
-      reported-passed : (j : ℕ) → v ≤ j → j < i → is_reported j ≡ nat_le (i - j) B
-      reported-passed j low less = let test = lt-ltb j turned (omega arith) in let kind = kind-passed j low less in
-          rw (kind, test) (settled (nat_le (i - j) B))
-        where
-          settled : (b : Bool) → is_some (if b then Some (in_context Before) else None) ≡ b
-          settled true = refl
-          settled false = refl
-
-      -- whether a break comes before line j, which is reported
-      break-here : (j : ℕ) → v ≤ j → j ≤ i → i - j ≤ B → is_reported j ≡ true
-          → (not (is_reported (j - 1)) && some_below is_reported j)
-          ≡ is_gap k v j i
-      break-here j low high close shown = ⊎_elim after_report first_report (cases_lt 0 v)
-        where
-          -- the line before is reported
-          joined : is_reported (j - 1) ≡ true → is_gap k v j i ≡ false
-              → (not (is_reported (j - 1)) && some_below is_reported j)
-              ≡ is_gap k v j i
-          joined shown unbroken = rw (shown, unbroken) refl
-
-          first_report : v ≤ 0 → (not (is_reported (j - 1)) && some_below is_reported j) ≡ is_gap k v j i
-          first_report none =
-              let out = le-ltb 0 v none in
-              let unbroken : is_gap k v j i ≡ false = rw out refl in
-              ⊎_elim
-              (λ above. ⊎_elim
-              (λ inner. joined (reported-passed (j - 1) (omega arith) (omega arith)
-              ∙ le-leb (i - (j - 1)) B (omega arith)) unbroken)
-              (λ outer. let silent = some_below-none is_reported j
-              (λ q below. reported-passed q (omega arith) (omega arith) ∙ lt-leb (i - q) B (omega arith)) in
-              rw (silent, unbroken) (and-false _))
-              (cases_lt (i - j) B))
-              (λ zero_j. let same : j - 1 ≡ j = omega arith in joined (ap is_reported same ∙ shown) unbroken)
-              (cases_lt 0 j)
-
-          after_report : 0 < v → (not (is_reported (j - 1)) && some_below is_reported j) ≡ is_gap k v j i
-          after_report some = ⊎_elim
-              (λ above.
-              let prior = reported-passed (j - 1) (omega arith) (omega arith) in
-              let earlier = some_below-some is_reported j (v - 1) (omega arith) (near.shown some) in
-              let a = lt-ltb 0 v some in
-              let b = lt-ltb v j above in
-              rw (prior, earlier, a, b) (and-true _ ∙ ⊎_elim
-              (λ inner. let p = le-leb (i - (j - 1)) B (omega arith) in let q = ne_eqb (i - j) B (λ e. omega arith) in
-              rw (p, q) refl)
-              (λ outer. let p = lt-leb (i - (j - 1)) B (omega arith) in let q = eq-eqb (i - j) B (omega arith) in
-              rw (p, q) refl)
-              (cases_lt (i - j) B)))
-              (λ at. let same : v - 1 ≡ j - 1 = omega arith in let b = le-ltb v j at in
-              joined (ap is_reported (sym same) ∙ near.shown some) (rw (b, and-false (nat_lt 0 v)) refl))
-              (cases_lt v j)
-
-      -- the break before a passed line, and before the match
-      pub gap-passed : (j : ℕ) → v ≤ j → j < i → i - j ≤ B
-          → (nat_lt 0 (A + B) && true && not (is_reported (j - 1)) && some_below is_reported j) ≡ is_gap k v j i
-      gap-passed j low less close =
-          let wide : nat_lt 0 (A + B) ≡ true = lt-ltb 0 (A + B) (omega arith) in
-          let gap = break-here j low (omega arith) close (reported-passed j low less ∙ le-leb (i - j) B close) in
-          rw wide gap
-
-      pub gap-hit : (nat_lt 0 (A + B) && true && not (is_reported (i - 1)) && some_below is_reported i)
-          ≡ (nat_lt 0 A && is_gap k v i i)
-      gap-hit = guard (not (is_reported (i - 1))) (some_below is_reported i)
-          (break-here i near.low (omega arith) (omega arith) reported-here)
-        where
-          guard : (r s : Bool) → (r && s) ≡ is_gap k v i i → (((nat_lt 0 (A + B) && true) && r) && s)
-              ≡ (nat_lt 0 A && is_gap k v i i)
-          guard r s same = ⊎_elim
-              (λ some. let a = lt-ltb 0 A some in let w = lt-ltb 0 (A + B) (omega arith) in rw (a, w) same)
-              (λ none. ⊎_elim
-              (λ some. let a = le-ltb 0 A none in let w = lt-ltb 0 (A + B) (omega arith) in
-              let apart = ne_eqb (i - i) B (λ e. omega arith) in rw (a, w)
-              (same ∙ rw (apart) (and-false (nat_lt 0 v && nat_lt v i))))
-              (λ both. let a = le-ltb 0 A none in let w = le-ltb 0 (A + B) (omega arith) in rw (a, w) refl)
-              (cases_lt 0 B))
-              (cases_lt 0 A)
-
-      -- the next selected line after a passed one
-      pub next-passed : (j : ℕ) → v ≤ j → j < i → first_below (λ q. nat_lt j q && selected q) n ≡ Some i
-      next-passed j low less =
-          first_below-here (λ q. nat_lt j q && selected q) n i inside (let a = lt-ltb j i less in rw (a, hit) refl)
-          (some_below-none _ i (λ q below. ⊎_elim (λ follows_it. let c = (near.passed q (omega arith) below).0 in rw c
-          (and-false _))
-          (λ ahead. let c = le-ltb j q ahead in rw c refl) (cases_lt j q)))
-
-  -- lines that aren't selected are passed unreported, if none is left to be reported after a match
-  pub IsNear-skipped : k.passthru ≡ false → (v i m : ℕ) → Near v i 0
-      → ((j : ℕ) → i ≤ j → j < i + m → selected j ≡ false) → Near v (i + m) 0
-  IsNear-skipped plain v i zero near missed = let same : i ≡ i + zero = omega arith in subst (λ x. Near v x 0) same near
-  IsNear-skipped plain v i (suc m) near missed =
-      let sum : (i + 1) + m ≡ i + suc m = omega arith in
-      let one = IsNear-pass v i 0 near (missed i (omega arith) (omega arith)) refl plain in
-      subst (λ x. Near v x 0) sum
-      (IsNear-skipped plain v (i + 1) m one (λ j low high. missed j (omega arith) (omega arith)))
+-- lines that aren't selected are passed unreported, if none is left to be reported after a match
+pub IsNear-skipped : {k : Settings} {selected trailing : ℕ → Bool} {n turned v : ℕ} → k.passthru ≡ false → (i m : ℕ)
+    → IsNear k selected trailing n turned v i 0 → ((j : ℕ) → i ≤ j → j < i + m → selected j ≡ false)
+    → IsNear k selected trailing n turned v (i + m) 0
+IsNear-skipped {k} {selected} {trailing} {n} {turned} {v} plain i zero near missed =
+    let same : i ≡ i + zero = omega arith in subst (λ x. IsNear k selected trailing n turned v x 0) same near
+IsNear-skipped {k} {selected} {trailing} {n} {turned} {v} plain i (suc m) near missed =
+    let sum : (i + 1) + m ≡ i + suc m = omega arith in
+    let one = IsNear-pass near (missed i (omega arith) (omega arith)) refl plain in
+    subst (λ x. IsNear k selected trailing n turned v x 0) sum
+    (IsNear-skipped plain (i + 1) m one (λ j low high. missed j (omega arith) (omega arith)))

@@ -202,7 +202,7 @@ module _ {S E F : Type 0} (step : Steps S E) (errors : ErrorMakers F E) (matcher
       → look_of k matcher.meaning unchanged ≡ nowhere
   looks-nowhere k none unchanged = rw none refl
 
-  -- the sink is told of no binary byte
+  -- no binary byte is reported
   along : (k : Settings) (IsAt : List Planned → Option BinaryPoint → Type 0)
       → ((calls : List Planned) (point : Option BinaryPoint) → IsAt calls point → point ≡ None)
       → (HasRead : Plan → Outcome E → Type 0) (bytes : List ℕ) (old new : S)

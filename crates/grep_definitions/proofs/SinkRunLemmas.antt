@@ -67,7 +67,7 @@ outcome_with binary all_true = all_true
 outcome_with binary (stopped finish) = stopped (record finish { binary = binary })
 outcome_with binary (failed e) = failed e
 
--- the same, if the sink was told of one
+-- the same, if a binary byte was reported
 abbrev pub finish_by : Option ℕ → Finish → Finish
 finish_by None finish = finish
 finish_by (Some offset) finish = record finish { binary = Some offset }

@@ -24,7 +24,7 @@ position_after-later p m low order = ⊎_elim
 
 -- and not before its start
 pub position_after-start : (m : ℕ × ℕ) → m.0 ≤ m.1 → m.0 ≤ position_after m
-position_after-start m order = let after = position_after-later m.0 m (omega arith) order in omega (arith, after)
+position_after-start m order = let after = position_after-later m.0 m (omega arith) order in omega arith
 
 -- the last of some matches decides
 pub position_past-last : (p : ℕ) (found : List (ℕ × ℕ)) (m : ℕ × ℕ) → position_past p (found ++ m ∷ [])
@@ -61,7 +61,7 @@ module _ (meaning : Meaning) (bytes : List ℕ) where
       go true is None inside = tt
       go true is (Some m) inside =
           let below = ltb-true p (length bytes) is in
-          (omega arith, omega (arith, inside.0), omega (arith, inside.1, below, length-drop p bytes))
+          (omega arith, omega arith, omega (arith, length-drop p bytes))
       go false is found inside = tt
 
   -- none is found from the end on

@@ -70,21 +70,15 @@ module _ (t : ℕ) (bytes : List ℕ) where
   lines_before-line p a inside low below =
       let same = block_start-line (p, p) a inside low below in
       ⊎_elim
-      (λ less. absurd (omega (
-        arith,
-        same,
-        rises (lines_before t bytes p) (omega (arith, less)),
-        line_start-le t bytes (lines_before t bytes p + 1) a (omega (arith, less)),
-      )))
+      (λ less. absurd (omega (arith, rises (lines_before t bytes p) (omega (arith, less)), line_start-le t bytes (lines_before t bytes p + 1) a (omega (arith, less)))))
       (λ over. ⊎_elim
       (λ more. absurd (omega (
         arith,
-        same,
         rises a inside,
         line_start-le t bytes (a + 1) (lines_before t bytes p)
             (omega (arith, more)),
       )))
-      (λ few. omega (arith, over, few))
+      (λ few. omega arith)
       (cases_lt a (lines_before t bytes p)))
       (cases_lt (lines_before t bytes p) a)
 
@@ -120,7 +114,7 @@ module _ (t : ℕ) (bytes : List ℕ) where
   -- the block of an empty match in a line ends with the line
   pub block_end-empty : (p a : ℕ) → a < n → from a ≤ p → p < from (a + 1) → from (a + 1) ≡ block_end t bytes (p, p)
   block_end-empty p a inside low below =
-      block_end-open t bytes (p, p) (from (a + 1)) (λ less. absurd (omega (arith, less)))
+      block_end-open t bytes (p, p) (from (a + 1)) (λ less. absurd (omega arith))
       (ap (λ q. from (q + 1)) (sym (lines_before-line p a inside low below)))
 
   -- whether a line is within the whole lines of a match
@@ -132,24 +126,24 @@ module _ (t : ℕ) (bytes : List ℕ) where
       ≡ nat_lt s (from (i + 1))
   starts-late s a i inside here low below = same-tests (from a) (from i) s (from (i + 1))
       (λ early over. ⊎_elim
-      (λ less. omega (arith, early, over, rises i here, line_start-le t bytes (i + 1) a (omega (arith, less))))
-      (λ more. omega (arith, over, below, line_start-le t bytes (a + 1) (i + 1) (omega (arith, more))))
+      (λ less. omega (arith, rises i here, line_start-le t bytes (i + 1) a (omega (arith, less))))
+      (λ more. omega (arith, line_start-le t bytes (a + 1) (i + 1) (omega (arith, more))))
       (cases_lt i a))
       (λ over late. ⊎_elim
-      (λ less. omega (arith, over, low, line_start-le t bytes (i + 1) a (omega (arith, less))))
-      (λ more. omega (arith, late, line_start-le t bytes a i more))
+      (λ less. omega (arith, line_start-le t bytes (i + 1) a (omega (arith, less))))
+      (λ more. omega (arith, line_start-le t bytes a i more))
       (cases_lt i a))
 
   ends-early : (e b i : ℕ) → b < n → i < n → from b < e → e ≤ from (b + 1) → nat_le (from (i + 1)) (from (b + 1))
       ≡ nat_lt (from i) e
   ends-early e b i inside here low below = same-tests (from (i + 1)) (from (b + 1)) (from i) e
       (λ early over. ⊎_elim
-      (λ less. omega (arith, early, over, below, rises i here, line_start-le t bytes (b + 1) i (omega (arith, less))))
-      (λ more. omega (arith, low, over, line_start-le t bytes i b more))
+      (λ less. omega (arith, rises i here, line_start-le t bytes (b + 1) i (omega (arith, less))))
+      (λ more. omega (arith, line_start-le t bytes i b more))
       (cases_lt b i))
       (λ over late. ⊎_elim
-      (λ less. omega (arith, below, over, line_start-le t bytes (b + 1) i (omega (arith, less))))
-      (λ more. omega (arith, late, line_start-le t bytes (i + 1) (b + 1) (omega (arith, more))))
+      (λ less. omega (arith, line_start-le t bytes (b + 1) i (omega (arith, less))))
+      (λ more. omega (arith, line_start-le t bytes (i + 1) (b + 1) (omega (arith, more))))
       (cases_lt b i))
 
   -- a match that isn't empty touches the lines that it has a byte of
@@ -159,10 +153,10 @@ module _ (t : ℕ) (bytes : List ℕ) where
       let first = holder m.0 (omega arith) in
       let last = holder (m.1 - 1) (omega arith) in
       let start = block_start-line m first.0 first.1 first.2 first.3 in
-      let stop = block_end-line m last.0 some last.1 (omega (arith, last.2)) (omega (arith, last.3)) in
+      let stop = block_end-line m last.0 some last.1 (omega arith) (omega arith) in
       rw (← start, ← stop, starts-late m.0 first.0 i first.1 here first.2 first.3)
-      (ap (λ b. nat_lt m.0 (from (i + 1)) && b) (ends-early m.1 last.0 i last.1 here (omega (arith, last.2))
-      (omega (arith, last.3))))
+      (ap (λ b. nat_lt m.0 (from (i + 1)) && b) (ends-early m.1 last.0 i last.1 here (omega arith)
+      (omega arith)))
 
 -- an empty match touches the line that holds its position
 module _ (terminator : LineTerminator) (meaning : Meaning) (bytes : List ℕ) (p i : ℕ) (inside : p ≤ length bytes)
@@ -182,7 +176,7 @@ module _ (terminator : LineTerminator) (meaning : Meaning) (bytes : List ℕ) (p
       → lines_before t bytes p + 1 ≡ n t bytes
   last-before over other = ⊎_elim
       (λ some. omega (arith, all-before over, lines-unclosed t bytes some other))
-      (λ none. absurd (omega (arith, here, none, rises t bytes i here, high t bytes (i + 1))))
+      (λ none. absurd (omega (arith, rises t bytes i here, high t bytes (i + 1))))
       (cases_lt 0 (length bytes))
 
   -- a touched line holds it
@@ -195,7 +189,7 @@ module _ (terminator : LineTerminator) (meaning : Meaning) (bytes : List ℕ) (p
       (λ less. absurd (omega (
         arith,
         rises t bytes i here,
-        line_start-le t bytes (i + 1) line.0 (omega (arith, less)),
+        line_start-le t bytes (i + 1) line.0 (omega arith),
         first,
         block_start-line t bytes (p, p) line.0 line.1 line.2 line.3,
       )))
@@ -203,14 +197,14 @@ module _ (terminator : LineTerminator) (meaning : Meaning) (bytes : List ℕ) (p
       (λ more. absurd (omega (
         arith,
         rises t bytes i here,
-        line_start-le t bytes (line.0 + 1) i (omega (arith, more)),
+        line_start-le t bytes (line.0 + 1) i (omega arith),
         second,
         block_end-empty t bytes p line.0 line.1 line.2 line.3,
       )))
-      (λ few. omega (arith, over, few))
+      (λ few. omega arith)
       (cases_lt line.0 i))
       (cases_lt i line.0) in
-      (omega (arith, ap starts same, line.2), inl (omega (arith, ap (λ x. starts (x + 1)) same, line.3))))
+      (omega (arith, ap starts same), inl (omega (arith, ap (λ x. starts (x + 1)) same))))
       (λ over. ⊎_elim
       (λ closed. absurd (omega (
         arith,
@@ -229,12 +223,12 @@ module _ (terminator : LineTerminator) (meaning : Meaning) (bytes : List ℕ) (p
         arith,
         first,
         rises t bytes i here,
-        line_start-le t bytes (i + 1) (lines_before t bytes p) (omega (arith, less)),
+        line_start-le t bytes (i + 1) (lines_before t bytes p) (omega arith),
       )))
       (λ more. (
-        omega (arith, high t bytes i, over),
+        omega (arith, high t bytes i),
         inr
-            (omega (arith, more, last, here), omega (arith, inside, over), other),
+            (omega arith, omega arith, other),
       ))
       (cases_lt i (lines_before t bytes p)))
       (cases_eq (slice_index bytes (length bytes - 1)) t))
@@ -258,9 +252,9 @@ module _ (terminator : LineTerminator) (meaning : Meaning) (bytes : List ℕ) (p
       (omega (arith, block_start-line t bytes (p, p) i here low below)))
       (le-leb (starts (i + 1)) (block_end t bytes (p, p)) (omega (arith, block_end-empty t bytes p i here low below)))
   holds-is_within (low, inr (last, over, other)) =
-      let before = last-before (omega (arith, over)) other in
-      let same : lines_before t bytes p ≡ i = omega (arith, before, last) in
-      let next = block_end-open t bytes (p, p) (starts (i + 1)) (λ less. absurd (omega (arith, less)))
+      let before = last-before (omega arith) other in
+      let same : lines_before t bytes p ≡ i = omega (arith, before) in
+      let next = block_end-open t bytes (p, p) (starts (i + 1)) (λ less. absurd (omega arith))
       (ap (λ q. starts (q + 1)) (sym same)) in
       and-both _ _ (le-leb (block_start t bytes (p, p)) (starts i) (omega (arith, ap starts same)))
       (le-leb (starts (i + 1)) (block_end t bytes (p, p)) (omega (arith, next)))

@@ -1,17 +1,17 @@
 -- Where the turns of calls end, against where lines start.
 use Rattle.grep_definitions.specs.SelectedLines
 use Rattle.grep_definitions.specs.Plans.{planned, Call, Planned, matches, context, breaks}
-use Rattle.std.proofs.Common.{◌≡◌, ℕ, zero, suc, ◌+◌, ◌-◌, ◌<◌, ◌≤◌, Bool, true, false, ◌&&◌, List, [], ◌∷◌, refl, sym}
-use Rattle.std.proofs.Common.{◌∙◌, arith, ⊎_elim, Option, Some, None, if◌then◌else◌}
+use Rattle.std.proofs.Common.{◌≡◌, ℕ, zero, suc, ◌+◌, ◌-◌, ◌<◌, ◌≤◌, Bool, true, false, ◌&&◌, List, [], ◌∷◌, ◌++◌, refl, sym}
+use Rattle.std.proofs.Common.{ap, append-nil, ◌∙◌, arith, ⊎_elim, Option, Some, None, if◌then◌else◌}
 use Rattle.std.proofs.Math.Bool.{and-false}
-use Rattle.std.proofs.lemmas.Bool.{ltb-true, le-ltb, cases_lt, cases_Bool}
-use Rattle.std.proofs.lemmas.List.Elements.{All-nil, All-cons}
-use Rattle.std.specs.Prelude.{nat_le, nat_lt, All, slice_index_or}
+use Rattle.std.proofs.lemmas.Bool.{ltb-true, le-ltb, le-leb, lt-leb, cases_lt, cases_Bool}
+use Rattle.std.proofs.lemmas.List.Elements.{All-nil, All-cons, All-weaker, filter-append}
+use Rattle.std.specs.Prelude.{filter, nat_le, nat_lt, All, slice_index_or}
 use Rattle.grep_matcher.specs.Lines.{byte_of, lines, line_start}
 use Rattle.grep_matcher.specs.Meanings.{Meaning}
 use Rattle.grep_report.specs.declared.sink_context.SinkContextKind.TheVariants.{Before, After, Other}
 use Rattle.grep_definitions.specs.Settings.{Settings}
-use Rattle.grep_definitions.specs.Reports.{first_below, Kind, matched, in_context}
+use Rattle.grep_definitions.specs.Reports.{first_below, joined_from, Kind, matched, in_context}
 use Rattle.grep_definitions.specs.LineSearch
 use Rattle.grep_definitions.specs.LineSearch.{turns_at}
 use Rattle.grep_definitions.specs.LineTurns.{one_turn, broken_turns, pending_turns, match_turns, listed_turns}
@@ -20,7 +20,8 @@ use Rattle.grep_definitions.proofs.BelowLemmas.{some_below-some, some_below-find
 use Rattle.grep_definitions.proofs.LineStartLemmas.{line_start-next}
 use Rattle.grep_definitions.specs.LineWalks.{IsNear}
 use Rattle.grep_definitions.proofs.BoolLemmas.{both_true, clash}
-use Rattle.grep_definitions.proofs.ListLemmas.{All-joined_from}
+use Rattle.grep_definitions.proofs.ListLemmas.{All-joined_from, filter-all, filter-none}
+use Rattle.grep_definitions.specs.Reports.{through}
 
 -- a later line starts no earlier
 pub line_start-le : (t : ℕ) (bytes : List ℕ) (i j : ℕ) → i ≤ j → line_start t bytes i ≤ line_start t bytes j
@@ -31,6 +32,24 @@ line_start-le t bytes i j low = at (j - i) j (omega arith)
     at (suc d) m is =
         let next : m ≡ (i + d) + 1 = omega arith in
         rw next (omega (arith, at d (i + d) refl, line_start-next t bytes (i + d)))
+
+-- of calls whose turns end by an offset, and later ones whose turns end after it, just the first have ended by it
+pub ended-by : (at : ℕ) (first : List Planned) (T : ℕ → List Planned) (v m : ℕ)
+    → All (λ turn. turn.if_false.count ≤ at) first
+    → ((j : ℕ) → v ≤ j → j < v + m → All (λ turn. at < turn.if_false.count) (T j))
+    → through at (first ++ joined_from T v m) ≡ first
+ended-by at first T v m ended late =
+    filter-append passes first (joined_from T v m)
+    ∙ (ap (λ xs. xs ++ filter passes (joined_from T v m)) (filter-all passes first
+    (All-weaker (λ turn. turn.if_false.count ≤ at) (λ turn. passes turn ≡ true)
+    (λ turn low. le-leb turn.if_false.count at low) first ended))
+    ∙ (ap (λ xs. first ++ xs) (filter-none passes (joined_from T v m)
+    (All-joined_from (λ turn. passes turn ≡ false) T v m (λ j low high. All-weaker (λ turn. at < turn.if_false.count)
+    (λ turn. passes turn ≡ false) (λ turn high. lt-leb turn.if_false.count at high) (T j) (late j low high))))
+    ∙ append-nil first))
+  where
+    passes : Planned → Bool
+    passes turn = nat_le turn.if_false.count at
 
 -- a call and the break before it end alike
 pub ends-one : (call : Call) (end : ℕ) → All (λ turn. turn.if_false.count ≡ end) (one_turn call end)
@@ -86,7 +105,7 @@ module _ (k : Settings) (meaning : Meaning) (bytes : List ℕ) where
       go (Some j) is =
           let found = first_below-of later (LineSearch.line_count k meaning bytes) j is in
           let above = ltb-true q j (both_true (nat_lt q j) (SelectedLines.is_selected k meaning bytes j) found.1).0 in
-          rw is (line_start-le (byte_of k.line_terminator) bytes (q + 1) (j + 1) (omega (arith, above)))
+          rw is (line_start-le (byte_of k.line_terminator) bytes (q + 1) (j + 1) (omega arith))
 
   -- if the turn of a line ends no earlier than some offset, each of its calls does so
   pub ends-turns_at : (bound j : ℕ)
@@ -129,9 +148,9 @@ module _ (k : Settings) (meaning : Meaning) (bytes : List ℕ) where
       ))
 
   -- those of a line that was passed unreported can only belong to a later match
-  pub ends-passed : (v i left : ℕ) → IsNear k meaning bytes v i left → (j : ℕ) → v ≤ j → j < i
+  pub ends-passed : {v i left : ℕ} → IsNear k meaning bytes v i left → (j : ℕ) → v ≤ j → j < i
       → All (λ turn. start (i + 1) ≤ turn.if_false.count) (turns_at k meaning bytes j)
-  ends-passed v i left near j low high = ends-turns_at (start (i + 1)) j late
+  ends-passed {v} {i} {left} near j low high = ends-turns_at (start (i + 1)) j late
     where
       n : ℕ
       n = LineSearch.line_count k meaning bytes

@@ -161,11 +161,11 @@ module _ (k : Settings) (meaning : Meaning) (bytes : List ℕ) where
       let end : AcrossLines.unit_end k meaning bytes i ≡ run_end selected n i =
       ap (λ b. if not b then run_end selected n i else i + 1) plain in
       let run = IsRunEnd-run_end selected n i inside here in
-      let sum : i + (run_end selected n i - i) ≡ run_end selected n i = omega (arith, run.low) in
+      let sum : i + (run_end selected n i - i) ≡ run_end selected n i = omega arith in
       let unit : AcrossLines.unit k meaning bytes i ≡ joined_from each i (run_end selected n i - i) =
       ap (λ e. slice_range bytes (at i) (at e)) (end ∙ sym sum)
-      ∙ lines-slice i (run_end selected n i - i) (omega (arith, sum, run.high))
-      (λ j low below. run.inner j low (omega (arith, sum))) in
+      ∙ lines-slice i (run_end selected n i - i) (omega arith)
+      (λ j low below. run.inner j low (omega arith)) in
       rw (here, fresh) unit)
     where
       same : (i : ℕ) → k.invert_match ≡ false → goes_on i ≡ continues selected n i
@@ -208,7 +208,7 @@ module _ (k : Settings) (meaning : Meaning) (bytes : List ℕ) where
       let end : AcrossLines.unit_end k meaning bytes i
       ≡ i + 1 = ap (λ b. if not b then run_end selected n i else i + 1) inverted in
       record {
-        later = omega (arith, end);
+        later = omega arith;
         size = omega (
           arith,
           ap (λ e. length (slice_range bytes (at i) (at e))) end,
@@ -216,7 +216,7 @@ module _ (k : Settings) (meaning : Meaning) (bytes : List ℕ) where
           ap length (slice-line k bytes i),
           line_start-more (byte_of k.line_terminator) bytes i inside,
         );
-        hits = λ j low high. absurd (omega (arith, low, high, end));
+        hits = λ j low high. absurd (omega arith);
       })
       (λ (plain : k.invert_match ≡ false).
       let end : AcrossLines.unit_end k meaning bytes i ≡ run_end selected n i =
@@ -224,16 +224,16 @@ module _ (k : Settings) (meaning : Meaning) (bytes : List ℕ) where
       let run = IsRunEnd-run_end selected n i inside here in
       record {
         later = ⊎_elim
-            (λ less. omega (arith, less, end))
+            (λ less. omega arith)
             (λ over.
-            let same : run_end selected n i ≡ i = omega (arith, over, run.low) in
-            absurd (clash here (ap selected (sym same) ∙ run.closed (omega (arith, same, inside)))))
+            let same : run_end selected n i ≡ i = omega arith in
+            absurd (clash here (ap selected (sym same) ∙ run.closed (omega (arith, same)))))
             (cases_lt i (run_end selected n i));
         size = unit-end i inside here plain ∙ ap at (sym end);
         hits = λ j low high.
-            let before = run.inner (j - 1) (omega (arith, low)) (omega (arith, high, end)) in
-            let above = lt-ltb 0 j (omega (arith, low)) in (
-              run.inner j (omega (arith, low)) (omega (arith, high, end)),
+            let before = run.inner (j - 1) (omega arith) (omega arith) in
+            let above = lt-ltb 0 j (omega arith) in (
+              run.inner j (omega arith) (omega arith),
               ap (λ b. not b && nat_lt 0 j && selected (j - 1)) plain ∙ (rw (above, before) refl),
             );
       })

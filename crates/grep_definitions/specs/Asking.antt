@@ -1,7 +1,7 @@
 -- Why a search is refused, what it asks a matcher, and which calls it made before. By line it asks
 -- about one line or about many at once; across lines for the next match, in the bytes after the
 -- last.
-use Rattle.std.specs.Prelude.{◌≡◌, ◌≢◌, ◌⊎◌, ℕ, ◌-◌, ◌<◌, ◌≤◌, ◌&&◌, ◌||◌, ◌==◌, Bool, true, false}
+use Rattle.std.specs.Prelude.{◌≡◌, ◌⊎◌, ℕ, ◌-◌, ◌<◌, ◌≤◌, ◌&&◌, ◌||◌, ◌==◌, Bool, true, false}
 use Rattle.std.specs.Prelude.{not, if◌then◌else◌, nat_lt, nat_le, List, ◌++◌, length, drop, Option}
 use Rattle.std.specs.Prelude.{None, Some, slice_range}
 use Rattle.grep_matcher.specs.declared.line_terminator.LineTerminator.{LineTerminator}
@@ -51,12 +51,10 @@ is_across settings meaning =
     && not (meaning.absent (byte_of settings.line_terminator))
 
 -- A search may ask about many lines at once: it doesn't report every line, and the matcher says
--- that no match contains the line terminator. If the terminator that it declares is the byte 0, the
--- search asks about each line alone, as grep-searcher does.
+-- that no match contains the line terminator.
 pub record AsksAhead (settings : Settings) (meaning : Meaning) : Type 0 where
   pub selects : settings.passthru ≡ false
   pub excludes : ExcludesTerminator settings.line_terminator meaning
-  pub declares : meaning.terminator ≢ Some (Byte 0)
 
 -- if it may, the matcher is lawful for the search's terminator
 abbrev pub IsLawful : {F : Type 0} → MatcherFacts F → Settings → Type 0

@@ -85,20 +85,21 @@ pub record BinaryPoint : Type 0 where
 abbrev pub with_offset : ℕ → Finish → Finish
 with_offset offset finish = record finish { binary = Some offset }
 
-abbrev pub told : BinaryPoint → Planned
-told point = record {
+abbrev pub planned_binary : BinaryPoint → Planned
+planned_binary point = record {
   call = binary_data point.offset;
   if_false = with_offset point.offset (counted point.count);
 }
 
-abbrev pub after_told : BinaryPoint → Planned → Planned
-after_told point later = record later { if_false = with_offset point.offset later.if_false }
+abbrev pub after_binary : BinaryPoint → Planned → Planned
+after_binary point later = record later { if_false = with_offset point.offset later.if_false }
 
 -- the calls with it, if the search goes on
 abbrev pub calls_with : Option BinaryPoint → List Planned → List Planned
 calls_with None calls = calls
 calls_with (Some point) calls =
-    take point.position calls ++ told point ∷ map (after_told point) (drop point.position calls)
+    take point.position calls
+    ++ planned_binary point ∷ map (after_binary point) (drop point.position calls)
 
 -- the plan with it: after a byte that ends the search only `finish` follows
 abbrev pub plan_with : BinaryDetection → Option BinaryPoint → Plan → Plan
@@ -106,7 +107,7 @@ plan_with detection None plan = plan
 plan_with detection (Some point) plan =
     if quits detection
     then record {
-      calls = take point.position plan.calls ++ told point ∷ [];
+      calls = take point.position plan.calls ++ planned_binary point ∷ [];
       finish = with_offset point.offset (counted point.count);
     }
     else record {

@@ -17,8 +17,8 @@ AreInner settings turns =
     All (λ turn. comes_between (is_detecting settings.binary_detection) turn.call ≡ true) turns
 
 -- how many of some calls are `binary_data`
-abbrev pub told_in : List Planned → ℕ
-told_in turns = count_by (λ turn. is_binary_data turn.call) turns
+abbrev pub binary_count : List Planned → ℕ
+binary_count turns = count_by (λ turn. is_binary_data turn.call) turns
 
 -- `begin`, and then some calls
 abbrev pub after_begin : List Planned → List Planned
@@ -33,29 +33,29 @@ EndsAt (failed e) count = ⊥
 module _ {S E : Type 0} (step : Steps S E) (settings : Settings) where
   -- some calls between `begin` and `finish`, up to the first that didn't return true, with this
   -- outcome; at most so many are `binary_data`
-  pub record HasCalled (told : ℕ) (old : S) (outcome : Outcome E) (new : S) : Type 0 where
+  pub record HasCalled (bound : ℕ) (old : S) (outcome : Outcome E) (new : S) : Type 0 where
     pub turns : List Planned
     pub inner : AreInner settings turns
-    pub few : told_in turns ≤ told
+    pub few : binary_count turns ≤ bound
     pub reported : AreMade step settings old turns outcome new
 
   -- `begin` and then such calls
-  pub record HasBegunWith (told : ℕ) (old : S) (outcome : Outcome E) (new : S) : Type 0 where
+  pub record HasBegunWith (bound : ℕ) (old : S) (outcome : Outcome E) (new : S) : Type 0 where
     pub turns : List Planned
     pub inner : AreInner settings turns
-    pub few : told_in turns ≤ told
+    pub few : binary_count turns ≤ bound
     pub reported : AreMade step settings old (after_begin turns) outcome new
 
   -- such calls after which `finish` has this byte count
-  pub record HasCalledTo (told : ℕ) (old : S) (count : ℕ) (new : S) : Type 0 where
+  pub record HasCalledTo (bound : ℕ) (old : S) (count : ℕ) (new : S) : Type 0 where
     pub outcome : Outcome E
     pub ends : EndsAt outcome count
-    pub called : HasCalled told old outcome new
+    pub called : HasCalled bound old outcome new
 
-  pub record HasBegunTo (told : ℕ) (old : S) (count : ℕ) (new : S) : Type 0 where
+  pub record HasBegunTo (bound : ℕ) (old : S) (count : ℕ) (new : S) : Type 0 where
     pub outcome : Outcome E
     pub ends : EndsAt outcome count
-    pub called : HasBegunWith told old outcome new
+    pub called : HasBegunWith bound old outcome new
 
   module _ {F : Type 0} (errors : ErrorMakers F E) (matcher : MatcherFacts F) where
     -- the sink's own error in the last of such calls, or the matcher's after calls that all

@@ -56,18 +56,6 @@ module _ {S : Type 0} (goes : S → Call → Bool) (next : S → Call → S) whe
   abbrev pub IsMatchOk : S → Call → Bool → S → Type 0
   IsMatchOk old call b new = IsTakenOk IsTakenBy old call b new
 
-module _ {S E : Type 0} (goes : S → Call → Bool) (next : S → Call → S) (fails : E → Type 0) where
-  -- the steps of a sink as these functions of the state and the call, with the errors that a call
-  -- may return
-  abbrev pub IsStepBy : Steps S E
-  IsStepBy old settings call (Ok b) new = (b ≡ goes old call) × (new ≡ next old call)
-  IsStepBy old settings call (Err e) new = fails e
-
-  -- those of a sink that takes matches alone
-  abbrev pub IsMatchStep : Steps S E
-  IsMatchStep old settings call (Ok b) new = IsMatchOk goes next old call b new
-  IsMatchStep old settings call (Err e) new = fails e
-
 module _ {S E : Type 0} (step : Steps S E) where
   -- each call that succeeds goes on and changes the state by these functions of the state and the
   -- call

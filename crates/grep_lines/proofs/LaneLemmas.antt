@@ -1,5 +1,5 @@
 -- What is equal in a vector of 64 bytes, counted lane by lane.
-use Rattle.std.proofs.Common.{zero, suc, take, drop, ◌≡◌, ◌≤◌, ◌+◌, ◌==◌, ◌^◌, ◌-◌, ◌/◌, ◌*◌, shr-shr, ℕ, Bool, true}
+use Rattle.std.proofs.Common.{zero, suc, take, drop, ◌≡◌, ◌≤◌, ◌+◌, ◌^◌, ◌-◌, ◌/◌, ◌*◌, shr-shr, ℕ, Bool, true}
 use Rattle.std.proofs.Common.{false, eqb, length, count_by, List, [], ◌∷◌, map, refl, sym, ◌∙◌, ap, subst, arith, w8}
 use lib.Lanes.{Each1, Each2, mask_l, sel_l, sum_l, top, zip2}
 use mathlib.Core.Bool.{cond}
@@ -7,7 +7,7 @@ use mir.Val.{Fits, bits, hbits}
 use Rattle.std.specs.Prelude.{replicate}
 use Rattle.std.proofs.Math.Nat.{zero-div}
 use Rattle.std.proofs.lemmas.List.Recursion.{is_count_by}
-use Rattle.std.proofs.lemmas.Simd.{Each1-zip2, Each2-of, sum-zip2, sum_bound, tops_compared, zip2_splat}
+use Rattle.std.proofs.lemmas.Simd.{Each1-zip2, Each2-of, sum-zip2, tops_compared, zip2_splat}
 
 -- one for each byte that passes
 abbrev pub ones : (ℕ → Bool) → List ℕ → List ℕ
@@ -61,7 +61,7 @@ module _ (lanes xs : List ℕ) (p : ℕ → Bool) where
   -- no lane overflows
   pub ones-fit : Each1 (λ n. n ≤ 254) lanes → Each2 (λ a b. Fits w8 (a + b)) lanes (ones p xs)
   ones-fit room = Each2-of (λ n. n ≤ 254) (λ n. n ≤ 1) (λ a b. Fits w8 (a + b))
-      (λ a b low one. record { fits = omega (arith, low, one) }) lanes (ones p xs) room (few-ones p xs)
+      (λ a b low one. record { fits = omega (arith, one) }) lanes (ones p xs) room (few-ones p xs)
 
   pub sum-added : length lanes ≡ length xs → sum_l (zip2 (λ a b. a + b) lanes (ones p xs)) ≡ sum_l lanes + count_by p xs
   sum-added same = sum-zip2 lanes (ones p xs) (same ∙ sym (length-ones p xs))
@@ -70,7 +70,7 @@ module _ (lanes xs : List ℕ) (p : ℕ → Bool) where
   pub few-added : (most : ℕ) → Each1 (λ n. n ≤ most) lanes
       → Each1 (λ n. n ≤ most + 1) (zip2 (λ a b. a + b) lanes (ones p xs))
   few-added most few = Each1-zip2 (λ a b. a + b) (λ n. n ≤ most + 1) lanes (ones p xs)
-      (Each2-of (λ n. n ≤ most) (λ n. n ≤ 1) (λ a b. a + b ≤ most + 1) (λ a b low one. omega (arith, low, one)) lanes
+      (Each2-of (λ n. n ≤ most) (λ n. n ≤ 1) (λ a b. a + b ≤ most + 1) (λ a b low one. omega (arith, one)) lanes
       (ones p xs)
       few (few-ones p xs))
 

@@ -35,7 +35,7 @@ IsFirstLine-tail : (t b : ℕ) (bytes : List ℕ) (e : ℕ) → IsFirstLine t (b
     → IsFirstLine t bytes (suc e)
 IsFirstLine-tail t b bytes e h = record {
   above = omega arith;
-  within = omega (arith, h.within);
+  within = omega arith;
   inner = λ i below. h.inner (suc i) (omega arith);
   closed = λ below. simp unary_clauses (simp unary_clauses at (h.closed (omega arith)));
 }
@@ -45,7 +45,7 @@ IsFirstLine-cons : (t b : ℕ) (bytes : List ℕ) (e : ℕ) → b ≢ t → IsFi
     → IsFirstLine t (b ∷ bytes) (suc (suc e))
 IsFirstLine-cons t b bytes e other h = record {
   above = omega arith;
-  within = omega (arith, h.within);
+  within = omega arith;
   inner = λ i below. inner_at i below;
   closed = λ below. simp unary_clauses (simp unary_clauses at (h.closed (omega arith)));
 }
@@ -85,8 +85,8 @@ first_line t (b ∷ c ∷ later) some =
 -- the first line, and the lines of what follows it
 pub lines-first : (t : ℕ) (bytes : List ℕ) (e : ℕ) → IsFirstLine t bytes e → lines t bytes ≡ take e bytes
     ∷ lines t (drop e bytes)
-lines-first t [] e h = absurd (omega (arith, h.above, h.within))
-lines-first t (b ∷ bytes) zero h = absurd (omega (arith, h.above))
+lines-first t [] e h = absurd (omega arith)
+lines-first t (b ∷ bytes) zero h = absurd (omega arith)
 lines-first t (b ∷ []) (suc zero) h = ⊎_elim (λ same. lines-end t b [] same) (λ other. lines-inner t b [] other)
     (cases_eq b t)
 lines-first t (b ∷ c ∷ later) (suc zero) h = lines-end t b (c ∷ later) (h.closed (omega arith))
@@ -104,7 +104,7 @@ lines-parts t bytes line rest e is_first is_line is_rest = lines-first t bytes e
 pub count-first_line : (t : ℕ) (bytes : List ℕ) (e : ℕ) → IsFirstLine t bytes e → e < length bytes
     → count t (take e bytes) ≡ 1
 count-first_line t [] e h more = absurd (omega arith)
-count-first_line t (b ∷ bytes) zero h more = absurd (omega (arith, h.above))
+count-first_line t (b ∷ bytes) zero h more = absurd (omega arith)
 count-first_line t (b ∷ bytes) (suc zero) h more = count-end t b [] (h.closed more)
 count-first_line t (b ∷ bytes) (suc (suc e)) h more = count-inner t b (take (suc e) bytes) (h.inner 0 (omega arith))
     ∙ count-first_line t bytes (suc e) (IsFirstLine-tail t b bytes e h) (omega arith)
@@ -155,7 +155,7 @@ lines-closed t (b ∷ []) closed = let same : b ≡ t = closed (omega arith) in 
 lines-closed t (b ∷ c ∷ bytes) closed =
     let later = lines-closed t (c ∷ bytes) (IsClosed-tail t b c bytes closed) in
     ⊎_elim
-    (λ same. omega (arith, ap length (lines-end t b (c ∷ bytes) same), count-end t b (c ∷ bytes) same, later))
+    (λ same. omega (arith, ap length (lines-end t b (c ∷ bytes) same), count-end t b (c ∷ bytes) same))
     (λ other. ap length (lines-inner t b (c ∷ bytes) other) ∙ (onto (lines t (c ∷ bytes)) (lines-some t c bytes)
     ∙ (later ∙ sym (count-inner t b (c ∷ bytes) other))))
     (cases_eq b t)
@@ -167,13 +167,13 @@ lines-closed t (b ∷ c ∷ bytes) closed =
 -- any other bytes have one line more
 pub lines-unclosed : (t : ℕ) (bytes : List ℕ) → 0 < length bytes → slice_index bytes (length bytes - 1) ≢ t
     → length (lines t bytes) ≡ count t bytes + 1
-lines-unclosed t [] some last = absurd (omega (arith, some))
+lines-unclosed t [] some last = absurd (omega arith)
 lines-unclosed t (b ∷ []) some last = omega (arith, ap length (lines-inner t b [] last), count-inner t b [] last)
 lines-unclosed t (b ∷ c ∷ bytes) some last =
     let later = lines-unclosed t (c ∷ bytes) (omega arith)
     (λ is. last (simp unary_clauses (simp unary_clauses at is))) in
     ⊎_elim
-    (λ same. omega (arith, ap length (lines-end t b (c ∷ bytes) same), count-end t b (c ∷ bytes) same, later))
+    (λ same. omega (arith, ap length (lines-end t b (c ∷ bytes) same), count-end t b (c ∷ bytes) same))
     (λ other. ap length (lines-inner t b (c ∷ bytes) other) ∙ (onto (lines t (c ∷ bytes)) (lines-some t c bytes)
     ∙ (later ∙ ap (λ n. n + 1) (sym (count-inner t b (c ∷ bytes) other)))))
     (cases_eq b t)
@@ -188,7 +188,7 @@ lines-few t [] = omega arith
 lines-few t (b ∷ bytes) =
     let later = lines-few t bytes in
     ⊎_elim
-    (λ same. omega (arith, ap length (lines-end t b bytes same), count-end t b bytes same, later))
+    (λ same. omega (arith, ap length (lines-end t b bytes same), count-end t b bytes same))
     (λ other. omega (
       arith,
       ap length (lines-inner t b bytes other),

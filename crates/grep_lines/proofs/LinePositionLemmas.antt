@@ -53,7 +53,7 @@ module _ (t : ℕ) (bytes : List ℕ) where
   last_start-count : (position start : ℕ) → position ≤ length bytes → IsLastStart t bytes position start
       → start ≡ line_start t bytes (count t (take position bytes))
   last_start-count position start within last =
-      start-count start (omega (arith, last.high)) last.closed
+      start-count start (omega arith) last.closed
       ∙ ap (line_start t bytes) (sym (count-bare start position last.high within last.inner))
 
   -- the block of a match starts there
@@ -79,7 +79,7 @@ module _ (t : ℕ) (bytes : List ℕ) where
       let all : count t bytes ≡ count t (take position bytes) = ap (count t)
       (sym (take_all (length bytes) bytes (omega arith)))
       ∙ count-bare position (length bytes) within (omega arith) bare in
-      let few : length (lines t bytes) ≤ count t (take position bytes) + 1 = omega (arith, lines-few t bytes, all) in
+      let few : length (lines t bytes) ≤ count t (take position bytes) + 1 = omega (arith, lines-few t bytes) in
       sym (ap (λ ls. length (concat ls)) (take_all (count t (take position bytes) + 1) (lines t bytes) few)
       ∙ ap length (lines-joined t bytes))
 
@@ -89,7 +89,7 @@ module _ (t : ℕ) (bytes : List ℕ) where
       → Passes (is_byte t) (drop position bytes) at → position + at + 1
       ≡ line_start t bytes (count t (take position bytes) + 1)
   end-found position at within near passes =
-      end-count position (position + at) (omega arith) (omega (arith, near.high, length-drop position bytes))
+      end-count position (position + at) (omega arith) (omega (arith, length-drop position bytes))
       (sym (get_or-drop position bytes at 0) ∙ eqb-true _ _ passes) (λ i low high same.
       let sum : position + (i - position) ≡ i = omega arith in
       near.before (i - position) (omega arith) (omega arith) (eq-eqb _ _ (get_or-drop position bytes (i - position) 0
@@ -107,7 +107,7 @@ module _ (t : ℕ) (bytes : List ℕ) where
   -- of two last line starts up to a position none is above the other
   last_start-below : (position a b : ℕ) → IsLastStart t bytes position a → IsLastStart t bytes position b → a ≤ b
   last_start-below position a b first second = ⊎_elim
-      (λ less. absurd (second.inner (a - 1) (omega arith) (omega (arith, first.high)) (first.closed (omega arith))))
+      (λ less. absurd (second.inner (a - 1) (omega arith) (omega arith) (first.closed (omega arith))))
       (λ over. over)
       (cases_lt b a)
 
@@ -129,14 +129,14 @@ module _ (t : ℕ) (bytes : List ℕ) where
   start-before : (position start i : ℕ) → 0 < position → IsLastStart t bytes (position - 1) start
       → IsLineStart t bytes position i
       → IsLineStart t bytes start (i - 1)
-  start-before position start zero some last here = absurd (omega (arith, here.begins))
+  start-before position start zero some last here = absurd (omega arith)
   start-before position start (suc i) some last here =
       let back : suc i - 1 ≡ i = omega arith in
       let one : suc i ≡ i + 1 = omega arith in
-      let step = IsStep-line t bytes i (omega (arith, here.listed)) in
+      let step = IsStep-line t bytes i (omega arith) in
       let next : line_start t bytes (i + 1) ≡ position = ap (line_start t bytes) (sym one) ∙ here.begins in
-      let same = last_start-line i (position - 1) start step.inside (omega (arith, step.above)) (omega arith) last in
-      record { listed = omega (arith, here.listed); begins = ap (line_start t bytes) back ∙ sym same }
+      let same = last_start-line i (position - 1) start step.inside (omega arith) (omega arith) last in
+      record { listed = omega arith; begins = ap (line_start t bytes) back ∙ sym same }
 
   -- the line that starts at 0 is line 0
   start-none : (i : ℕ) → IsLineStart t bytes 0 i → i ≡ 0
@@ -165,7 +165,7 @@ module _ (t : ℕ) (bytes : List ℕ) where
       ∙ ap length (lines-joined t bytes) in
       let end : line_start t bytes (last + 1) ≡ length bytes = ap (line_start t bytes) is ∙ all in
       let step = IsStep-line t bytes last (omega arith) in
-      (omega (arith, step.above, end), end)
+      (omega arith, end)
 
   -- a start of the line k lines before the one with start < pos ≤ end; that is also the line k lines before one that
   -- ends at pos

@@ -71,14 +71,7 @@ IsStep-first t bytes position end i walked above within is_first =
           (get_or (lines t bytes) i [] ∷ []),
       here.1,
     )
-    (omega (
-      arith,
-      walked.start,
-      length-append (concat (take i (lines t bytes))) (slice_range bytes position end ++ []),
-      length-append (slice_range bytes position end) [],
-      length-take (end - position) (drop position bytes),
-      length-drop position bytes,
-    )) in
+    (omega (arith, length-append (concat (take i (lines t bytes))) (slice_range bytes position end ++ []), length-append (slice_range bytes position end) [], length-take (end - position) (drop position bytes), length-drop position bytes)) in
     record {
       at = walked;
       above = above;
@@ -101,8 +94,8 @@ IsStep-first t bytes position end i walked above within is_first =
             let shut = is_first.closed (omega (arith, length-drop position bytes)) in
             let at : position + ((end - position) - 1) ≡ end - 1 = omega arith in
             sym (get_or-drop position bytes ((end - position) - 1) 0 ∙ ap (λ n. get_or bytes n 0) at) ∙ shut;
-        few = omega (arith, walked.few);
-        listed = omega (arith, here.0);
+        few = omega arith;
+        listed = omega arith;
       };
     }
 
@@ -110,12 +103,7 @@ IsStep-first t bytes position end i walked above within is_first =
 pub all_passed : (t : ℕ) (bytes : List ℕ) (position i : ℕ) → IsAt t bytes position i → length bytes ≤ position → i
     ≡ length (lines t bytes)
 all_passed t bytes position i here over =
-    omega (
-      arith,
-      length-drop i (lines t bytes),
-      ap length (here.rest ∙ ap (lines t) (drop_all position bytes over)),
-      here.listed,
-    )
+    omega (arith, length-drop i (lines t bytes), ap length (here.rest ∙ ap (lines t) (drop_all position bytes over)))
 
 -- a step over a line that exists
 IsStep-any : (t : ℕ) (bytes : List ℕ) (position i : ℕ) → IsAt t bytes position i → i < length (lines t bytes)
@@ -156,12 +144,12 @@ IsStep-line t bytes i inside =
 pub lines-numbered : (t : ℕ) (bytes : List ℕ) (i : ℕ) → i < length (lines t bytes)
     → count t (take (line_start t bytes i) bytes) ≡ i
 lines-numbered t bytes i inside = let step = IsStep-line t bytes i inside in step.at.counted
-    (omega (arith, step.above, step.next.inside))
+    (omega arith)
 
 -- there are at most as many lines as bytes
 pub lines-at-most : (t : ℕ) (bytes : List ℕ) → length (lines t bytes) ≤ length bytes
 lines-at-most t bytes = let end = IsAt-any t bytes (length (lines t bytes)) (omega arith) in
-    omega (arith, end.few, end.inside)
+    omega arith
 
 -- the line that starts at a position
 IsLine-first : (t : ℕ) (bytes : List ℕ) (position i end : ℕ) → IsLineStart t bytes position i → position < end
@@ -194,7 +182,7 @@ IsLastStart-line t bytes i position inside low high =
           let sum : start + (j - start) ≡ j = omega arith in
           step.is_first.inner (j - start) (omega arith)
           (get_or-drop start bytes (j - start) 0 ∙ (ap (λ n. get_or bytes n 0) sum ∙ same));
-      closed = λ some. step.at.closed some (omega (arith, step.above, step.next.inside));
+      closed = λ some. step.at.closed some (omega arith);
     }
 
 -- the first line of the bytes from a position up to another

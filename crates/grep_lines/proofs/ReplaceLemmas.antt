@@ -20,18 +20,18 @@ module _ (p : ℕ → Bool) where
   length-none [] none = refl
   length-none (x ∷ xs) none =
       let first : p x ≡ false = none 0 (omega arith) in
-      let later = length-none xs (λ k below. none (suc k) (omega (arith, below))) in
-      rw first (omega (arith, later))
+      let later = length-none xs (λ k below. none (suc k) (omega arith)) in
+      rw first (omega arith)
 
   -- the first byte that passes is at i
   pub length-first : (xs : List ℕ) (i : ℕ) → i < length xs → p (get_or xs i 0) ≡ true
       → ((k : ℕ) → k < i → p (get_or xs k 0) ≡ false) → position_or_len p xs ≡ i
-  length-first [] i some is before = absurd (omega (arith, some))
+  length-first [] i some is before = absurd (omega arith)
   length-first (x ∷ xs) zero some is before = rw is refl
   length-first (x ∷ xs) (suc i) some is before =
       let first : p x ≡ false = before 0 (omega arith) in
-      let later = length-first xs i (omega (arith, some)) is (λ k below. before (suc k) (omega (arith, below))) in
-      rw first (omega (arith, later))
+      let later = length-first xs i (omega arith) is (λ k below. before (suc k) (omega arith)) in
+      rw first (omega arith)
 
 -- a byte that was replaced in bytes whose first ones are: so is the next
 pub replaced-next : (f : ℕ → ℕ) (bytes old : List ℕ) (i y : ℕ) → i < length bytes → i < length old
@@ -63,7 +63,7 @@ pub map-none : (src new : ℕ) (xs : List ℕ) → ((k : ℕ) → k < length xs 
 map-none src new [] none = refl
 map-none src new (x ∷ xs) none =
     let first : (x == src) ≡ false = none 0 (omega arith) in
-    rw first (ap (λ l. x ∷ l) (map-none src new xs (λ k below. none (suc k) (omega (arith, below)))))
+    rw first (ap (λ l. x ∷ l) (map-none src new xs (λ k below. none (suc k) (omega arith))))
 
 -- what a search for the byte found is its first position
 pub position-found : (b : ℕ) (xs : List ℕ) (r : Option ℕ) → IsFirstByte (is_byte b) xs r → position (λ x. x == b) xs ≡ r
@@ -89,7 +89,7 @@ replaced-whole src new xs i within none =
     ∙ nil_from_length (drop (length xs) xs) (length-drop (length xs) xs ∙ (omega arith)) in
     let short : (k : ℕ) → k < length (take i xs) → (get_or (take i xs) k 0 == src) ≡ false =
     λ k below.
-    let low : k < i = omega (arith, below, length-take i xs) in
+    let low : k < i = omega (arith, length-take i xs) in
     ap (λ x. x == src) (get_or-take i xs k 0 low) ∙ none k low
     in
     let mid : mid_of i (length xs - i) xs ≡ drop i xs = take_all (length xs - i) (drop i xs)
@@ -97,6 +97,6 @@ replaced-whole src new xs i within none =
     ap (λ l. put_mid i (length xs - i) xs (map f l)) mid
     ∙ sym (take-append-drop (length xs) now) ∙ ap (λ l. take (length xs) now ++ l) back
     ∙ append-nil (take (length xs) now)
-    ∙ take-put_mid i (length xs - i) xs (map f (drop i xs)) (length xs) (omega (arith, len)) within
+    ∙ take-put_mid i (length xs - i) xs (map f (drop i xs)) (length xs) (omega arith) within
     ∙ ap (λ l. l ++ map f (drop i xs)) (sym (map-none src new (take i xs) short))
     ∙ sym (map-append f (take i xs) (drop i xs)) ∙ ap (map f) (take-append-drop i xs)

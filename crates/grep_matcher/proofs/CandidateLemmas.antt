@@ -11,8 +11,8 @@ use Rattle.grep_matcher.specs.Meanings.{ExcludesTerminator}
 use Rattle.grep_matcher.specs.Lines.{lines, line_start, strip, byte_of, bytes_of}
 use Rattle.grep_matcher.specs.Literals.{literal_meaning, lacks}
 use Rattle.grep_matcher.proofs.StrippedLineLemmas.{line-is, strip-joined, strip-occurs}
-use Rattle.grep_matcher.proofs.LiteralLemmas.{match-found, match-none}
-use Rattle.grep_matcher.proofs.OccurrenceLemmas.{OccursAt-outer, OccursAt-inner, OccursAt-before, apart}
+use Rattle.grep_matcher.specs.LiteralFirstMatches.{match-found, match-none, OccursAt-outer, OccursAt-inner}
+use Rattle.grep_matcher.proofs.OccurrenceLemmas.{OccursAt-before, apart}
 
 -- a literal that lacks the byte of the terminator, and a carriage return, lacks each byte of the terminator
 lacks-terminator : (terminator : LineTerminator) (literal : List ℕ) → lacks literal (byte_of terminator) ≡ true

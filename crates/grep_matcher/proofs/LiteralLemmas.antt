@@ -7,35 +7,23 @@ use Rattle.std.proofs.lemmas.List.Folds.{list_any_at}
 use Rattle.std.specs.Option.{option_map}
 use Rattle.std.specs.Prelude.{◌==◌, nat_lt, if◌then◌else◌}
 use Rattle.memchr.specs.Find.{OccursAt, FindsNeedle}
-use Rattle.memchr.proofs.lemmas.ValueLemmas.{FindsNeedle-value}
 use Rattle.grep_matcher.specs.declared.line_match_kind.LineMatchKind.{LineMatchKind}
 use Rattle.grep_matcher.specs.declared.line_match_kind.LineMatchKind.TheVariants.{Confirmed, Candidate}
-use Rattle.grep_matcher.specs.Literals.{literal_match, literal_candidate, lacks}
+use Rattle.grep_matcher.specs.LiteralFirstMatches.{match-found, match-none}
+use Rattle.grep_matcher.specs.Literals.{literal_candidate, lacks}
 
 -- a position of which it is sure or not that its line matches
 abbrev kind : Bool → ℕ → LineMatchKind
 kind sure position = if sure then Confirmed position else Candidate position
 
 module _ (hay literal : List ℕ) where
-  with_end : ℕ → ℕ × ℕ
-  with_end start = (start, start + length literal)
-
-  pub match-found : (start : ℕ) → FindsNeedle hay literal 0 (Some start)
-      → ◌≡◌ {A = Option (ℕ × ℕ)} (Some (start, start + length literal)) (literal_match literal hay)
-  unfolding with_end
-  match-found start found = ap (option_map with_end) (FindsNeedle-value hay literal (Some start) found)
-
-  pub match-none : FindsNeedle hay literal 0 None → ◌≡◌ {A = Option (ℕ × ℕ)} None (literal_match literal hay)
-  unfolding with_end
-  match-none none = ap (option_map with_end) (FindsNeedle-value hay literal None none)
-
   pub candidate-found : (start : ℕ) (sure : Bool) → lacks literal 13 ≡ sure → FindsNeedle hay literal 0 (Some start)
       → Some (kind sure start) ≡ literal_candidate literal hay
   candidate-found start sure same found = ap (λ s. Some (kind s start)) (sym same)
-      ∙ ap (option_map (λ m. kind (lacks literal 13) m.0)) (match-found start found)
+      ∙ ap (option_map (λ m. kind (lacks literal 13) m.0)) (match-found hay literal start found)
 
   pub candidate-none : FindsNeedle hay literal 0 None → None ≡ literal_candidate literal hay
-  candidate-none none = ap (option_map (λ m. kind (lacks literal 13) m.0)) (match-none none)
+  candidate-none none = ap (option_map (λ m. kind (lacks literal 13) m.0)) (match-none hay literal none)
 
   pub match-avoids : (start : ℕ) → OccursAt hay literal start → (i : ℕ) → start ≤ i → i < start + length literal
       → lacks literal (slice_index hay i) ≡ false

@@ -8,24 +8,6 @@ use Rattle.memchr.specs.Find.{OccursAt}
 use Rattle.grep_matcher.specs.Literals.{lacks}
 use Rattle.grep_matcher.proofs.LiteralLemmas.{match-avoids}
 
--- what occurs in a part of a haystack occurs in the haystack
-pub OccursAt-outer : (hay part literal : List ℕ) (start k : ℕ) → OccursAt hay part start → OccursAt part literal k
-    → OccursAt hay literal (start + k)
-OccursAt-outer hay part literal start k outer inner = record {
-  fits = omega (arith, outer.fits, inner.fits);
-  reads = λ j below. let sum : start + k + j ≡ start + (k + j) = omega arith in
-      rw sum (outer.reads (k + j) (omega (arith, inner.fits)) ∙ inner.reads j below);
-}
-
--- what occurs in a haystack within a part of it occurs in that part
-pub OccursAt-inner : (hay part literal : List ℕ) (start k : ℕ) → OccursAt hay part start → OccursAt hay literal k
-    → start ≤ k → k + length literal ≤ start + length part → OccursAt part literal (k - start)
-OccursAt-inner hay part literal start k outer whole low high = record {
-  fits = omega arith;
-  reads = λ j below. let sum : k + j ≡ start + ((k - start) + j) = omega arith in
-      sym (outer.reads ((k - start) + j) (omega arith)) ∙ (ap (slice_index hay) (sym sum) ∙ whole.reads j below);
-}
-
 -- a literal doesn't occur over a byte that it lacks
 pub apart : (hay literal : List ℕ) (k i : ℕ) → OccursAt hay literal k → lacks literal (slice_index hay i) ≡ true
     → (i < k) ⊎ (k + length literal ≤ i)

@@ -1,7 +1,10 @@
 pub mod AreLines
 pub mod ByteSets
 pub mod FindResults
+pub mod FirstMatches
 pub mod Lawful
 pub mod Lines
+pub mod LiteralFirstMatches
 pub mod Literals
 pub mod Meanings
+pub mod Probes

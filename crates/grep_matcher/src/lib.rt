@@ -5,11 +5,13 @@
 
 mod byte_set;
 mod find_at;
+mod lanes;
 mod line_match_kind;
 mod line_terminator;
 mod literal;
 mod matcher;
 mod plain;
+mod probe;
 mod range;
 
 pub use byte_set::ByteSet;

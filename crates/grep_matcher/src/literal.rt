@@ -2,12 +2,14 @@
 ghost use Rattle.std.specs.Prelude.{◌≡◌, ℕ, IfOk};
 ghost use Rattle.grep_matcher.specs.ByteSets.{holds};
 ghost use Rattle.grep_matcher.specs.Literals.{lacks};
+ghost use Rattle.memchr.specs.Find.{FindsNeedle};
 
 use crate::byte_set::ByteSet;
 use crate::find_at::FindAt;
 use crate::line_match_kind::LineMatchKind;
 use crate::line_terminator::LineTerminator;
 use crate::matcher::Matcher;
+use crate::probe::Probe;
 use crate::range::Match;
 use memchr::memmem::Finder;
 use std::alloc::{AllocError, Global};
@@ -24,19 +26,22 @@ use std::marker::Model;
 #[derive(Drop)]
 pub struct LiteralMatcher<'n> {
     finder: Finder<'n>,
+    probe: Option<Probe>,
     absent: ByteSet,
 }
 
 impl<'n> Model for LiteralMatcher<'n> {
-    ghost use Rattle.std.specs.Prelude.{◌≡◌, ℕ, List};
+    ghost use Rattle.std.specs.Prelude.{◌≡◌, ℕ, List, IfSome};
     ghost use Rattle.grep_matcher.specs.ByteSets.{holds};
     ghost use Rattle.grep_matcher.specs.Literals.{lacks};
+    ghost use Rattle.grep_matcher.specs.Probes.{IsProbeOf};
 
     ghost Value = { List ℕ };
 
     ghost view = { λ m. m.finder };
 
-    ghost invariant = { λ m. (byte : ℕ) → holds m.absent byte ≡ lacks m.finder byte };
+    ghost invariant = { λ m. ((byte : ℕ) → holds m.absent byte ≡ lacks m.finder byte)
+        × IfSome m.probe (λ probe. IsProbeOf probe m.finder) };
 }
 
 impl LiteralMatcher<'static> {
@@ -49,6 +54,7 @@ impl LiteralMatcher<'static> {
         let finder = Finder::new(literal).into_owned(alloc)?;
         Ok(LiteralMatcher {
             finder,
+            probe: Probe::new(literal),
             absent: absent_from(literal),
         })
     }
@@ -61,7 +67,19 @@ impl<'n> LiteralMatcher<'n> {
     {
         LiteralMatcher {
             finder: Finder::new(literal),
+            probe: Probe::new(literal),
             absent: absent_from(literal),
+        }
+    }
+
+    // The position of the first occurrence.
+    #[inline]
+    fn first(&self, haystack: &[u8]) -> Option<usize>
+        ensures { FindsNeedle haystack.now self.now 0 result }
+    {
+        match &self.probe {
+            Some(probe) => probe.find(&self.finder, haystack),
+            None => self.finder.find(haystack),
         }
     }
 }
@@ -92,7 +110,7 @@ impl Matcher for LiteralMatcher<'_> {
 
     #[inline]
     fn find(&self, haystack: &[u8]) -> Result<Option<Match>, io::Error> {
-        match self.finder.find(haystack) {
+        match self.first(haystack) {
             Some(start) => Ok(Some(Match::new(start, start + self.finder.needle().len()))),
             None => Ok(None),
         }
@@ -106,7 +124,7 @@ impl Matcher for LiteralMatcher<'_> {
             (IsTrusted (literal_meaning self.now) (λ _. Unit {0}) haystack.now) }
         ensures error { IfErr result (λ e. ⊥) }
     {
-        match self.finder.find(haystack) {
+        match self.first(haystack) {
             Some(start) if self.absent.contains(b'\r') => Ok(Some(LineMatchKind::Confirmed(start))),
             Some(start) => Ok(Some(LineMatchKind::Candidate(start))),
             None => Ok(None),
@@ -126,9 +144,12 @@ impl FindAt for LiteralMatcher<'_> {
     ghost use Rattle.std.specs.Prelude.{drop};
     ghost use Rattle.grep_matcher.specs.FindResults.{match_from};
     ghost use Rattle.grep_matcher.specs.Literals.{literal_match};
+    ghost use Rattle.grep_matcher.specs.LiteralFirstMatches.{literal-first-matches};
 
     ghost first_at = { λ m haystack start.
         match_from start (literal_match m (drop start haystack)) };
+
+    ghost are_first = { literal-first-matches };
 
     #[inline]
     fn find_at(&self, haystack: &[u8], start: usize) -> Result<Option<Match>, io::Error> {

@@ -38,6 +38,8 @@ impl<M: Matcher> Matcher for Plain<M> {
 impl<M: FindAt> FindAt for Plain<M> {
     ghost first_at = { λ m. M.first_at m.0 };
 
+    ghost are_first = { λ m. M.are_first m.0 };
+
     fn find_at(&self, haystack: &[u8], start: usize) -> Result<Option<Match>, M::Error> {
         self.0.find_at(haystack, start)
     }

@@ -1,3 +1,4 @@
+pub mod ColorLemmas
 pub mod JsonRunLemmas
 pub mod MessageLemmas
 pub mod PartLemmas

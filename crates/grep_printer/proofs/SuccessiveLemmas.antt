@@ -1,12 +1,24 @@
 -- The parts of some bytes are successive matches.
-use Rattle.std.proofs.Common.{◌≡◌, ℕ, zero, suc, ◌+◌, ◌≤◌, List, [], ◌∷◌, Option, Some, None, Bool}
+use Rattle.std.proofs.Common.{◌≡◌, ℕ, zero, suc, ◌+◌, ◌≤◌, List, [], ◌∷◌, length, Option, Some, None, Bool}
 use Rattle.std.proofs.Common.{true, false, arith, ap, sym, ◌∙◌, refl, subst}
 use Rattle.std.proofs.lemmas.Bool.Decides.{nat_tests}
 use Rattle.std.specs.Option.{option_and_then, option_map_or}
 use Rattle.std.specs.Prelude.{if◌then◌else◌, nat_le, nat_lt}
+use Rattle.grep_matcher.specs.FindResults.{IsFrom}
 use Rattle.grep_printer.proofs.PartLemmas.{after-later, from-found}
-use Rattle.grep_printer.specs.MatchedParts.{AreSuccessive, FindsFrom, PartsAreSuccessive, below, found_from, is_passed}
+use Rattle.grep_printer.specs.MatchedParts.{AreSuccessive, below, found_from, is_passed}
 use Rattle.grep_printer.specs.MatchedParts.{next_part, parts_from, parts_in, position_after, with_part}
+
+-- a match that is found from a position in so many bytes lies in them, and starts there or later
+abbrev FindsFrom : (ℕ → Option (ℕ × ℕ)) → ℕ → Type 0
+FindsFrom first_at size = (position : ℕ) (found : ℕ × ℕ) → position ≤ size → first_at position ≡ Some found
+    → (position ≤ found.0) × (found.0 ≤ found.1) × (found.1 ≤ size)
+
+finds-from : (bytes : List ℕ) (first_at : ℕ → Option (ℕ × ℕ))
+    → ((start : ℕ) → start ≤ length bytes → IsFrom start bytes (first_at start)) → FindsFrom first_at (length bytes)
+finds-from bytes first_at within position found fits is =
+    let lies : IsFrom position bytes (Some found) = subst (IsFrom position bytes) is (within position fits) in
+    (lies.0, lies.1.0, lies.1.1)
 
 -- a match below a limit is the match
 below-is : (limit : ℕ) (first : Option (ℕ × ℕ)) (found : ℕ × ℕ) → below limit first ≡ Some found → first ≡ Some found
@@ -26,7 +38,7 @@ passed-after (Some at) found passed = grind (arith, nat_tests)
 later-kept : (found other : ℕ × ℕ) → found.1 + 1 ≤ other.1 → is_passed (Some found.1) other ≡ false
 later-kept found other later = grind (arith, nat_tests)
 
-module _ (first_at : ℕ → Option (ℕ × ℕ)) (size limit : ℕ) (finds : FindsFrom first_at size limit) where
+module _ (first_at : ℕ → Option (ℕ × ℕ)) (size limit : ℕ) (finds : FindsFrom first_at size) where
   -- a match that is found is in order
   found-lies : (position : ℕ) (found : ℕ × ℕ) → found_from first_at size limit position ≡ Some found
       → (position ≤ found.0) × (found.0 ≤ found.1) × (found.1 ≤ size)
@@ -126,6 +138,9 @@ module _ (first_at : ℕ → Option (ℕ × ℕ)) (size limit : ℕ) (finds : Fi
           (later found (omega (arith, after, enough))))
 
 -- all of them
-pub parts-are-successive : PartsAreSuccessive
+pub parts-are-successive : (bytes : List ℕ) (limit : ℕ) (first_at : ℕ → Option (ℕ × ℕ))
+    → ((start : ℕ) → start ≤ length bytes → IsFrom start bytes (first_at start))
+    → AreSuccessive first_at (length bytes) limit 0 None (parts_in first_at (length bytes) limit)
 unfolding parts_in
-parts-are-successive first_at size limit finds = from-are first_at size limit finds (size + 1) 0 None (omega arith)
+parts-are-successive bytes limit first_at within =
+    from-are first_at (length bytes) limit (finds-from bytes first_at within) (length bytes + 1) 0 None (omega arith)

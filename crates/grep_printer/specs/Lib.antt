@@ -1,3 +1,5 @@
+pub mod ColorRuns
+pub mod ColoredTexts
 pub mod JsonMessages
 pub mod JsonSteps
 pub mod JsonTexts

@@ -6,6 +6,9 @@ use Rattle.std.specs.Borrow.{Bor}
 use Rattle.std.specs.List.{ends_with}
 use Rattle.std.specs.Option.{unwrap_or}
 use Rattle.grep_matcher.specs.Lines.{byte_of}
+use Rattle.grep_searcher.specs.Lines.{strip}
+use Rattle.grep_printer.specs.ColoredTexts.{colored, column_color, line_color, matched_color}
+use Rattle.grep_printer.specs.ColoredTexts.{painted, path_color}
 use Rattle.grep_printer.specs.declared.config.SearchSeparator.{SearchSeparator}
 use Rattle.grep_printer.specs.declared.config.SearchSeparator.TheVariants.{Nothing, Blank, Dashes}
 use Rattle.grep_printer.specs.declared.fields.Layout.{Layout}
@@ -13,20 +16,20 @@ use Rattle.grep_printer.specs.declared.fields.LineKind.{LineKind}
 use Rattle.grep_printer.specs.declared.fields.LineKind.TheVariants.{Match, Context}
 use Rattle.grep_printer.specs.declared.fields.Place.{Place}
 
--- a number and a mark, if there is a number
-abbrev pub number_field : ℕ → Option ℕ → List ℕ
-number_field mark None = []
-number_field mark (Some number) = decimal number ++ mark ∷ []
+-- a number, in a colour if there is one, and a mark, if there is a number
+abbrev pub number_field : Option (List ℕ) → ℕ → Option ℕ → List ℕ
+number_field color mark None = []
+number_field color mark (Some number) = colored color (decimal number) ++ mark ∷ []
 
--- a path and a byte, if there is a path
-abbrev pub path_field : ℕ → Option (Bor (List ℕ)) → List ℕ
-path_field mark None = []
-path_field mark (Some path) = path.now ++ mark ∷ []
+-- a path, in a colour if there is one, and a byte, if there is a path
+abbrev pub path_field : Option (List ℕ) → ℕ → Option (Bor (List ℕ)) → List ℕ
+path_field color mark None = []
+path_field color mark (Some path) = colored color path.now ++ mark ∷ []
 
--- a line with the terminator at its end, which is added if it isn't there
-abbrev pub ended : ℕ → List ℕ → List ℕ
-ended terminator line =
-    if ends_with nat_eq line (terminator ∷ []) then line else line ++ terminator ∷ []
+-- the terminator of a line, if it isn't at its end
+abbrev pub missing_end : ℕ → List ℕ → List ℕ
+missing_end terminator line =
+    if ends_with nat_eq line (terminator ∷ []) then [] else terminator ∷ []
 
 -- numbers go up by one, and stay at the greatest of 64 bits
 abbrev pub next_number : Option ℕ → Option ℕ
@@ -39,6 +42,7 @@ place_after place line = record {
   number = next_number place.number;
   column = place.column;
   offset = place.offset + length line;
+  start = place.start + length line;
 }
 
 -- what is written between two searches
@@ -78,33 +82,45 @@ module _ (layout : Layout) where
   abbrev pub fields : ℕ → Place → List ℕ
   fields mark place =
       (if layout.config.heading then []
-      else path_field (unwrap_or layout.config.path_terminator mark) layout.path)
-      ++ (number_field mark place.number ++ (number_field mark place.column
-      ++ number_field mark (if layout.config.byte_offset then Some place.offset else None)))
+      else path_field (path_color layout.config.color_specs)
+      (unwrap_or layout.config.path_terminator mark) layout.path)
+      ++ (number_field (line_color layout.config.color_specs) mark place.number
+      ++ (number_field (column_color layout.config.color_specs) mark place.column
+      ++ number_field (column_color layout.config.color_specs) mark
+      (if layout.config.byte_offset then Some place.offset else None)))
+
+  -- a line that begins at a position of its report, with the bytes in some parts coloured, but for
+  -- the terminator
+  abbrev pub painted_line : List (ℕ × ℕ) → ℕ → List ℕ → List ℕ
+  painted_line parts start line =
+      painted (matched_color layout.config.color_specs) parts
+      (start + length (strip layout.terminator line)) start line
 
   -- a line, or a notice if it is too long, with the terminator at its end
-  abbrev pub shown_line : LineKind → List ℕ → List ℕ
-  shown_line kind line =
+  abbrev pub shown_line : LineKind → Place → List (ℕ × ℕ) → List ℕ → List ℕ
+  shown_line kind place parts line =
       if is_long layout.config.max_columns line
       then notice kind ++ end_byte layout ∷ []
-      else ended (end_byte layout) line
+      else painted_line parts place.start line ++ missing_end (end_byte layout) line
 
   -- a line after its fields
-  abbrev pub line_text : LineKind → Place → List ℕ → List ℕ
-  line_text kind place line = fields (mark_of kind) place ++ shown_line kind line
+  abbrev pub line_text : LineKind → Place → List (ℕ × ℕ) → List ℕ → List ℕ
+  line_text kind place parts line =
+      fields (mark_of kind) place ++ shown_line kind place parts line
 
   -- the lines of a match, each with its own number and its own offset, and with the column of the
   -- first match in all of them
-  abbrev pub lines_text : LineKind → Place → List (List ℕ) → List ℕ
-  lines_text kind place [] = []
-  lines_text kind place (line ∷ later) =
-      line_text kind place line ++ lines_text kind (place_after place line) later
+  abbrev pub lines_text : LineKind → Place → List (ℕ × ℕ) → List (List ℕ) → List ℕ
+  lines_text kind place parts [] = []
+  lines_text kind place parts (line ∷ later) =
+      line_text kind place parts line ++ lines_text kind (place_after place line) parts later
 
   -- the path in a line of its own, if it is written as a heading
   abbrev pub heading_text : List ℕ
   heading_text =
       if layout.config.heading
-      then path_field (unwrap_or layout.config.path_terminator (end_byte layout)) layout.path
+      then path_field (path_color layout.config.color_specs)
+      (unwrap_or layout.config.path_terminator (end_byte layout)) layout.path
       else []
 
   -- what is written before the first report of a search, by whether anything was written before it

@@ -1,6 +1,6 @@
 -- The parts of some bytes that match: the successive matches of a matcher in them.
 use Rattle.std.specs.Prelude.{◌≡◌, ℕ, zero, suc, ◌+◌, ◌≤◌, ◌&&◌, ◌==◌, Bool, false, if◌then◌else◌}
-use Rattle.std.specs.Prelude.{nat_lt, nat_le, List, [], ◌∷◌, Option, Some, None, String}
+use Rattle.std.specs.Prelude.{nat_lt, nat_le, List, [], ◌∷◌, length, Option, Some, None, String}
 use Rattle.std.specs.Global.{Global}
 use Rattle.std.specs.Option.{option_and_then, option_map_or}
 use Rattle.grep_searcher.specs.declared.SearchError.{SearchError}
@@ -11,6 +11,12 @@ abbrev pub AreInOrder : ℕ → ℕ → List (ℕ × ℕ) → Type 0
 AreInOrder low high [] = Unit {0}
 AreInOrder low high (part ∷ later) =
     (low ≤ part.0) × (part.0 ≤ part.1) × (part.1 ≤ high) × AreInOrder part.1 high later
+
+-- the parts without the first ones that end at a position or before it
+abbrev pub parts_after : ℕ → List (ℕ × ℕ) → List (ℕ × ℕ)
+parts_after position [] = []
+parts_after position (part ∷ later) =
+    if nat_le part.1 position then parts_after position later else part ∷ later
 
 -- where the search for the next match begins: at the end of a match, or one byte later if the match
 -- is empty
@@ -63,17 +69,12 @@ module _ (first_at : ℕ → Option (ℕ × ℕ)) (size limit : ℕ) where
       (next_part position end ≡ Some part)
       × AreSuccessive (position_after part) (Some part.1) later
 
-  -- a match that is found from a position in the bytes lies in them, and starts there or later
-  abbrev pub FindsFrom : Type 0
-  FindsFrom =
-      (position : ℕ) (found : ℕ × ℕ) → position ≤ size → first_at position ≡ Some found
-      → (position ≤ found.0) × (found.0 ≤ found.1) × (found.1 ≤ size)
-
--- the parts are successive matches
-abbrev pub PartsAreSuccessive : Type 0
-PartsAreSuccessive =
-    (first_at : ℕ → Option (ℕ × ℕ)) (size limit : ℕ) → FindsFrom first_at size limit
-    → AreSuccessive first_at size limit 0 None (parts_in first_at size limit)
+-- the parts of any bytes are successive matches of a matcher
+abbrev pub PartsAreSuccessive : {M : Type 0} → (M → List ℕ → ℕ → Option (ℕ × ℕ)) → Type 0
+PartsAreSuccessive {M} first_at =
+    (matcher : M) (bytes : List ℕ) (limit : ℕ)
+    → AreSuccessive (first_at matcher bytes) (length bytes) limit 0 None
+    (parts_in (first_at matcher bytes) (length bytes) limit)
 
 -- an error is the matcher's, for some bytes, as a message
 abbrev pub IsMessageOf : {F : Type 0} → (List ℕ → F → Type 0) → List ℕ → SearchError Global

@@ -1,6 +1,6 @@
 -- The text of a report: its lines, or the parts of it that match, each in a line of its own.
 use Rattle.std.specs.Prelude.{ℕ, ◌+◌, min, max, Bool, not, ◌&&◌, ◌==◌, if◌then◌else◌, nat_lt}
-use Rattle.std.specs.Prelude.{nat_le, List, [], ◌∷◌, ◌++◌, length, Option, Some, None, slice_range}
+use Rattle.std.specs.Prelude.{List, [], ◌∷◌, ◌++◌, length, Option, Some, None, slice_range}
 use Rattle.std.specs.List.{flat_map}
 use Rattle.grep_searcher.specs.Lines.{lines, strip}
 use Rattle.grep_printer.specs.LineTexts.{end_byte, line_text, lines_text, next_number}
@@ -8,12 +8,6 @@ use Rattle.grep_printer.specs.declared.fields.Layout.{Layout}
 use Rattle.grep_printer.specs.declared.fields.LineKind.{LineKind}
 use Rattle.grep_printer.specs.declared.fields.LineKind.TheVariants.{Match, Context}
 use Rattle.grep_printer.specs.declared.fields.Place.{Place}
-
--- the parts without the first ones that end at a position or before it
-abbrev pub parts_after : ℕ → List (ℕ × ℕ) → List (ℕ × ℕ)
-parts_after position [] = []
-parts_after position (part ∷ later) =
-    if nat_le part.1 position then parts_after position later else part ∷ later
 
 -- the layout of the lines, what they belong to, and the bytes of the report with their offset
 module _ (layout : Layout) (kind : LineKind) (offset : ℕ) (bytes : List ℕ) where
@@ -23,12 +17,14 @@ module _ (layout : Layout) (kind : LineKind) (offset : ℕ) (bytes : List ℕ) w
     number = number;
     column = if layout.config.column then Some (part.0 + 1) else None;
     offset = offset + part.0;
+    start = part.0;
   }
 
   -- a part in a line of its own
   abbrev pub part_text : Option ℕ → ℕ × ℕ → List ℕ
   part_text number part =
-      line_text layout kind (part_place number part) (slice_range bytes part.0 part.1)
+      line_text layout kind (part_place number part) (part ∷ [])
+      (slice_range bytes part.0 part.1)
 
   -- each part in a line of its own, with the same number
   abbrev pub parts_text : Option ℕ → List (ℕ × ℕ) → List ℕ
@@ -38,7 +34,8 @@ module _ (layout : Layout) (kind : LineKind) (offset : ℕ) (bytes : List ℕ) w
   abbrev pub clipped_text : Option ℕ → ℕ × ℕ → ℕ × ℕ → List ℕ
   clipped_text number range part =
       if nat_lt (max part.0 range.0) (min part.1 range.1)
-      then line_text layout kind (part_place number part)
+      then line_text layout kind
+      (record (part_place number part) { start = max part.0 range.0 }) (part ∷ [])
       (slice_range bytes (max part.0 range.0) (min part.1 range.1))
       else []
 
@@ -68,8 +65,8 @@ module _ (layout : Layout) where
       then across_text layout (Match 0) offset bytes number 0 (lines (end_byte layout) bytes) parts
       else parts_text layout (Match 0) offset bytes number parts)
       else lines_text layout (Match (length parts))
-      (record { number = number; column = column_of parts; offset = offset })
-      (lines (end_byte layout) bytes)
+      (record { number = number; column = column_of parts; offset = offset; start = 0 })
+      parts (lines (end_byte layout) bytes)
 
   -- a line that isn't a match: its parts, or all of it
   abbrev pub context_text : Option ℕ → ℕ → List ℕ → List (ℕ × ℕ) → List ℕ
@@ -77,4 +74,5 @@ module _ (layout : Layout) where
       if writes_parts parts
       then parts_text layout (Context 0) offset line number parts
       else line_text layout (Context (length parts))
-      (record { number = number; column = column_of parts; offset = offset }) line
+      (record { number = number; column = column_of parts; offset = offset; start = 0 })
+      parts line

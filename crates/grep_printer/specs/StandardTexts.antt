@@ -15,9 +15,11 @@ use Rattle.grep_searcher.specs.SinkFolds.{run_fold}
 use Rattle.grep_searcher.specs.declared.BinaryDetection.{BinaryDetection}
 use Rattle.grep_searcher.specs.declared.BinaryDetection.TheVariants.{None as no_detection, Quit}
 use Rattle.grep_searcher.specs.declared.BinaryDetection.TheVariants.{Convert}
+use Rattle.grep_printer.specs.ColoredTexts.{colored, matched_color, path_color}
 use Rattle.grep_printer.specs.LineTexts.{opening_text}
 use Rattle.grep_printer.specs.MatchedParts.{parts_in}
 use Rattle.grep_printer.specs.PartTexts.{context_text, match_text}
+use Rattle.grep_printer.specs.declared.colors.ColorSpecs.TheVariants.{Plain}
 use Rattle.grep_printer.specs.declared.config.Config.{Config}
 use Rattle.grep_printer.specs.declared.config.SearchSeparator.TheVariants.{Nothing}
 use Rattle.grep_printer.specs.declared.fields.Layout.{Layout}
@@ -33,6 +35,7 @@ default_config = record {
   max_columns = None;
   path_terminator = None;
   separator = Nothing;
+  color_specs = Plain;
 }
 
 -- nothing was reported yet; whether the printer has written anything before
@@ -40,28 +43,30 @@ abbrev pub new_progress : Bool → Progress
 new_progress follows =
     record { follows = follows; has_match = false; is_open = false; binary = None }
 
--- a path before a message, if there is one
-abbrev pub path_prefix : Option (Bor (List ℕ)) → List ℕ
-path_prefix None = []
-path_prefix (Some path) = path.now ++ codes ": "
+-- a path before a message, in a colour if there is one, if there is a path
+abbrev pub path_prefix : Option (List ℕ) → Option (Bor (List ℕ)) → List ℕ
+path_prefix color None = []
+path_prefix color (Some path) = colored color path.now ++ codes ": "
 
--- what is written after a search that found a match, and a NUL at an offset, by what it does about
--- a NUL
-abbrev pub binary_message : BinaryDetection → Option (Bor (List ℕ)) → ℕ → List ℕ
-binary_message no_detection path offset = []
-binary_message (Quit byte) path offset =
-    path_prefix path
+-- what is written after a search that found a match, and a NUL at an offset, by the colour of paths
+-- and by what the search does about a NUL
+abbrev pub binary_message : Option (List ℕ) → BinaryDetection → Option (Bor (List ℕ)) → ℕ
+    → List ℕ
+binary_message color no_detection path offset = []
+binary_message color (Quit byte) path offset =
+    path_prefix color path
     ++ (codes "WARNING: stopped searching binary file after match (found \"\\0\" byte around offset "
     ++ (decimal offset ++ codes ")\n"))
-binary_message (Convert byte) path offset =
-    path_prefix path
+binary_message color (Convert byte) path offset =
+    path_prefix color path
     ++ (codes "binary file matches (found \"\\0\" byte around offset "
     ++ (decimal offset ++ codes ")\n"))
 
 -- the message about a binary byte, if one was found
-abbrev pub message_text : BinaryDetection → Option (Bor (List ℕ)) → Option ℕ → List ℕ
-message_text detection path None = []
-message_text detection path (Some offset) = binary_message detection path offset
+abbrev pub message_text : Option (List ℕ) → BinaryDetection → Option (Bor (List ℕ))
+    → Option ℕ → List ℕ
+message_text color detection path None = []
+message_text color detection path (Some offset) = binary_message color detection path offset
 
 -- what the texts of a search's calls depend on: the settings of the printer, the path, those of the
 -- search, what the matcher means, and which matches it finds from a position on
@@ -90,10 +95,16 @@ abbrev pub asked_bytes : Settings → Meaning → List ℕ → List ℕ
 asked_bytes settings meaning bytes =
     if is_across settings meaning then bytes else strip settings.line_terminator bytes
 
+-- whether the parts of reports that match are asked for: to write them, their columns, or their
+-- colours
+abbrev pub asks_for_parts : Config → Bool
+asks_for_parts config =
+    config.only_matching || config.column || is_some (matched_color config.color_specs)
+
 -- the parts of a report that match, if they are asked for
 abbrev pub parts_of : Frame → List ℕ → List (ℕ × ℕ)
 parts_of frame bytes =
-    if frame.config.only_matching || frame.config.column
+    if asks_for_parts frame.config
     then parts_in (frame.first_at (asked_bytes frame.settings frame.meaning bytes))
     (length (asked_bytes frame.settings frame.meaning bytes)) (length bytes)
     else []
@@ -137,7 +148,8 @@ call_text frame progress breaks = report_text frame breaks
 call_text frame progress (binary_data offset) = []
 call_text frame progress (finishes count binary) =
     if progress.has_match
-    then message_text frame.settings.binary_detection frame.path binary
+    then message_text (path_color frame.config.color_specs) frame.settings.binary_detection frame.path
+    binary
     else []
 
 -- whether the search goes on after a call

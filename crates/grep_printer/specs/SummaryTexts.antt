@@ -1,6 +1,6 @@
 -- The text that a printer of summaries writes for a search.
 use Rattle.std.specs.Prelude.{ℕ, ◌+◌, ◌-◌, ◌^◌, min, nat_lt, Bool, true, false, ◌==◌, if◌then◌else◌}
-use Rattle.std.specs.Prelude.{List, [], ◌∷◌, ◌++◌, decimal, Option, is_some, ◌&&◌}
+use Rattle.std.specs.Prelude.{List, [], ◌∷◌, ◌++◌, decimal, Option, None, is_some, ◌&&◌}
 use Rattle.std.specs.Borrow.{Bor}
 use Rattle.std.specs.Option.{unwrap_or}
 use Rattle.grep_searcher.specs.BinaryDetections.{quit_byte_of}
@@ -15,13 +15,14 @@ use Rattle.grep_printer.specs.declared.summary.SummaryKind.TheVariants.{PathWith
 
 -- a path in a line of its own, if there is one
 abbrev pub path_line : Option ℕ → Option (Bor (List ℕ)) → ℕ → List ℕ
-path_line path_terminator path terminator = path_field (unwrap_or path_terminator terminator) path
+path_line path_terminator path terminator =
+    path_field None (unwrap_or path_terminator terminator) path
 
 -- what is written when a search has ended, by how many matches count
 abbrev pub finish_text : SummaryKind → Option ℕ → Option (Bor (List ℕ)) → ℕ → ℕ → List ℕ
 finish_text Count path_terminator path terminator count =
     if nat_lt 0 count
-    then path_field (unwrap_or path_terminator 58) path ++ (decimal count ++ terminator ∷ [])
+    then path_field None (unwrap_or path_terminator 58) path ++ (decimal count ++ terminator ∷ [])
     else []
 finish_text PathWithMatch path_terminator path terminator count =
     if nat_lt 0 count then path_line path_terminator path terminator else []

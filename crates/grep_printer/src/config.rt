@@ -1,7 +1,8 @@
 //! How a standard printer writes reports.
 ghost use Rattle.std.specs.Prelude.{◌≡◌, [], true, false, None};
-ghost use Rattle.grep_printer.specs.StandardTexts.{default_config};
+ghost use Rattle.grep_printer.specs.StandardTexts.{asks_for_parts, default_config};
 
+use crate::colors::ColorSpecs;
 use crate::standard::Standard;
 use std::alloc::Global;
 use std::marker::Model;
@@ -27,6 +28,17 @@ pub(crate) struct Config {
     pub(crate) max_columns: Option<u64>,
     pub(crate) path_terminator: Option<u8>,
     pub(crate) separator: SearchSeparator,
+    pub(crate) color_specs: ColorSpecs,
+}
+
+impl Config {
+    // Whether the parts of reports that match are asked for: to write them, their columns, or their
+    // colours.
+    pub(crate) fn asks_for_parts(&self) -> bool
+        ensures { result ≡ asks_for_parts self.now }
+    {
+        self.only_matching || self.column || self.color_specs.matched().is_some()
+    }
 }
 
 /// How a standard printer writes reports. Each setter changes its own setting alone, and returns
@@ -46,7 +58,7 @@ impl Model for StandardBuilder {
 
 impl StandardBuilder {
     /// The default settings: whole lines are written, a path before each, and neither columns nor
-    /// byte offsets; nothing is written between two searches.
+    /// byte offsets; nothing is written between two searches, and nothing is coloured.
     pub fn new() -> StandardBuilder
         ensures { result ≡ default_config }
     {
@@ -59,6 +71,7 @@ impl StandardBuilder {
                 max_columns: None,
                 path_terminator: None,
                 separator: SearchSeparator::Nothing,
+                color_specs: ColorSpecs::Plain,
             },
         }
     }
@@ -143,6 +156,16 @@ impl StandardBuilder {
         ensures set { result.now ≡ record self.old { separator = separator } }
     {
         self.config.separator = separator;
+        self
+    }
+
+    /// The colours of paths, numbers and matches; none by default. With one for matches the parts of
+    /// a match are found, as they are for its column.
+    pub fn color_specs(&mut self, specs: ColorSpecs) -> &mut StandardBuilder
+        ensures reference { result.ghost_name ≡ self.entry.ghost_name }
+        ensures set { result.now ≡ record self.old { color_specs = specs } }
+    {
+        self.config.color_specs = specs;
         self
     }
 }

@@ -1,24 +1,32 @@
 //! Lines, and the fields before them.
-ghost use Rattle.std.specs.Prelude.{◌≡◌, ◌+◌, ◌<◌, ◌^◌, ◌∷◌, ◌++◌, [], OnOk, decimal, length};
+ghost use Rattle.std.specs.Prelude.{◌≡◌, ◌+◌, ◌<◌, ◌≤◌, ◌^◌, ◌∷◌, ◌++◌, [], OnOk, decimal, length};
 ghost use Rattle.std.specs.Option.{unwrap_or};
 ghost use Rattle.grep_matcher.specs.Lines.{byte_of};
 ghost use Rattle.grep_searcher.specs.Lines.{lines};
-ghost use Rattle.grep_printer.specs.LineTexts.{counted_notice, ended, fields, is_long, line_text};
-ghost use Rattle.grep_printer.specs.LineTexts.{lines_text, mark_of, notice};
+ghost use Rattle.grep_printer.specs.ColoredTexts.{color_of, colored};
+ghost use Rattle.grep_printer.specs.LineTexts.{counted_notice, fields, is_long, line_text};
+ghost use Rattle.grep_printer.specs.LineTexts.{lines_text, mark_of, missing_end, notice};
 ghost use Rattle.grep_printer.specs.LineTexts.{next_number, number_field, opening_text};
-ghost use Rattle.grep_printer.specs.LineTexts.{path_field, place_after, separator_text};
+ghost use Rattle.grep_printer.specs.LineTexts.{painted_line, path_field, place_after};
+ghost use Rattle.grep_printer.specs.LineTexts.{separator_text};
+ghost use Rattle.grep_printer.specs.MatchedParts.{AreInOrder};
 
+use crate::colors::{push_colored, push_painted};
 use crate::config::{Config, SearchSeparator};
-use grep_searcher::{LineIter, LineTerminator};
+use crate::parts::parts_after;
+use grep_lines::without_terminator;
+use grep_searcher::{LineIter, LineTerminator, Match};
 use itoa::write_digits;
 use std::alloc::AllocError;
 
-// Where a line is: its number, the column of the first match, and its offset.
+// Where a line is: its number, the column of the first match, its offset, and the position of its
+// first byte in the report.
 #[derive(Clone, Copy)]
 pub(crate) struct Place {
     pub(crate) number: Option<u64>,
     pub(crate) column: Option<u64>,
     pub(crate) offset: u64,
+    pub(crate) start: usize,
 }
 
 // What a line belongs to, with how many parts of the report match, or 0 if that isn't known or the
@@ -71,25 +79,30 @@ impl<'p> Layout<'p> {
             .config
             .path_terminator
             .unwrap_or(self.terminator.as_byte());
-        push_path(text, self.path, mark)
+        push_path(text, self.config.color_specs.path(), self.path, mark)
     }
 
-    // Pushes the lines of a match, the first of which is at a place.
+    // Pushes the lines of a match, the first of which is at a place, with its parts in colour.
     pub(crate) fn push_lines(
         &self,
         text: &mut Vec<u8>,
         kind: LineKind,
         place: Place,
+        parts: &[Match],
         bytes: &[u8],
     ) -> Result<(), AllocError>
-        requires { place.offset + length bytes.now < 2 ^ 64 }
-        ensures { OnOk result (text.new.items
-            ≡ text.old.items
-            ++ lines_text self.now kind place (lines (byte_of self.now.terminator) bytes.now)) }
+        requires fits { place.offset + length bytes.now < 2 ^ 64 }
+        requires starts { place.start ≤ place.offset }
+        requires ordered { AreInOrder 0 (2 ^ 64) parts.now }
+        ensures { OnOk result (text.new.items ≡ text.old.items
+            ++ lines_text self.now kind place parts.now
+            (lines (byte_of self.now.terminator) bytes.now)) }
     {
         let mut place = place;
+        let mut rest = parts;
         for line in LineIter::new(self.terminator.as_byte(), bytes) {
-            self.push_line(text, kind, &place, line)?;
+            rest = parts_after(rest, place.start);
+            self.push_line(text, kind, &place, rest, line)?;
             place = place_after(&place, line);
         }
         Ok(())
@@ -101,17 +114,43 @@ impl<'p> Layout<'p> {
         text: &mut Vec<u8>,
         kind: LineKind,
         place: &Place,
+        parts: &[Match],
         line: &[u8],
     ) -> Result<(), AllocError>
-        ensures { OnOk result
-            (text.new.items ≡ text.old.items ++ line_text self.now kind place.now line.now) }
+        requires fits { place.now.start + length line.now < 2 ^ 64 }
+        requires ordered { AreInOrder 0 (2 ^ 64) parts.now }
+        ensures { OnOk result (text.new.items
+            ≡ text.old.items ++ line_text self.now kind place.now parts.now line.now) }
     {
         self.push_fields(text, kind.mark(), place)?;
         if is_long(self.config.max_columns, line) {
             push_notice(text, kind)?;
             return text.extend_from_slice(&[self.terminator.as_byte()]);
         }
-        push_ended(text, self.terminator.as_byte(), line)
+        self.push_bytes(text, place.start, parts, line)?;
+        push_missing_end(text, self.terminator.as_byte(), line)
+    }
+
+    // Pushes the bytes of a line, the first of which is at a position of the report.
+    fn push_bytes(
+        &self,
+        text: &mut Vec<u8>,
+        start: usize,
+        parts: &[Match],
+        line: &[u8],
+    ) -> Result<(), AllocError>
+        requires fits { start + length line.now < 2 ^ 64 }
+        requires ordered { AreInOrder 0 (2 ^ 64) parts.now }
+        ensures { OnOk result (text.new.items
+            ≡ text.old.items ++ painted_line self.now parts.now start line.now) }
+    {
+        match self.config.color_specs.matched() {
+            Some(color) => {
+                let end = start + without_terminator(line, self.terminator).len();
+                push_painted(text, color, parts, &Match::new(start, end), line)
+            }
+            None => text.extend_from_slice(line),
+        }
     }
 
     // Pushes the fields before a line.
@@ -119,30 +158,54 @@ impl<'p> Layout<'p> {
         ensures { OnOk result
             (text.new.items ≡ text.old.items ++ fields self.now mark place.now) }
     {
+        let colors = &self.config.color_specs;
         if !self.config.heading {
-            push_path(text, self.path, self.config.path_terminator.unwrap_or(mark))?;
+            let mark = self.config.path_terminator.unwrap_or(mark);
+            push_path(text, colors.path(), self.path, mark)?;
         }
-        push_number(text, place.number, mark)?;
-        push_number(text, place.column, mark)?;
+        push_number(text, colors.line(), place.number, mark)?;
+        push_number(text, colors.column(), place.column, mark)?;
         if self.config.byte_offset {
-            push_number(text, Some(place.offset), mark)?;
+            push_number(text, colors.column(), Some(place.offset), mark)?;
         }
         Ok(())
     }
 }
 
-// Pushes a number and a mark, if there is a number.
-pub(crate) fn push_number(
+// Pushes a number, in a colour if there is one, and a mark, if there is a number.
+fn push_number(
     text: &mut Vec<u8>,
+    color: Option<&str>,
     number: Option<u64>,
     mark: u8,
 ) -> Result<(), AllocError>
-    ensures { OnOk result (text.new.items ≡ text.old.items ++ number_field mark number) }
+    ensures { OnOk result
+        (text.new.items ≡ text.old.items ++ number_field (color_of color.entry) mark number) }
 {
-    match number {
-        Some(number) => push_digits(text, number, mark),
-        None => Ok(()),
+    let Some(number) = number else {
+        return Ok(());
+    };
+    match color {
+        Some(color) => push_colored_digits(text, color, number, mark),
+        None => push_digits(text, number, mark),
     }
+}
+
+// Pushes a number in a colour, and a mark.
+fn push_colored_digits(
+    text: &mut Vec<u8>,
+    color: &str,
+    number: u64,
+    mark: u8,
+) -> Result<(), AllocError>
+    ensures { OnOk result (text.new.items
+        ≡ text.old.items ++ (colored (Some color.now) (decimal number) ++ mark ∷ [])) }
+{
+    // A number of 64 bits has 20 digits at most.
+    let mut digits = [0; 20];
+    let start = write_digits(number, &mut digits, 20);
+    push_colored(text, Some(color), &digits[start..])?;
+    text.extend_from_slice(&[mark])
 }
 
 // Pushes a number and a mark.
@@ -155,24 +218,29 @@ pub(crate) fn push_digits(text: &mut Vec<u8>, number: u64, mark: u8) -> Result<(
     text.extend_from_slice(&digits[start..])
 }
 
-// Pushes a path and a byte, if there is a path.
-pub(crate) fn push_path(text: &mut Vec<u8>, path: Option<&str>, mark: u8) -> Result<(), AllocError>
-    ensures { OnOk result (text.new.items ≡ text.old.items ++ path_field mark path.entry) }
+// Pushes a path, in a colour if there is one, and a byte, if there is a path.
+pub(crate) fn push_path(
+    text: &mut Vec<u8>,
+    color: Option<&str>,
+    path: Option<&str>,
+    mark: u8,
+) -> Result<(), AllocError>
+    ensures { OnOk result
+        (text.new.items ≡ text.old.items ++ path_field (color_of color.entry) mark path.entry) }
 {
     match path {
         Some(path) => {
-            text.extend_from_slice(path.as_bytes())?;
+            push_colored(text, color, path.as_bytes())?;
             text.extend_from_slice(&[mark])
         }
         None => Ok(()),
     }
 }
 
-// Pushes a line, and the terminator if it isn't at its end.
-fn push_ended(text: &mut Vec<u8>, terminator: u8, line: &[u8]) -> Result<(), AllocError>
-    ensures { OnOk result (text.new.items ≡ text.old.items ++ ended terminator line.now) }
+// Pushes the terminator of a line, if it isn't at its end.
+fn push_missing_end(text: &mut Vec<u8>, terminator: u8, line: &[u8]) -> Result<(), AllocError>
+    ensures { OnOk result (text.new.items ≡ text.old.items ++ missing_end terminator line.now) }
 {
-    text.extend_from_slice(line)?;
     if line.ends_with(&[terminator]) {
         return Ok(());
     }
@@ -228,13 +296,15 @@ fn push_separator(
 
 // The place after a line.
 fn place_after(place: &Place, line: &[u8]) -> Place
-    requires { place.now.offset + length line.now < 2 ^ 64 }
+    requires fits { place.now.offset + length line.now < 2 ^ 64 }
+    requires starts { place.now.start ≤ place.now.offset }
     ensures { result ≡ place_after place.now line.now }
 {
     Place {
         number: next_number(place.number),
         column: place.column,
         offset: place.offset + line.len() as u64,
+        start: place.start + line.len(),
     }
 }
 

@@ -13,12 +13,11 @@ pub fn runs_print<M: FindAt, W: Output>()
     ensures { RunsPrint M.facts M.first_at W.step }
 {}
 
-/// The parts that a `Standard` writes or counts are successive matches: each is the first from where
-/// the one before ended, or from one byte later if that one is empty, and isn't an empty one where
-/// the one before ended; after the last there is none. That is so of a matcher whose matches lie in
-/// the bytes and start no earlier than it was asked.
-pub fn parts_are_successive()
-    ensures { PartsAreSuccessive }
+/// The parts that a printer writes or counts are successive matches of the matcher: each is the
+/// first from where the one before ended, or from one byte later if that one is empty, and isn't an
+/// empty one where the one before ended; after the last there is none.
+pub fn parts_are_successive<M: FindAt>()
+    ensures { PartsAreSuccessive M.first_at }
 {}
 
 /// A run of the sink of a `Summary` that ended in `Ok` has counted the matches up to the first

@@ -6,6 +6,7 @@
 //! The printers follow those of ripgrep's crate grep-printer.
 #![tactic(auto)]
 
+mod colors;
 mod config;
 mod fields;
 mod json_lines;
@@ -18,6 +19,7 @@ mod standard;
 mod stats;
 mod summary;
 
+pub use colors::ColorSpecs;
 pub use config::{SearchSeparator, StandardBuilder};
 pub use json_printer::{Json, JsonBuilder, JsonSink};
 pub use standard::{Standard, StandardSink};

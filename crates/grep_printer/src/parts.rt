@@ -4,7 +4,7 @@ ghost use Rattle.std.specs.Prelude.{if◌then◌else◌};
 ghost use Rattle.grep_matcher.specs.FindResults.{IsFrom};
 ghost use Rattle.grep_searcher.specs.SearchErrors.{IsOutOfMemory};
 ghost use Rattle.grep_printer.specs.MatchedParts.{AreInOrder, IsMessageOf, found_from};
-ghost use Rattle.grep_printer.specs.MatchedParts.{is_passed, parts_in, position_after};
+ghost use Rattle.grep_printer.specs.MatchedParts.{is_passed, parts_after, parts_in, position_after};
 
 use grep_searcher::{FindAt, Match, SearchError, SinkError};
 use std::alloc::{AllocError, Global};
@@ -91,4 +91,18 @@ fn position_after(found: &Match) -> usize
     } else {
         found.end()
     }
+}
+
+// The parts without the first ones that end at a position or before it.
+pub(crate) fn parts_after(parts: &[Match], position: usize) -> &[Match]
+    ensures { result.now ≡ parts_after position parts.now }
+{
+    let mut rest = parts;
+    while let Some((part, later)) = rest.split_first() {
+        if part.end() > position {
+            break;
+        }
+        rest = later;
+    }
+    rest
 }

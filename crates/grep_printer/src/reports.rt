@@ -5,9 +5,10 @@ ghost use Rattle.grep_matcher.specs.Lines.{byte_of};
 ghost use Rattle.grep_searcher.specs.Lines.{lines};
 ghost use Rattle.grep_printer.specs.MatchedParts.{AreInOrder};
 ghost use Rattle.grep_printer.specs.PartTexts.{across_text, clipped_text, part_place, part_text};
-ghost use Rattle.grep_printer.specs.PartTexts.{parts_after, parts_text};
+ghost use Rattle.grep_printer.specs.PartTexts.{parts_text};
 
 use crate::fields::{Layout, LineKind, Place, next_number};
+use crate::parts::parts_after;
 use grep_lines::without_terminator;
 use grep_searcher::{LineIter, Match};
 use std::alloc::AllocError;
@@ -117,8 +118,10 @@ impl<'p> Layout<'p> {
         if start >= end {
             return Ok(());
         }
-        let place = self.part_place(report, number, part);
-        self.push_line(text, report.kind, &place, &report.bytes[start..end])
+        let mut place = self.part_place(report, number, part);
+        place.start = start;
+        let bytes = &report.bytes[start..end];
+        self.push_line(text, report.kind, &place, &[*part], bytes)
     }
 
     // Pushes a part in a line of its own.
@@ -135,12 +138,8 @@ impl<'p> Layout<'p> {
             report.now.kind report.now.offset report.now.bytes.now number part.now) }
     {
         let place = self.part_place(report, number, part);
-        self.push_line(
-            text,
-            report.kind,
-            &place,
-            &report.bytes[part.start()..part.end()],
-        )
+        let bytes = &report.bytes[part.start()..part.end()];
+        self.push_line(text, report.kind, &place, &[*part], bytes)
     }
 
     // The place of a part: the number of its line, and its own column and offset.
@@ -159,20 +158,7 @@ impl<'p> Layout<'p> {
                 None
             },
             offset: report.offset + start,
+            start: part.start(),
         }
     }
-}
-
-// The parts without the first ones that end at a position or before it.
-fn parts_after(parts: &[Match], position: usize) -> &[Match]
-    ensures { result.now ≡ parts_after position parts.now }
-{
-    let mut rest = parts;
-    while let Some((part, later)) = rest.split_first() {
-        if part.end() > position {
-            break;
-        }
-        rest = later;
-    }
-    rest
 }

@@ -6,6 +6,7 @@ ghost use Rattle.grep_report.specs.SinkReports.{match_bytes};
 ghost use Rattle.grep_searcher.specs.SearchErrors.{IsOutOfMemory};
 ghost use Rattle.grep_searcher.specs.SinkArguments.{context_call, match_call};
 ghost use Rattle.grep_output.specs.Outputs.{Writes, flushes};
+ghost use Rattle.grep_printer.specs.ColoredTexts.{color_of, path_color};
 ghost use Rattle.grep_printer.specs.LineTexts.{opening_text};
 ghost use Rattle.grep_printer.specs.MatchedParts.{AreInOrder};
 ghost use Rattle.grep_printer.specs.PartTexts.{column_of, context_text, match_text, writes_parts};
@@ -15,6 +16,7 @@ ghost use Rattle.grep_printer.specs.StandardTexts.{asked_bytes, binary_message, 
 ghost use Rattle.grep_printer.specs.StandardTexts.{is_hidden, is_text, layout_of, new_progress};
 ghost use Rattle.grep_printer.specs.StandardTexts.{parts_of, path_prefix};
 
+use crate::colors::push_colored;
 use crate::config::Config;
 use crate::fields::{Layout, LineKind, Place, push_digits};
 use crate::parts::find_parts;
@@ -145,7 +147,7 @@ impl<W> Standard<W> {
         if !self.writes_parts(layout) {
             let place = self.place(layout, number, &report);
             let kind = LineKind::Match(self.parts.len());
-            return layout.push_lines(&mut self.text, kind, place, report.bytes);
+            return layout.push_lines(&mut self.text, kind, place, &self.parts, report.bytes);
         }
         if is_across {
             return layout.push_across(&mut self.text, &report, number, &self.parts);
@@ -178,7 +180,7 @@ impl<W> Standard<W> {
         if !self.writes_parts(layout) {
             let place = self.place(layout, number, &report);
             let kind = LineKind::Context(self.parts.len());
-            return layout.push_line(&mut self.text, kind, &place, report.bytes);
+            return layout.push_line(&mut self.text, kind, &place, &self.parts, report.bytes);
         }
         layout.push_parts(&mut self.text, &report, number, &self.parts)
     }
@@ -197,6 +199,7 @@ impl<W> Standard<W> {
           number = number;
           column = column_of layout.now self.now.parts.items;
           offset = report.now.offset;
+          start = 0;
         } }
     {
         let column = match self.parts.first() {
@@ -207,6 +210,7 @@ impl<W> Standard<W> {
             number,
             column,
             offset: report.offset,
+            start: 0,
         }
     }
 
@@ -234,13 +238,18 @@ impl<W> Standard<W> {
         ensures has_written { self.new.has_written ≡ self.old.has_written }
         ensures has_failed { self.new.has_failed ≡ self.old.has_failed }
         ensures text { OnOk result
-            (self.new.text.items ≡ binary_message detection path.entry offset) }
+            (self.new.text.items ≡ binary_message (path_color self.old.config.color_specs)
+            detection
+            path.entry offset) }
     {
         self.text.clear();
+        let color = self.config.color_specs.path();
         match detection {
             BinaryDetection::None => Ok(()),
-            BinaryDetection::Quit(_) => push_message(&mut self.text, path, STOPPED, offset),
-            BinaryDetection::Convert(_) => push_message(&mut self.text, path, MATCHES, offset),
+            BinaryDetection::Quit(_) => push_message(&mut self.text, color, path, STOPPED, offset),
+            BinaryDetection::Convert(_) => {
+                push_message(&mut self.text, color, path, MATCHES, offset)
+            }
         }
     }
 
@@ -299,27 +308,33 @@ impl<W: Output> Standard<W> {
 // Pushes a message about a binary byte at an offset, after the path if there is one.
 fn push_message(
     text: &mut Vec<u8>,
+    color: Option<&str>,
     path: Option<&str>,
     message: &str,
     offset: u64,
 ) -> Result<(), AllocError>
     ensures { OnOk result (text.new.items
-        ≡ text.old.items ++ (path_prefix path.entry
+        ≡ text.old.items ++ (path_prefix (color_of color.entry) path.entry
         ++ (message.now ++ (decimal offset ++ codes ")\n")))) }
 {
-    push_prefix(text, path)?;
+    push_prefix(text, color, path)?;
     text.extend_from_slice(message.as_bytes())?;
     push_digits(text, offset, b')')?;
     text.extend_from_slice(b"\n")
 }
 
-// Pushes a path before a message, if there is one.
-fn push_prefix(text: &mut Vec<u8>, path: Option<&str>) -> Result<(), AllocError>
-    ensures { OnOk result (text.new.items ≡ text.old.items ++ path_prefix path.entry) }
+// Pushes a path before a message, in a colour if there is one, if there is a path.
+fn push_prefix(
+    text: &mut Vec<u8>,
+    color: Option<&str>,
+    path: Option<&str>,
+) -> Result<(), AllocError>
+    ensures { OnOk result
+        (text.new.items ≡ text.old.items ++ path_prefix (color_of color.entry) path.entry) }
 {
     match path {
         Some(path) => {
-            text.extend_from_slice(path.as_bytes())?;
+            push_colored(text, color, path.as_bytes())?;
             text.extend_from_slice(b": ")
         }
         None => Ok(()),
@@ -400,7 +415,7 @@ impl<'s, M: FindAt, W: Output> StandardSink<'s, M, W> {
         ensures error { IfErr result (λ e. IsOutOfMemory e
             ⊎ IsErrorAt M.facts self.old searcher.now.settings bytes.now e) }
     {
-        if !(self.printer.config.only_matching || self.printer.config.column) {
+        if !self.printer.config.asks_for_parts() {
             self.printer.parts.clear();
             return Ok(());
         }

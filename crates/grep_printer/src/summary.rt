@@ -97,7 +97,8 @@ impl<W> Summary<W> {
         self.text.clear();
         match self.kind {
             SummaryKind::Count if match_count > 0 => {
-                push_path(&mut self.text, path, self.path_terminator.unwrap_or(b':'))?;
+                let mark = self.path_terminator.unwrap_or(b':');
+                push_path(&mut self.text, None, path, mark)?;
                 push_digits(&mut self.text, match_count, terminator)
             }
             SummaryKind::PathWithMatch if match_count > 0 => self.push_path_line(path, terminator),
@@ -119,6 +120,7 @@ impl<W> Summary<W> {
     {
         push_path(
             &mut self.text,
+            None,
             path,
             self.path_terminator.unwrap_or(terminator),
         )

@@ -122,8 +122,13 @@ impl Matcher for RegexMatcher<'_> {
 /// What comes before the position is seen by assertions, as `^` and `\b`.
 impl FindAt for RegexMatcher<'_> {
     ghost use Rattle.grep_regex.specs.Views.{matcher_regex, regex_first_at};
+    ghost use Rattle.grep_regex.specs.Views.{regex_options, regex_patterns};
+    ghost use Rattle.grep_regex.specs.PatternFirstMatches.{first-matches};
 
     ghost first_at = { λ m. regex_first_at (matcher_regex m) };
+
+    ghost are_first = { λ m.
+        first-matches (regex_options (matcher_regex m)) (regex_patterns (matcher_regex m)) };
 
     fn find_at(&self, haystack: &[u8], start: usize) -> Result<Option<Match>, AllocError> {
         match find_by(self.alloc, self.regex, &self.engine, haystack, start)? {

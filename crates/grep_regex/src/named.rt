@@ -157,9 +157,13 @@ impl<N: Naming> Matcher for NamedMatcher<'_, N> {
 /// What comes before the position is seen by assertions, as `^` and `\b`.
 impl<N: Naming> FindAt for NamedMatcher<'_, N> {
     ghost use Rattle.grep_regex.specs.NamedViews.{named_regex};
-    ghost use Rattle.grep_regex.specs.Views.{regex_first_at};
+    ghost use Rattle.grep_regex.specs.Views.{regex_first_at, regex_options, regex_patterns};
+    ghost use Rattle.grep_regex.specs.PatternFirstMatches.{first-matches};
 
     ghost first_at = { λ m. regex_first_at (named_regex m) };
+
+    ghost are_first = { λ m.
+        first-matches (regex_options (named_regex m)) (regex_patterns (named_regex m)) };
 
     fn find_at(&self, haystack: &[u8], start: usize) -> Result<Option<Match>, AllocError> {
         match self.find_by(haystack, start)? {

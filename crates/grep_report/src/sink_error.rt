@@ -3,7 +3,7 @@ ghost use Rattle.std.specs.Prelude.{◌≡◌, ℕ, List, Option};
 ghost use Rattle.grep_report.specs.ErrorMakers.{ErrorMakers};
 
 use crate::config_error::ConfigError;
-use std::alloc::{AllocError, Allocator, Global};
+use std::alloc::{AllocError, AllocFailed, Allocator, Global};
 use std::fmt::Display;
 use std::io;
 use thiserror::Error as ThisError;
@@ -111,6 +111,18 @@ impl<A: Allocator> From<AllocError> for SearchError<A> {
 
     fn from(error: AllocError) -> SearchError<A> {
         SearchError::Io(io::Error::from(error))
+    }
+}
+
+/// Out of memory for a value, as one that is pushed, as an `io::Error` of the kind `OutOfMemory`. The
+/// value is dropped.
+impl<T: Drop, A: Allocator> From<AllocFailed<T>> for SearchError<A> {
+    ghost use Rattle.grep_report.specs.SearchErrors.{IsOutOfMemory};
+
+    ghost from_gives = { λ _ e. IsOutOfMemory e };
+
+    fn from(error: AllocFailed<T>) -> SearchError<A> {
+        SearchError::from(AllocError::from(error))
     }
 }
 

@@ -1,10 +1,12 @@
 -- What a sink that counts the matches makes of a run.
-use Rattle.std.proofs.Common.{◌≡◌, ℕ, ◌+◌, ◌<◌, ◌-◌, ◌^◌, min, true, List, [], ◌∷◌, length, ◌∙◌, arith}
+use Rattle.std.proofs.Common.{◌≡◌, ℕ, ◌+◌, ◌<◌, ◌-◌, ◌^◌, min, true, List, [], ◌∷◌, length, refl, ◌∙◌, arith}
+use Rattle.grep_definitions.specs.Asking.{search_plan}
 use Rattle.grep_definitions.specs.SearchLaws.{match_calls}
 use Rattle.grep_definitions.specs.Plans.{Call}
 use Rattle.grep_definitions.specs.SinkFolds.{fold_while}
-use Rattle.grep_definitions.proofs.SinkFoldLemmas.{runs-fold_matches}
-use Rattle.grep_searcher.specs.CountSinks.{counted, IsCountStep, RunsCount, RunsCountAll}
+use Rattle.grep_searcher.specs.CountSinks.{counted, RunsCount, RunsCountAll}
+use Rattle.grep_searcher.specs.Units.{MatchesAreWithinCount}
+use Rattle.grep_searcher.proofs.MatchHandlerLemmas.{runs-fit, runs-handle}
 
 -- each of some matches is counted, up to the largest number
 fold_while-counted : (old : ℕ) (calls : List Call) → old < 2 ^ 64
@@ -14,8 +16,16 @@ fold_while-counted old (call ∷ later) fits = omega (arith, fold_while-counted 
 
 pub runs-count : (E : Type 0) → RunsCount E
 runs-count E settings old plan new fits run =
-    runs-fold_matches {E = E} IsCountStep (λ _ _. true) counted (λ _ _ _ _ _ h. h) settings old plan new run
+    runs-handle {E = E} (λ _ _. true) counted (λ _ _ _ _. ⊥) settings old plan new run
     ∙ fold_while-counted old (match_calls plan.calls) fits
 
-pub runs-count_all : (E : Type 0) → RunsCountAll E
-runs-count_all E settings plan new run = omega (arith, runs-count E settings 0 plan new (omega arith) run)
+pub runs-count_all : MatchesAreWithinCount → (E : Type 0) → RunsCountAll E
+runs-count_all within E settings meaning bytes old new is_new run =
+    let plan = search_plan settings meaning bytes in
+    omega (
+      arith,
+      is_new,
+      (within settings meaning bytes).0,
+      runs-fit {E = E} (λ _ _. true) counted (λ _ _ _ _. ⊥) (λ _ _. refl) settings old plan new run,
+      runs-count E settings old plan new (omega (arith, is_new)) run,
+    )

@@ -1,17 +1,18 @@
 -- Which lines a search by line selects if no limit and no stop is set.
-use Rattle.std.proofs.Common.{◌≡◌, ℕ, zero, suc, ◌<◌, ◌≤◌, Bool, true, false, List, [], length, take, refl, ap, ◌∙◌, arith}
-use Rattle.std.proofs.Common.{add-one}
+use Rattle.std.proofs.Common.{◌≡◌, ℕ, zero, suc, ◌<◌, ◌≤◌, Bool, true, false, List, [], ◌∷◌, length, take, refl, ap}
+use Rattle.std.proofs.Common.{sym, ◌∙◌, arith, add-one}
 use Rattle.std.proofs.Math.Seq.{take-length}
 use Rattle.std.proofs.lemmas.Bool.{lt-ltb}
-use Rattle.std.proofs.lemmas.List.Sums.{count_by_more_yes, count_by_more_no}
-use Rattle.std.specs.Prelude.{◌||◌, ◌&&◌, nat_lt, count_by, slice_index_or}
-use Rattle.grep_matcher.specs.Lines.{byte_of, lines}
+use Rattle.std.proofs.lemmas.List.Sums.{count_by_more_yes, count_by_more_no, sum_by-cons}
+use Rattle.std.specs.Prelude.{◌||◌, ◌&&◌, cond, nat_lt, count_by, slice_index_or, is_some}
+use Rattle.grep_matcher.specs.Lines.{byte_of, lines, strip}
 use Rattle.grep_matcher.specs.Meanings.{Meaning}
 use Rattle.grep_definitions.specs.Reports.{count_below, line, line_count}
 use Rattle.grep_definitions.specs.SearchLaws.{is_matched}
-use Rattle.grep_definitions.specs.SelectedLines.{reports_end}
+use Rattle.grep_definitions.specs.SelectedLines.{differ, reports_end}
 use Rattle.grep_definitions.specs.Settings.{Settings}
 use Rattle.grep_searcher.specs.HitLines.{is_hit, HitsAreSelected, HitsAreMatched, HitsAreCounted, IsUnlimited}
+use Rattle.grep_searcher.specs.HitLines.{PredicatesAreCounted}
 
 -- as many numbers pass as items of a list do, if a number passes exactly if its item does
 count_below-items : {X : Type 0} (f : X → Bool) (p : ℕ → Bool) (d : X) (xs : List X) (n : ℕ) → n ≤ length xs
@@ -71,3 +72,23 @@ hits-are_counted settings meaning bytes free =
     ∙ count_below-items (is_hit settings meaning) (is_matched settings meaning bytes) [] all (length all) (omega arith)
     (λ i below. hits-are_matched settings meaning bytes i free below)
     ∙ ap (count_by (is_hit settings meaning)) (take-length all)
+
+-- as many items pass if the tests agree
+count_by-same : {X : Type 0} (p q : X → Bool) → ((x : X) → p x ≡ q x) → (xs : List X) → count_by p xs ≡ count_by q xs
+count_by-same p q same [] = refl
+count_by-same p q same (x ∷ xs) =
+    sum_by-cons (λ y. cond (p y) 1 0) x xs
+    ∙ rw (same x, count_by-same p q same xs) (sym (sum_by-cons (λ y. cond (q y) 1 0) x xs))
+
+differ-kept : (b : Bool) → differ b false ≡ b
+differ-kept true = refl
+differ-kept false = refl
+
+pub predicates-are_counted : PredicatesAreCounted
+predicates-are_counted settings meaning bytes holds free plain same =
+    hits-are_counted settings meaning bytes free
+    ∙ count_by-same (is_hit settings meaning) (λ line. holds (strip settings.line_terminator line))
+    (λ line.
+    let stripped = strip settings.line_terminator line in
+    ap (differ (is_some (meaning.first stripped))) plain ∙ differ-kept (is_some (meaning.first stripped)) ∙ same stripped)
+    (lines (byte_of settings.line_terminator) bytes)

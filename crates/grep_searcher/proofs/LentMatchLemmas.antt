@@ -1,7 +1,8 @@
 -- Sinks that lend matches to a closure.
-use Rattle.std.proofs.Common.{◌≡◌, ℕ, Bool, true, false, List, [], ◌∷◌, ◌++◌, sym, ap, ◌∙◌, inl, inr, append_assoc}
+use Rattle.std.proofs.Common.{◌≡◌, ℕ, Bool, true, false, List, [], ◌∷◌, ◌++◌, refl, sym, ap, ◌∙◌, inl, inr, append_assoc}
 use Rattle.std.proofs.lemmas.List.{append-nil}
 use Rattle.std.specs.Prelude.{Result, Ok, map}
+use Rattle.std.specs.List.{flat_map}
 use Rattle.std.specs.Borrow.{Bor}
 use Rattle.std.specs.declared.io.Error.{Error}
 use Rattle.grep_report.specs.SinkReports.{MatchReport}
@@ -9,8 +10,8 @@ use Rattle.grep_definitions.specs.Plans.{Call, begins, matches, context, breaks,
 use Rattle.grep_definitions.specs.SearchLaws.{match_calls}
 use Rattle.grep_definitions.specs.SinkFolds.{AreTaken, IsTakenOk}
 use Rattle.grep_definitions.proofs.SinkFoldLemmas.{runs-take_matches}
-use Rattle.grep_searcher.specs.LentMatches.{IsLentAt, IsLentStep, LentSteps, ClosuresAreLent, KeepsMatches}
-use Rattle.grep_searcher.specs.LentMatches.{ClosuresKeepMatches}
+use Rattle.grep_searcher.specs.LentMatches.{AppendsLent, ClosuresAppendMatches, ClosuresAreLent, ClosuresKeepMatches}
+use Rattle.grep_searcher.specs.LentMatches.{IsLentAt, IsLentStep, LentSteps}
 use Rattle.grep_searcher.specs.MatchHandlers.{KeptReport, kept_of}
 
 module _ {F : Type 0} (call : F → Bor MatchReport → Result Bool Error → F → Type 0) where
@@ -29,25 +30,38 @@ module _ {F : Type 0} (call : F → Bor MatchReport → Result Bool Error → F 
       runs-take_matches (LentSteps call closure) settings plan.finish new closure (IsLentAt call)
       (λ from made b after h. lent-takes (closure from) made b (closure after) h) old plan.calls run
 
-  module _ (name : F → ℕ) (kept : F → List KeptReport) (by : KeepsMatches call name kept) where
+  module _ {X : Type 0} (part : Call → List X) (name : F → ℕ) (kept : F → List X)
+      (by : AppendsLent call part name kept) where
     lent-one : (old : F) (made : Call) (b : Bool) (new : F) → IsLentAt call old made b new
-        → (b ≡ true) × (name new ≡ name old) × (kept new ≡ kept old ++ kept_of made ∷ [])
+        → (b ≡ true) × (name new ≡ name old) × (kept new ≡ kept old ++ part made)
     lent-one old made b new (found, is, called) =
         let here = by old found b new called in
-        (here.0, here.1, here.2 ∙ ap (λ m. kept old ++ kept_of m ∷ []) is)
+        (here.0, here.1, here.2 ∙ ap (λ m. kept old ++ part m) is)
 
     lent-all : (calls : List Call) (old new : F) → AreTaken (IsLentAt call) old calls new
-        → (name new ≡ name old) × (kept new ≡ kept old ++ map kept_of calls)
+        → (name new ≡ name old) × (kept new ≡ kept old ++ flat_map part calls)
     lent-all [] old new same = (ap name same, ap kept same ∙ sym (append-nil (kept old)))
     lent-all (made ∷ later) old new (inl (mid, here, rest)) =
         let first = lent-one old made true mid here in
         let others = lent-all later mid new rest in (
           others.0 ∙ first.1,
-          others.1 ∙ ap (λ k. k ++ map kept_of later) first.2 ∙ append_assoc (kept old) (kept_of made ∷ []) (map kept_of later),
+          others.1 ∙ ap (λ k. k ++ flat_map part later) first.2
+              ∙ append_assoc (kept old) (part made) (flat_map part later),
         )
     lent-all (made ∷ later) old new (inr here) = absurd (let never = (lent-one old made false new here).0 in cc)
 
+  pub closures-append_matches : {S : Type 0} (X : Type 0) (closure : S → F) → ClosuresAppendMatches call X closure
+  closures-append_matches X closure part name kept by settings old plan new run =
+      lent-all part name kept by (match_calls plan.calls) (closure old) (closure new)
+      (closures-are_lent closure settings old plan new run)
+
+  -- what is made of each, one after another
+  flat_map-each : (calls : List Call) → flat_map (λ made. kept_of made ∷ []) calls ≡ map kept_of calls
+  flat_map-each [] = refl
+  flat_map-each (made ∷ later) = ap (λ kept. kept_of made ∷ kept) (flat_map-each later)
+
   pub closures-keep_matches : {S : Type 0} (closure : S → F) → ClosuresKeepMatches call closure
   closures-keep_matches closure name kept by settings old plan new run =
-      lent-all name kept by (match_calls plan.calls) (closure old) (closure new)
-      (closures-are_lent closure settings old plan new run)
+      let appended = closures-append_matches KeptReport closure (λ made. kept_of made ∷ []) name kept by settings old plan
+      new run in
+      (appended.0, appended.1 ∙ ap (λ k. kept (closure old) ++ k) (flat_map-each (match_calls plan.calls)))

@@ -1,3 +1,5 @@
+pub mod AppendedPartLemmas
+pub mod BoundedReadLemmas
 pub mod ClosureSinkLemmas
 pub mod CountSinkLemmas
 pub mod HitLineLemmas
@@ -6,5 +8,7 @@ pub mod LentMatchLemmas
 pub mod LineCountLemmas
 pub mod MatchHandlerLemmas
 pub mod PassedCallLemmas
+pub mod SearchFailureLemmas
 pub mod SourceSearchLemmas
+pub mod UnitCallLemmas
 pub mod ViewLemmas

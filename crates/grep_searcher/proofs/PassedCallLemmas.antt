@@ -1,64 +1,97 @@
 -- Sinks that pass each call to a closure.
-use Rattle.std.proofs.Common.{◌≡◌, ℕ, Bool, true, false, List, [], ◌∷◌, ◌++◌, ap, subst, ◌∙◌, inl, inr, append_assoc}
+use Rattle.std.proofs.Common.{◌≡◌, ℕ, Bool, true, false, List, [], ◌∷◌, ◌++◌, refl, sym, ap, subst, ◌∙◌, inl, inr}
+use Rattle.std.proofs.Common.{append_assoc}
+use Rattle.std.proofs.lemmas.Bool.{false≢true}
+use Rattle.std.proofs.lemmas.List.{append-nil}
 use Rattle.std.specs.Prelude.{Result, Ok}
+use Rattle.std.specs.List.{flat_map}
 use Rattle.std.specs.declared.io.Error.{Error}
 use Rattle.grep_definitions.specs.Plans.{Call, begins, matches, context, breaks, binary_data, finishes}
 use Rattle.grep_definitions.specs.Plans.{Finish, Planned, Outcome, AreMade, IsFinished}
 use Rattle.grep_definitions.specs.SearchLaws.{calls_of}
 use Rattle.grep_definitions.specs.Settings.{Settings}
+use Rattle.grep_searcher.specs.AppendedParts.{run_calls}
 use Rattle.grep_searcher.specs.declared.sinks.calls.SinkCall.{SinkCall}
-use Rattle.grep_searcher.specs.PassedCalls.{IsPassed, IsPassedStep, PassedSteps, KeepsPassed, ClosuresKeepCalls}
+use Rattle.grep_searcher.specs.PassedCalls.{AppendsPassed, ArePassed, ClosuresAppend, ClosuresArePassed, ClosuresKeepCalls}
+use Rattle.grep_searcher.specs.PassedCalls.{is_finish, IsPassed, IsPassedStep, PassedSteps}
 
-module _ {F : Type 0} (call : F → SinkCall → Result Bool Error → F → Type 0) (name : F → ℕ) (kept : F → List Call)
-    (by : KeepsPassed call name kept) where
-  passed-one : (old : F) (made : Call) (b : Bool) (new : F) → IsPassed call old made (Ok b) new
-      → (b ≡ true) × (name new ≡ name old) × (kept new ≡ kept old ++ made ∷ [])
-  passed-one old made b new (passed, is, called) =
-      let here = by old passed b new called in
-      (here.0, here.1, here.2 ∙ ap (λ m. kept old ++ m ∷ []) is)
-
-  passed-step : (old : F) (made : Call) (b : Bool) (new : F) → IsPassedStep call old made (Ok b) new
-      → (b ≡ true) × (name new ≡ name old) × (kept new ≡ kept old ++ made ∷ [])
-  passed-step old begins b new h = passed-one old begins b new h
-  passed-step old (matches number offset bytes) b new h = passed-one old (matches number offset bytes) b new h
-  passed-step old (context kind number offset bytes) b new h = passed-one old (context kind number offset bytes) b new h
-  passed-step old breaks b new h = passed-one old breaks b new h
-  passed-step old (binary_data offset) b new h = passed-one old (binary_data offset) b new h
-  passed-step old (finishes count binary) b new (is, returned, h) = (
-    is,
-    (passed-one old (finishes count binary) returned new h).1,
-    (passed-one old (finishes count binary) returned new
-        h).2,
-  )
-
-  module _ {S : Type 0} (closure : S → F) (settings : Settings) (finish : Finish) (new : S) where
-    passed-all : (calls : List Planned) (old : S) (outcome : Outcome Error) (mid : S)
+module _ {F : Type 0} (call : F → SinkCall → Result Bool Error → F → Type 0) {S : Type 0} (closure : S → F) where
+  module _ (settings : Settings) (finish : Finish) (new : S) where
+    made-passed : (calls : List Planned) (old : S) (outcome : Outcome Error) (mid : S)
         → AreMade (PassedSteps call closure) settings old calls outcome mid
         → IsFinished (PassedSteps call closure) settings outcome mid finish (Ok tt) new
-        → (name (closure new) ≡ name (closure old))
-        × (kept (closure new) ≡ kept (closure old) ++ (calls_of calls ++ finishes finish.count finish.binary ∷ []))
-    passed-all [] old outcome mid (is, same) finished =
+        → ArePassed call (closure old) calls finish (closure new)
+    made-passed [] old outcome mid (is, same) finished =
         let last = subst (λ o. IsFinished (PassedSteps call closure) settings o mid finish (Ok tt) new) is finished in
-        let end = passed-step (closure mid) (finishes finish.count finish.binary) true (closure new) last in (
-          end.1 ∙ ap (λ s. name (closure s)) same,
-          end.2 ∙ ap (λ s. kept (closure s) ++ finishes finish.count finish.binary ∷ []) same,
-        )
-    passed-all (planned ∷ later) old outcome mid (inl (between, made, rest)) finished =
-        let here = passed-step (closure old) planned.call true (closure between) made in
-        let others = passed-all later between outcome mid rest finished in
-        let more = calls_of later ++ finishes finish.count finish.binary ∷ [] in (
-          others.0 ∙ here.1,
-          others.1 ∙ ap (λ k. k ++ more) here.2 ∙ append_assoc (kept (closure old)) (planned.call ∷ []) more,
-        )
-    passed-all (planned ∷ later) old outcome mid (inr (inl (is, made))) finished =
-        let here = passed-step (closure old) planned.call false (closure mid) made in
-        absurd (let never = here.0 in cc)
-    passed-all (planned ∷ later) old outcome mid (inr (inr (e, is, made))) finished =
+        subst (λ s. ArePassed call (closure s) [] finish (closure new)) same (last.1, last.2)
+    made-passed (planned ∷ later) old outcome mid (inl (between, made, rest)) finished =
+        inl (closure between, made, made-passed later between outcome mid rest finished)
+    made-passed (planned ∷ later) old outcome mid (inr (inl (is, made))) finished =
+        let last = subst (λ o. IsFinished (PassedSteps call closure) settings o mid finish (Ok tt) new) is finished in
+        inr (closure mid, made, (last.1, last.2))
+    made-passed (planned ∷ later) old outcome mid (inr (inr (e, is, made))) finished =
         let last = subst (λ o. IsFinished (PassedSteps call closure) settings o mid finish (Ok tt) new) is finished in
         absurd (let never = last.0 in cc)
+
+  pub closures-are_passed : ClosuresArePassed call closure
+  closures-are_passed settings old plan new run =
+      made-passed settings plan.finish new plan.calls old run.outcome run.mid run.made run.finished
+
+module _ {F : Type 0} (call : F → SinkCall → Result Bool Error → F → Type 0) {X : Type 0} (part : Call → List X)
+    (name : F → ℕ) (kept : F → List X) (by : AppendsPassed call part name kept) where
+  -- what is kept after a call
+  abbrev Appended : F → Call → F → Type 0
+  Appended old made new = (name new ≡ name old) × (kept new ≡ kept old ++ part made)
+
+  passed-one : (old : F) (made : Call) (b : Bool) (new : F) → IsPassed call old made (Ok b) new
+      → (is_finish made ≡ false → b ≡ true) × Appended old made new
+  passed-one old made b new (passed, is, called) =
+      let here = by old passed b new called in
+      ((λ other. here.0 (ap is_finish is ∙ other)), (here.1, here.2 ∙ ap (λ m. kept old ++ part m) is))
+
+  passed-step : (old : F) (made : Call) (b : Bool) (new : F) → IsPassedStep call old made (Ok b) new
+      → (b ≡ true) × Appended old made new
+  passed-step old begins b new h = let one = passed-one old begins b new h in (one.0 refl, one.1)
+  passed-step old (matches number offset bytes) b new h =
+      let one = passed-one old (matches number offset bytes) b new h in (one.0 refl, one.1)
+  passed-step old (context kind number offset bytes) b new h =
+      let one = passed-one old (context kind number offset bytes) b new h in (one.0 refl, one.1)
+  passed-step old breaks b new h = let one = passed-one old breaks b new h in (one.0 refl, one.1)
+  passed-step old (binary_data offset) b new h =
+      let one = passed-one old (binary_data offset) b new h in (one.0 refl, one.1)
+  passed-step old (finishes count binary) b new (is, returned, h) =
+      (is, (passed-one old (finishes count binary) returned new h).1)
+
+  passed-all : (calls : List Planned) (finish : Finish) (old new : F) → ArePassed call old calls finish new
+      → (name new ≡ name old) × (kept new ≡ kept old
+      ++ flat_map part (calls_of calls ++ finishes finish.count finish.binary ∷ []))
+  passed-all [] finish old new (returned, h) =
+      let last = finishes finish.count finish.binary in
+      let end = (passed-one old last returned new h).1 in
+      (end.0, end.1 ∙ ap (λ xs. kept old ++ xs) (sym (append-nil (part last))))
+  passed-all (planned ∷ later) finish old new (inl (mid, made, rest)) =
+      let here = (passed-step old planned.call true mid made).1 in
+      let others = passed-all later finish mid new rest in
+      let more = flat_map part (calls_of later ++ finishes finish.count finish.binary ∷ []) in (
+        others.0 ∙ here.0,
+        others.1 ∙ ap (λ k. k ++ more) here.1 ∙ append_assoc (kept old) (part planned.call) more,
+      )
+  passed-all (planned ∷ later) finish old new (inr (mid, made, end)) =
+      absurd (false≢true (passed-step old planned.call false mid made).0)
+
+pub closures-append : {F : Type 0} (call : F → SinkCall → Result Bool Error → F → Type 0) {S : Type 0} (X : Type 0)
+    (closure : S → F) → ClosuresAppend call X closure
+closures-append call X closure part name kept by settings old plan new run =
+    passed-all call part name kept by plan.calls plan.finish (closure old) (closure new)
+    (closures-are_passed call closure settings old plan new run)
+
+-- a list is its elements, one after another
+flat_map-ones : (calls : List Call) → flat_map (λ made. made ∷ []) calls ≡ calls
+flat_map-ones [] = refl
+flat_map-ones (made ∷ later) = ap (λ calls. made ∷ calls) (flat_map-ones later)
 
 pub closures-keep_passed : {F : Type 0} (call : F → SinkCall → Result Bool Error → F → Type 0) {S : Type 0}
     (closure : S → F) → ClosuresKeepCalls call closure
 closures-keep_passed call closure name kept by settings old plan new run =
-    passed-all call name kept by closure settings plan.finish new plan.calls old run.outcome run.mid run.made
-    run.finished
+    let appended = closures-append call Call closure (λ made. made ∷ []) name kept by settings old plan new run in
+    (appended.0, appended.1 ∙ ap (λ calls. kept (closure old) ++ calls) (flat_map-ones (run_calls plan)))

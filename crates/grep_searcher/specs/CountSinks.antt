@@ -1,9 +1,11 @@
 -- What a sink that counts the matches makes of a call, and of a search.
-use Rattle.std.specs.Prelude.{◌≡◌, ℕ, ◌+◌, ◌-◌, ◌^◌, ◌<◌, true, min, length, Ok}
+use Rattle.std.specs.Prelude.{◌≡◌, ℕ, ◌+◌, ◌-◌, ◌^◌, ◌<◌, true, min, List, length, Ok}
+use Rattle.grep_matcher.specs.Meanings.{Meaning}
+use Rattle.grep_definitions.specs.Asking.{search_plan}
 use Rattle.grep_definitions.specs.Plans.{Call, Plan, Steps, IsRun}
 use Rattle.grep_definitions.specs.SearchLaws.{match_calls}
 use Rattle.grep_definitions.specs.Settings.{Settings}
-use Rattle.grep_definitions.specs.SinkFolds.{IsMatchStep}
+use Rattle.grep_searcher.specs.MatchHandlers.{IsHandlerStep}
 
 -- one match more, up to the largest number
 abbrev pub counted : ℕ → Call → ℕ
@@ -11,7 +13,7 @@ counted count call = min (count + 1) (2 ^ 64 - 1)
 
 -- only a match changes the count, and no call fails
 abbrev pub IsCountStep : {E : Type 0} → Steps ℕ E
-IsCountStep = IsMatchStep (λ _ _. true) counted (λ _. ⊥)
+IsCountStep = IsHandlerStep (λ _ _. true) counted (λ _ _ _ _. ⊥)
 
 -- a run that ended in `Ok` adds how many matches are reported, up to the largest number
 abbrev pub RunsCount : Type 0 → Type 0
@@ -20,9 +22,9 @@ RunsCount E =
     → old < 2 ^ 64 → IsRun {E = E} IsCountStep settings old plan (Ok tt) new
     → new ≡ min (old + length (match_calls plan.calls)) (2 ^ 64 - 1)
 
--- from 0 it counts them
+-- from 0, along the plan of a search of some bytes, it counts them: there are never more
 abbrev pub RunsCountAll : Type 0 → Type 0
 RunsCountAll E =
-    (settings : Settings) (plan : Plan) (new : ℕ)
-    → IsRun {E = E} IsCountStep settings 0 plan (Ok tt) new
-    → new ≡ min (length (match_calls plan.calls)) (2 ^ 64 - 1)
+    (settings : Settings) (meaning : Meaning) (bytes : List ℕ) (old new : ℕ) → old ≡ 0
+    → IsRun {E = E} IsCountStep settings old (search_plan settings meaning bytes) (Ok tt) new
+    → new ≡ length (match_calls (search_plan settings meaning bytes).calls)

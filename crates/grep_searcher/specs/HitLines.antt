@@ -37,3 +37,14 @@ HitsAreCounted =
     (settings : Settings) (meaning : Meaning) (bytes : List ℕ) → IsUnlimited settings
     → matched_count settings meaning bytes
     ≡ count_by (is_hit settings meaning) (lines (byte_of settings.line_terminator) bytes)
+
+-- without inversion, of a matcher that has a match exactly where a predicate holds: as many lines
+-- are matched as there are lines of which, without their terminators, it holds
+abbrev pub PredicatesAreCounted : Type 0
+PredicatesAreCounted =
+    (settings : Settings) (meaning : Meaning) (bytes : List ℕ) (holds : List ℕ → Bool)
+    → IsUnlimited settings → settings.invert_match ≡ false
+    → ((line : List ℕ) → is_some (meaning.first line) ≡ holds line)
+    → matched_count settings meaning bytes
+    ≡ count_by (λ line. holds (strip settings.line_terminator line))
+    (lines (byte_of settings.line_terminator) bytes)

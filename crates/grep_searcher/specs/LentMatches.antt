@@ -1,5 +1,6 @@
 -- What a sink that lends matches to a closure makes of a call, and of a search.
 use Rattle.std.specs.Prelude.{◌≡◌, ℕ, Bool, true, List, [], ◌∷◌, ◌++◌, map, Result, Ok}
+use Rattle.std.specs.List.{flat_map}
 use Rattle.std.specs.Borrow.{Bor}
 use Rattle.std.specs.declared.io.Error.{Error}
 use Rattle.grep_report.specs.SinkReports.{MatchReport}
@@ -39,15 +40,27 @@ module _ {F : Type 0} (call : F → Bor MatchReport → Result Bool Error → F 
       → IsRun (LentSteps closure) settings old plan (Ok tt) new
       → AreTaken IsLentAt (closure old) (match_calls plan.calls) (closure new)
 
-  -- a call of the closure that returns goes on, adds the number, the offset and the bytes of the
-  -- match to what is kept, and leaves the name of the reference through which it is kept
-  abbrev pub KeepsMatches : (F → ℕ) → (F → List KeptReport) → Type 0
-  KeepsMatches name kept =
+  -- a call of the closure that returns goes on, appends a part for the match to what is kept, and
+  -- leaves the name of the reference through which it is kept
+  abbrev pub AppendsLent : {X : Type 0} → (Call → List X) → (F → ℕ) → (F → List X) → Type 0
+  AppendsLent part name kept =
       (old : F) (found : Bor MatchReport) (b : Bool) (new : F)
       → call old found (Ok b) new → (b ≡ true) × (name new ≡ name old)
-      × (kept new ≡ kept old ++ kept_of (match_call found.now) ∷ [])
+      × (kept new ≡ kept old ++ part (match_call found.now))
 
-  -- then a run that ended in `Ok` adds those of the matches that are reported
+  -- then a run that ended in `Ok` appends the parts of the matches that are reported
+  abbrev pub ClosuresAppendMatches : {S : Type 0} → Type 0 → (S → F) → Type 0
+  ClosuresAppendMatches {S} X closure =
+      (part : Call → List X) (name : F → ℕ) (kept : F → List X) → AppendsLent part name kept
+      → (settings : Settings) (old : S) (plan : Plan) (new : S)
+      → IsRun (LentSteps closure) settings old plan (Ok tt) new
+      → (name (closure new) ≡ name (closure old))
+      × (kept (closure new) ≡ kept (closure old) ++ flat_map part (match_calls plan.calls))
+
+  -- if it keeps the number, the offset and the bytes of each match, these are added
+  abbrev pub KeepsMatches : (F → ℕ) → (F → List KeptReport) → Type 0
+  KeepsMatches name kept = AppendsLent (λ made. kept_of made ∷ []) name kept
+
   abbrev pub ClosuresKeepMatches : {S : Type 0} → (S → F) → Type 0
   ClosuresKeepMatches {S} closure =
       (name : F → ℕ) (kept : F → List KeptReport) → KeepsMatches name kept

@@ -1,3 +1,5 @@
+pub mod AppendedParts
+pub mod BoundedReads
 pub mod ClosureSinks
 pub mod CountSinks
 pub mod HitLines
@@ -5,6 +7,8 @@ pub mod LentMatches
 pub mod LineCounts
 pub mod MatchHandlers
 pub mod PassedCalls
+pub mod SearchFailures
+pub mod Units
 pub use Rattle.grep_definitions.specs.Settings
 pub use Rattle.grep_definitions.specs.BuiltSettings
 pub use Rattle.grep_definitions.specs.Plans

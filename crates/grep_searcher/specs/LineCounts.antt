@@ -1,6 +1,5 @@
 -- What `Count` counted in a search by line.
-use Rattle.std.specs.Prelude.{◌≡◌, ℕ, ◌-◌, ◌^◌, ◌<◌, true, false, min, List, length}
-use Rattle.std.specs.Prelude.{Option, Some, Ok}
+use Rattle.std.specs.Prelude.{◌≡◌, ℕ, false, List, Option, Some, Ok}
 use Rattle.grep_decode.specs.Source.{ReadResult}
 use Rattle.grep_matcher.specs.Meanings.{MatcherFacts, Meaning}
 use Rattle.grep_report.specs.declared.binary_detection.BinaryDetection.TheVariants.{None as no_detection}
@@ -13,7 +12,7 @@ use Rattle.grep_definitions.specs.SearchLaws.{is_matched}
 use Rattle.grep_definitions.specs.Searches.{IsReaderSearched}
 use Rattle.grep_definitions.specs.SelectedLines.{reports_end}
 use Rattle.grep_definitions.specs.Settings.{Settings, SearcherState}
-use Rattle.grep_definitions.specs.SliceSearches.{is_searched_unchanged, IsSliceSearched}
+use Rattle.grep_definitions.specs.SliceSearches.{IsSliceSearched}
 use Rattle.grep_searcher.specs.CountSinks.{IsCountStep}
 
 -- a search by line without binary detection, with a matcher that is lawful for it
@@ -27,19 +26,18 @@ abbrev pub matched_count : Settings → Meaning → List ℕ → ℕ
 matched_count settings meaning bytes =
     count_below (is_matched settings meaning bytes) (reports_end settings meaning bytes)
 
--- by line, a run of a new `Count` that ended in `Ok` counted the matched lines, up to the largest number
+-- by line, a run of a new `Count` that ended in `Ok` counted the matched lines
 abbrev pub RunsCountLines : Type 0 → Type 0
 RunsCountLines E =
     (settings : Settings) (meaning : Meaning) (bytes : List ℕ) → is_across settings meaning ≡ false
     → (old new : ℕ) → old ≡ 0
     → IsRun {E = E} IsCountStep settings old (search_plan settings meaning bytes) (Ok tt) new
-    → new ≡ min (matched_count settings meaning bytes) (2 ^ 64 - 1)
+    → new ≡ matched_count settings meaning bytes
 
--- the matched lines of the decoded bytes were counted, up to the largest number
+-- the matched lines of the decoded bytes were counted
 abbrev pub IsLineCount : {F : Type 0} → MatcherFacts F → Settings → List ℕ → ℕ → Type 0
 IsLineCount matcher settings input count =
-    count
-    ≡ min (matched_count settings matcher.meaning (searched_bytes settings input)) (2 ^ 64 - 1)
+    count ≡ matched_count settings matcher.meaning (searched_bytes settings input)
 
 module _ {F E : Type 0} (errors : ErrorMakers F E) (matcher : MatcherFacts F) where
   -- a search of a slice with a new `Count` that ended in `Ok` counted them
@@ -49,15 +47,6 @@ module _ {F E : Type 0} (errors : ErrorMakers F E) (matcher : MatcherFacts F) wh
       → IsLineSearch matcher state.settings → old ≡ 0
       → IsSliceSearched IsCountStep errors matcher state input old (Ok tt) new
       → IsLineCount matcher state.settings input new
-
-  -- if the slice is searched as it is, there are no more of them than a count can be
-  abbrev pub SlicesCountAll : Type 0
-  SlicesCountAll =
-      (state : SearcherState) (input : List ℕ) (old new : ℕ)
-      → IsLineSearch matcher state.settings → old ≡ 0
-      → is_searched_unchanged state.settings input ≡ true → length input < 2 ^ 64
-      → IsSliceSearched IsCountStep errors matcher state input old (Ok tt) new
-      → new ≡ matched_count state.settings matcher.meaning input
 
   -- a search of a reader that says which bytes remain counted them too
   abbrev pub ReadersCountLines : {R : Type 0} → (R → Option (List ℕ))

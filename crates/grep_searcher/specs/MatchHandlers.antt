@@ -1,31 +1,60 @@
 -- What handlers of matches make of a match, and of a search.
-use Rattle.std.specs.Prelude.{◌≡◌, ℕ, Bool, true, false, if◌then◌else◌, nat_lt}
+use Rattle.std.specs.Prelude.{◌≡◌, ℕ, ◌<◌, ◌^◌, Bool, true, false, if◌then◌else◌, nat_lt}
 use Rattle.std.specs.Prelude.{List, [], ◌∷◌, ◌++◌, length, map, take, Option, None, Result, Ok, Err}
+use Rattle.std.specs.List.{fold}
 use Rattle.grep_matcher.specs.Meanings.{Meaning}
 use Rattle.grep_report.specs.SearchErrors.{IsOutOfMemory}
 use Rattle.grep_report.specs.declared.sink_error.SearchError.{SearchError}
 use Rattle.grep_definitions.specs.Asking.{is_across, search_plan}
-use Rattle.grep_definitions.specs.Plans.{Call, matches, context, Plan, Steps, IsRun}
+use Rattle.grep_definitions.specs.Plans.{Call, matches, context, finishes, Plan, Steps, IsRun}
 use Rattle.grep_definitions.specs.Plans.{reported_bytes, reported_from}
 use Rattle.grep_definitions.specs.Reports.{line_count, some_below}
-use Rattle.grep_definitions.specs.SearchLaws.{match_calls, match_of, matched_lines}
-use Rattle.grep_definitions.specs.SelectedLines.{is_selected}
+use Rattle.grep_definitions.specs.SearchLaws.{is_match, match_calls, match_of, matched_lines}
+use Rattle.grep_definitions.specs.SelectedLines.{is_selected, is_touched_selected}
 use Rattle.grep_definitions.specs.Settings.{Settings}
-use Rattle.grep_definitions.specs.SinkFolds.{fold_while, IsMatchStep, IsTakenBy}
+use Rattle.grep_definitions.specs.SinkFolds.{fold_while, IsMatchOk, IsTakenBy}
 
-module _ {H E : Type 0} (goes : H → Call → Bool) (next : H → Call → H) (fails : E → Type 0) where
-  -- a match is handled by these functions of the state and the call, or the error is one of these
+-- the byte count of the end fits in 64 bits
+abbrev pub FitsAtEnd : Call → Type 0
+FitsAtEnd (finishes count binary) = count < 2 ^ 64
+FitsAtEnd _ = Unit {0}
+
+module _ {H E : Type 0} (goes : H → Call → Bool) (next : H → Call → H)
+    (fails : H → Call → E → H → Type 0) where
+  -- a match is handled by these functions of the state and the call, or it fails by this relation
   abbrev pub IsHandled : H → Call → Result Bool E → H → Type 0
   IsHandled old call (Ok b) new = IsTakenBy goes next old call b new
-  IsHandled old call (Err e) new = fails e
+  IsHandled old call (Err e) new = fails old call e new
 
-  -- in a run that ended in `Ok`, of a sink that passes each match to such a handler, it handled the
-  -- matches that are reported, up to the first after which the search doesn't go on
+  -- the steps of a sink that passes each match to such a handler: any other call goes on, leaves
+  -- the handler alone and never fails. The byte count at the end fits in 64 bits
+  abbrev pub IsHandlerStep : Steps H E
+  IsHandlerStep old settings call (Ok b) new = IsMatchOk goes next old call b new × FitsAtEnd call
+  IsHandlerStep old settings call (Err e) new = (is_match call ≡ true) × fails old call e new
+
+  -- in a run that ended in `Ok`, of such a sink, the handler handled the matches that are reported,
+  -- up to the first after which the search doesn't go on
   abbrev pub RunsHandle : Type 0
   RunsHandle =
       (settings : Settings) (old : H) (plan : Plan) (new : H)
-      → IsRun (IsMatchStep goes next fails) settings old plan (Ok tt) new
+      → IsRun IsHandlerStep settings old plan (Ok tt) new
       → new ≡ fold_while goes next old (match_calls plan.calls)
+
+  -- in one that ended in an error it handled the matches before one, and failed at that one
+  abbrev pub RunsFailAt : Type 0
+  RunsFailAt =
+      (settings : Settings) (old : H) (plan : Plan) (e : E) (new : H)
+      → IsRun IsHandlerStep settings old plan (Err e) new
+      → (before : List Call) × (call : Call) × (later : List Call)
+      × (match_calls plan.calls ≡ before ++ call ∷ later)
+      × fails (fold next old before) call e new
+
+  -- if it always goes on, the byte count of a run that ended in `Ok` fits in 64 bits
+  abbrev pub RunsFit : Type 0
+  RunsFit =
+      ((old : H) (call : Call) → goes old call ≡ true)
+      → (settings : Settings) (old : H) (plan : Plan) (new : H)
+      → IsRun IsHandlerStep settings old plan (Ok tt) new → plan.finish.count < 2 ^ 64
 
 -- a match that was kept: the number of its first line, its offset in the whole input, and its bytes
 pub record KeptReport : Type 0 where
@@ -46,6 +75,10 @@ kept_of call = record {
   offset = reported_from call;
   bytes = reported_bytes call;
 }
+
+-- there was no memory for a match, and what was kept stays
+abbrev pub LacksMemory : {V A : Type 0} → V → Call → SearchError A → V → Type 0
+LacksMemory old call e new = IsOutOfMemory e × (new ≡ old)
 
 -- each match is kept
 abbrev pub collected : List KeptReport → Call → List KeptReport
@@ -69,15 +102,20 @@ with_first old call =
 
 -- a match was found, and ends the search
 abbrev pub IsFoundStep : {E : Type 0} → Steps Bool E
-IsFoundStep = IsMatchStep (λ _ _. false) (λ _ _. true) (λ _. ⊥)
+IsFoundStep = IsHandlerStep (λ _ _. false) (λ _ _. true) (λ _ _ _ _. ⊥)
 
 -- each match is kept
 abbrev pub IsCollectStep : {A : Type 0} → Steps (List KeptReport) (SearchError A)
-IsCollectStep = IsMatchStep (λ _ _. true) collected IsOutOfMemory
+IsCollectStep = IsHandlerStep (λ _ _. true) collected LacksMemory
 
 -- the first matches are kept, and the last of them ends the search
 abbrev pub IsFirstStep : {A : Type 0} → Steps FirstReports (SearchError A)
-IsFirstStep = IsMatchStep (λ old call. has_room (with_first old call)) with_first IsOutOfMemory
+IsFirstStep = IsHandlerStep (λ old call. has_room (with_first old call)) with_first LacksMemory
+
+-- whether a line is selected
+abbrev pub has_selected : Settings → Meaning → List ℕ → Bool
+has_selected settings meaning bytes =
+    some_below (is_selected settings meaning bytes) (line_count settings bytes)
 
 -- by line, a run of a new handler that ended in `Ok` found a match exactly if a line is selected
 abbrev pub RunsFindSelected : Type 0 → Type 0
@@ -85,7 +123,16 @@ RunsFindSelected E =
     (settings : Settings) (meaning : Meaning) (bytes : List ℕ) → is_across settings meaning ≡ false
     → (old new : Bool) → old ≡ false
     → IsRun {E = E} IsFoundStep settings old (search_plan settings meaning bytes) (Ok tt) new
-    → new ≡ some_below (is_selected settings meaning bytes) (line_count settings bytes)
+    → new ≡ has_selected settings meaning bytes
+
+-- across lines too
+abbrev pub RunsFindAcross : Type 0 → Type 0
+RunsFindAcross E =
+    (settings : Settings) (meaning : Meaning) (bytes : List ℕ) → is_across settings meaning ≡ true
+    → (old new : Bool) → old ≡ false
+    → IsRun {E = E} IsFoundStep settings old (search_plan settings meaning bytes) (Ok tt) new
+    → new
+    ≡ some_below (is_touched_selected settings meaning bytes) (line_count settings bytes)
 
 -- a run that ended in `Ok` adds the matches that are reported
 abbrev pub RunsCollect : Type 0 → Type 0
@@ -93,6 +140,15 @@ RunsCollect A =
     (settings : Settings) (old : List KeptReport) (plan : Plan) (new : List KeptReport)
     → IsRun {E = SearchError A} IsCollectStep settings old plan (Ok tt) new
     → new ≡ old ++ map kept_of (match_calls plan.calls)
+
+-- one that ended in an error adds the matches before the one for which there was no memory
+abbrev pub RunsCollectUntil : Type 0 → Type 0
+RunsCollectUntil A =
+    (settings : Settings) (old : List KeptReport) (plan : Plan) (e : SearchError A)
+    (new : List KeptReport)
+    → IsRun IsCollectStep settings old plan (Err e) new
+    → IsOutOfMemory e × (before later : List Call)
+    × (match_calls plan.calls ≡ before ++ later) × (new ≡ old ++ map kept_of before)
 
 -- what is kept of line i
 abbrev pub kept_line : Settings → List ℕ → ℕ → KeptReport
@@ -113,7 +169,7 @@ RunsHandFirst A =
     (settings : Settings) (limit : ℕ) (old : FirstReports) (plan : Plan) (new : FirstReports)
     → old ≡ record { limit = limit; kept = [] }
     → IsRun {E = SearchError A} IsFirstStep settings old plan (Ok tt) new
-    → new.kept ≡ map kept_of (take limit (match_calls plan.calls))
+    → new ≡ record { limit = limit; kept = map kept_of (take limit (match_calls plan.calls)) }
 
 -- by line these are the first matched lines
 abbrev pub RunsHandFirstLines : Type 0 → Type 0
@@ -122,5 +178,7 @@ RunsHandFirstLines A =
     → (limit : ℕ) (old new : FirstReports) → old ≡ record { limit = limit; kept = [] }
     → IsRun {E = SearchError A} IsFirstStep settings old (search_plan settings meaning bytes)
     (Ok tt) new
-    → new.kept
-    ≡ map (kept_line settings bytes) (take limit (matched_lines settings meaning bytes))
+    → new ≡ record {
+      limit = limit;
+      kept = map (kept_line settings bytes) (take limit (matched_lines settings meaning bytes));
+    }

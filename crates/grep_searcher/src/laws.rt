@@ -4,15 +4,24 @@
 ghost use Rattle.std.specs.Str.Lossy.{utf8_lossy};
 ghost use Rattle.grep_searcher.specs.ClosureSinks.{ClosuresAreCalled, ClosuresKeep, IsUtf8Text};
 ghost use Rattle.grep_searcher.specs.ClosureSinks.{IsLossyText, IsWholeText};
+ghost use Rattle.grep_searcher.specs.AppendedParts.{RunsAppend, RunsAppendLines, RunsAppendMatches};
+ghost use Rattle.grep_searcher.specs.BoundedReads.{ReadersFindLines};
 ghost use Rattle.grep_searcher.specs.CountSinks.{RunsCount, RunsCountAll};
 ghost use Rattle.grep_searcher.specs.HitLines.{HitsAreSelected, HitsAreMatched, HitsAreCounted};
-ghost use Rattle.grep_searcher.specs.LentMatches.{ClosuresAreLent, ClosuresKeepMatches};
-ghost use Rattle.grep_searcher.specs.LineCounts.{RunsCountLines, SlicesCountLines, SlicesCountAll};
+ghost use Rattle.grep_searcher.specs.HitLines.{PredicatesAreCounted};
+ghost use Rattle.grep_searcher.specs.LentMatches.{ClosuresAppendMatches, ClosuresAreLent};
+ghost use Rattle.grep_searcher.specs.LentMatches.{ClosuresKeepMatches};
+ghost use Rattle.grep_searcher.specs.LineCounts.{RunsCountLines, SlicesCountLines};
 ghost use Rattle.grep_searcher.specs.LineCounts.{ReadersCountLines};
-ghost use Rattle.grep_searcher.specs.MatchHandlers.{RunsHandle, RunsFindSelected, RunsCollect};
-ghost use Rattle.grep_searcher.specs.MatchHandlers.{RunsCollectLines, RunsHandFirst};
-ghost use Rattle.grep_searcher.specs.MatchHandlers.{RunsHandFirstLines};
+ghost use Rattle.grep_searcher.specs.MatchHandlers.{RunsHandle, RunsFailAt, RunsFit};
+ghost use Rattle.grep_searcher.specs.MatchHandlers.{RunsFindSelected, RunsFindAcross, RunsCollect};
+ghost use Rattle.grep_searcher.specs.MatchHandlers.{RunsCollectLines, RunsCollectUntil};
+ghost use Rattle.grep_searcher.specs.MatchHandlers.{RunsHandFirst, RunsHandFirstLines};
+ghost use Rattle.grep_searcher.specs.PassedCalls.{ClosuresAppend, ClosuresArePassed};
 ghost use Rattle.grep_searcher.specs.PassedCalls.{ClosuresKeepCalls};
+ghost use Rattle.grep_searcher.specs.SearchFailures.{ReadersFail, SlicesFail};
+ghost use Rattle.grep_searcher.specs.Units.{FirstMatchIsFirstUnit, MatchesAreUnits};
+ghost use Rattle.grep_searcher.specs.Units.{MatchesAreWithinCount, UnitsAreCounted};
 ghost use Rattle.grep_definitions.specs.FileSearches.{IsFileRead};
 ghost use Rattle.grep_definitions.specs.SinkFolds.{RunsFold, RunsFoldAll, RunsFoldMatches};
 ghost use Rattle.grep_definitions.specs.SinkFolds.{SearchesRun, ReaderSearchesRun, SearchesFail};
@@ -32,6 +41,7 @@ pub use grep_definitions::laws::{
     selected_are_reported_across, stop_is_ignored_across, unchanged_is_searched, whole_count,
     whole_count_across,
 };
+use grep_lines::laws::lines_append;
 use grep_matcher::Matcher;
 use grep_report::{SinkError, SinkMatch};
 use std::alloc::Allocator;
@@ -40,12 +50,34 @@ use std::io::Read;
 
 /// Without limit and stop, in a search by line, a line is selected exactly if it hits, and so are
 /// the matched lines: a line hits if whether it matches without its terminator differs from
-/// inversion. Then as many lines are matched as hit.
+/// inversion. Then as many lines are matched as hit. Without inversion, of a matcher that has a match
+/// exactly where a predicate holds, these are the lines of which it holds without their terminators.
 pub fn hits_are_selected()
     ensures selected { HitsAreSelected }
     ensures matched { HitsAreMatched }
     ensures counted { HitsAreCounted }
+    ensures predicates { PredicatesAreCounted }
 {}
+
+/// Across lines the matches that are reported are the units, in order: each with the number of its
+/// first line, its offset and the bytes of all its lines. As many matches are reported as there are
+/// units, and the first of them begins at the first selected line.
+pub fn matches_are_units()
+    ensures all { MatchesAreUnits }
+    ensures counted { UnitsAreCounted }
+    ensures first { FirstMatchIsFirstUnit }
+{
+    lines_are_numbered();
+}
+
+/// By line and across lines at most as many matches are reported as the byte count of the whole
+/// plan, and that is at most as many as there are bytes.
+pub fn matches_are_within_count()
+    ensures { MatchesAreWithinCount }
+{
+    lines_are_numbered();
+    matches_are_counted();
+}
 
 /// A run that ended in `Ok`, of a sink whose steps are functions of the state and the call, is a
 /// fold over the planned calls: up to the first after which the sink doesn't go on, and then
@@ -66,32 +98,58 @@ pub fn runs_fold_matches<S: Sink>()
     ensures { RunsFoldMatches S.step }
 {}
 
-/// A run of `Count` that ended in `Ok` counted the matches that are reported, up to the largest
-/// `u64`: it added them to what was counted before, if anything was.
+/// If each call of a sink that succeeds goes on and appends a part for it to what the sink keeps, a
+/// run that ended in `Ok` appends the parts of all calls, in order. `X` is what is appended.
+pub fn runs_append_parts<S: Sink, X>()
+    ensures { RunsAppend S.step X }
+{}
+
+/// A run of a new `Count` along the plan of some bytes, that ended in `Ok`, counted the matches that
+/// are reported. Any run that ended in `Ok` added them to what was counted before, up to the largest
+/// `u64`.
 pub fn runs_count_matches<E>()
     ensures all { RunsCountAll E }
     ensures added { RunsCount E }
-{}
+{
+    matches_are_within_count();
+}
 
-/// By line, a run of a new `Count` that ended in `Ok` counted the matched lines, up to the largest
-/// `u64`.
+/// By line, a run of a new `Count` that ended in `Ok` counted the matched lines.
 pub fn runs_count_lines<E>()
     ensures { RunsCountLines E }
 {
     matches_are_counted();
+    runs_count_matches::<E>();
 }
 
 /// A run of `OnMatch` that ended in `Ok` made its handler handle the matches that are reported, in
-/// order, up to the first after which the search doesn't go on.
+/// order, up to the first after which the search doesn't go on. One that ended in an error made it
+/// handle the matches before one, and that one failed. If the handler always goes on, the byte count
+/// of a run that ended in `Ok` is below 2^64, and by `matches_are_within_count` so are the matches.
 pub fn runs_handle_matches<H: MatchHandler>()
-    ensures { RunsHandle H.goes H.next H.fails }
+    ensures handled { RunsHandle H.goes H.next H.fails }
+    ensures failed { RunsFailAt H.goes H.next H.fails }
+    ensures fits { RunsFit H.goes H.next H.fails }
 {}
 
-/// By line, a run of a new `Found` that ended in `Ok` found a match exactly if a line is selected.
+/// If a handler always goes on and appends a part for each match to what it keeps, a run that ended
+/// in `Ok` appends the parts of the matches that are reported, in order; by line these are the
+/// matched lines. `X` is what is appended.
+pub fn runs_append_matches<H: MatchHandler, X>()
+    ensures all { RunsAppendMatches H.goes H.next H.fails X }
+    ensures lines { RunsAppendLines H.goes H.next H.fails X }
+{
+    matches_are_matched_lines();
+}
+
+/// A run of a new `Found` that ended in `Ok` found a match exactly if a line is selected, by line
+/// and across lines.
 pub fn runs_find_selected<E>()
-    ensures { RunsFindSelected E }
+    ensures lines { RunsFindSelected E }
+    ensures across { RunsFindAcross E }
 {
     first_match_is_first();
+    matches_are_units();
 }
 
 /// A run of a new `First` that ended in `Ok` kept the first matches that are reported, up to its
@@ -104,10 +162,12 @@ pub fn runs_hand_first<A: Allocator + Copy>()
 }
 
 /// A run of `Collect` that ended in `Ok` kept the matches that are reported, after those that it
-/// had kept; by line these are the matched lines, each with its number, its offset and its bytes.
+/// had kept; by line these are the matched lines, each with its number, its offset and its bytes. One
+/// that ended in an error, which is out of memory, kept those before the match at which it failed.
 pub fn runs_collect_lines<A: Allocator + Copy>()
     ensures all { RunsCollect A }
     ensures lines { RunsCollectLines A }
+    ensures failed { RunsCollectUntil A }
 {
     matches_are_matched_lines();
 }
@@ -157,19 +217,25 @@ pub fn bytes_closures_keep_calls<F: FnMut(u64, &[u8]) -> Result<bool, io::Error>
 }
 
 /// A run of `Matches` that ended in `Ok` lent its closure the matches that are reported, in order,
-/// up to the first at which it returned false. If each call that returns adds the number, the
-/// offset and the bytes of the match to what is kept, through one reference, the run adds those of
-/// all these matches. Pass the sink, since a closure's type has no name.
-pub fn matches_are_lent<F: FnMut(&SinkMatch<'_>) -> Result<bool, io::Error>>(_: &Matches<F>)
+/// up to the first at which it returned false. If each call that returns goes on and appends a part
+/// for the match to what is kept, through one reference, the run appends the parts of all these
+/// matches; or the number, the offset and the bytes of each. Pass the sink, since a closure's type
+/// has no name. `X` is what is appended.
+pub fn matches_are_lent<F: FnMut(&SinkMatch<'_>) -> Result<bool, io::Error>, X>(_: &Matches<F>)
     ensures lent { ClosuresAreLent F.step (λ (s : Matches F). s.0) }
+    ensures appended { ClosuresAppendMatches F.step X (λ (s : Matches F). s.0) }
     ensures kept { ClosuresKeepMatches F.step (λ (s : Matches F). s.0) }
 {}
 
-/// If each call of the closure of `Calls` that returns goes on and adds the call to what is kept,
-/// through one reference, a run that ended in `Ok` adds all calls of the plan, and the end. Pass
-/// the sink, since a closure's type has no name.
-pub fn calls_are_passed<F: FnMut(SinkCall<'_>) -> Result<bool, io::Error>>(_: &Calls<F>)
-    ensures { ClosuresKeepCalls F.step (λ (s : Calls F). s.0) }
+/// A run of `Calls` that ended in `Ok` passed its closure the calls of the plan, in order, up to the
+/// first at which it returned false, and then the end. If each call of the closure that returns goes
+/// on, but for the end, and appends a part for what it is passed to what is kept, through one
+/// reference, the run appends the parts of all calls of the plan, and of the end; or these calls
+/// themselves. Pass the sink, since a closure's type has no name. `X` is what is appended.
+pub fn calls_are_passed<F: FnMut(SinkCall<'_>) -> Result<bool, io::Error>, X>(_: &Calls<F>)
+    ensures passed { ClosuresArePassed F.step (λ (s : Calls F). s.0) }
+    ensures appended { ClosuresAppend F.step X (λ (s : Calls F). s.0) }
+    ensures kept { ClosuresKeepCalls F.step (λ (s : Calls F). s.0) }
 {}
 
 /// Without binary detection, a search of a slice with a lawful matcher, if it ended in `Ok`, is a
@@ -213,6 +279,25 @@ where
         R.remaining R.step }
 {}
 
+/// Under these conditions an error of a search of a slice is that of a step of the sink, or it is made
+/// of why the slice, which has to be decoded, wasn't to its end.
+pub fn slices_fail<A: Allocator + Copy, M: Matcher, S: Sink>()
+where
+    S::Error: SinkError<A>,
+    ensures { (matcher : M) → SlicesFail S.step
+        (makers_of M.Error.output S.Error.makers) (M.facts matcher) }
+{}
+
+/// Under these conditions an error of a search of a reader is that of a step of the sink, or it is
+/// made of why the reader wasn't read to its end.
+pub fn readers_fail<A: Allocator + Copy, M: Matcher, R: Source, S: Sink>()
+where
+    S::Error: SinkError<A>,
+    ensures { (matcher : M) → ReadersFail S.step
+        (makers_of M.Error.output S.Error.makers) (M.facts matcher)
+        R.remaining R.step }
+{}
+
 /// Without binary detection, a search of a reader that says which bytes remain, with a lawful
 /// matcher, if it ended in `Ok`, is a run along the plan of the decoded bytes of them all, as a
 /// search of a slice is.
@@ -235,17 +320,13 @@ where
 {}
 
 /// A search of a slice, by line and without binary detection, with a lawful matcher and a new
-/// `Count`, if it ended in `Ok`, counted the matched lines of its decoded bytes, up to the largest
-/// `u64`. A slice that is searched as it is has no more lines than that.
+/// `Count`, if it ended in `Ok`, counted the matched lines of its decoded bytes.
 pub fn slices_count_lines<A: Allocator + Copy, M: Matcher, E: SinkError<A>>()
-    ensures decoded { (matcher : M) → SlicesCountLines
-        (makers_of M.Error.output E.makers) (M.facts matcher) }
-    ensures unchanged { (matcher : M) → SlicesCountAll
+    ensures { (matcher : M) → SlicesCountLines
         (makers_of M.Error.output E.makers) (M.facts matcher) }
 {
     unchanged_is_searched();
-    matches_are_counted();
-    matches_are_few();
+    runs_count_lines::<E>();
 }
 
 /// So did such a search of a reader that says which bytes remain.
@@ -254,7 +335,7 @@ pub fn readers_count_lines<A: Allocator + Copy, M: Matcher, R: Source, E: SinkEr
         (makers_of M.Error.output E.makers) (M.facts matcher)
         R.remaining R.step }
 {
-    matches_are_counted();
+    runs_count_lines::<E>();
 }
 
 /// So did such a search of a file that says which bytes remain. After `search_path` such a file is
@@ -264,5 +345,31 @@ pub fn files_count_lines<A: Allocator + Copy, M: Matcher, F: Read, E: SinkError<
         (makers_of M.Error.output E.makers) (M.facts matcher)
         F.remaining (IsFileRead F.remaining) }
 {
-    matches_are_counted();
+    runs_count_lines::<E>();
+}
+
+/// A search of a reader that says which bytes remain, by line and without binary detection, with a
+/// lawful matcher and a new `Found`, if it ended in `Ok`, found a match exactly if a line is selected.
+/// Under a heap limit it read at most that many bytes, and three, beyond the first selected line, if
+/// the input is searched as it is.
+pub fn readers_find_lines<A: Allocator + Copy, M: Matcher, R: Source, E: SinkError<A>>()
+    ensures { (matcher : M) → ReadersFindLines
+        (makers_of M.Error.output E.makers) (M.facts matcher)
+        R.remaining R.step }
+{
+    unchanged_is_searched();
+    first_match_is_first();
+    lines_append();
+}
+
+/// So did such a search of a file that says which bytes remain. After `search_path` such a file is
+/// one that was opened.
+pub fn files_find_lines<A: Allocator + Copy, M: Matcher, F: Read, E: SinkError<A>>()
+    ensures { (matcher : M) → ReadersFindLines
+        (makers_of M.Error.output E.makers) (M.facts matcher)
+        F.remaining (IsFileRead F.remaining) }
+{
+    unchanged_is_searched();
+    first_match_is_first();
+    lines_append();
 }

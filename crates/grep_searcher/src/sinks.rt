@@ -1,6 +1,6 @@
-//! Sinks that take matches alone: those that call a closure at each match, with its line number and
-//! its text or with the match itself, one that counts, and one that passes each match to a handler,
-//! with the handlers that callers need most.
+//! Ready sinks. Some call a closure at each match, with its line number and its text or with the
+//! match itself, and one passes each call of a search to a closure. One counts the matches, and one
+//! passes each match to a handler, with the handlers that callers need most.
 //!
 //! The closure returns whether the search goes on. Its error ends the search.
 ghost use Rattle.std.specs.Prelude.{◌≡◌, Some, None, MatchResult};

@@ -1,15 +1,13 @@
 -- How the calls of a walk across lines end, against those that are defined.
 use Rattle.std.proofs.Common.{◌≡◌, ℕ, ◌+◌, ◌-◌, ◌≤◌, true, List, ◌++◌, length, drop, inl, inr, refl, sym, ◌∙◌, ap}
-use Rattle.std.proofs.Common.{subst, arith, ⊎_elim, length-take, length-drop, None, if◌then◌else◌}
-use Rattle.std.proofs.Math.Bool.{and-false}
-use Rattle.std.proofs.lemmas.Bool.{cases_lt, cases_Bool}
-use Rattle.std.specs.Prelude.{Ok, Err, false, not, ◌&&◌, All, slice_range}
-use Rattle.grep_lines.proofs.LawLemmas.{AreLines-lines}
+use Rattle.std.proofs.Common.{subst, arith, length-take, length-drop}
+use Rattle.std.specs.Prelude.{Ok, Err, false, All, slice_range}
+use Rattle.grep_definitions.proofs.LineRangeLemmas.{comes-from, end-start}
 use Rattle.grep_matcher.specs.Lines.{lines, byte_of}
 use Rattle.grep_matcher.specs.Meanings.{Meaning, MatcherFacts}
 use Rattle.grep_definitions.specs.AcrossLines.{byte_count, turns, turns_at}
-use Rattle.grep_definitions.specs.Asking.{IsAskedAt, match_limit}
-use Rattle.grep_definitions.specs.Reports.{is_at, is_below, joined_from}
+use Rattle.grep_definitions.specs.Asking.{IsAskedAt}
+use Rattle.grep_definitions.specs.Reports.{joined_from}
 use Rattle.grep_definitions.specs.LineSearch.{start}
 use Rattle.grep_report.specs.ErrorMakers.{ErrorMakers}
 use Rattle.grep_definitions.specs.ContentsSearches.{IsFaultIn, of_sink, of_matcher}
@@ -18,8 +16,6 @@ use Rattle.grep_definitions.specs.Settings.{Settings}
 use Rattle.grep_definitions.specs.Plans.{Planned, begins, Steps, Outcome, all_true, stopped, failed, AreMade, counted}
 use Rattle.grep_definitions.proofs.AcrossTurnEndLemmas.{through-is}
 use Rattle.grep_definitions.proofs.BelowLemmas.{below_none}
-use Rattle.grep_definitions.proofs.BoolLemmas.{clash, not_false}
-use Rattle.grep_definitions.proofs.LineStartLemmas.{line_start-ascends, line_start-within}
 use Rattle.grep_definitions.proofs.SinkRunLemmas.{AreMade-append, AreMade-ended}
 use Rattle.grep_walk.specs.declared.walk.Walk.{Walk}
 use Rattle.grep_walk.specs.AcrossWalks.{IsAcross, is_done, turns_before}
@@ -40,7 +36,7 @@ module _ (k : Settings) (meaning : Meaning) (bytes : List ℕ) where
   front = turns_before k meaning bytes
 
   passed-few : (w : Walk) → IsAcross k meaning bytes w → w.next_unreported ≤ n
-  passed-few w across = omega (arith, across.placed.low, across.placed.at.listed)
+  passed-few w across = omega arith
 
   module _ {State E : Type 0} (step : Steps State E) (first : State) where
     abbrev IsCounted : ℕ → Outcome E → State → Type 0
@@ -85,16 +81,8 @@ module _ (k : Settings) (meaning : Meaning) (bytes : List ℕ) where
 
     -- at the end of the bytes all lines were passed
     all-passed : (w : Walk) → IsAcross k meaning bytes w → w.offset ≡ length bytes → w.line ≡ n
-    all-passed w across end = ⊎_elim
-        (λ less. absurd (omega (
-          arith,
-          line_start-ascends AreLines-lines (byte_of k.line_terminator) bytes w.line less,
-          line_start-within AreLines-lines (byte_of k.line_terminator) bytes (w.line + 1),
-          across.placed.at.begins,
-          end,
-        )))
-        (λ over. omega (arith, over, across.placed.at.listed))
-        (cases_lt w.line n)
+    all-passed w across end =
+        omega (arith, comes-from (end-start (byte_of k.line_terminator) bytes) w.line (omega arith))
 
     pub counted-end : (w : Walk) (new : State) → IsAcross k meaning bytes w → w.offset ≡ length bytes
         → AreMade step k first (front w.next_unreported) all_true new → IsCounted w.offset all_true new
@@ -102,7 +90,7 @@ module _ (k : Settings) (meaning : Meaning) (bytes : List ℕ) where
         let all = all-passed w across end in
         record {
           reported = subst (λ ts. AreMade step k first ts all_true new)
-              (sym (calls.front-done k meaning bytes w.next_unreported w.after_context_left
+              (sym (calls.front-done k meaning bytes
               (subst (λ i. calls.Near k meaning bytes w.next_unreported i w.after_context_left) all across.near)))
               reported;
           is_count = sym across.placed.at.begins ∙ ap (start k meaning bytes) all;
@@ -113,9 +101,9 @@ module _ (k : Settings) (meaning : Meaning) (bytes : List ℕ) where
         → q ≡ length bytes → k.passthru ≡ false → w.after_context_left ≡ 0 → (new : State)
         → AreMade step k first (front w.next_unreported) all_true new → IsCounted q all_true new
     counted-past w p q same across next end plain none new reported =
-        let past = steps.across-past k meaning bytes w p q same across next plain none in
+        let past = steps.across-past same across next plain none in
         let size : w.offset + length (slice_range bytes p q) ≡ q =
-        omega (arith, same, next.from, next.within, length-take (q - p) (drop p bytes), length-drop p bytes) in
+        omega (arith, length-take (q - p) (drop p bytes), length-drop p bytes) in
         subst (λ count. IsCounted count all_true new) size
         (counted-end (skip_lines k w (slice_range bytes p q)) new past (size ∙ end) reported)
 
@@ -155,9 +143,8 @@ module _ {State E F : Type 0} (step : Steps State E) (errors : ErrorMakers F E) 
         index = w.line;
         question = asked;
         room = λ inverted.
-            (across.limited inverted).below
-            ∙ ap not (sym (ap (λ b. b && is_at w.match_count k.max_matches) inverted) ∙ goes);
-        before = sym (through-is k matcher.meaning bytes w.next_unreported w.line w.after_context_left across.near
+            grind (arith, (across.limited inverted).below, inverted, goes);
+        before = sym (through-is k matcher.meaning bytes across.near
             (asked-inside k matcher.meaning bytes w.line haystack asked)
             (subst (λ o. All (λ turn. turn.if_false.count ≤ o) (turns_before k matcher.meaning bytes w.next_unreported))
             (sym across.placed.at.begins) across.ended));
@@ -175,20 +162,11 @@ module _ {State E F : Type 0} (step : Steps State E) (errors : ErrorMakers F E) 
       start : Walk
       start = record { offset = 0; line = 0; next_unreported = 0; after_context_left = 0; match_count = 0 }
 
-      limited : k.invert_match ≡ true → is_below 0 k.max_matches ≡ false → ⊥
-      limited inverted none =
-          let all : match_limit k ≡ k.max_matches =
-          ap (λ b. if b then None else k.max_matches) (ap (λ b. k.invert_match && b) none ∙ and-false k.invert_match) in
-          clash (limit-some k matcher.meaning bytes _ (sym (ap (is_below (length asked.found)) all)
-          ∙ asked.question.room)) none
-
       goes : is_done k start ≡ false
-      goes = ⊎_elim
-          (λ inverted. ⊎_elim
-          (λ some.
-          let at : is_at 0 k.max_matches ≡ false = not_false _ (sym (below_none k.max_matches) ∙ some) in
-          ap (λ b. k.invert_match && b) at ∙ and-false k.invert_match)
-          (λ none. absurd (limited inverted none))
-          (cases_Bool (is_below 0 k.max_matches)))
-          (λ plain. ap (λ b. b && is_at 0 k.max_matches) plain)
-          (cases_Bool k.invert_match)
+      goes = grind (
+        arith,
+        below_none k.max_matches,
+        asked.question.room,
+        limit-some k matcher.meaning bytes
+            (length asked.found),
+      )

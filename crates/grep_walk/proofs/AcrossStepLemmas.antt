@@ -1,9 +1,8 @@
 -- A walk across lines, from line to line and from unit to unit.
 use Rattle.std.proofs.Common.{◌≡◌, ℕ, zero, suc, ◌+◌, ◌-◌, ◌<◌, ◌≤◌, Bool, true, false, not, ◌&&◌, List, [], ◌++◌}
-use Rattle.std.proofs.Common.{length, drop, refl, sym, ◌∙◌, ap, subst, arith, ⊎_elim, if◌then◌else◌, length-take}
+use Rattle.std.proofs.Common.{length, drop, refl, sym, ◌∙◌, ap, subst, arith, if◌then◌else◌, length-take}
 use Rattle.std.proofs.Common.{length-drop}
 use Rattle.std.proofs.Math.Path.{ap₂}
-use Rattle.std.proofs.lemmas.Bool.{cases_Bool}
 use Rattle.std.proofs.lemmas.List.Elements.{All-weaker}
 use Rattle.std.specs.Prelude.{nat_lt, All, slice_range}
 use Rattle.grep_matcher.specs.Lines.{lines, line_start, byte_of}
@@ -17,26 +16,19 @@ use Rattle.grep_definitions.specs.LineTurns.{context_turns, match_turns, number_
 use Rattle.grep_definitions.specs.Settings.{Settings}
 use Rattle.grep_definitions.specs.Plans.{Planned}
 use Rattle.grep_definitions.proofs.BelowLemmas.{below_next, below_none, count_below-le, is_below-le}
-use Rattle.grep_definitions.proofs.BoolLemmas.{both_true, clash}
 use Rattle.grep_walk.specs.declared.walk.Walk.{Walk}
 use Rattle.grep_walk.specs.AcrossWalks.{IsAcross, IsLimited, turns_before, after_lines}
 use Rattle.grep_walk.specs.Walks.{line_end, line_turns, after_line, skip_lines}
 use Rattle.grep_definitions.proofs.AcrossWalkLemmas as calls
 use Rattle.grep_walk.proofs.AcrossUnitLemmas.{IsChosen, IsNext, selected-inverted}
-use Rattle.grep_walk.proofs.LineRangeLemmas.{lines-between}
-use Rattle.grep_walk.proofs.WalkLemmas.{ended-next, ended-start, placed-next, placed-start, start-after, start_walk}
+use Rattle.grep_definitions.proofs.LineRangeLemmas.{lines-between}
+use Rattle.grep_walk.proofs.WalkLemmas.{Bare, ended-next, ended-start, placed-next, placed-start, start-after, start_walk}
 
 -- one more number
 count-next : (p : ℕ → Bool) (i : ℕ) → count_below p (i + 1) ≡ (if p i then count_below p i + 1 else count_below p i)
 count-next p i = let one : i + 1 ≡ suc i = omega arith in rw one refl
 
 module _ (k : Settings) (meaning : Meaning) (bytes : List ℕ) where
-  abbrev t : ℕ
-  t = byte_of k.line_terminator
-
-  abbrev starts : ℕ → ℕ
-  starts = line_start t bytes
-
   abbrev S : ℕ → Bool
   S = is_selected k meaning bytes
 
@@ -46,35 +38,17 @@ module _ (k : Settings) (meaning : Meaning) (bytes : List ℕ) where
   abbrev Limited : ℕ → ℕ → Type 0
   Limited = IsLimited k meaning bytes
 
-  abbrev front : ℕ → List Planned
-  front = turns_before k meaning bytes
-
-  abbrev Bare : Type 0
-  Bare = k.passthru ≡ true → (k.after_context ≡ 0) × (k.before_context ≡ 0)
-
   -- the limit under inversion
   limited-missed : k.invert_match ≡ true → (i c : ℕ) → Limited i c → S i ≡ false → Limited (i + 1) c
-  limited-missed inverted i c limited missed = ⊎_elim
-      (λ (full : is_at c k.max_matches ≡ true).
+  limited-missed inverted i c limited missed =
+      let more = count-next free i in
       let over = is_below-le k.max_matches (count_below free i) (count_below free (i + 1))
-      (count_below-le free i (i + 1) (omega arith)) (limited.below ∙ ap not full) in
-      record { below = over ∙ sym (ap not full); counted = λ room. absurd (clash full room) })
-      (λ (room : is_at c k.max_matches ≡ false).
-      let none : free i ≡ false =
-      sym (and-true (free i))
-      ∙ (ap (λ b. free i && b) (sym (limited.below ∙ ap not room))
-      ∙ (sym (selected-inverted k meaning bytes inverted i) ∙ missed)) in
-      let same : count_below free (i + 1) ≡ count_below free i =
-      count-next free i ∙ ap (λ b. if b then count_below free i + 1 else count_below free i) none in
+      (count_below-le free i (i + 1) (omega arith)) in
+      let hit = selected-inverted k meaning bytes inverted i in
       record {
-        below = ap (λ m. is_below m k.max_matches) same ∙ limited.below;
-        counted = λ room. same ∙ limited.counted room;
-      })
-      (cases_Bool (is_at c k.max_matches))
-    where
-      and-true : (b : Bool) → (b && true) ≡ b
-      and-true true = refl
-      and-true false = refl
+        below = grind (arith, more, over, hit, missed, limited.below);
+        counted = λ room. grind (arith, more, hit, missed, limited.below, limited.counted room, room);
+      }
 
   limited-lines : k.invert_match ≡ true → (m i c : ℕ) → Limited i c → ((j : ℕ) → i ≤ j → j < i + m → S j ≡ false)
       → Limited (i + m) c
@@ -85,21 +59,17 @@ module _ (k : Settings) (meaning : Meaning) (bytes : List ℕ) where
       let sum : (i + 1) + m ≡ i + suc m = omega arith in
       subst (λ j. Limited j c) sum
       (limited-lines inverted m (i + 1) c (limited-missed inverted i c limited (missed i (omega arith) (omega arith)))
-      (λ j low high. missed j (omega (arith, low)) (omega (arith, high))))
+      (λ j low high. missed j (omega arith) (omega arith)))
 
   limited-hit : k.invert_match ≡ true → (i c : ℕ) → Limited i c → is_at c k.max_matches ≡ false → S i ≡ true
       → Limited (i + 1) (c + 1)
   limited-hit inverted i c limited room hit =
-      let here = (both_true (free i) _ (sym (selected-inverted k meaning bytes inverted i) ∙ hit)).0 in
-      let count = limited.counted room in
+      let here = selected-inverted k meaning bytes inverted i in
       let more : count_below free (i + 1) ≡ c + 1 =
-      count-next free i ∙ (ap (λ b. if b then count_below free i + 1 else count_below free i) here
-      ∙ ap (λ m. m + 1) count) in
-      let below : is_below c k.max_matches ≡ true =
-      ap (λ m. is_below m k.max_matches) (sym count) ∙ (limited.below ∙ ap not room) in
+      grind (arith, count-next free i, here, hit, limited.counted room) in
       record {
         below = ap (λ m. is_below m k.max_matches) more
-            ∙ below_next k.max_matches c below;
+            ∙ below_next k.max_matches c (grind (arith, limited.below, limited.counted room, room));
         counted = λ room. more;
       }
 
@@ -112,150 +82,151 @@ module _ (k : Settings) (meaning : Meaning) (bytes : List ℕ) where
     ended = ended-start k meaning bytes;
   }
 
-  module _ (w : Walk) (p q : ℕ) (same : w.offset ≡ p) (across : IsAcross k meaning bytes w) where
-    abbrev here : List ℕ
-    here = slice_range bytes p q
+-- a walk at a position
+module _ {k : Settings} {meaning : Meaning} {bytes : List ℕ} {w : Walk} {p : ℕ} (same : w.offset ≡ p)
+    (across : IsAcross k meaning bytes w) where
+  abbrev here : ℕ → List ℕ
+  here = slice_range bytes p
 
-    -- the calls of the line, if it isn't chosen, and those of the unit
-    abbrev line-turns : ℕ → ℕ → List ℕ → List Planned
-    line-turns offset end line =
-        if nat_lt 0 w.after_context_left then context_turns After (number_of k w.line) offset end line
-        else (if k.passthru then context_turns Other (number_of k w.line) offset end line else [])
+  abbrev starts : ℕ → ℕ
+  starts = line_start (byte_of k.line_terminator) bytes
 
-    abbrev unit-turns : ℕ → ℕ → List ℕ → List Planned
-    unit-turns offset end unit =
-        pending_turns k bytes w.next_unreported w.line end w.next_unreported (w.line - w.next_unreported)
-        ++ match_turns k w.next_unreported w.line offset end unit
+  abbrev count : List ℕ → ℕ
+  count part = length (lines (byte_of k.line_terminator) part)
 
-    -- lines that are passed unreported
-    module _ (next : IsNext k meaning bytes w p q) where
-      size : w.offset + length here ≡ q
-      size = omega (arith, same, next.from, next.within, length-take (q - p) (drop p bytes), length-drop p bytes)
+  abbrev front : ℕ → List Planned
+  front = turns_before k meaning bytes
 
-      at-start : IsLineStart t bytes p w.line
-      at-start = subst (λ o. IsLineStart t bytes o w.line) same across.placed.at
+  -- the calls of the line, if it isn't chosen, and those of the unit
+  abbrev line-turns : ℕ → ℕ → List ℕ → List Planned
+  line-turns offset end line =
+      if nat_lt 0 w.after_context_left then context_turns After (number_of k w.line) offset end line
+      else (if k.passthru then context_turns Other (number_of k w.line) offset end line else [])
 
-      count : w.line + length (lines t here) ≡ next.last
-      count = omega (
+  abbrev unit-turns : ℕ → ℕ → List ℕ → List Planned
+  unit-turns offset end unit =
+      pending_turns k bytes w.next_unreported w.line end w.next_unreported (w.line - w.next_unreported)
+      ++ match_turns k w.next_unreported w.line offset end unit
+
+  at-start : IsLineStart (byte_of k.line_terminator) bytes p w.line
+  at-start = subst (λ o. IsLineStart (byte_of k.line_terminator) bytes o w.line) same across.placed.at
+
+  size : (q : ℕ) → p ≤ q → q ≤ length bytes → line_end w (here q) ≡ q
+  size q low within = omega (arith, length-take (q - p) (drop p bytes), length-drop p bytes)
+
+  -- lines that are passed unreported
+  pub across-past : {q : ℕ} → IsNext k meaning bytes w p q → k.passthru ≡ false → w.after_context_left ≡ 0
+      → IsAcross k meaning bytes (skip_lines k w (here q))
+  across-past {q} next plain none =
+      let end = size q next.from next.within in
+      let passed : w.line + count (here q) ≡ next.last = omega (
         arith,
-        lines-between t bytes p q w.line next.last at-start next.at next.from next.within next.low,
-        next.low,
-      )
-
-      pub across-past : k.passthru ≡ false → w.after_context_left ≡ 0 → IsAcross k meaning bytes (skip_lines k w here)
-      across-past plain none =
-          let near = calls.near-skipped k meaning bytes w.next_unreported w.line next.last
-          (subst (λ l. calls.Near k meaning bytes w.next_unreported w.line l) none across.near) plain next.low
-          next.at.listed
-          next.missed in
-          record {
-            placed = record {
-              at = record {
-                listed = omega (arith, count, next.at.listed);
-                begins = ap starts count
-                    ∙ (next.at.begins ∙ sym size);
-              };
-              inside = omega (arith, size, next.within);
-              low = omega (arith, across.placed.low);
-              few = omega (arith, across.placed.few);
-            };
-            near = subst (λ e. calls.Near k meaning bytes w.next_unreported e w.after_context_left) (sym count)
-                (subst (λ l. calls.Near k meaning bytes w.next_unreported next.last l) (sym none) near);
-            limited = λ inverted. limited-lines inverted (length (lines t here)) w.line w.match_count
-                (across.limited inverted)
-                (λ j low high. next.missed j low (omega (arith, high, count)));
-            ended = All-weaker (λ turn. turn.if_false.count ≤ w.offset) (λ turn. turn.if_false.count ≤ w.offset + length
-                here)
-                (λ turn low. omega (arith, low)) (front w.next_unreported) across.ended;
-          }
-
-    -- a line that isn't chosen
-    module _ (bare : Bare) (line : IsLine t bytes w.line p q) (missed : S w.line ≡ false) where
-      pub front-missed : front (after_line k w here false).next_unreported ≡ front w.next_unreported
-          ++ line_turns k bytes w here false false
-      front-missed =
-          calls.front-missed k meaning bytes bare w.next_unreported w.line w.after_context_left across.near line.listed
-          missed
-          ∙ ap (λ turns. front w.next_unreported ++ turns)
-          (ap (λ o. line-turns o (starts (w.line + 1)) (slice_range bytes (starts w.line) (starts (w.line + 1))))
-          (line.begins ∙ sym same)
-          ∙ (ap (λ e. line-turns w.offset e (slice_range bytes (starts w.line) (starts (w.line + 1))))
-          (start-after k meaning bytes w p q same line)
-          ∙ ap₂ (λ a b. line-turns w.offset (line_end w here) (slice_range bytes a b)) line.begins line.ends))
-
-      pub across-missed : IsAcross k meaning bytes (after_line k w here false)
-      across-missed = record {
-        placed = placed-next k meaning bytes w p q same line across.placed false;
-        near = calls.near-missed k meaning bytes bare w.next_unreported w.line w.after_context_left across.near
-            line.listed missed;
-        limited = λ inverted. limited-missed inverted w.line w.match_count (across.limited inverted) missed;
-        ended = subst (All (λ turn. turn.if_false.count ≤ line_end w here)) (sym front-missed)
-            (ended-next k bytes w here false false (front w.next_unreported) across.ended);
-      }
-
-    -- a chosen line, or a unit of them
-    module _ (below : p < q) (within : q ≤ length bytes) (chosen : IsChosen k meaning bytes w q) where
-      unit-end : line_end w here ≡ q
-      unit-end = omega (arith, same, below, within, length-take (q - p) (drop p bytes), length-drop p bytes)
-
-      count-chosen : w.line + length (lines t here) ≡ chosen.last
-      count-chosen = omega (
-        arith,
-        lines-between t bytes p q w.line chosen.last (subst (λ o. IsLineStart t bytes o w.line) same across.placed.at)
-            chosen.at
-            (omega (arith, below)) within (omega (arith, chosen.some)),
-        chosen.some,
-      )
-
-      abbrev walk-to : ℕ → Walk
-      walk-to e = record {
-        offset = line_end w here;
-        line = e;
-        next_unreported = e;
-        after_context_left = k.after_context;
-        match_count = w.match_count + 1;
-      }
-
-      pub walk-is : after_lines k w here true ≡ walk-to chosen.last
-      walk-is = go k.invert_match refl
-        where
-          go : (b : Bool) → k.invert_match ≡ b
-              → (if true && not b then walk-to (w.line + length (lines t here)) else after_line k w here true)
-              ≡ walk-to chosen.last
-          go true is = ap walk-to (sym (chosen.single is))
-          go false is = ap walk-to count-chosen
-
-      pub front-chosen : front (after_lines k w here true).next_unreported ≡ front w.next_unreported
-          ++ line_turns k bytes w here true false
-      front-chosen =
-          ap (λ (next : Walk). front next.next_unreported) walk-is
-          ∙ (calls.front-unit k meaning bytes w.next_unreported w.line w.after_context_left chosen.last across.near
-          chosen.some
-          chosen.at.listed chosen.hits chosen.closed chosen.single chosen.first
-          ∙ ap (λ turns. front w.next_unreported ++ turns)
-          (ap (λ e. unit-turns (starts w.line) e (slice_range bytes (starts w.line) (starts chosen.last)))
-          (chosen.at.begins ∙ sym unit-end)
-          ∙ (ap (λ o. unit-turns o (line_end w here) (slice_range bytes (starts w.line) (starts chosen.last)))
-          across.placed.at.begins
-          ∙ ap₂ (λ a b. unit-turns w.offset (line_end w here) (slice_range bytes a b)) (across.placed.at.begins ∙ same)
-          chosen.at.begins)))
-
-      across-to : IsAcross k meaning bytes (walk-to chosen.last)
-      across-to = record {
+        lines-between (byte_of k.line_terminator) bytes p q w.line next.last at-start next.at next.from next.within
+            next.low,
+      ) in
+      let near = calls.near-skipped k meaning bytes next.last
+      (subst (λ l. calls.Near k meaning bytes w.next_unreported w.line l) none across.near) plain next.low
+      next.at.listed next.missed in
+      record {
         placed = record {
-          at = record { listed = chosen.at.listed; begins = chosen.at.begins ∙ sym unit-end };
-          inside = omega (arith, unit-end, within);
+          at = record { listed = omega arith; begins = ap starts passed ∙ (next.at.begins ∙ sym end) };
+          inside = omega arith;
           low = omega arith;
-          few = omega (arith, across.placed.few, chosen.some);
+          few = omega arith;
         };
-        near = calls.near-unit k meaning bytes w.line chosen.last chosen.some chosen.at.listed chosen.hits;
-        limited = λ inverted. subst (λ e. Limited e (w.match_count + 1)) (sym (chosen.single inverted))
-            (limited-hit inverted w.line w.match_count (across.limited inverted) (chosen.room inverted)
-            (chosen.hits w.line (omega arith) chosen.some));
-        ended = subst (All (λ turn. turn.if_false.count ≤ line_end w here))
-            (sym (sym (ap (λ (next : Walk). front next.next_unreported) walk-is) ∙ front-chosen))
-            (ended-next k bytes w here true false (front w.next_unreported) across.ended);
+        near = subst (λ e. calls.Near k meaning bytes w.next_unreported e w.after_context_left) (sym passed)
+            (subst (λ l. calls.Near k meaning bytes w.next_unreported next.last l) (sym none) near);
+        limited = λ inverted. limited-lines k meaning bytes inverted (count (here q)) w.line w.match_count
+            (across.limited inverted) (λ j low high. next.missed j low (omega arith));
+        ended = All-weaker (λ turn. turn.if_false.count ≤ w.offset) (λ turn. turn.if_false.count ≤ w.offset + length
+            (here q))
+            (λ turn low. omega arith) (front w.next_unreported) across.ended;
       }
 
-      pub across-chosen : IsAcross k meaning bytes (after_lines k w here true)
-      across-chosen = subst (IsAcross k meaning bytes) (sym walk-is) across-to
+  -- a line that isn't chosen
+  module _ {q : ℕ} (bare : Bare k meaning bytes) (line : IsLine (byte_of k.line_terminator) bytes w.line p q)
+      (missed : is_selected k meaning bytes w.line ≡ false) where
+    pub front-missed : front (after_line k w (here q) false).next_unreported ≡ front w.next_unreported
+        ++ line_turns k bytes w (here q) false false
+    front-missed =
+        let own = slice_range bytes (starts w.line) (starts (w.line + 1)) in
+        calls.front-missed k meaning bytes bare across.near line.listed
+        missed
+        ∙ ap (λ turns. front w.next_unreported ++ turns)
+        (ap (λ o. line-turns o (starts (w.line + 1)) own) (line.begins ∙ sym same)
+        ∙ (ap (λ e. line-turns w.offset e own) (start-after k meaning bytes w same line)
+        ∙ ap₂ (λ a b. line-turns w.offset (line_end w (here q)) (slice_range bytes a b)) line.begins line.ends))
+
+    pub across-missed : IsAcross k meaning bytes (after_line k w (here q) false)
+    across-missed = record {
+      placed = placed-next k meaning bytes w same line across.placed false;
+      near = calls.near-missed k meaning bytes bare across.near
+          line.listed missed;
+      limited = λ inverted. limited-missed k meaning bytes inverted w.line w.match_count (across.limited inverted)
+          missed;
+      ended = subst (All (λ turn. turn.if_false.count ≤ line_end w (here q))) (sym front-missed)
+          (ended-next k bytes w (here q) false false (front w.next_unreported) across.ended);
+    }
+
+  -- a chosen line, or a unit of them
+  module _ {q : ℕ} (below : p < q) (within : q ≤ length bytes) (chosen : IsChosen k meaning bytes w q) where
+    unit-end : line_end w (here q) ≡ q
+    unit-end = size q (omega arith) within
+
+    count-chosen : w.line + count (here q) ≡ chosen.last
+    count-chosen = omega (
+      arith,
+      lines-between (byte_of k.line_terminator) bytes p q w.line chosen.last at-start chosen.at (omega arith) within
+          (omega (arith, chosen.some)),
+    )
+
+    abbrev walk-to : ℕ → Walk
+    walk-to e = record {
+      offset = line_end w (here q);
+      line = e;
+      next_unreported = e;
+      after_context_left = k.after_context;
+      match_count = w.match_count + 1;
+    }
+
+    pub walk-is : after_lines k w (here q) true ≡ walk-to chosen.last
+    walk-is = go k.invert_match refl
+      where
+        go : (b : Bool) → k.invert_match ≡ b
+            → (if true && not b then walk-to (w.line + count (here q)) else after_line k w (here q) true)
+            ≡ walk-to chosen.last
+        go true is = ap walk-to (sym (chosen.single is))
+        go false is = ap walk-to count-chosen
+
+    pub front-chosen : front (after_lines k w (here q) true).next_unreported ≡ front w.next_unreported
+        ++ line_turns k bytes w (here q) true false
+    front-chosen =
+        let own = slice_range bytes (starts w.line) (starts chosen.last) in
+        ap (λ (next : Walk). front next.next_unreported) walk-is
+        ∙ (calls.front-unit k meaning bytes chosen.last across.near
+        chosen.some chosen.at.listed chosen.hits chosen.closed chosen.single chosen.first
+        ∙ ap (λ turns. front w.next_unreported ++ turns)
+        (ap (λ e. unit-turns (starts w.line) e own) (chosen.at.begins ∙ sym unit-end)
+        ∙ (ap (λ o. unit-turns o (line_end w (here q)) own) across.placed.at.begins
+        ∙ ap₂ (λ a b. unit-turns w.offset (line_end w (here q)) (slice_range bytes a b))
+        (across.placed.at.begins ∙ same) chosen.at.begins)))
+
+    across-to : IsAcross k meaning bytes (walk-to chosen.last)
+    across-to = record {
+      placed = record {
+        at = record { listed = chosen.at.listed; begins = chosen.at.begins ∙ sym unit-end };
+        inside = omega (arith, unit-end);
+        low = omega arith;
+        few = omega arith;
+      };
+      near = calls.near-unit k meaning bytes w.line chosen.last chosen.some chosen.at.listed chosen.hits;
+      limited = λ inverted. subst (λ e. IsLimited k meaning bytes e (w.match_count + 1)) (sym (chosen.single inverted))
+          (limited-hit k meaning bytes inverted w.line w.match_count (across.limited inverted) (chosen.room inverted)
+          (chosen.hits w.line (omega arith) chosen.some));
+      ended = subst (All (λ turn. turn.if_false.count ≤ line_end w (here q)))
+          (sym (sym (ap (λ (next : Walk). front next.next_unreported) walk-is) ∙ front-chosen))
+          (ended-next k bytes w (here q) true false (front w.next_unreported) across.ended);
+    }
+
+    pub across-chosen : IsAcross k meaning bytes (after_lines k w (here q) true)
+    across-chosen = subst (IsAcross k meaning bytes) (sym walk-is) across-to

@@ -1,16 +1,14 @@
 -- What a walk across lines comes to after a line that isn't chosen, or after a unit.
-use Rattle.std.proofs.Common.{◌≡◌, ℕ, ◌-◌, ◌<◌, ◌≤◌, ◌==◌, Bool, true, false, ◌&&◌, List, [], ◌++◌, length, drop, refl}
-use Rattle.std.proofs.Common.{sym, ◌∙◌, ap, subst, arith, ⊎_elim, length-take, length-drop}
-use Rattle.std.proofs.lemmas.Bool.{cases_Bool, cases_lt, eq-eqb, eqb-true}
-use Rattle.std.proofs.Math.Bool.{and-false}
+use Rattle.std.proofs.Common.{◌≡◌, ℕ, ◌-◌, ◌<◌, ◌≤◌, ◌==◌, Bool, true, false, List, [], ◌++◌, length, drop, refl}
+use Rattle.std.proofs.Common.{sym, ◌∙◌, ap, subst, arith, length-take, length-drop}
+use Rattle.std.proofs.lemmas.Bool.Decides.{nat_tests}
+use Rattle.std.proofs.lemmas.Bool.{eqb-true}
 use Rattle.grep_matcher.specs.Meanings.{Meaning}
 use Rattle.grep_matcher.specs.Lines.{byte_of}
 use Rattle.std.specs.Prelude.{slice_range}
 use Rattle.grep_lines.specs.Positions.{IsLine, IsLineStart}
 use Rattle.grep_lines.proofs.LineStepLemmas.{IsAt-start}
-use Rattle.grep_definitions.specs.Reports.{is_at}
 use Rattle.grep_definitions.specs.Settings.{Settings}
-use Rattle.grep_definitions.proofs.BoolLemmas.{clash}
 use Rattle.grep_walk.specs.declared.blocks.Blocks.{Blocks}
 use Rattle.grep_walk.specs.declared.walk.Walk.{Walk}
 use Rattle.grep_walk.specs.AcrossWalks.{IsAcross, IsReady, is_done, is_joined, next_chosen, turns_before, after_lines}
@@ -18,15 +16,14 @@ use Rattle.grep_walk.specs.Walks.{IsOrdered, line_end, line_turns}
 use Rattle.grep_walk.specs.Windows.{IsInWindow}
 use Rattle.grep_walk.proofs.AcrossStepLemmas as steps
 use Rattle.grep_walk.proofs.AcrossUnitLemmas as units
-use Rattle.grep_walk.proofs.AcrossUnitLemmas.{IsChosen, earlier}
+use Rattle.grep_walk.proofs.AcrossUnitLemmas.{IsChosen}
+use Rattle.grep_definitions.proofs.LineRangeLemmas.{comes-before}
+use Rattle.grep_walk.proofs.WalkLemmas.{Bare}
 use Rattle.grep_walk.proofs.WindowLemmas.{own-window}
 
 module _ (k : Settings) (meaning : Meaning) (bytes : List ℕ) where
   abbrev t : ℕ
   t = byte_of k.line_terminator
-
-  abbrev Bare : Type 0
-  Bare = k.passthru ≡ true → (k.after_context ≡ 0) × (k.before_context ≡ 0)
 
   -- the counts of a walk are in order, and its window is the whole
   pub ordered-across : (w : Walk) → IsAcross k meaning bytes w → IsOrdered w
@@ -40,7 +37,7 @@ module _ (k : Settings) (meaning : Meaning) (bytes : List ℕ) where
       → IsInWindow k [] bytes bytes start w
   in-window w start same across = record {
     shown = own-window t bytes;
-    at = omega (arith, same);
+    at = omega arith;
     line = record {
       low = omega arith;
       begins =
@@ -59,56 +56,47 @@ module _ (k : Settings) (meaning : Meaning) (bytes : List ℕ) where
     pub offset : (after_lines k w (slice_range bytes start end) chosen).offset ≡ end
     pub end_is : line_end w (slice_range bytes start end) ≡ end
 
-  module _ (bare : Bare) (start end next : ℕ) (w : Walk) (unit : ℕ × ℕ) (blocks : Blocks)
-      (across : IsAcross k meaning bytes w)
-      (same : w.offset ≡ start) (ready : IsReady k meaning bytes start w unit blocks)
-      (ahead : is_done k w ≡ false → start < unit.1) (is_next : next ≡ next_chosen k bytes start unit w)
-      (below : start < end) (within : end ≤ length bytes) where
-    at : IsLineStart t bytes start w.line
-    at = subst (λ o. IsLineStart t bytes o w.line) same across.placed.at
+module _ {k : Settings} {meaning : Meaning} {bytes : List ℕ} {start end next : ℕ} {w : Walk} {unit : ℕ × ℕ}
+    {blocks : Blocks} (bare : Bare k meaning bytes) (across : IsAcross k meaning bytes w) (same : w.offset ≡ start)
+    (ready : IsReady k meaning bytes start w unit blocks) (ahead : is_done k w ≡ false → start < unit.1)
+    (is_next : next ≡ next_chosen k bytes start unit w) (below : start < end) (within : end ≤ length bytes) where
+  at : IsLineStart (byte_of k.line_terminator) bytes start w.line
+  at = subst (λ o. IsLineStart (byte_of k.line_terminator) bytes o w.line) same across.placed.at
 
-    some : start < length bytes
-    some = omega (arith, below, within)
+  some : start < length bytes
+  some = omega arith
 
-    size : line_end w (slice_range bytes start end) ≡ end
-    size = omega (arith, same, below, within, length-take (end - start) (drop start bytes), length-drop start bytes)
+  size : line_end w (slice_range bytes start end) ≡ end
+  size = omega (arith, length-take (end - start) (drop start bytes), length-drop start bytes)
 
-    open-chosen : IsChosen k meaning bytes w end → is_done k w ≡ false
-    open-chosen chosen = ⊎_elim
-        (λ inverted. ap (λ b. k.invert_match && b) (chosen.room inverted) ∙ and-false k.invert_match)
-        (λ plain. ap (λ b. b && is_at w.match_count k.max_matches) plain)
-        (cases_Bool k.invert_match)
+  open-chosen : IsChosen k meaning bytes w end → is_done k w ≡ false
+  open-chosen chosen = grind (arith, chosen.room)
 
-    pub turned : (chosen : Bool) → chosen ≡ (start == next) → (is_joined k chosen ≡ true → end ≡ unit.1)
-        → (is_joined k chosen ≡ false → (i : ℕ) → IsLineStart t bytes start i → IsLine t bytes i start end)
-        → IsTurned start end w unit blocks chosen
-    turned true is joined single =
-        let there = eqb-true start next (sym is) ∙ is_next in
-        let chosen = units.chosen-is k meaning bytes start w unit blocks across at ready some ahead end there joined
-        single in
-        record {
-          across = steps.across-chosen k meaning bytes w start end same across below within chosen;
-          front = steps.front-chosen k meaning bytes w start end same across below within chosen;
-          ready = units.ready-after k meaning bytes start w unit blocks across at ready some ahead _ true end
-              (λ goes. open-chosen chosen) (is ∙ ap (λ p. start == p) is_next) joined single;
-          offset = ap (λ (v : Walk). v.offset) (steps.walk-is k meaning bytes w start end same across below within
-              chosen) ∙ size;
-          end_is = size;
-        }
-    turned false is joined single =
-        let line = single refl w.line at in
-        let later = units.next-is k meaning bytes start w unit blocks across at ready some ahead in
-        let above : start < next_chosen k bytes start unit w = ⊎_elim
-        (λ less. less)
-        (λ over. absurd (clash (eq-eqb start next (omega (arith, over, later.from, is_next))) (sym is)))
-        (cases_lt start (next_chosen k bytes start unit w)) in
-        let missed = later.missed w.line (omega arith)
-        (earlier k meaning bytes w.line later.last (omega (arith, at.begins, later.at.begins, above))) in
-        record {
-          across = steps.across-missed k meaning bytes w start end same across bare line missed;
-          front = steps.front-missed k meaning bytes w start end same across bare line missed;
-          ready = units.ready-after k meaning bytes start w unit blocks across at ready some ahead _ false end
-              (λ goes. goes) (is ∙ ap (λ p. start == p) is_next) joined single;
-          offset = size;
-          end_is = size;
-        }
+  pub turned : (chosen : Bool) → chosen ≡ (start == next) → (is_joined k chosen ≡ true → end ≡ unit.1)
+      → (is_joined k chosen ≡ false → (i : ℕ) → IsLineStart (byte_of k.line_terminator) bytes start i
+      → IsLine (byte_of k.line_terminator) bytes i start end)
+      → IsTurned k meaning bytes start end w unit blocks chosen
+  turned true is joined single =
+      let there = eqb-true start next (sym is) ∙ is_next in
+      let chosen = units.chosen-is across at ready some ahead there joined single in
+      record {
+        across = steps.across-chosen same across below within chosen;
+        front = steps.front-chosen same across below within chosen;
+        ready = units.ready-after across at ready some ahead true joined single _
+            (λ goes. open-chosen chosen) (is ∙ ap (λ p. start == p) is_next);
+        offset = ap (λ (v : Walk). v.offset) (steps.walk-is same across below within chosen) ∙ size;
+        end_is = size;
+      }
+  turned false is joined single =
+      let line = single refl w.line at in
+      let later = units.next-is across at ready some ahead in
+      let above : start < next_chosen k bytes start unit w = grind (arith, nat_tests, later.from, is, is_next) in
+      let missed = later.missed w.line (omega arith) (comes-before later.at w.line (omega (arith, at.begins))) in
+      record {
+        across = steps.across-missed same across bare line missed;
+        front = steps.front-missed same across bare line missed;
+        ready = units.ready-after across at ready some ahead false joined single _
+            (λ goes. goes) (is ∙ ap (λ p. start == p) is_next);
+        offset = size;
+        end_is = size;
+      }

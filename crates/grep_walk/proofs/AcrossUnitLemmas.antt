@@ -2,25 +2,25 @@
 use Rattle.std.proofs.Common.{◌≡◌, ℕ, ◌+◌, ◌-◌, ◌<◌, ◌≤◌, ◌==◌, Bool, true, false, not, ◌&&◌, List, length}
 use Rattle.std.proofs.Common.{if◌then◌else◌, None, refl, sym, ◌∙◌, ap, subst, arith, ⊎_elim}
 use Rattle.std.proofs.Math.Bool.{and-false}
-use Rattle.std.proofs.lemmas.Bool.{lt-ltb, le-ltb, ltb-true, ltb-false, eq-eqb, cases_Bool, cases_lt}
+use Rattle.std.proofs.lemmas.Bool.Decides.{nat_tests}
+use Rattle.std.proofs.lemmas.Bool.{lt-ltb, ltb-true, ltb-false, cases_Bool, cases_lt}
 use Rattle.std.specs.Prelude.{nat_lt, IfOk, Result, Ok, Err}
-use Rattle.grep_matcher.specs.Lines.{lines, line_start, byte_of}
+use Rattle.grep_matcher.specs.Lines.{lines, byte_of}
+use Rattle.grep_definitions.specs.LineSearch.{line_count}
 use Rattle.grep_matcher.specs.Meanings.{Meaning}
 use Rattle.grep_lines.specs.Positions.{IsLine, IsLineStart}
-use Rattle.grep_lines.proofs.LawLemmas.{AreLines-lines}
 use Rattle.grep_definitions.specs.SelectedLines.{is_free, is_touched, all_matches, matches_up_to}
 use Rattle.grep_definitions.specs.AcrossLines.{is_selected, continues_unit}
 use Rattle.grep_definitions.specs.Reports.{count_below, is_at, is_below}
 use Rattle.grep_definitions.specs.Settings.{Settings}
 use Rattle.grep_definitions.proofs.BelowLemmas.{count_below-le, is_below-le}
 use Rattle.grep_definitions.proofs.BoolLemmas.{and-both, clash}
-use Rattle.grep_definitions.proofs.LineStartLemmas.{line_start-ascends, line_start-last}
-use Rattle.grep_definitions.proofs.TurnEndLemmas.{line_start-le}
 use Rattle.grep_walk.specs.declared.blocks.Blocks.{Blocks}
 use Rattle.grep_walk.specs.declared.walk.Walk.{Walk}
 use Rattle.grep_walk.specs.AcrossWalks.{IsAcross, IsComing, IsReady, is_done, is_joined, next_chosen}
 use Rattle.grep_walk.specs.Units.{AreLeft, IsUnit, is_hit}
-use Rattle.grep_walk.proofs.LineRangeLemmas.{starts-ordered}
+use Rattle.grep_definitions.proofs.LineRangeLemmas.{starts-before, starts-from, starts-until, comes-before, comes-from}
+use Rattle.grep_definitions.proofs.LineRangeLemmas.{end-start}
 
 module _ (k : Settings) (meaning : Meaning) (bytes : List ℕ) where
   abbrev t : ℕ
@@ -29,24 +29,11 @@ module _ (k : Settings) (meaning : Meaning) (bytes : List ℕ) where
   abbrev n : ℕ
   n = length (lines t bytes)
 
-  abbrev starts : ℕ → ℕ
-  starts = line_start t bytes
-
   abbrev S : ℕ → Bool
   S = is_selected k meaning bytes
 
   abbrev free : ℕ → Bool
   free = is_free k meaning bytes
-
-  rises : (i : ℕ) → i < n → starts i < starts (i + 1)
-  rises = line_start-ascends AreLines-lines t bytes
-
-  higher : (i j : ℕ) → i ≤ j → starts i ≤ starts j
-  higher = line_start-le t bytes
-
-  -- a line that begins before another comes before it
-  pub earlier : (i j : ℕ) → starts i < starts j → i < j
-  earlier i j below = ⊎_elim (λ less. less) (λ over. absurd (omega (arith, below, higher j i over))) (cases_lt i j)
 
   -- which lines are selected, by which are touched
   selected-plain : k.invert_match ≡ false → (j : ℕ) → S j ≡ is_hit k meaning bytes j
@@ -73,10 +60,7 @@ module _ (k : Settings) (meaning : Meaning) (bytes : List ℕ) where
 
   -- as it isn't if more lines may be chosen
   pub limit-some : (m : ℕ) → is_below m k.max_matches ≡ true → is_below 0 k.max_matches ≡ true
-  limit-some m below = ⊎_elim
-      (λ some. some)
-      (λ none. absurd (clash below (is_below-le k.max_matches 0 m (omega arith) none)))
-      (cases_Bool (is_below 0 k.max_matches))
+  limit-some m below = grind (arith, is_below-le k.max_matches 0 m (omega arith))
 
   -- the next unit, which is looked for at the end of the last one
   module _ (start i low : ℕ) (unit : ℕ × ℕ) (some : start < length bytes) (at : IsLineStart t bytes start i)
@@ -84,48 +68,21 @@ module _ (k : Settings) (meaning : Meaning) (bytes : List ℕ) where
       (is_unit : IsUnit k meaning bytes low unit) where
     -- the line before it comes after the end of the last one
     between : 0 < is_unit.first → i < is_unit.first
-    between above = ⊎_elim
-        (λ less. less)
-        (λ over.
-        let down = higher is_unit.first i over in
-        ⊎_elim
-        (λ later. absurd (omega (
-          arith,
-          is_unit.apart later (omega (arith, some, same)),
-          down,
-          at.begins,
-          is_unit.begins.begins,
-          same,
-        )))
-        (λ none. absurd (omega (
-          arith,
-          none,
-          same,
-          down,
-          at.begins,
-          rises 0 (omega (arith, above, is_unit.begins.listed)),
-          higher (0 + 1) is_unit.first (omega (arith, above)),
-        )))
+    between above = comes-before is_unit.begins i (⊎_elim
+        (λ later. omega (arith, is_unit.apart later (omega arith)))
+        (λ none. omega (arith, starts-before is_unit.begins 0 above))
         (cases_lt 0 low))
-        (cases_lt i is_unit.first)
 
     coming-next : IsComing k meaning bytes start unit
     coming-next = record {
       low = low;
       is_unit = is_unit;
-      after = omega (arith, same);
-      before = omega (arith, same, is_unit.after, is_unit.ordered);
-      whole = λ plain. omega (arith, same, is_unit.after);
-      alone = λ above.
-          let back : (is_unit.first - 1) + 1 ≡ is_unit.first = omega (arith, above) in
-          is_unit.miss (is_unit.first - 1) (omega (arith, above, is_unit.begins.listed))
-          (omega (arith, higher i (is_unit.first - 1) (omega (arith, between above)), at.begins, same))
-          (omega (
-            arith,
-            rises (is_unit.first - 1) (omega (arith, above, is_unit.begins.listed)),
-            ap starts back,
-            is_unit.begins.begins,
-          ));
+      after = omega arith;
+      before = omega arith;
+      whole = λ plain. omega arith;
+      alone = λ above. is_unit.miss (is_unit.first - 1) (omega arith)
+          (omega (arith, starts-from at (is_unit.first - 1) (omega (arith, between above))))
+          (starts-before is_unit.begins (is_unit.first - 1) (omega arith));
     }
 
   ready-next : (start : ℕ) (w : Walk) (unit : ℕ × ℕ) (old new : Blocks) → start < length bytes
@@ -137,7 +94,7 @@ module _ (k : Settings) (meaning : Meaning) (bytes : List ℕ) where
     end = end;
     ordered = is_unit.ordered;
     within = is_unit.within;
-    before = λ goes. omega (arith, same goes, is_unit.after, is_unit.ordered);
+    before = λ goes. omega (arith, same goes);
     coming = λ goes less. coming-next start w.line old.end unit some at (same goes) is_unit;
   }
 
@@ -171,260 +128,229 @@ module _ (k : Settings) (meaning : Meaning) (bytes : List ℕ) where
     pub first : continues_unit k meaning bytes w.line ≡ false
     pub room : k.invert_match ≡ true → is_at w.match_count k.max_matches ≡ false
 
-  module _ (start : ℕ) (w : Walk) (unit : ℕ × ℕ) (blocks : Blocks) (across : IsAcross k meaning bytes w)
-      (at : IsLineStart t bytes start w.line) (ready : IsReady k meaning bytes start w unit blocks)
-      (some : start < length bytes)
-      (ahead : is_done k w ≡ false → start < unit.1) where
-    abbrev Chosen : Bool → Bool → Bool → ℕ
-    Chosen b c d = if not b then unit.0 else (if c then length bytes else (if d then start else unit.1))
+-- a walk that has come to a unit or is in it
+module _ {k : Settings} {meaning : Meaning} {bytes : List ℕ} {start : ℕ} {w : Walk} {unit : ℕ × ℕ} {blocks : Blocks}
+    (across : IsAcross k meaning bytes w) (at : IsLineStart (byte_of k.line_terminator) bytes start w.line)
+    (ready : IsReady k meaning bytes start w unit blocks) (some : start < length bytes)
+    (ahead : is_done k w ≡ false → start < unit.1) where
+  abbrev Chosen : Bool → Bool → Bool → ℕ
+  Chosen b c d = if not b then unit.0 else (if c then length bytes else (if d then start else unit.1))
 
-    abbrev full : Bool
-    full = is_at w.match_count k.max_matches
+  abbrev next : ℕ
+  next = next_chosen k bytes start unit w
 
-    plain-goes : k.invert_match ≡ false → is_done k w ≡ false
-    plain-goes plain = ap (λ b. b && full) plain
+  abbrev full : Bool
+  full = is_at w.match_count k.max_matches
 
-    open-goes : full ≡ false → is_done k w ≡ false
-    open-goes room = ap (λ b. k.invert_match && b) room ∙ and-false k.invert_match
+  come : is_done k w ≡ false → IsComing k meaning bytes start unit
+  come goes = ready.coming goes (ahead goes)
 
-    come : is_done k w ≡ false → IsComing k meaning bytes start unit
-    come goes = ready.coming goes (ahead goes)
+  -- the limit has room for as many lines as were chosen
+  room-is : k.invert_match ≡ true → full ≡ false → is_below (count_below (is_free k meaning bytes) w.line) k.max_matches
+      ≡ true
+  room-is inverted room = (across.limited inverted).below ∙ ap not room
 
-    pub next-is : IsNext w start (next_chosen k bytes start unit w)
-    next-is = go k.invert_match full (nat_lt start unit.0) refl refl refl
-      where
-        go : (b c d : Bool) → k.invert_match ≡ b → full ≡ c → nat_lt start unit.0 ≡ d → IsNext w start (Chosen b c d)
-        go false c d is_b is_c is_d =
-            let here = come (plain-goes is_b) in
-            let whole = here.whole is_b in
-            record {
-              last = here.is_unit.first;
-              at = here.is_unit.begins;
-              low = starts-ordered AreLines-lines t bytes start unit.0 w.line here.is_unit.first at here.is_unit.begins
-                  whole;
-              from = whole;
-              within = omega (arith, ready.ordered, ready.within);
-              missed = λ j low high.
-                  selected-plain is_b j
-                  ∙ here.is_unit.miss j (omega (arith, high, here.is_unit.begins.listed))
-                  (omega (arith, higher w.line j low, at.begins, here.after))
-                  (omega (
-                    arith,
-                    rises j (omega (arith, high, here.is_unit.begins.listed)),
-                    higher (j + 1) here.is_unit.first (omega (arith, high)),
-                    here.is_unit.begins.begins,
-                  ));
-            }
-        go true true d is_b is_c is_d =
-            let limited = across.limited is_b in
-            let over = limited.below ∙ ap not is_c in
-            record {
-              last = n;
-              at = record { listed = omega arith; begins = line_start-last AreLines-lines t bytes };
-              low = at.listed;
-              from = omega (arith, some);
-              within = omega arith;
-              missed = λ j low high.
-                  let none = is_below-le k.max_matches (count_below free w.line) (count_below free j)
-                  (count_below-le free w.line j low) over in
-                  selected-inverted is_b j ∙ (ap (λ b. free j && b) none ∙ and-false (free j));
-            }
-        go true false true is_b is_c is_d = record {
-          last = w.line;
-          at = at;
-          low = omega arith;
-          from = omega arith;
-          within = omega (arith, some);
-          missed = λ j low high. absurd (omega (arith, low, high));
-        }
-        go true false false is_b is_c is_d =
-            let here = come (open-goes is_c) in
-            let over = ltb-false start unit.0 is_d in
-            record {
-              last = here.is_unit.last;
-              at = here.is_unit.ends;
-              low = starts-ordered AreLines-lines t bytes start unit.1 w.line here.is_unit.last at here.is_unit.ends
-                  here.before;
-              from = here.before;
-              within = ready.within;
-              missed = λ j low high.
-                  let inside : j < n = omega (arith, high, here.is_unit.ends.listed) in
-                  let hit = here.is_unit.hit j inside (omega (arith, over, higher w.line j low, at.begins))
-                  (omega (
-                    arith,
-                    rises j inside,
-                    higher (j + 1) here.is_unit.last (omega (arith, high)),
-                    here.is_unit.ends.begins,
-                  )) in
-                  let room = limit-some _ ((across.limited is_b).below ∙ ap not is_c) in
-                  selected-inverted is_b j
-                  ∙ ap (λ b. b && is_below (count_below free j) k.max_matches)
-                  (free-is is_b room j inside ∙ ap not hit);
-            }
+  pub next-is : IsNext k meaning bytes w start next
+  next-is = go k.invert_match full (nat_lt start unit.0) refl refl refl
+    where
+      go : (b c d : Bool) → k.invert_match ≡ b → full ≡ c → nat_lt start unit.0 ≡ d
+          → IsNext k meaning bytes w start (Chosen b c d)
+      go false c d is_b is_c is_d =
+          let here = come (grind (arith, is_b)) in
+          let whole = here.whole is_b in
+          record {
+            last = here.is_unit.first;
+            at = here.is_unit.begins;
+            low = comes-from at here.is_unit.first (omega arith);
+            from = whole;
+            within = omega arith;
+            missed = λ j low high.
+                selected-plain k meaning bytes is_b j
+                ∙ here.is_unit.miss j (omega arith) (omega (arith, starts-from at j low))
+                (starts-before here.is_unit.begins j high);
+          }
+      go true true d is_b is_c is_d =
+          let free = is_free k meaning bytes in
+          let over = (across.limited is_b).below ∙ ap not is_c in
+          record {
+            last = line_count k meaning bytes;
+            at = end-start (byte_of k.line_terminator) bytes;
+            low = at.listed;
+            from = omega arith;
+            within = omega arith;
+            missed = λ j low high.
+                let none = is_below-le k.max_matches (count_below free w.line) (count_below free j)
+                (count_below-le free w.line j low) over in
+                selected-inverted k meaning bytes is_b j ∙ (ap (λ b. free j && b) none ∙ and-false (free j));
+          }
+      go true false true is_b is_c is_d = record {
+        last = w.line;
+        at = at;
+        low = omega arith;
+        from = omega arith;
+        within = omega arith;
+        missed = λ j low high. absurd (omega arith);
+      }
+      go true false false is_b is_c is_d =
+          let here = come (grind (arith, is_c)) in
+          let over = ltb-false start unit.0 is_d in
+          let free = is_free k meaning bytes in
+          record {
+            last = here.is_unit.last;
+            at = here.is_unit.ends;
+            low = comes-from at here.is_unit.last (omega arith);
+            from = here.before;
+            within = ready.within;
+            missed = λ j low high.
+                let inside : j < line_count k meaning bytes = omega arith in
+                let hit = here.is_unit.hit j inside (omega (arith, starts-from at j low))
+                (starts-before here.is_unit.ends j high) in
+                selected-inverted k meaning bytes is_b j
+                ∙ ap (λ b. b && is_below (count_below free j) k.max_matches)
+                (free-is k meaning bytes is_b (limit-some k meaning bytes _ (room-is is_b is_c)) j inside ∙ ap not hit);
+          }
 
-    -- past the lines that aren't chosen the walk comes to the unit, or has passed it
-    coming-past : is_done k w ≡ false
-        → (next_chosen k bytes start unit w ≤ unit.1)
-        × (next_chosen k bytes start unit w < unit.1 → IsComing k meaning bytes (next_chosen k bytes start unit w) unit)
-    coming-past goes = go k.invert_match full (nat_lt start unit.0) refl refl
-      where
-        go : (b c d : Bool) → k.invert_match ≡ b → full ≡ c
-            → (Chosen b c d ≤ unit.1) × (Chosen b c d < unit.1 → IsComing k meaning bytes (Chosen b c d) unit)
-        go false c d is_b is_c =
-            let here = come goes in (
-              ready.ordered,
-              λ less. record {
-                low = here.low;
-                is_unit = here.is_unit;
-                after = omega (arith, here.after, here.whole is_b);
-                before = ready.ordered;
-                whole = λ plain. omega arith;
-                alone = here.alone;
-              },
-            )
-        go true true d is_b is_c = absurd (clash (and-both k.invert_match full is_b is_c) goes)
-        go true false true is_b is_c = (omega (arith, ahead goes), λ less. come goes)
-        go true false false is_b is_c = (omega arith, λ less. absurd (omega (arith, less)))
+  -- past the lines that aren't chosen the walk comes to the unit, or has passed it
+  coming-past : is_done k w ≡ false → (next ≤ unit.1) × (next < unit.1 → IsComing k meaning bytes next unit)
+  coming-past goes = go k.invert_match full (nat_lt start unit.0) refl refl
+    where
+      go : (b c d : Bool) → k.invert_match ≡ b → full ≡ c
+          → (Chosen b c d ≤ unit.1) × (Chosen b c d < unit.1 → IsComing k meaning bytes (Chosen b c d) unit)
+      go false c d is_b is_c =
+          let here = come goes in
+          let whole = here.whole is_b in (
+            ready.ordered,
+            λ less. record {
+              low = here.low;
+              is_unit = here.is_unit;
+              after = omega arith;
+              before = ready.ordered;
+              whole = λ plain. omega arith;
+              alone = here.alone;
+            },
+          )
+      go true true d is_b is_c = absurd (grind (arith, is_b, is_c, goes))
+      go true false true is_b is_c = (omega (arith, ahead goes), λ less. come goes)
+      go true false false is_b is_c = (omega arith, λ less. absurd (omega arith))
 
-    pub ready-past : (new : Walk) (next : ℕ) → next ≡ next_chosen k bytes start unit w → new.match_count ≡ w.match_count
-        → IsReady k meaning bytes next new unit blocks
-    ready-past new next is same = record {
+  pub ready-past : (new : Walk) (p : ℕ) → p ≡ next → new.match_count ≡ w.match_count
+      → IsReady k meaning bytes p new unit blocks
+  ready-past new p is same = record {
+    left = ready.left;
+    end = ready.end;
+    ordered = ready.ordered;
+    within = ready.within;
+    before = λ goes. omega (arith, (coming-past (back goes)).0);
+    coming = λ goes less. subst (λ p. IsComing k meaning bytes p unit) (sym is)
+        ((coming-past (back goes)).1 (omega arith));
+  }
+    where
+      back : is_done k new ≡ false → is_done k w ≡ false
+      back goes = ap (λ c. k.invert_match && is_at c k.max_matches) (sym same) ∙ goes
+
+  -- after a line it comes to the unit, or is in it
+  coming-line : (end : ℕ) → IsLine (byte_of k.line_terminator) bytes w.line start end → is_done k w ≡ false
+      → (k.invert_match ≡ false → start < unit.0) → IsComing k meaning bytes end unit
+  coming-line end line goes plain =
+      let here = come goes in
+      record {
+        low = here.low;
+        is_unit = here.is_unit;
+        after = omega arith;
+        before = till here.is_unit.ends (ahead goes);
+        whole = λ yes. till here.is_unit.begins (plain yes);
+        alone = here.alone;
+      }
+    where
+      till : {p i : ℕ} → IsLineStart (byte_of k.line_terminator) bytes p i → start < p → end ≤ p
+      till there less =
+          let later = comes-before there w.line (omega arith) in
+          omega (arith, starts-until there (w.line + 1) (omega arith))
+
+  -- what is known if the end of the bytes that were passed is known
+  module _ {end : ℕ} (chosen : Bool) (joined : is_joined k chosen ≡ true → end ≡ unit.1)
+      (single : is_joined k chosen ≡ false → (i : ℕ) → IsLineStart (byte_of k.line_terminator) bytes start i
+      → IsLine (byte_of k.line_terminator) bytes i start end) where
+    pub ready-after : (new : Walk) → (is_done k new ≡ false → is_done k w ≡ false) → chosen ≡ (start == next)
+        → IsReady k meaning bytes end new unit blocks
+    ready-after new back is = record {
       left = ready.left;
       end = ready.end;
       ordered = ready.ordered;
       within = ready.within;
-      before = λ goes. omega (arith, is, (coming-past (back goes)).0);
-      coming = λ goes less. subst (λ p. IsComing k meaning bytes p unit) (sym is)
-          ((coming-past (back goes)).1 (omega (arith, is, less)));
+      before = λ goes. ⊎_elim (λ whole. omega (arith, joined whole)) (λ part. (later (back goes) part).before)
+          (cases_Bool (is_joined k chosen));
+      coming = λ goes less. ⊎_elim (λ whole. absurd (omega (arith, joined whole))) (later (back goes))
+          (cases_Bool (is_joined k chosen));
     }
-      where
-        back : is_done k new ≡ false → is_done k w ≡ false
-        back goes = ap (λ c. k.invert_match && is_at c k.max_matches) (sym same) ∙ goes
-
-    -- after a line it comes to the unit, or is in it
-    coming-line : (end : ℕ) → IsLine t bytes w.line start end → is_done k w ≡ false
-        → (k.invert_match ≡ false → start < unit.0)
-        → IsComing k meaning bytes end unit
-    coming-line end line goes plain =
-        let here = come goes in
-        record {
-          low = here.low;
-          is_unit = here.is_unit;
-          after = omega (arith, here.after, line.above);
-          before = till unit.1 here.is_unit.last here.is_unit.ends (ahead goes);
-          whole = λ yes. till unit.0 here.is_unit.first here.is_unit.begins (plain yes);
-          alone = here.alone;
-        }
-      where
-        till : (p i : ℕ) → IsLineStart t bytes p i → start < p → end ≤ p
-        till p i there less =
-            let later = earlier w.line i (omega (arith, line.begins, there.begins, less)) in
-            omega (arith, higher (w.line + 1) i (omega (arith, later)), line.ends, there.begins)
-
-    pub ready-after : (new : Walk) (chosen : Bool) (end : ℕ) → (is_done k new ≡ false → is_done k w ≡ false)
-        → chosen ≡ (start == next_chosen k bytes start unit w) → (is_joined k chosen ≡ true → end ≡ unit.1)
-        → (is_joined k chosen ≡ false → (i : ℕ) → IsLineStart t bytes start i → IsLine t bytes i start end)
-        → IsReady k meaning bytes end new unit blocks
-    ready-after new chosen end back is joined single = ⊎_elim
-        (λ whole.
-        let same = joined whole in
-        record {
-          left = ready.left;
-          end = ready.end;
-          ordered = ready.ordered;
-          within = ready.within;
-          before = λ goes. omega (arith, same);
-          coming = λ goes less. absurd (omega (arith, same, less));
-        })
-        (λ part.
-        let line = single part w.line at in
-        let later = λ (goes : is_done k new ≡ false). coming-line end line (back goes) (outside (back goes) part) in
-        record {
-          left = ready.left;
-          end = ready.end;
-          ordered = ready.ordered;
-          within = ready.within;
-          before = λ goes. (later goes).before;
-          coming = λ goes less. later goes;
-        })
-        (cases_Bool (is_joined k chosen))
       where
         outside : is_done k w ≡ false → is_joined k chosen ≡ false → k.invert_match ≡ false → start < unit.0
         outside goes part plain = ⊎_elim
             (λ less. less)
             (λ over.
-            let same : start ≡ unit.0 = omega (arith, over, (come goes).whole plain) in
-            let next : next_chosen k bytes start unit w ≡ unit.0 = ap (λ b. Chosen b full (nat_lt start unit.0))
-            plain in
-            let yes : chosen ≡ true = is ∙ eq-eqb start _ (same ∙ sym next) in
-            absurd (clash (and-both chosen (not k.invert_match) yes (ap not plain)) part))
+            let whole = (come goes).whole plain in
+            absurd (grind (arith, nat_tests, is, part, plain, over, whole)))
             (cases_lt start unit.0)
 
-    pub chosen-is : (end : ℕ) → start ≡ next_chosen k bytes start unit w → (is_joined k true ≡ true → end ≡ unit.1)
-        → (is_joined k true ≡ false → (i : ℕ) → IsLineStart t bytes start i → IsLine t bytes i start end)
-        → IsChosen w end
-    chosen-is end = go k.invert_match full (nat_lt start unit.0) refl refl refl
-      where
-        go : (b c d : Bool) → k.invert_match ≡ b → full ≡ c → nat_lt start unit.0 ≡ d → start ≡ Chosen b c d
-            → (is_joined k true ≡ true → end ≡ unit.1)
-            → (is_joined k true ≡ false → (i : ℕ) → IsLineStart t bytes start i → IsLine t bytes i start end)
-            → IsChosen w end
-        go false c d is_b is_c is_d same joined single =
-            let here = come (plain-goes is_b) in
-            let less = ahead (plain-goes is_b) in
-            let is_end = joined (ap not is_b) in
-            let order = starts-ordered AreLines-lines t bytes in
-            let low = order start unit.0 w.line here.is_unit.first at here.is_unit.begins (omega (arith, same)) in
-            let high = order unit.0 start here.is_unit.first w.line here.is_unit.begins at (omega (arith, same)) in
-            let index : w.line ≡ here.is_unit.first = omega (arith, low, high) in
-            record {
-              last = here.is_unit.last;
-              at = rw is_end here.is_unit.ends;
-              some = earlier w.line here.is_unit.last (omega (arith, at.begins, here.is_unit.ends.begins, less));
-              hits = λ j low high.
-                  selected-plain is_b j
-                  ∙ here.is_unit.hit j (omega (arith, high, here.is_unit.ends.listed))
-                  (omega (arith, same, higher w.line j low, at.begins))
-                  (omega (
-                    arith,
-                    rises j (omega (arith, high, here.is_unit.ends.listed)),
-                    higher (j + 1) here.is_unit.last (omega (arith, high)),
-                    here.is_unit.ends.begins,
-                  ));
-              closed = λ plain inside.
-                  selected-plain is_b here.is_unit.last
-                  ∙ here.is_unit.past here.is_unit.last inside here.is_unit.ends.begins;
-              single = λ inverted. absurd (clash inverted is_b);
-              first = ⊎_elim
-                  (λ above.
-                  let miss = selected-plain is_b (w.line - 1)
-                  ∙ (ap (λ i. is_hit k meaning bytes (i - 1)) index ∙ here.alone (omega (arith, above, index))) in
-                  ap (λ b. not k.invert_match && nat_lt 0 w.line && b) miss
-                  ∙ and-false (not k.invert_match && nat_lt 0 w.line))
-                  (λ none.
-                  ap (λ b. not k.invert_match && b && S (w.line - 1)) (le-ltb 0 w.line none)
-                  ∙ ap (λ b. b && S (w.line - 1)) (and-false (not k.invert_match)))
-                  (cases_lt 0 w.line);
-              room = λ inverted. absurd (clash inverted is_b);
-            }
-        go true true d is_b is_c is_d same joined single = absurd (omega (arith, same, some))
-        go true false false is_b is_c is_d same joined single = absurd (omega (arith, same, ahead (open-goes is_c)))
-        go true false true is_b is_c is_d same joined single =
-            let here = come (open-goes is_c) in
-            let line = single (ap not is_b) w.line at in
-            let missed = here.is_unit.miss w.line line.listed (omega (arith, line.begins, here.after))
-            (omega (arith, line.begins, ltb-true start unit.0 is_d)) in
-            let is_open = (across.limited is_b).below ∙ ap not is_c in
-            let hit = selected-inverted is_b w.line
-            ∙ and-both (free w.line) _ (free-is is_b (limit-some _ is_open) w.line line.listed ∙ ap not missed)
-            is_open in
-            record {
-              last = w.line + 1;
-              at = record { listed = omega (arith, line.listed); begins = line.ends };
-              some = omega arith;
-              hits = λ j low high. let index : j ≡ w.line = omega (arith, low, high) in ap S index ∙ hit;
-              closed = λ plain inside. absurd (clash is_b plain);
-              single = λ inverted. refl;
-              first = ap (λ b. not b && nat_lt 0 w.line && S (w.line - 1)) is_b;
-              room = λ inverted. is_c;
-            }
+        later : is_done k w ≡ false → is_joined k chosen ≡ false → IsComing k meaning bytes end unit
+        later goes part = coming-line end (single part w.line at) goes (outside goes part)
+
+  pub chosen-is : {end : ℕ} → start ≡ next → (is_joined k true ≡ true → end ≡ unit.1)
+      → (is_joined k true ≡ false → (i : ℕ) → IsLineStart (byte_of k.line_terminator) bytes start i
+      → IsLine (byte_of k.line_terminator) bytes i start end)
+      → IsChosen k meaning bytes w end
+  chosen-is {end} = go k.invert_match full (nat_lt start unit.0) refl refl refl
+    where
+      S : ℕ → Bool
+      S = is_selected k meaning bytes
+
+      go : (b c d : Bool) → k.invert_match ≡ b → full ≡ c → nat_lt start unit.0 ≡ d → start ≡ Chosen b c d
+          → (is_joined k true ≡ true → end ≡ unit.1)
+          → (is_joined k true ≡ false → (i : ℕ) → IsLineStart (byte_of k.line_terminator) bytes start i
+          → IsLine (byte_of k.line_terminator) bytes i start end)
+          → IsChosen k meaning bytes w end
+      go false c d is_b is_c is_d same joined single =
+          let here = come (grind (arith, is_b)) in
+          let less = ahead (grind (arith, is_b)) in
+          let is_end = joined (ap not is_b) in
+          let plain = selected-plain k meaning bytes is_b in
+          let low = comes-from at here.is_unit.first (omega arith) in
+          let high = comes-from here.is_unit.begins w.line (omega arith) in
+          let index : w.line ≡ here.is_unit.first = omega arith in
+          record {
+            last = here.is_unit.last;
+            at = rw is_end here.is_unit.ends;
+            some = comes-before here.is_unit.ends w.line (omega arith);
+            hits = λ j low high.
+                plain j ∙ here.is_unit.hit j (omega arith) (omega (arith, starts-from at j low))
+                (starts-before here.is_unit.ends j high);
+            closed = λ _ inside. plain _ ∙ here.is_unit.past here.is_unit.last inside here.is_unit.ends.begins;
+            single = λ inverted. absurd (clash inverted is_b);
+            first = ⊎_elim
+                (λ above. grind (arith, plain (w.line - 1), index, here.alone (omega arith)))
+                (λ none. grind (arith, nat_tests, none))
+                (cases_lt 0 w.line);
+            room = λ inverted. absurd (clash inverted is_b);
+          }
+      go true true d is_b is_c is_d same joined single = absurd (omega arith)
+      go true false false is_b is_c is_d same joined single = absurd (omega (arith, ahead (grind (arith, is_c))))
+      go true false true is_b is_c is_d same joined single =
+          let here = come (grind (arith, is_c)) in
+          let line = single (ap not is_b) w.line at in
+          let missed = here.is_unit.miss w.line line.listed (omega arith)
+          (omega (arith, ltb-true start unit.0 is_d)) in
+          let is_open = room-is is_b is_c in
+          let hit = selected-inverted k meaning bytes is_b w.line
+          ∙ and-both (is_free k meaning bytes w.line) _
+          (free-is k meaning bytes is_b (limit-some k meaning bytes _ is_open) w.line line.listed ∙ ap not missed)
+          is_open in
+          record {
+            last = w.line + 1;
+            at = record { listed = omega arith; begins = line.ends };
+            some = omega arith;
+            hits = λ j low high. let index : j ≡ w.line = omega arith in ap S index ∙ hit;
+            closed = λ plain inside. absurd (clash is_b plain);
+            single = λ inverted. refl;
+            first = grind (arith, is_b);
+            room = λ inverted. is_c;
+          }

@@ -1,8 +1,8 @@
 -- The lines before a chosen one, reported one after another.
-use Rattle.std.proofs.Common.{length, ◌≡◌, ℕ, ◌+◌, ◌-◌, ◌<◌, ◌≤◌, min, List, [], ◌++◌, take, refl, sym, ◌∙◌, ap, subst}
-use Rattle.std.proofs.Common.{arith, if◌then◌else◌, Some, None}
+use Rattle.std.proofs.Common.{length, ◌≡◌, ℕ, ◌+◌, ◌-◌, ◌<◌, ◌≤◌, min, List, [], ◌++◌, refl, sym, ◌∙◌, ap, subst}
+use Rattle.std.proofs.Common.{arith}
 use Rattle.std.proofs.lemmas.Bool.{lt-leb}
-use Rattle.std.specs.Prelude.{count_by, ◌==◌, slice_range}
+use Rattle.std.specs.Prelude.{slice_range}
 use Rattle.grep_matcher.specs.Lines.{byte_of, lines, line_start}
 use Rattle.grep_lines.specs.Positions.{IsLine, IsLineStart}
 use Rattle.grep_definitions.specs.Settings.{Settings}
@@ -10,6 +10,7 @@ use Rattle.grep_definitions.specs.Plans.{Planned, Steps, Outcome, all_true, AreM
 use Rattle.grep_definitions.specs.Reports.{joined_from}
 use Rattle.grep_definitions.specs.LineTurns.{before_turns, listed_turns, pending_turns, listed_number, number_of}
 use Rattle.grep_definitions.proofs.BelowLemmas.{joined_from-add, joined_from-more, joined_from-none}
+use Rattle.grep_definitions.proofs.LineSliceLemmas.{number-line}
 use Rattle.grep_definitions.proofs.SinkRunLemmas.{AreMade-append, AreMade-ended}
 use Rattle.grep_walk.specs.declared.walk.Walk.{Walk}
 use Rattle.grep_walk.specs.Windows.{IsInWindow, IsLineIn}
@@ -27,10 +28,7 @@ module _ (k : Settings) (bytes : List ℕ) (v i end : ℕ) where
   here-is : (q start next : ℕ) → IsLine t bytes q start next
       → before_turns k v q i (number_of k q) start end (slice_range bytes start next) ≡ at_line q
   here-is q start next line =
-      let number : listed_number k bytes q ≡ number_of k q =
-      ap (λ p. if k.line_number then Some (count_by (λ b. b == t) (take p bytes) + 1) else None) line.begins
-      ∙ ap (λ c. if k.line_number then Some (c + 1) else None) line.number in
-      ap (λ m. before_turns k v q i m start end (slice_range bytes start next)) (sym number)
+      ap (λ m. before_turns k v q i m start end (slice_range bytes start next)) (sym (number-line k bytes q line.listed))
       ∙ (ap (λ p. before_turns k v q i (listed_number k bytes q) p end (slice_range bytes start next)) (sym line.begins)
       ∙ ap (λ l. before_turns k v q i (listed_number k bytes q) (line_start t bytes q) end l) (sym line.line))
 
@@ -121,13 +119,13 @@ module _ (k : Settings) (gone window input : List ℕ) (w : Walk) (start : ℕ)
       outcome new
   window-more = reported-more k input w.next_unreported w.line end step old mid new first q (length gone + p)
       (length gone + next) offset
-      shown_line (slice_range window p next) shown_bytes (omega (arith, same, inside.at)) low before outcome here
+      shown_line (slice_range window p next) shown_bytes (omega arith) low before outcome here
 
   pub window-ended : q < w.line → (outcome ≡ all_true → ⊥)
       → AreMade step k old (pending_turns k input w.next_unreported w.line end first (w.line - first)) outcome new
   window-ended = reported-ended k input w.next_unreported w.line end step old mid new first q (length gone + p)
       (length gone + next) offset
-      shown_line (slice_range window p next) shown_bytes (omega (arith, same, inside.at)) low before outcome here
+      shown_line (slice_range window p next) shown_bytes (omega arith) low before outcome here
 
 -- a window that has the lines before a walk does not end among them
 pub window-short : (k : Settings) (gone window input : List ℕ) (w : Walk) (start : ℕ)
@@ -139,4 +137,4 @@ pub window-short : (k : Settings) (gone window input : List ℕ) (w : Walk) (sta
     → q < w.line → AreMade step k old turns outcome new
 window-short k gone window input w start inside step old new turns outcome q p at last below = absurd
     (let all = last (q - length (lines (byte_of k.line_terminator) gone)) at.begins in
-    omega (arith, at.low, all, inside.line.low, inside.line.begins.listed, below))
+    omega arith)

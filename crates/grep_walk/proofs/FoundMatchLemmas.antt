@@ -1,7 +1,7 @@
 -- Which matches were found across lines, and which are still to be found, from one match to the next.
 use Rattle.std.proofs.Common.{◌≡◌, ℕ, ◌+◌, ◌-◌, ◌<◌, true, List, [], ◌∷◌, ◌++◌, length, drop, refl, sym, ◌∙◌, ap, arith}
 use Rattle.std.proofs.Common.{append_assoc, length-append, length-drop, ap₂, Option, Some, None}
-use Rattle.std.proofs.lemmas.Bool.{lt-ltb, ltb-true}
+use Rattle.std.proofs.lemmas.Bool.Decides.{nat_tests}
 use Rattle.std.specs.Option.{option_map}
 use Rattle.grep_matcher.specs.Meanings.{Meaning}
 use Rattle.grep_matcher.specs.FindResults.{IsWithin}
@@ -30,7 +30,7 @@ left_of-more (Some l) n = ap Some (omega arith)
 
 left_of-below : (limit : Option ℕ) (n : ℕ) → is_below 0 (left_of limit n) ≡ true → is_below n limit ≡ true
 left_of-below None n is = refl
-left_of-below (Some l) n is = lt-ltb n l (omega (arith, ltb-true 0 (l - n) is))
+left_of-below (Some l) n is = grind (arith, nat_tests)
 
 module _ (k : Settings) (meaning : Meaning) (bytes : List ℕ) where
   -- none at the start
@@ -65,7 +65,7 @@ module _ (k : Settings) (meaning : Meaning) (bytes : List ℕ) where
         (matches_left-none meaning bytes position left is
         ∙ sym (matches_left-end meaning bytes (length bytes) left (omega arith)));
     room = so_far.room;
-    at = λ some. absurd (omega (arith, some));
+    at = λ some. absurd (omega arith);
   }
 
   -- what is asked for the next match
@@ -76,7 +76,7 @@ module _ (k : Settings) (meaning : Meaning) (bytes : List ℕ) where
     later = matches_left meaning bytes position left;
     all = so_far.all;
     room = left_of-below (match_limit k) (length found) (rw (← so_far.room) room);
-    inside = omega (arith, so_far.at below, below);
+    inside = omega (arith, so_far.at below);
     rest = ap (λ p. drop p bytes) (sym (so_far.at below));
   }
 
@@ -109,9 +109,9 @@ module _ (k : Settings) (meaning : Meaning) (bytes : List ℕ) where
       at ∙ ap₂ (λ x y. (x, y)) (omega arith) (omega arith) in
       let next = match_from-found meaning bytes b.position m below inside is ∙ ap Some (sym sums) in
       record {
-        after = omega (arith, start);
-        ordered = omega (arith, start, end, inside.0);
-        within = omega (arith, end, inside.1, length-drop b.position bytes, below);
+        after = omega arith;
+        ordered = omega arith;
+        within = omega (arith, length-drop b.position bytes);
         inside = below;
         position = position_is;
         left = rw (position_is, left_is) (matches_left-found meaning bytes b.position b.left found next room);

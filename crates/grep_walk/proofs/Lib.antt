@@ -5,8 +5,6 @@ pub mod AcrossUnitLemmas
 pub mod BeforeContextLemmas
 pub mod FinishLemmas
 pub mod FoundMatchLemmas
-pub mod FrontLemmas
-pub mod LineRangeLemmas
 pub mod LookAheadLemmas
 pub mod OriginLemmas
 pub mod QuestionLemmas

@@ -1,8 +1,9 @@
 -- What a matcher's result for the lines from a position on says of a window's lines.
 use Rattle.std.proofs.Common.{◌≡◌, inl, inr, ℕ, ◌+◌, ◌-◌, ◌<◌, ◌≤◌, ◌==◌, true, false, cond, List, [], ◌++◌, length}
-use Rattle.std.proofs.Common.{take, drop, slice_index, get_or, is_some, Some, None, refl, sym, subst, ◌∙◌, ap, arith}
+use Rattle.std.proofs.Common.{take, drop, slice_index, get_or, is_some, Some, None, sym, subst, ◌∙◌, ap, arith}
 use Rattle.std.proofs.Common.{⊎_elim, length-append, length-drop, take_all}
-use Rattle.std.proofs.lemmas.Bool.{cases_lt, cases_eq, le-ltb}
+use Rattle.std.proofs.lemmas.Bool.Decides.{nat_tests}
+use Rattle.std.proofs.lemmas.Bool.{cases_lt, cases_eq}
 use Rattle.std.proofs.lemmas.List.{get_or-drop}
 use Rattle.std.proofs.lemmas.List.Folds.{concat-append}
 use Rattle.std.proofs.lemmas.List.Sums.{sum_by-take-le}
@@ -17,15 +18,14 @@ use Rattle.grep_lines.specs.Blocks.{lines_before, block_start, block_end}
 use Rattle.std.specs.Prelude.{slice_range}
 use Rattle.grep_lines.specs.Positions.{IsLine, IsLineStart}
 use Rattle.grep_lines.proofs.LawLemmas.{AreLines-lines}
-use Rattle.grep_lines.proofs.LineLemmas.{count, lines-append, lines-closed, lines-unclosed}
+use Rattle.grep_lines.proofs.LineLemmas.{count, lines-closed, lines-unclosed}
 use Rattle.grep_lines.proofs.LineStepLemmas.{IsAt-start, IsStep-line, lines-at-most, lines-numbered}
 use Rattle.grep_definitions.specs.LineTurns.{matches_line}
 use Rattle.grep_definitions.specs.Settings.{Settings}
 use Rattle.grep_definitions.proofs.LineStartLemmas.{line_start-last}
 use Rattle.grep_definitions.proofs.TurnEndLemmas.{line_start-le}
 use Rattle.grep_walk.specs.LookAheads.{IsKnown}
-use Rattle.grep_walk.proofs.LineRangeLemmas.{line-at}
-use Rattle.grep_walk.proofs.WindowLemmas.{start-same}
+use Rattle.grep_definitions.proofs.LineRangeLemmas.{end-start, line-from, start-same}
 
 -- the line of a position extends from one position up to another
 pub record IsLocated (t : ℕ) (bytes : List ℕ) (position : ℕ) (line : ℕ × ℕ) : Type 0 where
@@ -40,15 +40,13 @@ pub IsLocated-empty : (t u position : ℕ) (bytes part : List ℕ) (m line : ℕ
     → line ≡ (block_start u part m, block_end u part m) → line.0 ≤ m.0 → m.1 ≤ line.1 → IsLocated t bytes position line
 IsLocated-empty t u position bytes part m line same whole empty is low high = record {
   begins = ap (λ (x : ℕ × ℕ). x.0) block;
-  ends = ap (λ (x : ℕ × ℕ). x.1) block ∙ (let none = le-ltb position position (omega arith) in rw none refl);
+  ends = grind (arith, nat_tests, ap (λ (x : ℕ × ℕ). x.1) block);
   low = omega (arith, low, ap (λ (x : ℕ × ℕ). x.0) empty);
   high = omega (arith, high, ap (λ (x : ℕ × ℕ). x.1) empty);
 }
   where
     block : line ≡ (block_start t bytes (position, position), block_end t bytes (position, position))
-    block = is ∙ (ap (λ b. (block_start b part m, block_end b part m)) same
-        ∙ (ap (λ xs. (block_start t xs m, block_end t xs m)) whole
-        ∙ ap (λ x. (block_start t bytes x, block_end t bytes x)) empty))
+    block = rw (same, whole, empty) at is
 
 -- at most as many lines end before a position as there are lines
 before-few : (t : ℕ) (bytes : List ℕ) (position : ℕ) → lines_before t bytes position ≤ length (lines t bytes)
@@ -78,19 +76,14 @@ module _ (terminator : LineTerminator) (meaning : Meaning) (bytes : List ℕ) (p
 
   -- a line before its line doesn't
   unheld : (i : ℕ) → i < holder → HoldsPosition terminator meaning bytes i position → ⊥
-  unheld i before (low, inl below) = omega (
-    arith,
-    line_start-le byte bytes (i + 1) holder (omega arith),
-    at.begins,
-    at.low,
-  )
+  unheld i before (low, inl below) = omega (arith, line_start-le byte bytes (i + 1) holder (omega arith))
   unheld i before (low, inr (last, end, other)) =
       omega (arith, before-all end, lines-unclosed byte bytes (omega (arith, lines-at-most byte bytes)) other)
 
   -- its line does, if there is one
   held : holder < length (lines byte bytes) → HoldsPosition terminator meaning bytes holder position
   held listed = (
-    omega (arith, at.begins, at.low),
+    omega arith,
     ⊎_elim (λ below. inl below) (λ over. ⊎_elim
         (λ more. absurd (omega (
           arith,
@@ -111,7 +104,7 @@ module _ (terminator : LineTerminator) (meaning : Meaning) (bytes : List ℕ) (p
   )
     where
       same : line_start byte bytes (holder + 1) ≤ position → position ≡ line_start byte bytes (holder + 1)
-      same over = omega (arith, at.ends, at.high)
+      same over = omega arith
 
       end : line_start byte bytes (holder + 1) ≤ position → length (lines byte bytes) ≤ holder + 1 → position
           ≡ length bytes
@@ -138,7 +131,7 @@ module _ (t : ℕ) (bytes : List ℕ) (start first : ℕ) (here : IsLineStart t 
 
   -- the lines of the bytes are those before the start and these
   later-count : length (lines t bytes) ≡ first + length (lines t rest)
-  later-count = omega (arith, length-drop first (lines t bytes), ap length later, here.listed)
+  later-count = omega (arith, length-drop first (lines t bytes), ap length later)
 
   -- line j of them extends from p up to q of the bytes
   record IsLater (p q j : ℕ) : Type 0 where
@@ -150,13 +143,7 @@ module _ (t : ℕ) (bytes : List ℕ) (start first : ℕ) (here : IsLineStart t 
   IsLater-line : (i p q : ℕ) → IsLine t bytes i p q → start ≤ p → IsLater p q (i - first)
   IsLater-line i p q line low =
       let after : first ≤ i = ⊎_elim
-      (λ less. absurd (omega (
-        arith,
-        line_start-le t bytes (i + 1) first (omega arith),
-        line.ends,
-        line.above,
-        here.begins,
-      )))
+      (λ less. absurd (omega (arith, line_start-le t bytes (i + 1) first (omega arith), line.ends, line.above)))
       (λ over. over)
       (cases_lt i first) in
       let sum : first + (i - first) ≡ i = omega arith in
@@ -187,8 +174,8 @@ module _ (k : Settings) (meaning : Meaning) (window : List ℕ) (start first : �
       → IsKnown k meaning window start (record { candidate = length window; match_end = length window })
   known-none lawful = record {
     index = length (lines t window);
-    at = record { listed = omega arith; begins = line_start-last AreLines-lines t window };
-    exact = λ some. absurd (omega (arith, some));
+    at = end-start t window;
+    exact = λ some. absurd (omega arith);
     miss = λ i p q line low high.
         let inside = IsLater-line t window start first here i p q line low in
         matches-later p q (i - first) inside ∙ lawful (i - first) inside.listed;
@@ -205,7 +192,7 @@ module _ (k : Settings) (meaning : Meaning) (window : List ℕ) (start first : �
     start-located : IsLineStart t window candidate (first + located)
     start-located = record {
       listed = omega (arith, later-count t window start first here, before-few t asked (position_of found));
-      begins = omega (arith, later-start t window start first here located, begins, at.begins);
+      begins = omega (arith, later-start t window start first here located, begins);
     }
 
     -- no line before it matches
@@ -215,16 +202,10 @@ module _ (k : Settings) (meaning : Meaning) (window : List ℕ) (start first : �
         let inside = IsLater-line t window start first here i p q own after in
         let before : i - first < located = ⊎_elim
         (λ less. less)
-        (λ over. absurd (omega (
-          arith,
-          line_start-le t asked located (i - first) over,
-          inside.begins,
-          begins,
-          at.begins,
-        )))
+        (λ over. absurd (omega (arith, line_start-le t asked located (i - first) over, begins)))
         (cases_lt (i - first) located) in
         matches-later p q (i - first) inside ∙ lawful.0 (i - first) inside.listed (
-          omega (arith, line_start-le t asked ((i - first) + 1) located (omega arith), at.begins, at.low),
+          omega (arith, line_start-le t asked ((i - first) + 1) located (omega arith)),
           unheld k.line_terminator meaning asked (position_of found) line at (i - first) before,
         )
 
@@ -233,7 +214,7 @@ module _ (k : Settings) (meaning : Meaning) (window : List ℕ) (start first : �
     known-candidate = record {
       index = first + located;
       at = start-located;
-      exact = λ some. absurd (omega (arith, some));
+      exact = λ some. absurd (omega arith);
       miss = miss-before;
       hit = λ i p q line after early. absurd (omega arith);
     }
@@ -246,25 +227,19 @@ module _ (k : Settings) (meaning : Meaning) (window : List ℕ) (start first : �
       at = start-located;
       exact = λ some i begun.
           let listed : located < length (lines t asked) = ⊎_elim (λ less. less)
-          (λ over. absurd (omega (arith, some, begins, ends, at.begins, at.ends, none-after over)))
+          (λ over. absurd (omega (arith, begins, ends, none-after over)))
           (cases_lt located (length (lines t asked))) in
-          let same : i ≡ first + located = start-same AreLines-lines lines-append t window candidate i (first + located)
-          begun start-located in
-          let next : (first + located) + 1 ≡ first + (located + 1) = omega arith in
-          let is_start : line_start t window (first + located) ≡ candidate = start-located.begins in
-          let is_end : line_start t window ((first + located) + 1) ≡ match_end =
-          ap (line_start t window) next ∙ (later-start t window start first here (located + 1)
-          ∙ omega (arith, ends, at.ends)) in
-          subst (λ n. IsLine t window n candidate match_end) (sym same)
-          (subst (λ p. IsLine t window (first + located) p match_end) is_start
-          (subst (IsLine t window (first + located) (line_start t window (first + located))) is_end
-          (line-at t window (first + located) (omega (arith, listed, later-count t window start first here)))));
+          let next : first + (located + 1) ≡ i + 1 = omega (arith, start-same begun start-located) in
+          line-from begun (subst (IsLineStart t window match_end) next (record {
+            listed = omega (arith, listed, later-count t window start first here);
+            begins = later-start t window start first here (located + 1) ∙ omega (arith, ends);
+          }));
       miss = miss-before;
       hit = λ i p q own after early.
           let inside = IsLater-line t window start first here i p q own (omega (arith, begins)) in
           let same = only (i - first) (IsStep-line t asked (i - first) inside.listed).above
-          (omega (arith, inside.begins, begins, at.begins)) (omega (arith, inside.begins, ends, at.ends)) in
-          let listed : located < length (lines t asked) = omega (arith, inside.listed, same) in
+          (omega (arith, begins)) (omega (arith, ends)) in
+          let listed : located < length (lines t asked) = omega (arith, same) in
           matches-later p q (i - first) inside ∙ (ap (matches_at k.line_terminator meaning asked) same
           ∙ lawful.1 located listed (held k.line_terminator meaning asked (position_of found) line at listed)
           confirmed);
@@ -273,17 +248,11 @@ module _ (k : Settings) (meaning : Meaning) (window : List ℕ) (start first : �
         -- after the last line none begins
         none-after : length (lines t asked) ≤ located → line_start t asked (located + 1) ≡ line_start t asked located
         none-after over =
-            ap (λ ls. length (concat ls)) (take_all (located + 1) (lines t asked) (omega (arith, over))
+            ap (λ ls. length (concat ls)) (take_all (located + 1) (lines t asked) (omega arith)
             ∙ sym (take_all located (lines t asked) over))
 
         -- a line that begins in it is the line itself
         only : (j : ℕ) → line_start t asked j < line_start t asked (j + 1)
             → line_start t asked located ≤ line_start t asked j
             → line_start t asked j < line_start t asked (located + 1) → j ≡ located
-        only j above low high = ⊎_elim
-            (λ less. absurd (omega (arith, line_start-le t asked (j + 1) located (omega arith))))
-            (λ over. ⊎_elim
-            (λ more. absurd (omega (arith, line_start-le t asked (located + 1) j (omega arith))))
-            (λ le. omega arith)
-            (cases_lt located j))
-            (cases_lt j located)
+        only j above low high = grind (arith, line_start-le t asked (j + 1) located, line_start-le t asked (located + 1) j)

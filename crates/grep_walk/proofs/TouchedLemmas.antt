@@ -1,7 +1,8 @@
 -- Which lines the matches that were found across lines touch, from one match to the next.
 use Rattle.std.proofs.Common.{◌≡◌, ℕ, ◌+◌, ◌-◌, ◌<◌, ◌≤◌, Bool, true, false, ◌||◌, List, [], ◌∷◌, ◌++◌, length, drop}
 use Rattle.std.proofs.Common.{refl, sym, ◌∙◌, ap, ap₂, subst, arith, ⊎_elim, Some, None}
-use Rattle.std.proofs.lemmas.Bool.{cases_lt, lt-ltb, le-ltb, le-leb, lt-leb, leb-true, ltb-true, false_from_ne_true}
+use Rattle.std.proofs.lemmas.Bool.Decides.{nat_tests}
+use Rattle.std.proofs.lemmas.Bool.{cases_lt, lt-ltb, lt-leb}
 use Rattle.std.proofs.lemmas.Bool.{and_left, or_from, or_left}
 use Rattle.std.proofs.lemmas.List.{append-nil}
 use Rattle.std.proofs.Math.Bool.{or-false}
@@ -13,7 +14,6 @@ use Rattle.grep_matcher.specs.Meanings.{Meaning}
 use Rattle.grep_matcher.specs.Lines.{byte_of}
 use Rattle.grep_lines.specs.Blocks.{block_start, block_end}
 use Rattle.grep_lines.specs.Positions.{IsLineStart}
-use Rattle.grep_lines.proofs.LawLemmas.{AreLines-lines}
 use Rattle.grep_definitions.specs.SelectedLines.{touches, position_after}
 use Rattle.grep_definitions.specs.Asking.{counted_matches}
 use Rattle.grep_definitions.specs.LineSearch.{line_count, start}
@@ -21,52 +21,29 @@ use Rattle.grep_definitions.specs.Settings.{Settings}
 use Rattle.grep_definitions.proofs.BlockLemmas.{within-block, block_start-edge, block_end-edge, block_start-le}
 use Rattle.grep_definitions.proofs.BlockLemmas.{block_start-low, block_end-within, block-some, block_start-part}
 use Rattle.grep_definitions.proofs.BlockLemmas.{block_end-part}
-use Rattle.grep_definitions.proofs.BoolLemmas.{and-both, both_true}
-use Rattle.grep_definitions.proofs.LineStartLemmas.{line_start-within, line_start-last}
+use Rattle.grep_definitions.proofs.LineRangeLemmas.{comes-before, end-start, starts-before, starts-until}
 use Rattle.grep_definitions.proofs.TouchLemmas.{rises}
-use Rattle.grep_definitions.proofs.TurnEndLemmas.{line_start-le}
 use Rattle.grep_definitions.proofs.SuccessiveMatchLemmas.{position_after-start}
 use Rattle.grep_walk.specs.Units.{is_in, is_hit, IsPart, IsUnit, AreTouched}
 
 -- a position in a range is at its start or after it, and before its end
 in-range : (u : ℕ × ℕ) (s : ℕ) → u.0 ≤ s → s < u.1 → is_in (Some u) s ≡ true
-in-range u s low below = and-both _ _ (le-leb u.0 s low) (lt-ltb s u.1 below)
+in-range u s low below = grind (arith, nat_tests)
 
 range-in : (u : ℕ × ℕ) (s : ℕ) → is_in (Some u) s ≡ true → (u.0 ≤ s) × (s < u.1)
-range-in u s is = let parts = both_true _ _ is in (leb-true _ _ parts.0, ltb-true _ _ parts.1)
+range-in u s is = grind (arith, nat_tests)
 
 not-in : (u : ℕ × ℕ) (s : ℕ) → (u.0 ≤ s → s < u.1 → ⊥) → is_in (Some u) s ≡ false
-not-in u s outside = false_from_ne_true _ (λ is. let parts = range-in u s is in outside parts.0 parts.1)
+not-in u s outside = grind (arith, nat_tests)
 
 -- a second test adds nothing if the first passes wherever it does
 or-absorbs : (a b : Bool) → (b ≡ true → a ≡ true) → (a || b) ≡ a
-or-absorbs true b less = refl
-or-absorbs false true less = sym (less refl)
-or-absorbs false false less = refl
+or-absorbs a b less = grind (arith, nat_tests)
 
 -- two ranges of which the second starts in the first or at its end, and ends no earlier, are one
 or-joins : (u o : ℕ × ℕ) (s : ℕ) → u.0 ≤ o.0 → o.0 ≤ u.1 → u.1 ≤ o.1
     → (is_in (Some u) s || is_in (Some o) s) ≡ is_in (Some (u.0, o.1)) s
-or-joins u o s low mid high = ⊎_elim
-    (λ before.
-    let one = not-in u s (λ more _. omega (arith, more, before)) in
-    let two = not-in o s (λ more _. omega (arith, more, before, low)) in
-    let all = not-in (u.0, o.1) s (λ more _. omega (arith, more, before)) in rw (one, two, all) refl)
-    (λ inside. ⊎_elim
-    (λ below. let one = in-range u s inside below in let all = in-range (u.0, o.1) s inside (omega arith) in
-    rw (one, all) refl)
-    (λ past. ⊎_elim
-    (λ below.
-    let one = not-in u s (λ _ less. omega (arith, less, past)) in
-    let two = in-range o s (omega arith) below in
-    let all = in-range (u.0, o.1) s inside below in rw (one, two, all) refl)
-    (λ over.
-    let one = not-in u s (λ _ less. omega (arith, less, past)) in
-    let two = not-in o s (λ _ less. omega (arith, less, over)) in
-    let all = not-in (u.0, o.1) s (λ _ less. omega (arith, less, over)) in rw (one, two, all) refl)
-    (cases_lt s o.1))
-    (cases_lt s u.1))
-    (cases_lt s u.0)
+or-joins u o s low mid high = grind (arith, nat_tests)
 
 module _ (k : Settings) (meaning : Meaning) (bytes : List ℕ) where
   abbrev t : ℕ
@@ -116,7 +93,7 @@ module _ (k : Settings) (meaning : Meaning) (bytes : List ℕ) where
   touched-none position = record {
     same = λ j inside low. refl;
     range = tt;
-    before = λ some j inside at. absurd (omega (arith, rises t bytes j inside, at));
+    before = λ some j inside at. absurd (omega (arith, rises t bytes j inside));
     later = tt;
   }
 
@@ -125,28 +102,17 @@ module _ (k : Settings) (meaning : Meaning) (bytes : List ℕ) where
       → AreTouched k meaning bytes low position found (Some u)
       → AreTouched k meaning bytes u.1 next found None
   touched-passed low position next found u touched = record {
-    same = λ j inside past. touched.same j inside (omega (arith, past, touched.range.after, touched.range.ordered))
-        ∙ not-in u (from j) (λ _ less. omega (arith, less, past));
+    same = λ j inside past. touched.same j inside (omega arith)
+        ∙ not-in u (from j) (λ _ less. omega arith);
     range = tt;
     before = λ below j inside at. ⊎_elim
         (λ early.
-        let here = touched.range.some (omega (arith, below, touched.range.ordered)) in
-        let order = λ (less : touched.range.first < j + 1).
-        line_start-le t bytes touched.range.first j (omega (arith, less)) in
-        absurd (⊎_elim
-        (λ less. omega (arith, early, touched.range.begins.begins, order less))
-        (λ over. omega (
-          arith,
-          at,
-          here,
-          touched.range.begins.begins,
-          line_start-le t bytes (j + 1) touched.range.first
-              over,
-        ))
-        (cases_lt touched.range.first (j + 1))))
+        let here = touched.range.some (omega arith) in
+        let after = comes-before touched.range.begins j early in
+        absurd (omega (arith, starts-until touched.range.begins (j + 1) (omega arith))))
         (λ late.
-        touched.same j inside (omega (arith, late, touched.range.after))
-        ∙ in-range u (from j) late (omega (arith, rises t bytes j inside, at)))
+        touched.same j inside (omega arith)
+        ∙ in-range u (from j) late (omega (arith, rises t bytes j inside)))
         (cases_lt (from j) u.0);
     later = tt;
   }
@@ -171,21 +137,17 @@ module _ (k : Settings) (meaning : Meaning) (bytes : List ℕ) where
           begins = rw start_is first.1;
           last = last.0;
           ends = rw end_is last.1;
-          ordered = omega (arith, low, order, high);
+          ordered = omega arith;
           within = within;
           after = after;
           apart = λ some _. apart some;
           some = λ below.
-              let less = block-some t bytes m order (omega (arith, low, start_is)) (omega (arith, high, end_is))
-              (omega (arith, below, start_is)) in
-              omega (arith, less, start_is, end_is);
+              let less = block-some t bytes m order (omega arith) (omega arith)
+              (omega arith) in
+              omega arith;
         };
         before = λ below j inside at. touched-still found m j inside (touched.before below j inside at);
-        later = omega (
-          arith,
-          start_is,
-          block_start-le t bytes m (position_after m, position_after m) (position_after-start m order),
-        );
+        later = omega (arith, block_start-le t bytes m (position_after m, position_after m) (position_after-start m order));
       }
 
   -- a match whose lines are in the range
@@ -194,12 +156,11 @@ module _ (k : Settings) (meaning : Meaning) (bytes : List ℕ) where
       (next : position ≤ m.0) (order : m.0 ≤ m.1) where
     -- the block of the next match starts no earlier than the range
     starts-later : u.0 ≤ block_start t bytes m
-    starts-later = omega (arith, touched.later, block_start-le t bytes (position, position) m next)
+    starts-later = omega (arith, block_start-le t bytes (position, position) m next)
 
     still-later : u.0 ≤ block_start t bytes (position_after m, position_after m)
     still-later = omega (
       arith,
-      touched.later,
       block_start-le t bytes (position, position) (position_after m, position_after m)
           (omega (arith, next, position_after-start m order)),
     )
@@ -212,7 +173,7 @@ module _ (k : Settings) (meaning : Meaning) (bytes : List ℕ) where
           ∙ (or-absorbs (touched_of found j) (is_in (Some (block m)) (from j))
           (λ is.
           let parts = range-in (block m) (from j) is in
-          touched.same j inside over ∙ in-range u (from j) (omega (arith, starts-later, parts.0))
+          touched.same j inside over ∙ in-range u (from j) (omega (arith, starts-later))
           (early j inside parts.1))
           ∙ touched.same j inside over);
       range = touched.range;
@@ -227,7 +188,6 @@ module _ (k : Settings) (meaning : Meaning) (bytes : List ℕ) where
         absorbed (λ j inside less.
         omega (
           arith,
-          less,
           block_end-within t bytes m u.1 touched.range.last touched.range.ends touched.range.within
               starts order ends,
         ))
@@ -247,7 +207,7 @@ module _ (k : Settings) (meaning : Meaning) (bytes : List ℕ) where
             begins = touched.range.begins;
             last = last.0;
             ends = last.1;
-            ordered = omega (arith, touched.range.ordered, ends);
+            ordered = omega (arith, ends);
             within = within;
             after = touched.range.after;
             apart = touched.range.apart;
@@ -257,13 +217,9 @@ module _ (k : Settings) (meaning : Meaning) (bytes : List ℕ) where
           later = still-later;
         }
 
-  -- the end of the bytes is a line start
-  pub last_start : IsLineStart t bytes (length bytes) n
-  last_start = record { listed = omega arith; begins = line_start-last AreLines-lines t bytes }
-
-  -- each line starts before it
+  -- each line starts before the end of the bytes
   starts-inside : (j : ℕ) → j < n → from j < length bytes
-  starts-inside j inside = omega (arith, rises t bytes j inside, line_start-within AreLines-lines t bytes (j + 1))
+  starts-inside = starts-before (end-start t bytes)
 
   -- a unit is the range of the matches that were found, if the lines of those after them are after it
   pub unit-of : (low position : ℕ) (found later : List (ℕ × ℕ)) (u : ℕ × ℕ)
@@ -282,23 +238,23 @@ module _ (k : Settings) (meaning : Meaning) (bytes : List ℕ) where
     some = touched.range.some;
     miss = λ j inside over before.
         hit-of found later all j inside
-        ∙ or_from _ _ (touched.same j inside over ∙ not-in u (from j) (λ more _. omega (arith, more, before)))
-        (missed j (omega (arith, before, touched.range.ordered)));
+        ∙ or_from _ _ (touched.same j inside over ∙ not-in u (from j) (λ more _. omega arith))
+        (missed j (omega arith));
     hit = λ j inside over before.
         hit-of found later all j inside
-        ∙ or_left _ _ (touched.same j inside (omega (arith, over, touched.range.after))
+        ∙ or_left _ _ (touched.same j inside (omega arith)
         ∙ in-range u (from j) over before);
     past = λ j inside at.
         hit-of found later all j inside
-        ∙ or_from _ _ (touched.same j inside (omega (arith, at, touched.range.after, touched.range.ordered))
-        ∙ not-in u (from j) (λ _ less. omega (arith, less, at)))
-        (missed j (omega (arith, at)));
+        ∙ or_from _ _ (touched.same j inside (omega arith)
+        ∙ not-in u (from j) (λ _ less. omega arith))
+        (missed j (omega arith));
   }
     where
       missed : (j : ℕ) → from j ≤ u.1 → touched_of later j ≡ false
       missed j low = missed-before later j
           (All-weaker (λ m. u.1 < block_start t bytes m) (λ m. from j < block_start t bytes m)
-          (λ m high. omega (arith, low, high)) later after)
+          (λ m high. omega arith) later after)
 
   -- if there are no more matches, there is no other unit
   pub unit-none : (low position : ℕ) (found : List (ℕ × ℕ)) → AreTouched k meaning bytes low position found None
@@ -306,29 +262,29 @@ module _ (k : Settings) (meaning : Meaning) (bytes : List ℕ) where
       → IsUnit k meaning bytes low (length bytes, length bytes)
   unit-none low position found touched all inside = record {
     first = n;
-    begins = last_start;
+    begins = end-start t bytes;
     last = n;
-    ends = last_start;
+    ends = end-start t bytes;
     ordered = omega arith;
     within = omega arith;
     after = inside;
     apart = λ some below. below;
-    some = λ below. absurd (omega (arith, below));
+    some = λ below. absurd (omega arith);
     miss = λ j here over before.
         let none : is_hit k meaning bytes j ≡ (touched_of found j || false) = hit-of found []
         (all ∙ sym (append-nil found)) j here in
         none ∙ (or-false (touched_of found j) ∙ touched.same j here over);
-    hit = λ j here over before. absurd (omega (arith, over, before));
-    past = λ j here at. absurd (omega (arith, at, starts-inside j here));
+    hit = λ j here over before. absurd (omega arith);
+    past = λ j here at. absurd (omega (arith, starts-inside j here));
   }
 
   -- the end of the bytes is after all lines
   pub touched-end : (low position : ℕ) (found : List (ℕ × ℕ)) → AreTouched k meaning bytes low position found None
       → AreTouched k meaning bytes (length bytes) position found None
   touched-end low position found touched = record {
-    same = λ j inside over. absurd (omega (arith, over, starts-inside j inside));
+    same = λ j inside over. absurd (omega (arith, starts-inside j inside));
     range = tt;
-    before = λ below. absurd (omega (arith, below));
+    before = λ below. absurd (omega arith);
     later = tt;
   }
 
@@ -341,7 +297,7 @@ module _ (k : Settings) (meaning : Meaning) (bytes : List ℕ) where
         let none : m.0 - e ≡ 0 = omega arith in
         let first : block_start t (drop e bytes) (m.0 - e, m.1 - e)
         ≡ 0 = ap (λ x. block_start t (drop e bytes) (x, m.1 - e)) none in
-        omega (arith, part.begins, first)
+        omega arith
 
     -- if not, they start with the block of the match
     part-start : e < length bytes → e ≤ m.0 → p.0 ≡ block_start t bytes m
@@ -354,26 +310,23 @@ module _ (k : Settings) (meaning : Meaning) (bytes : List ℕ) where
         part.ends ∙ block_end-part t bytes e a here below m (m.0 - e, m.1 - e) reach inner refl alike
       where
         inner : m.0 < m.1 → e < m.1
-        inner some = ⊎_elim over (λ after. omega (arith, after, some)) (cases_lt m.0 e)
+        inner some = ⊎_elim over (λ after. omega arith) (cases_lt m.0 e)
 
         alike : nat_lt (m.0 - e) (m.1 - e) ≡ nat_lt m.0 m.1
-        alike = ⊎_elim
-            (λ some. lt-ltb (m.0 - e) (m.1 - e) (omega (arith, some, inner some)) ∙ sym (lt-ltb m.0 m.1 some))
-            (λ none. le-ltb (m.0 - e) (m.1 - e) (omega (arith, none)) ∙ sym (le-ltb m.0 m.1 none))
-            (cases_lt m.0 m.1)
+        alike = grind (arith, nat_tests, inner)
 
     -- if they start later, so does the match, and they are its block
     pub starts-there : e < p.0 → e ≤ m.0
     starts-there apart = ⊎_elim
-        (λ before. absurd (omega (arith, apart, part-before before)))
+        (λ before. absurd (omega (arith, part-before before)))
         (λ after. after)
         (cases_lt m.0 e)
 
     pub part-apart : e < p.0 → p ≡ block m
     part-apart apart =
         let after = starts-there apart in
-        let below : e < length bytes = omega (arith, apart, part.before after, order, part.past, part.within) in
-        ap₂ (λ x y. (x, y)) (part-start below after) (part-end below (λ before. absurd (omega (arith, before, after))))
+        let below : e < length bytes = omega (arith, part.before after) in
+        ap₂ (λ x y. (x, y)) (part-start below after) (part-end below (λ before. absurd (omega arith)))
 
   -- a match whose lines lead on from the range
   pub touched-part : (low position : ℕ) (found : List (ℕ × ℕ)) (u m p : ℕ × ℕ)
@@ -384,17 +337,17 @@ module _ (k : Settings) (meaning : Meaning) (bytes : List ℕ) where
       (λ below.
       let stop = part-end u.1 last ends m p part order reach below over in
       let start : block_start t bytes m ≤ u.1 = ⊎_elim
-      (λ before. omega (arith, block_start-low t bytes m (omega (arith, before, below)), before))
-      (λ after. omega (arith, part-start u.1 last ends m p part order reach below after, joins))
+      (λ before. omega (arith, block_start-low t bytes m (omega (arith, before, below))))
+      (λ after. omega (arith, part-start u.1 last ends m p part order reach below after))
       (cases_lt m.0 u.1) in
       subst (λ x. AreTouched k meaning bytes low (position_after m) (found ++ m ∷ []) (Some (u.0, x))) (sym stop)
-      (touched-joined low position found u m touched next order start (omega (arith, stop, part.past, reach))
-      (omega (arith, stop, part.within))))
+      (touched-joined low position found u m touched next order start (omega (arith, reach))
+      (omega arith)))
       (λ all.
-      let same : u.1 ≡ p.1 = omega (arith, all, touched.range.within, part.past, part.within, reach) in
+      let same : u.1 ≡ p.1 = omega (arith, reach) in
       subst (λ x. AreTouched k meaning bytes low (position_after m) (found ++ m ∷ []) (Some (u.0, x))) same
       (absorbed low position found u m touched next order
-      (λ j inside less. omega (arith, starts-inside j inside, all))))
+      (λ j inside less. omega (arith, starts-inside j inside))))
       (cases_lt u.1 (length bytes))
     where
       last : ℕ
@@ -404,4 +357,4 @@ module _ (k : Settings) (meaning : Meaning) (bytes : List ℕ) where
       ends = touched.range.ends
 
       reach : u.1 ≤ m.1
-      reach = ⊎_elim (λ before. omega (arith, over before)) (λ after. omega (arith, after, order)) (cases_lt m.0 u.1)
+      reach = grind (arith, over, order)

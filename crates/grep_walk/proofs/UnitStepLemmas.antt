@@ -1,7 +1,6 @@
 -- How a search across lines puts one unit together, from one match to the next.
 use Rattle.std.proofs.Common.{◌≡◌, ℕ, ◌-◌, ◌<◌, ◌≤◌, List, [], ◌∷◌, ◌++◌, length, sym, ◌∙◌, ap, ap₂, subst, arith}
-use Rattle.std.proofs.Common.{⊎_elim, Option, Some, None}
-use Rattle.std.proofs.lemmas.Bool.{cases_lt}
+use Rattle.std.proofs.Common.{Option, Some, None}
 use Rattle.std.proofs.lemmas.List.{append-nil}
 use Rattle.std.proofs.lemmas.List.Elements.{All-nil, All-cons, All-weaker}
 use Rattle.std.specs.Prelude.{IfNone}
@@ -20,7 +19,8 @@ use Rattle.grep_walk.specs.declared.blocks.Blocks.{Blocks}
 use Rattle.grep_walk.specs.Units.{IsPart, IsUnit, AreFound, IsFound, HasNoMore, AreTouched, AreLeft, IsReached}
 use Rattle.grep_walk.proofs.FoundMatchLemmas.{found-start}
 use Rattle.grep_walk.proofs.TouchedLemmas.{touched-none, touched-passed, touched-first, touched-inside, touched-part}
-use Rattle.grep_walk.proofs.TouchedLemmas.{touched-end, unit-of, unit-none, last_start, starts-there, part-apart}
+use Rattle.grep_walk.proofs.TouchedLemmas.{touched-end, unit-of, unit-none, starts-there, part-apart}
+use Rattle.grep_definitions.proofs.LineRangeLemmas.{end-start}
 
 -- before the first match
 abbrev pub starts : Option ℕ → Blocks
@@ -58,19 +58,17 @@ module _ (k : Settings) (meaning : Meaning) (bytes : List ℕ) where
         let from_end : m.1 - 0 ≡ m.1 = omega arith in
         let start : p.0 ≡ block_start t bytes m = omega (
           arith,
-          part.begins,
           ap (λ x. block_start t bytes (x, m.1 - 0))
               from_start,
         ) in
         let end : p.1 ≡ block_end t bytes m = omega (
           arith,
-          part.ends,
           ap₂ (λ x y. block_end t bytes (x, y)) from_start
               from_end,
         ) in
         let touched = touched-first k meaning bytes 0 0 [] m p (touched-none k meaning bytes 0)
         (ap₂ (λ x y. (x, y)) start end)
-        (omega arith) (λ some. absurd (omega (arith, some))) (part.before (omega arith)) found.ordered part.past
+        (omega arith) (λ some. absurd (omega arith)) (part.before (omega arith)) found.ordered part.past
         part.within in
         record {
           asked = m ∷ [];
@@ -93,7 +91,7 @@ module _ (k : Settings) (meaning : Meaning) (bytes : List ℕ) where
     pub unit-last : IsUnit k meaning bytes b.end (length bytes, length bytes)
     unit-last = unit-none k meaning bytes b.end b.position left.asked passed
         (left.found.all ∙ (ap (λ later. left.asked ++ later) nothing ∙ append-nil left.asked))
-        (omega (arith, left.ends.begins, line_start-within AreLines-lines t bytes left.line))
+        (omega (arith, line_start-within AreLines-lines t bytes left.line))
 
     pub left-last : AreLeft k meaning bytes (record b { end = length bytes; next = None })
     left-last = record {
@@ -102,7 +100,7 @@ module _ (k : Settings) (meaning : Meaning) (bytes : List ℕ) where
       touched = touched-end k meaning bytes b.end b.position left.asked passed;
       none = nothing;
       line = length (lines t bytes);
-      ends = last_start k meaning bytes;
+      ends = end-start t bytes;
     }
 
   module _ (low : ℕ) (b b' : Blocks) (u : ℕ × ℕ) (so_far : IsReached k meaning bytes low b u) (same : b'.next ≡ b.next)
@@ -156,8 +154,7 @@ module _ (k : Settings) (meaning : Meaning) (bytes : List ℕ) where
           }
 
           reach : u.1 ≤ m.1
-          reach = ⊎_elim (λ before. omega (arith, over before)) (λ after. omega (arith, after, found.ordered))
-              (cases_lt m.0 u.1)
+          reach = grind (arith, over, found.ordered)
 
           module _ (apart : u.1 < p.0) where
             after : u.1 ≤ m.0
@@ -169,7 +166,7 @@ module _ (k : Settings) (meaning : Meaning) (bytes : List ℕ) where
                 found.ordered reach apart
 
             high : u.1 < block_start t bytes m
-            high = omega (arith, apart, ap (λ x. x.0) is_block)
+            high = omega (arith, ap (λ x. x.0) is_block)
 
             pub unit-apart : IsUnit k meaning bytes low u
             unit-apart =
@@ -181,7 +178,7 @@ module _ (k : Settings) (meaning : Meaning) (bytes : List ℕ) where
                 (λ o low. omega (
                   arith,
                   high,
-                  block_start-le t bytes m o (omega (arith, low, found.position, position_after-start m found.ordered)),
+                  block_start-le t bytes m o (omega (arith, position_after-start m found.ordered)),
                 ))
                 later (matches_left-after meaning bytes b'.position b'.left)))
 
@@ -192,7 +189,7 @@ module _ (k : Settings) (meaning : Meaning) (bytes : List ℕ) where
               touched = looked-after u.1 p
                   (touched-first k meaning bytes u.1 b.position so_far.asked m p
                   (touched-passed k meaning bytes low b.position b.position so_far.asked u so_far.touched)
-                  is_block (omega (arith, apart)) (λ _. apart) (part.before after) found.ordered part.past part.within);
+                  is_block (omega arith) (λ _. apart) (part.before after) found.ordered part.past part.within);
               none = tt;
               line = so_far.touched.range.last;
               ends = so_far.touched.range.ends;

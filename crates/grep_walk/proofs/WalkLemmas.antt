@@ -3,18 +3,18 @@ use Rattle.grep_definitions.specs.SelectedLines
 use Rattle.grep_definitions.specs.Plans.{planned, Planned, begins, context, Steps, Outcome, all_true, stopped, failed}
 use Rattle.grep_definitions.specs.Plans.{AreMade, counted}
 use Rattle.std.proofs.Common.{◌≡◌, ℕ, ◌+◌, ◌-◌, ◌<◌, ◌≤◌, Bool, true, false, not, ◌&&◌, ◌||◌, List, [], ◌∷◌, ◌++◌}
-use Rattle.std.proofs.Common.{length, take, drop, refl, sym, ◌∙◌, ap, subst, arith, ⊎_elim, inl, inr, Some, None, Ok}
+use Rattle.std.proofs.Common.{length, drop, refl, sym, ◌∙◌, ap, subst, arith, ⊎_elim, inl, inr, Ok}
 use Rattle.std.proofs.Common.{Err, if◌then◌else◌, length-take, length-drop}
-use Rattle.std.proofs.lemmas.Bool.{lt-ltb, le-leb, lt-leb, eqb-true, cases_lt}
-use Rattle.std.proofs.lemmas.List.{append-nil}
-use Rattle.std.proofs.lemmas.List.Elements.{All-nil, All-cons, All-append, All-weaker, filter-append}
-use Rattle.std.specs.Prelude.{nat_lt, nat_le, ◌==◌, count_by, All, filter, slice_range}
+use Rattle.std.proofs.lemmas.Bool.Decides.{nat_tests}
+use Rattle.std.proofs.lemmas.Bool.{cases_Bool, lt-ltb, cases_lt}
+use Rattle.std.proofs.lemmas.List.Elements.{All-nil, All-cons, All-append, All-weaker}
+use Rattle.std.specs.Prelude.{nat_lt, All, slice_range}
 use Rattle.grep_matcher.specs.Lines.{byte_of, lines}
 use Rattle.grep_matcher.specs.Meanings.{Meaning, MatcherFacts}
 use Rattle.grep_lines.specs.Positions.{IsLine, IsLineStart}
 use Rattle.grep_report.specs.declared.sink_context.SinkContextKind.TheVariants.{After, Other}
 use Rattle.grep_definitions.specs.Settings.{Settings}
-use Rattle.grep_definitions.specs.Reports.{is_at, joined_from, in_context}
+use Rattle.grep_definitions.specs.Reports.{through, is_at, joined_from}
 use Rattle.grep_definitions.specs.LineSearch
 use Rattle.grep_definitions.specs.SelectedLines.{differ}
 use Rattle.grep_definitions.specs.LineSearch.{turns_at, turns, turns_through, byte_count}
@@ -32,13 +32,12 @@ use Rattle.grep_definitions.proofs.SelectionLemmas.{headed-missed}
 use Rattle.grep_definitions.proofs.ContextLemmas.{IsNear-none, IsNear-hit, IsNear-missed, follows-selected}
 use Rattle.grep_definitions.proofs.ContextLemmas.{turns_at-done, turns_at-passed, turns_at-hit, turns_at-after}
 use Rattle.grep_definitions.proofs.ContextLemmas.{turns_at-other}
-use Rattle.grep_definitions.proofs.TurnEndLemmas.{ends-one, ends-pending, ends-match, ends-late, ends-passed}
+use Rattle.grep_definitions.proofs.LineSliceLemmas.{number-line}
+use Rattle.grep_definitions.proofs.TurnEndLemmas.{ends-one, ends-pending, ends-match, ends-late, ends-passed, ended-by}
 use Rattle.grep_walk.specs.declared.walk.Walk.{Walk}
 use Rattle.grep_walk.specs.WalkFaults.{IsWalkFault, at_call, at_question}
 use Rattle.grep_walk.specs.Walks.{IsDecided, IsPlaced, IsWalk, HasReported, Counted, can_hit, line_end, line_turns}
-use Rattle.grep_walk.specs.Walks.{after_line, is_over, reports_line, CountedFrom}
-use Rattle.grep_definitions.proofs.BoolLemmas.{above_zero, and-swap, both_true, clash, neither, not_false, or-cases}
-use Rattle.grep_definitions.proofs.ListLemmas.{All-joined_from, filter-all, filter-none}
+use Rattle.grep_walk.specs.Walks.{after_line, is_over, CountedFrom}
 use Rattle.grep_walk.proofs.OriginLemmas.{from-append, from-ended, from-fresh, fresh-made}
 use Rattle.grep_walk.specs.Origins.{AreMadeFrom, Origin, fresh}
 
@@ -125,18 +124,12 @@ module _ (k : Settings) (meaning : Meaning) (bytes : List ℕ) where
   front-through = headed-through (planned begins 0) T
 
   -- the line that a walk is at
-  module _ (w : Walk) (start end : ℕ) (same : w.offset ≡ start) (line : IsLine t bytes w.line start end) where
+  module _ (w : Walk) {start end : ℕ} (same : w.offset ≡ start) (line : IsLine t bytes w.line start end) where
     abbrev pub here : List ℕ
     here = slice_range bytes start end
 
     pub end-is : line_end w here ≡ end
-    end-is = omega (
-      arith,
-      length-take (end - start) (drop start bytes),
-      length-drop start bytes,
-      line.above,
-      line.within,
-    )
+    end-is = omega (arith, length-take (end - start) (drop start bytes), length-drop start bytes)
 
     start-is : starts w.line ≡ w.offset
     start-is = line.begins ∙ sym same
@@ -146,10 +139,10 @@ module _ (k : Settings) (meaning : Meaning) (bytes : List ℕ) where
 
     -- the line after it
     after : IsLineStart t bytes (line_end w here) (w.line + 1)
-    after = record { listed = omega (arith, line.listed); begins = start-after }
+    after = record { listed = omega arith; begins = start-after }
 
     within : line_end w here ≤ length bytes
-    within = omega (arith, end-is, line.within)
+    within = omega (arith, end-is)
 
     -- where the walk is after the line
     pub placed-next : IsPlaced k meaning bytes w → (chosen : Bool)
@@ -157,76 +150,48 @@ module _ (k : Settings) (meaning : Meaning) (bytes : List ℕ) where
     placed-next placed chosen = record {
       at = after;
       inside = within;
-      low = low (reports_line k w chosen);
-      few = few
-          chosen;
+      low = grind (arith, placed.low);
+      few = grind (arith, placed.few);
     }
-      where
-        low : (b : Bool) → (if b then w.line + 1 else w.next_unreported) ≤ w.line + 1
-        low true = omega arith
-        low false = omega (arith, placed.low)
-
-        few : (b : Bool) → (if b then w.match_count + 1 else w.match_count) ≤ w.line + 1
-        few true = omega (arith, placed.few)
-        few false = omega (arith, placed.few)
 
     -- what is known of the line, by whether it is chosen
     module _ (bare : Bare) (walk : IsWalk k meaning bytes w) where
       has : w.line < turned
-      has = turn_above k meaning bytes w.line w.after_context_left w.match_count walk.opened line.listed
+      has = turn_above k meaning bytes walk.opened line.listed
 
       number-is : LineSearch.number k meaning bytes w.line ≡ number_of k w.line
-      number-is =
-          ap (λ p. if k.line_number then Some (count_by (λ b. b == t) (take p bytes) + 1) else None) line.begins
-          ∙ ap (λ c. if k.line_number then Some (c + 1) else None) line.number
+      number-is = number-line k bytes w.line line.listed
 
       hits-here : SelectedLines.hits k meaning bytes w.line ≡ differ (matches_line k meaning here) k.invert_match
       hits-here = let inside = lt-ltb w.line n line.listed in rw (inside, line.line) refl
 
       pub chosen-here : (b r : Bool) → IsDecided k meaning w here b r → SelectedLines.is_chosen k meaning bytes w.line ≡ b
-      chosen-here b r decided =
-          chosen-is k meaning bytes w.line w.after_context_left w.match_count walk.opened
-          ∙ (ap (λ h. h && not (is_at w.match_count k.max_matches)) hits-here
-          ∙ (and-swap (differ (matches_line k meaning here) k.invert_match) (not (is_at w.match_count k.max_matches))
-          ∙ sym decided.chosen_is))
+      chosen-here b r decided = grind (arith, chosen-is k meaning bytes walk.opened, hits-here, decided.chosen_is)
 
       pub trailing-here : (b r : Bool) → IsDecided k meaning w here b r → 0 < w.after_context_left
           → SelectedLines.is_trailing k meaning bytes w.line ≡ r
-      trailing-here b r decided some =
-          ap (λ h. h && not (SelectedLines.is_open_at k meaning bytes w.line)) hits-here
-          ∙ (ap (λ o. differ (matches_line k meaning here) k.invert_match && not o) walk.opened.below
-          ∙ (ap (λ f. differ (matches_line k meaning here) k.invert_match && f)
-          (not-not (is_at w.match_count k.max_matches))
-          ∙ (and-swap (differ (matches_line k meaning here) k.invert_match) (is_at w.match_count k.max_matches)
-          ∙ sym (decided.trailing_is some))))
-        where
-          not-not : (b : Bool) → not (not b) ≡ b
-          not-not true = refl
-          not-not false = refl
+      trailing-here b r decided some = grind (arith, hits-here, walk.opened.below, decided.trailing_is some)
 
       -- the matcher is asked about it only if the limit has room, or in the context after a selected line
       pub room-here : can_hit k w ≡ true
           → (SelectedLines.is_open_at k meaning bytes w.line || LineSearch.follows_selected k meaning bytes w.line) ≡ true
-      room-here can =
-          ap (λ o. o || LineSearch.follows_selected k meaning bytes w.line) walk.opened.below
-          ∙ (ap (λ f. not (is_at w.match_count k.max_matches) || f)
-          (follows-selected k meaning bytes w.next_unreported w.line w.after_context_left walk.near) ∙ can)
+      room-here can = grind (arith, walk.opened.below, follows-selected k meaning bytes walk.near, can)
 
       selected : (b : Bool) → SelectedLines.is_chosen k meaning bytes w.line ≡ b
           → SelectedLines.is_selected k meaning bytes w.line ≡ b
-      selected b is = selected-is k meaning bytes w.line w.after_context_left w.match_count walk.opened ∙ is
+      selected b is = selected-is k meaning bytes walk.opened ∙ is
 
       pending-is : SelectedLines.is_selected k meaning bytes w.line ≡ true
           → joined_from T w.next_unreported (w.line - w.next_unreported)
           ≡ pending_turns k bytes w.next_unreported w.line (line_end w here) w.next_unreported
           (w.line - w.next_unreported)
       pending-is hit = joined_from-equal T _ w.next_unreported (w.line - w.next_unreported) (λ j low high.
-          turns_at-passed k meaning bytes w.next_unreported w.line w.after_context_left walk.near line.listed has hit
-          j _ (line_end w here) _ low (omega (arith, walk.near.low)) refl start-after refl)
+          turns_at-passed k meaning bytes walk.near line.listed has hit
+          j _ (line_end w here) _ low (omega arith) refl start-after refl)
 
       hit-is : SelectedLines.is_selected k meaning bytes w.line ≡ true → T w.line
           ≡ match_turns k w.next_unreported w.line w.offset (line_end w here) here
-      hit-is hit = turns_at-hit k meaning bytes w.next_unreported w.line w.after_context_left walk.near line.listed has
+      hit-is hit = turns_at-hit k meaning bytes walk.near line.listed has
           hit
           w.offset (line_end w here) _ number-is start-is start-after line.line
 
@@ -243,8 +208,7 @@ module _ (k : Settings) (meaning : Meaning) (bytes : List ℕ) where
           ∙ (ap (λ xs. front w.next_unreported ++ (xs ++ T w.line)) (pending-is hit)
           ∙ ap (λ xs. front w.next_unreported ++ (pending ++ xs)) (hit-is hit))
       front-step false trailing is late =
-          headed-missed k (SelectedLines.is_selected k meaning bytes) (SelectedLines.is_trailing k meaning bytes) n turned
-          w.next_unreported w.line w.after_context_left walk.near
+          headed-missed walk.near
           (planned begins 0) T _ _ after_is other_is
         where
           miss : SelectedLines.is_selected k meaning bytes w.line ≡ false
@@ -253,24 +217,24 @@ module _ (k : Settings) (meaning : Meaning) (bytes : List ℕ) where
           after_is : 0 < w.after_context_left
               → T w.line ≡ after_turns k trailing w.next_unreported w.line w.offset (line_end w here) here
           after_is some =
-              turns_at-after k meaning bytes w.next_unreported w.line w.after_context_left walk.near line.listed has
+              turns_at-after k meaning bytes walk.near line.listed has
               w.offset (line_end w here) _ miss some number-is start-is start-after line.line
               ∙ ap (λ r. after_turns k r w.next_unreported w.line w.offset (line_end w here) here) (late some)
 
           other_is : w.after_context_left ≡ 0 → k.passthru ≡ true
               → T w.line ≡ context_turns Other (number_of k w.line) w.offset (line_end w here) here
           other_is none is_p =
-              turns_at-other k meaning bytes w.next_unreported w.line w.after_context_left walk.near line.listed has
+              turns_at-other k meaning bytes walk.near line.listed has
               w.offset (line_end w here) _ miss none is_p (bare is_p).1 number-is start-is start-after line.line
 
       pub near-next : (chosen : Bool) → SelectedLines.is_chosen k meaning bytes w.line ≡ chosen
           → IsNear k meaning bytes (after_line k w here chosen).next_unreported (w.line + 1)
           (after_line k w here chosen).after_context_left
-      near-next true is = IsNear-hit k meaning bytes w.next_unreported w.line w.after_context_left walk.near line.listed
+      near-next true is = IsNear-hit k meaning bytes walk.near line.listed
           has
           (selected true is)
       near-next false is =
-          IsNear-missed k meaning bytes w.next_unreported w.line w.after_context_left walk.near line.listed has
+          IsNear-missed k meaning bytes walk.near line.listed has
           (λ is_p. (bare is_p).1) (selected false is)
 
       open-next : (chosen : Bool) → SelectedLines.is_chosen k meaning bytes w.line ≡ chosen
@@ -278,23 +242,10 @@ module _ (k : Settings) (meaning : Meaning) (bytes : List ℕ) where
           ≡ false
           → IsOpen k meaning bytes (w.line + 1) (after_line k w here chosen).after_context_left
           (after_line k w here chosen).match_count
-      open-next true is goes =
-          let parts = neither _ _ goes in
-          IsOpen-chosen k meaning bytes w.line w.after_context_left w.match_count walk.opened line.listed is
-          (λ plain full. above_zero (not k.passthru) (is_at (w.match_count + 1) k.max_matches) k.after_context parts.1
-          (ap not plain) full)
-      open-next false is goes =
-          let parts = neither _ _ goes in
-          IsOpen-missed k meaning bytes w.line w.after_context_left w.match_count walk.opened line.listed is
-          (λ stop. ⊎_elim
-          (λ some. absurd (clash
-          (let yes = lt-ltb 0 w.match_count some in let all : (k.stop_on_nonmatch && nat_lt 0 w.match_count && true)
-          ≡ true = ap (λ s. s && nat_lt 0 w.match_count && true) stop ∙ ap (λ s. s && true) yes in all) parts.0))
-          (λ none. omega arith)
-          (cases_lt 0 w.match_count))
-          (λ plain full. let more = above_zero (not k.passthru) (is_at w.match_count k.max_matches)
-          (w.after_context_left - 1) parts.1
-          (ap not plain) full in omega arith)
+      open-next true is goes = IsOpen-chosen k meaning bytes walk.opened line.listed is
+          (λ plain full. grind (arith, nat_tests, goes, plain, full))
+      open-next false is goes = IsOpen-missed k meaning bytes walk.opened line.listed is
+          (λ stop. grind (arith, nat_tests, goes, stop)) (λ plain full. grind (arith, nat_tests, goes, plain, full))
 
       pub walk-next : (chosen trailing : Bool) → SelectedLines.is_chosen k meaning bytes w.line ≡ chosen
           → (0 < w.after_context_left → SelectedLines.is_trailing k meaning bytes w.line ≡ trailing)
@@ -311,73 +262,32 @@ module _ (k : Settings) (meaning : Meaning) (bytes : List ℕ) where
       pub done-next : (chosen : Bool) → SelectedLines.is_chosen k meaning bytes w.line ≡ chosen
           → is_over k (after_line k w here chosen) chosen ≡ true
           → IsDone k meaning bytes (w.line + 1)
-      done-next true is over = ⊎_elim
-          (λ stop. absurd (clash (both_true _ _ stop).1 refl))
-          (λ full.
-          let outer = both_true _ _ full in
-          let inner = both_true _ _ outer.0 in
-          IsDone-chosen k meaning bytes w.line w.after_context_left w.match_count walk.opened line.listed is
-          (not_false _ inner.0) inner.1
-          (eqb-true _ _ outer.1))
-          (or-cases _ _ over)
+      done-next true is over = IsDone-chosen k meaning bytes walk.opened line.listed is
+          (grind (arith, nat_tests, over)) (grind (arith, nat_tests, over)) (grind (arith, nat_tests, over))
       done-next false is over = ⊎_elim
-          (λ stop.
-          let outer = both_true _ _ stop in
-          let inner = both_true _ _ outer.0 in
-          IsDone-stop k meaning bytes w.line w.after_context_left w.match_count walk.opened line.listed is inner.0
-          inner.1)
-          (λ full.
-          let outer = both_true _ _ full in
-          let inner = both_true _ _ outer.0 in
-          let none : w.after_context_left - 1 ≡ 0 = eqb-true (w.after_context_left - 1) 0 outer.1 in
-          IsDone-limit k meaning bytes w.line w.after_context_left w.match_count walk.opened line.listed is
-          (not_false _ inner.0) inner.1
-          (omega arith))
-          (or-cases _ _ over)
+          (λ (stop : (k.stop_on_nonmatch && nat_lt 0 w.match_count) ≡ true). IsDone-stop k meaning bytes walk.opened
+          line.listed is (grind (arith, nat_tests, stop)) (grind (arith, nat_tests, stop)))
+          (λ (on : (k.stop_on_nonmatch && nat_lt 0 w.match_count) ≡ false). IsDone-limit k meaning bytes walk.opened
+          line.listed is (grind (arith, nat_tests, on, over)) (grind (arith, nat_tests, on, over))
+          (grind (arith, nat_tests, on, over)))
+          (cases_Bool (k.stop_on_nonmatch && nat_lt 0 w.match_count))
 
       -- just the calls so far end at or before the start of the line
       through-is : turns_through k meaning bytes (starts w.line) ≡ front w.next_unreported
-      through-is =
-          let split = ap (filter passes) (front-through w.next_unreported turned (omega (arith, has, walk.near.low)))
-          ∙ filter-append passes (front w.next_unreported)
-          (joined_from T w.next_unreported (turned - w.next_unreported)) in
-          let early = filter-all passes (front w.next_unreported)
-          (All-weaker (λ turn. turn.if_false.count ≤ w.offset) (λ turn. passes turn ≡ true)
-          (λ turn low. le-leb turn.if_false.count (starts w.line) (omega (arith, low, start-is))) (front
-          w.next_unreported)
-          walk.ended) in
-          let late = filter-none passes (joined_from T w.next_unreported (turned - w.next_unreported))
-          (All-joined_from (λ turn. passes turn ≡ false) T w.next_unreported (turned - w.next_unreported)
-          (λ j low high. later j low))
-          in
-          split ∙ (ap (λ xs. xs ++ filter passes (joined_from T w.next_unreported (turned - w.next_unreported))) early
-          ∙ (ap (λ xs. front w.next_unreported ++ xs) late ∙ append-nil (front w.next_unreported)))
-        where
-          passes : Planned → Bool
-          passes turn = nat_le turn.if_false.count (starts w.line)
-
-          fails : (turn : Planned) → starts (w.line + 1) ≤ turn.if_false.count → passes turn ≡ false
-          fails turn low = lt-leb turn.if_false.count (starts w.line) (omega (
-            arith,
-            low,
-            line.begins,
-            line.ends,
-            line.above,
-          ))
-
-          later : (j : ℕ) → w.next_unreported ≤ j → All (λ turn. passes turn ≡ false) (T j)
-          later j low = All-weaker (λ turn. starts (w.line + 1) ≤ turn.if_false.count) (λ turn. passes turn ≡ false)
-              fails (T j)
-              (⊎_elim (λ less. ends-passed k meaning bytes w.next_unreported w.line w.after_context_left walk.near j low
-              less)
-              (λ above. ends-late k meaning bytes w.line j above) (cases_lt j w.line))
+      through-is = ap (through (starts w.line)) (front-through w.next_unreported turned (omega (arith, has, walk.near.low)))
+          ∙ ended-by (starts w.line) (front w.next_unreported) T w.next_unreported (turned - w.next_unreported)
+          (subst (λ o. All (λ turn. turn.if_false.count ≤ o) (front w.next_unreported)) (sym start-is) walk.ended)
+          (λ j low high. All-weaker (λ turn. starts (w.line + 1) ≤ turn.if_false.count)
+          (λ turn. starts w.line < turn.if_false.count) (λ turn low. omega arith) (T j)
+          (⊎_elim (ends-passed k meaning bytes walk.near j low) (ends-late k meaning bytes w.line j)
+          (cases_lt j w.line)))
 
   -- after the last line
   done-end : (w : Walk) → IsWalk k meaning bytes w → w.line ≡ n → IsDone k meaning bytes w.line
   done-end w walk all = record {
-    last = turn_all k meaning bytes w.after_context_left w.match_count
+    last = turn_all k meaning bytes
         (subst (λ i. IsOpen k meaning bytes i w.after_context_left w.match_count) all walk.opened) ∙ sym all;
-    silent = λ q low below. absurd (omega (arith, all));
+    silent = λ q low below. absurd (omega arith);
   }
 
   -- after the last turn nothing is reported of the lines that were passed
@@ -385,8 +295,8 @@ module _ (k : Settings) (meaning : Meaning) (bytes : List ℕ) where
       → IsDone k meaning bytes w.line
       → joined_from T w.next_unreported (turned - w.next_unreported) ≡ []
   rest-is w near done = joined_from-none T w.next_unreported (turned - w.next_unreported) (λ j low high.
-      turns_at-done k meaning bytes w.next_unreported w.line w.after_context_left near done.silent j low
-      (omega (arith, done.last, near.low)))
+      turns_at-done k meaning bytes near done.silent j low
+      (omega arith))
 
   module _ {S E : Type 0} (step : Steps S E) (old : Origin S) where
     -- what ended early ended the whole
@@ -407,7 +317,7 @@ module _ (k : Settings) (meaning : Meaning) (bytes : List ℕ) where
         → AreMadeFrom step k old (front w.next_unreported) all_true new → IsCounted w.offset all_true new
     counted-done w new at near done reported = record {
       reported = subst (λ ts. AreMadeFrom step k old ts all_true new)
-          (sym (front-through w.next_unreported turned (omega (arith, done.last, near.low))))
+          (sym (front-through w.next_unreported turned (omega arith)))
           (from-append step k old (front w.next_unreported)
           (joined_from T w.next_unreported (turned - w.next_unreported)) new
           all_true
@@ -421,73 +331,67 @@ module _ (k : Settings) (meaning : Meaning) (bytes : List ℕ) where
     counted-end w new so_far all = counted-done w new so_far.walk.placed.at so_far.walk.near
         (done-end w so_far.walk all) so_far.reported
 
+    -- what comes of the calls of a line, by their outcome: a fault, or the count where the line ends, at which no more
+    -- are to come, or something goes on from there
+    abbrev pub Comes : ℕ → Bool → (S → Type 0) → Outcome E → S → Type 0
+    Comes end over On (failed e) new = AreMadeFrom step k old (turns k meaning bytes) (failed e) new
+    Comes end over On (stopped finish) new = counted end ≡ finish → IsCounted end (stopped finish) new
+    Comes end over On all_true new = (over ≡ true → IsCounted end all_true new) × (over ≡ false → On new)
+
+    pub comes-on : (end : ℕ) (over : Bool) (On On' : S → Type 0) → ((new : S) → On new → On' new)
+        → (outcome : Outcome E) (new : S) → Comes end over On outcome new → Comes end over On' outcome new
+    comes-on end over On On' on (failed e) new comes = comes
+    comes-on end over On On' on (stopped finish) new comes = comes
+    comes-on end over On On' on all_true new comes = (comes.0, λ goes_on. on new (comes.1 goes_on))
+
     -- one line
-    module _ (bare : Bare) (w : Walk) (mid : S) (so_far : HasReported k meaning bytes step old w mid)
-        (start end : ℕ) (same : w.offset ≡ start) (line : IsLine t bytes w.line start end) (chosen trailing : Bool)
-        (decided : IsDecided k meaning w (here w start end same line) chosen trailing) where
-      is : SelectedLines.is_chosen k meaning bytes w.line ≡ chosen
-      is = chosen-here w start end same line bare so_far.walk chosen trailing decided
-
-      late : 0 < w.after_context_left → SelectedLines.is_trailing k meaning bytes w.line ≡ trailing
-      late = trailing-here w start end same line bare so_far.walk chosen trailing decided
-
-      abbrev own : List Planned
-      own = line_turns k bytes w (here w start end same line) chosen trailing
+    module _ (bare : Bare) {w : Walk} {mid : S} (so_far : HasReported k meaning bytes step old w mid) {start end : ℕ}
+        (same : w.offset ≡ start) (line : IsLine t bytes w.line start end) {chosen trailing : Bool}
+        (decided : IsDecided k meaning w (slice_range bytes start end) chosen trailing) where
+      abbrev text : List ℕ
+      text = slice_range bytes start end
 
       abbrev next : Walk
-      next = after_line k w (here w start end same line) chosen
+      next = after_line k w text chosen
 
-      reported-line : (outcome : Outcome E) (new : S) → AreMade step k mid own outcome new
-          → AreMadeFrom step k old (front next.next_unreported) outcome new
-      reported-line outcome new reported =
-          subst (λ ts. AreMadeFrom step k old ts outcome new)
-          (sym (front-step w start end same line bare so_far.walk chosen trailing is late))
-          (from-append step k old (front w.next_unreported) own mid outcome new so_far.reported reported)
+      is : SelectedLines.is_chosen k meaning bytes w.line ≡ chosen
+      is = chosen-here w same line bare so_far.walk chosen trailing decided
+
+      late : 0 < w.after_context_left → SelectedLines.is_trailing k meaning bytes w.line ≡ trailing
+      late = trailing-here w same line bare so_far.walk chosen trailing decided
 
       few : next.next_unreported ≤ turned
-      few = go (reports_line k w chosen)
+      few = grind (arith, has w same line bare so_far.walk, so_far.walk.near.low)
+
+      pub line-comes : (outcome : Outcome E) (new : S)
+          → AreMade step k mid (line_turns k bytes w text chosen trailing) outcome new
+          → Comes (line_end w text) (is_over k next chosen) (HasReported k meaning bytes step old next) outcome new
+      line-comes outcome new made = go outcome (subst (λ ts. AreMadeFrom step k old ts outcome new)
+          (sym (front-step w same line bare so_far.walk chosen trailing is late))
+          (from-append step k old (front w.next_unreported) (line_turns k bytes w text chosen trailing) mid outcome new
+          so_far.reported made))
         where
-          go : (b : Bool) → (if b then w.line + 1 else w.next_unreported) ≤ turned
-          go true = omega (arith, has w start end same line bare so_far.walk)
-          go false = omega (arith, has w start end same line bare so_far.walk, so_far.walk.near.low)
-
-      pub counted-stopped : (new : S) → AreMade step k mid own (stopped (counted (line_end w (here w start end same
-          line))))
-          new
-          → IsCounted (line_end w (here w start end same line)) (stopped (counted (line_end w (here w start end same
-          line)))) new
-      counted-stopped new reported = record {
-        reported = AreMade-whole _ (stopped (counted (line_end w (here w start end same line)))) new few (λ e. cc)
-            (reported-line (stopped (counted (line_end w (here w start end same line)))) new reported);
-        is_count = refl;
-      }
-
-      pub counted-over : (new : S) → AreMade step k mid own all_true new → is_over k next chosen ≡ true
-          → IsCounted next.offset all_true new
-      counted-over new reported over = counted-done next new (after w start end same line)
-          (near-next w start end same line bare so_far.walk chosen is)
-          (done-next w start end same line bare so_far.walk chosen is over)
-          (reported-line all_true new reported)
-
-      pub reported-next : (new : S) → AreMade step k mid own all_true new → is_over k next chosen ≡ false
-          → HasReported k meaning bytes step old next new
-      reported-next new reported goes_on = record {
-        walk = walk-next w start end same line bare so_far.walk chosen trailing is late goes_on;
-        reported = reported-line all_true new reported;
-      }
-
-      pub failed-line : (e : E) (new : S) → AreMade step k mid own (failed e) new
-          → AreMadeFrom step k old (turns k meaning bytes) (failed e) new
-      failed-line e new reported = AreMade-whole _ (failed e) new few (λ x. cc)
-          (reported-line (failed e) new reported)
+          go : (outcome : Outcome E) → AreMadeFrom step k old (front next.next_unreported) outcome new
+              → Comes (line_end w text) (is_over k next chosen) (HasReported k meaning bytes step old next) outcome new
+          go (failed e) reported = AreMade-whole _ (failed e) new few (λ x. cc) reported
+          go (stopped finish) reported = λ ends. record {
+            reported = AreMade-whole _ (stopped finish) new few (λ x. cc) reported;
+            is_count = ends;
+          }
+          go all_true reported = (
+            λ over. counted-done next new (after w same line) (near-next w same line bare so_far.walk chosen is)
+                (done-next w same line bare so_far.walk chosen is over) reported,
+            λ goes_on. record {
+              walk = walk-next w same line bare so_far.walk chosen trailing is late goes_on;
+              reported = reported;
+            },
+          )
 
     -- only `begin` was called, and no line may be reported
     pub counted-idle : (new : S) → (not k.passthru && is_at 0 k.max_matches) ≡ true
         → AreMadeFrom step k old (front 0) all_true new → IsCounted 0 all_true new
-    counted-idle new idle begun =
-        let parts = both_true (not k.passthru) (is_at 0 k.max_matches) idle in
-        counted-done start_walk new (placed-start).at (IsNear-none k meaning bytes)
-        (IsDone-none k meaning bytes (not_false k.passthru parts.0) parts.1) begun
+    counted-idle new idle begun = counted-done start_walk new (placed-start).at (IsNear-none k meaning bytes)
+        (IsDone-none k meaning bytes (grind (arith, idle)) (grind (arith, idle))) begun
 
   -- of a sink that had no call
   module _ {S E : Type 0} (step : Steps S E) (old : S) where
@@ -506,10 +410,7 @@ module _ (k : Settings) (meaning : Meaning) (bytes : List ℕ) where
     pub reported-start : (new : S) → (not k.passthru && is_at 0 k.max_matches) ≡ false → step old k begins (Ok true) new
         → HasReported k meaning bytes step (fresh old) start_walk new
     reported-start new busy goes = record {
-      walk = walk-start (λ plain full. clash
-          (let all : (not k.passthru && is_at 0 k.max_matches) ≡ true = ap (λ p. not p && is_at 0 k.max_matches) plain
-          ∙ full in all)
-          busy);
+      walk = walk-start (λ plain full. grind (arith, busy, plain, full));
       reported = reported-begin new goes;
     }
 
@@ -521,17 +422,12 @@ module _ {S E F : Type 0} (step : Steps S E) (errors : ErrorMakers F E) (matcher
   fault-begin old e new fails = of_sink
       (record { outcome = failed e; mid = new; made = inr (inr (e, refl, fails)); finished = (refl, refl) })
 
-  pub fault-line : (old : Origin S) (e : E) (new : S) → AreMadeFrom step k old (turns k matcher.meaning bytes) (failed
-      e) new
-      → IsWalkFault step errors matcher k bytes old e new
-  fault-line old e new reported = at_call reported
-
   pub fault-matcher : (old : Origin S) (w : Walk) (new : S) → HasReported k matcher.meaning bytes step old w new
-      → (start end : ℕ) (same : w.offset ≡ start) (line : IsLine (byte_of k.line_terminator) bytes w.line start end)
+      → {start end : ℕ} (same : w.offset ≡ start) (line : IsLine (byte_of k.line_terminator) bytes w.line start end)
       → Bare k matcher.meaning bytes → can_hit k w ≡ true → (haystack : List ℕ) (error : F) (e : E)
       → IsAsked k matcher.meaning bytes w.line haystack → errors.is_message error e
       → matcher.fails haystack error → IsWalkFault step errors matcher k bytes old e new
-  fault-matcher old w new so_far start end same line bare room haystack error e asked message fails = at_question
+  fault-matcher old w new so_far same line bare room haystack error e asked message fails = at_question
       haystack
       error
       (front k matcher.meaning bytes w.next_unreported)
@@ -539,13 +435,13 @@ module _ {S E F : Type 0} (step : Steps S E) (errors : ErrorMakers F E) (matcher
       (turned k matcher.meaning bytes - w.next_unreported))
       (record {
         index = w.line;
-        has_turn = has k matcher.meaning bytes w start end same line bare so_far.walk;
-        room = room-here k matcher.meaning bytes w start end same line bare so_far.walk room;
+        has_turn = has k matcher.meaning bytes w same line bare so_far.walk;
+        room = room-here k matcher.meaning bytes w same line bare so_far.walk room;
         question = asked;
-        before = sym (through-is k matcher.meaning bytes w start end same line bare so_far.walk);
+        before = sym (through-is k matcher.meaning bytes w same line bare so_far.walk);
       })
       (front-through k matcher.meaning bytes w.next_unreported (turned k matcher.meaning bytes)
-      (omega (arith, has k matcher.meaning bytes w start end same line bare so_far.walk, so_far.walk.near.low)))
+      (omega (arith, has k matcher.meaning bytes w same line bare so_far.walk)))
       fails message so_far.reported
 
   -- such a fault is one of the search by line

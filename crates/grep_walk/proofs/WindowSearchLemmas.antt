@@ -1,29 +1,27 @@
 -- A walk over the lines of a window, against the calls that are defined for the input.
 use Rattle.std.proofs.Common.{◌∙◌, ◌≡◌, ℕ, ◌+◌, ◌-◌, ◌<◌, ◌≤◌, ◌&&◌, min, Bool, true, false, not, List, [], length}
-use Rattle.std.proofs.Common.{drop, arith, Ok, refl, sym, ap, ap₂, subst, inl, inr, if◌then◌else◌, length-take}
+use Rattle.std.proofs.Common.{drop, arith, Ok, refl, sym, ap, ap₂, subst, inl, inr, length-take}
 use Rattle.std.proofs.Common.{length-drop}
 use Rattle.std.proofs.lemmas.List.{take_rest}
 use Rattle.grep_matcher.specs.Lines.{lines, line_start, strip, byte_of}
 use Rattle.grep_matcher.specs.Meanings.{Meaning, MatcherFacts}
-use Rattle.grep_lines.specs.LineLaws.{LinesJoin}
 use Rattle.std.specs.Prelude.{slice_range}
 use Rattle.grep_lines.specs.Positions.{IsLine, IsLineStart}
-use Rattle.grep_definitions.proofs.LineStartLemmas.{line_start-last}
 use Rattle.grep_definitions.specs.Settings.{Settings}
-use Rattle.grep_definitions.specs.Plans.{begins, Steps, Outcome, all_true, stopped, failed, AreMade, counted}
+use Rattle.grep_definitions.specs.Plans.{begins, Steps, Outcome, all_true, AreMade}
 use Rattle.grep_definitions.specs.Reports.{is_at}
 use Rattle.grep_definitions.specs.LineSearch.{turns, byte_count}
 use Rattle.grep_report.specs.ErrorMakers.{ErrorMakers}
 use Rattle.grep_walk.specs.WalkFaults.{IsWalkFault}
 use Rattle.grep_walk.specs.declared.walk.Walk.{Walk}
 use Rattle.grep_walk.specs.Walks.{IsDecided, IsOrdered, HasReported, can_hit, line_end, line_turns, after_line, is_over}
-use Rattle.grep_walk.specs.Walks.{recounted, reports_line, CountedFrom}
+use Rattle.grep_walk.specs.Walks.{recounted, CountedFrom}
 use Rattle.grep_definitions.specs.Asking.{IsAsked}
 use Rattle.grep_walk.specs.LookAheads.{MayAskAhead}
 use Rattle.grep_walk.specs.Windows.{IsWindow, IsInWindow, HasPassed, HasSearched, HasWalked}
-use Rattle.grep_walk.proofs.LineRangeLemmas.{line-at}
+use Rattle.grep_definitions.proofs.LineRangeLemmas.{line-at, end-start}
 use Rattle.grep_walk.proofs.WalkLemmas as walks
-use Rattle.grep_walk.proofs.WalkLemmas.{Bare, start_walk}
+use Rattle.grep_walk.proofs.WalkLemmas.{Bare, Comes, start_walk}
 use Rattle.grep_walk.specs.Origins.{Origin, fresh}
 use Rattle.grep_walk.proofs.WindowLemmas as windows
 
@@ -33,17 +31,9 @@ pub ordered-next : (k : Settings) (w : Walk) (p q : ℕ) (window : List ℕ) (ch
     → IsOrdered (after_line k w (slice_range window p q) chosen)
 ordered-next k w p q window chosen below within ordered = record {
   few = omega (arith, ordered.few, length-take (q - p) (drop p window), length-drop p window);
-  low = low (reports_line k w chosen);
-  chosen = count chosen;
+  low = grind (arith, ordered.low);
+  chosen = grind (arith, ordered.chosen);
 }
-  where
-    low : (b : Bool) → (if b then w.line + 1 else w.next_unreported) ≤ w.line + 1
-    low true = omega arith
-    low false = omega (arith, ordered.low)
-
-    count : (b : Bool) → (if b then w.match_count + 1 else w.match_count) ≤ w.line + 1
-    count true = omega (arith, ordered.chosen)
-    count false = omega (arith, ordered.chosen)
 
 -- a walk begins with the first window of the input, once `begin` returned true
 pub searched-start : {S E : Type 0} (step : Steps S E) (k : Settings) (meaning : Meaning) (window input : List ℕ)
@@ -98,8 +88,12 @@ passed-all step k meaning gone window input first p w now so_far end last = reco
   };
   all =
       let before = length (lines (byte_of k.line_terminator) gone) in
-      omega (arith, so_far.walked.inside.line.low, last (so_far.line - before) so_far.walked.inside.line.begins);
+      omega (arith, last (so_far.line - before) so_far.walked.inside.line.begins);
 }
+
+abbrev IsCounted : {S E : Type 0} → Steps S E → Settings → Meaning → List ℕ → Origin S → ℕ → Outcome E → S → Type 0
+IsCounted step k meaning input first count outcome new =
+    CountedFrom step k first (turns k meaning input) (byte_count k meaning input) count outcome new
 
 -- once all lines of the input are passed, all calls were made and returned true
 pub counted-passed : {S E : Type 0} (step : Steps S E) (k : Settings) (meaning : Meaning) (gone window input : List ℕ)
@@ -107,155 +101,115 @@ pub counted-passed : {S E : Type 0} (step : Steps S E) (k : Settings) (meaning :
     (w : Walk) (now : S) → HasPassed step k meaning gone window input first w now
     → length (lines (byte_of k.line_terminator) gone) + length (lines (byte_of k.line_terminator) window)
     ≡ length (lines (byte_of k.line_terminator) input)
-    → CountedFrom step k first (turns k meaning input) (byte_count k meaning input) w.offset all_true now
+    → IsCounted step k meaning input first w.offset all_true now
 counted-passed step k meaning gone window input first w now passed all =
     walks.counted-end k meaning input step first (recounted w passed.searched.line passed.searched.through) now
     passed.searched.walked.reported (passed.all ∙ all)
 
-module _ {S E F : Type 0} (step : Steps S E) (errors : ErrorMakers F E) (matcher : MatcherFacts F) (k : Settings)
-    (gone window input : List ℕ) (first : Origin S) where
-  abbrev pub t : ℕ
+-- at the end of the input the walk has made all calls, and if it doesn't go on earlier no more are to come
+pub counted-either : {S E F : Type 0} (step : Steps S E) (errors : ErrorMakers F E) (matcher : MatcherFacts F) (k : Settings)
+    (gone window input : List ℕ) (first : Origin S) (goes_on : Bool) (w : Walk) (now : S)
+    → (goes_on ≡ true → HasPassed step k matcher.meaning gone window input first w now)
+    → (goes_on ≡ false → (outcome : Outcome E) × IsCounted step k matcher.meaning input first w.offset outcome now)
+    → length (lines (byte_of k.line_terminator) gone) + length (lines (byte_of k.line_terminator) window)
+    ≡ length (lines (byte_of k.line_terminator) input)
+    → (outcome : Outcome E) × IsCounted step k matcher.meaning input first w.offset outcome now
+counted-either step errors matcher k gone window input first false w now goes ends all = ends refl
+counted-either step errors matcher k gone window input first true w now goes ends all =
+    (all_true, counted-passed step k matcher.meaning gone window input first w now (goes refl) all)
+
+-- one line, from p up to q of the window
+module _ {S E : Type 0} {step : Steps S E} {k : Settings} {meaning : Meaning} {gone window input : List ℕ}
+    {first : Origin S} {p q : ℕ} {w : Walk} {now : S}
+    (so_far : HasWalked step k meaning gone window input first p w now) (within : q ≤ length window)
+    (line : (i : ℕ) → IsLineStart (byte_of k.line_terminator) window p i
+    → IsLine (byte_of k.line_terminator) window i p q) where
+  abbrev t : ℕ
   t = byte_of k.line_terminator
 
-  abbrev IsCounted : ℕ → Outcome E → S → Type 0
-  IsCounted count outcome new =
-      CountedFrom step k first (turns k matcher.meaning input) (byte_count k matcher.meaning input) count outcome new
+  abbrev before : ℕ
+  before = length (lines t gone)
 
-  -- at the end of the input the walk has made all calls, and if it doesn't go on earlier no more are to come
-  pub counted-either : (goes_on : Bool) (w : Walk) (now : S)
-      → (goes_on ≡ true → HasPassed step k matcher.meaning gone window input first w now)
-      → (goes_on ≡ false → (outcome : Outcome E) × IsCounted w.offset outcome now)
-      → length (lines t gone) + length (lines t window) ≡ length (lines t input)
-      → (outcome : Outcome E) × IsCounted w.offset outcome now
-  counted-either false w now goes ends all = ends refl
-  counted-either true w now goes ends all =
-      (all_true, counted-passed step k matcher.meaning gone window input first w now (goes refl) all)
+  abbrev here : List ℕ
+  here = slice_range window p q
 
-  -- one line, from p up to q of the window
-  module _ (bare : Bare k matcher.meaning input) (p q : ℕ) (w : Walk) (now : S)
-      (so_far : HasWalked step k matcher.meaning gone window input first p w now) (below : p < q)
-      (within : q ≤ length window)
-      (line : (i : ℕ) → IsLineStart t window p i → IsLine t window i p q) where
-    abbrev here : List ℕ
-    here = slice_range window p q
+  own : IsLine t window (w.line - before) p q
+  own = line (w.line - before) so_far.inside.line.begins
 
-    at : IsLine t input w.line (length gone + p) (length gone + q)
-    at = windows.input-line k gone window input w.line p q so_far.inside.line line so_far.inside.shown
+  pub at : IsLine t input w.line (length gone + p) (length gone + q)
+  at = windows.input-line k gone window input w.line p q so_far.inside.line line so_far.inside.shown
 
-    -- what holds of the bytes in the input holds of them in the window
-    shifted : (P : List ℕ → Type 0) → P (slice_range input (length gone + p) (length gone + q)) → P here
-    shifted P = subst P (windows.slice-in gone window so_far.inside.shown.after input so_far.inside.shown.whole p q
-        (omega arith) within)
+  -- the bytes of the input up to a position of the window
+  slice-at : (r : ℕ) → p ≤ r → r ≤ length window
+      → slice_range input (length gone + p) (length gone + r) ≡ slice_range window p r
+  slice-at = windows.slice-in gone window so_far.inside.shown.after input so_far.inside.shown.whole p
 
-    -- the matcher's error for a question at that line
-    pub failed-matcher : can_hit k w ≡ true → (haystack : List ℕ) (error : F) (e : E)
-        → IsAsked k matcher.meaning input w.line haystack → errors.is_message error e
-        → matcher.fails haystack error → IsWalkFault step errors matcher k input first e now
-    failed-matcher room haystack error e asked message fails = walks.fault-matcher step errors matcher k input first w
-        now
-        so_far.reported (length gone + p) (length gone + q) so_far.inside.at at bare room haystack error e asked message
-        fails
+  -- a question about that line alone
+  pub asked-line : IsAsked k meaning input w.line (strip k.line_terminator here)
+  asked-line = inl (ap (strip k.line_terminator) (sym (at.line ∙ slice-at q (omega (arith, own.above)) within)))
 
-    -- a question about that line alone
-    pub asked-line : IsAsked k matcher.meaning input w.line (strip k.line_terminator here)
-    asked-line = inl (ap (strip k.line_terminator) (sym (at.line
-        ∙ windows.slice-in gone window so_far.inside.shown.after input so_far.inside.shown.whole p q (omega arith)
-        within)))
+  -- a question about the lines from there to the end of the window
+  pub asked-ahead : MayAskAhead k meaning w → IsAsked k meaning input w.line (drop p window)
+  asked-ahead may =
+      let count = length (lines t window) in
+      let last = line-at t window (count - 1) (omega (arith, own.listed)) in
+      let next : (count - 1) + 1 ≡ count = omega (arith, own.listed) in
+      let end = ap (line_start t window) next ∙ (end-start t window).begins in
+      let there = so_far.inside.shown.line (count - 1) _ _ last in
+      let sum : (before + (count - 1)) + 1 ≡ before + count = omega (arith, own.listed) in
+      inr (record {
+        allowed = may.allowed;
+        room = so_far.reported.walk.opened.below ∙ ap not may.room;
+        unstopped = ap (λ b. k.stop_on_nonmatch && b) so_far.reported.walk.opened.any ∙ may.unstopped;
+        end = before + count;
+        after = omega (arith, own.listed);
+        within = omega (arith, own.listed);
+        lines = sym (ap₂ (λ a b. slice_range input a b) at.begins
+            (ap (line_start t input) (sym sum) ∙ (there.ends ∙ ap (λ n. length gone + n) end))
+            ∙ (slice-at (length window) (omega (arith, own.above)) (omega arith) ∙ take_rest window p));
+      })
 
-    -- a question about the lines from there to the end of the window
-    pub asked-ahead : LinesJoin → MayAskAhead k matcher.meaning w
-        → IsAsked k matcher.meaning input w.line (drop p window)
-    asked-ahead join may =
-        let before = length (lines t gone) in
-        let count = length (lines t window) in
-        let own = line (w.line - before) so_far.inside.line.begins in
-        let last = line-at t window (count - 1) (omega (arith, own.listed)) in
-        let next : (count - 1) + 1 ≡ count = omega (arith, own.listed) in
-        let end = ap (line_start t window) next ∙ line_start-last join t window in
-        let there = so_far.inside.shown.line (count - 1) _ _ last in
-        let sum : (before + (count - 1)) + 1 ≡ before + count = omega (arith, own.listed) in
-        inr (record {
-          allowed = may.allowed;
-          room = so_far.reported.walk.opened.below ∙ ap not may.room;
-          unstopped = ap (λ b. k.stop_on_nonmatch && b) so_far.reported.walk.opened.any ∙ may.unstopped;
-          end = before + count;
-          after = omega (arith, own.listed, so_far.inside.line.low);
-          within = omega (arith, there.listed, own.listed);
-          lines = sym (ap₂ (λ a b. slice_range input a b) at.begins
-              (ap (line_start t input) (sym sum) ∙ (there.ends ∙ ap (λ n. length gone + n) end))
-              ∙ (windows.slice-in gone window so_far.inside.shown.after input so_far.inside.shown.whole p
-              (length window)
-              (omega (arith, within)) (omega arith) ∙ take_rest window p));
-        })
+  -- the window still has the lines that may be reported
+  kept-next : (chosen : Bool) → before + min k.before_context
+      ((w.line + 1) - (after_line k w here chosen).next_unreported) ≤ w.line + 1
+  kept-next chosen = grind (arith, so_far.inside.line.low, so_far.inside.kept)
 
-    module _ (chosen trailing : Bool) (decided : IsDecided k matcher.meaning w here chosen trailing) where
-      -- what holds of a line in the input by what was decided of it holds of the line in the window
-      matched : (P : List ℕ → Type 0)
-          → (IsDecided k matcher.meaning w (slice_range input (length gone + p) (length gone + q)) chosen trailing
-          → P (slice_range input (length gone + p) (length gone + q))) → P here
-      matched P holds = shifted (λ xs. IsDecided k matcher.meaning w xs chosen trailing → P xs) holds decided
-
-      pub failed-line : (e : E) (new : S) → AreMade step k now (line_turns k input w here chosen trailing)
-          (failed e) new
-          → IsWalkFault step errors matcher k input first e new
-      failed-line e new = matched
-          (λ xs. AreMade step k now (line_turns k input w xs chosen trailing) (failed e) new
-          → IsWalkFault step errors matcher k input first e new)
-          (λ is reported. walks.fault-line step errors matcher k input first e new
-          (walks.failed-line k matcher.meaning input step first bare w now so_far.reported (length gone + p)
-          (length gone + q)
-          so_far.inside.at at chosen trailing is e new reported))
-
-      pub counted-stopped : (new : S) → AreMade step k now (line_turns k input w here chosen trailing)
-          (stopped (counted (line_end w here))) new
-          → IsCounted (line_end w here) (stopped (counted (line_end w here))) new
-      counted-stopped new = matched
-          (λ xs. AreMade step k now (line_turns k input w xs chosen trailing) (stopped (counted (line_end w xs))) new
-          → IsCounted (line_end w xs) (stopped (counted (line_end w xs))) new)
-          (λ is reported. walks.counted-stopped k matcher.meaning input step first bare w now so_far.reported
-          (length gone + p) (length gone + q) so_far.inside.at at chosen trailing is new reported)
-
-      pub counted-over : (new : S) → AreMade step k now (line_turns k input w here chosen trailing) all_true new
-          → is_over k (after_line k w here chosen) chosen ≡ true → IsCounted (line_end w here) all_true new
-      counted-over new = matched
-          (λ xs. AreMade step k now (line_turns k input w xs chosen trailing) all_true new
-          → is_over k (after_line k w xs chosen) chosen ≡ true → IsCounted (line_end w xs) all_true new)
-          (λ is reported over. walks.counted-over k matcher.meaning input step first bare w now so_far.reported
-          (length gone + p) (length gone + q) so_far.inside.at at chosen trailing is new reported over)
-
-      -- the window still has the lines that may be reported
-      kept-next : length (lines t gone) + min k.before_context
-          ((w.line + 1) - (after_line k w here chosen).next_unreported) ≤ w.line + 1
-      kept-next = go (reports_line k w chosen)
-        where
-          go : (b : Bool)
-              → length (lines t gone) + min k.before_context
-              ((w.line + 1) - (if b then w.line + 1 else w.next_unreported)) ≤ w.line + 1
-          go true = omega (arith, so_far.inside.line.low)
-          go false = omega (arith, so_far.inside.kept)
-
-      pub searched-next : (new : S) → AreMade step k now (line_turns k input w here chosen trailing) all_true new
-          → is_over k (after_line k w here chosen) chosen ≡ false
-          → HasWalked step k matcher.meaning gone window input first q (after_line k w here chosen) new
-      searched-next new reported goes_on = record {
+  -- what comes of its calls
+  pub line-comes : Bare k meaning input → {chosen trailing : Bool} → IsDecided k meaning w here chosen trailing
+      → (outcome : Outcome E) (new : S) → AreMade step k now (line_turns k input w here chosen trailing) outcome new
+      → Comes k meaning input step first (line_end w here) (is_over k (after_line k w here chosen) chosen)
+      (HasWalked step k meaning gone window input first q (after_line k w here chosen)) outcome new
+  line-comes bare {chosen} {trailing} decided outcome new made =
+      walks.comes-on k meaning input step first (line_end w here) (is_over k (after_line k w here chosen) chosen) _ _ on
+      outcome new (subst (λ xs. IsDecided k meaning w xs chosen trailing
+      → AreMade step k now (line_turns k input w xs chosen trailing) outcome new
+      → Comes k meaning input step first (line_end w xs) (is_over k (after_line k w xs chosen) chosen)
+      (HasReported k meaning input step first (after_line k w xs chosen)) outcome new)
+      (slice-at q (omega (arith, own.above)) within)
+      (λ is. walks.line-comes k meaning input step first bare so_far.reported so_far.inside.at at is outcome new)
+      decided made)
+    where
+      on : (new : S) → HasReported k meaning input step first (after_line k w here chosen) new
+          → HasWalked step k meaning gone window input first q (after_line k w here chosen) new
+      on new reported = record {
         inside = record {
           shown = so_far.inside.shown;
-          at = omega (
-            arith,
-            so_far.inside.at,
-            length-take (q - p) (drop p window),
-            length-drop p window,
-            below,
-            within,
-          );
+          at = omega (arith, length-take (q - p) (drop p window), length-drop p window, own.above);
           line = windows.next-line k gone window input w.line p q so_far.inside.line line;
-          kept = kept-next;
+          kept = kept-next chosen;
         };
-        reported = matched
-            (λ xs. AreMade step k now (line_turns k input w xs chosen trailing) all_true new
-            → is_over k (after_line k w xs chosen) chosen ≡ false
-            → HasReported k matcher.meaning input step first (after_line k w xs chosen) new)
-            (λ is reported goes_on. walks.reported-next k matcher.meaning input step first bare w now so_far.reported
-            (length gone + p) (length gone + q) so_far.inside.at at chosen trailing is new reported goes_on)
-            reported goes_on;
+        reported = reported;
       }
+
+-- the matcher's error for a question at that line
+pub failed-matcher : {S E F : Type 0} {step : Steps S E} {k : Settings} {gone window input : List ℕ} {first : Origin S}
+    {p q : ℕ} {w : Walk} {now : S} (errors : ErrorMakers F E) (matcher : MatcherFacts F)
+    → Bare k matcher.meaning input
+    → (so_far : HasWalked step k matcher.meaning gone window input first p w now) → q ≤ length window
+    → ((i : ℕ) → IsLineStart (byte_of k.line_terminator) window p i → IsLine (byte_of k.line_terminator) window i p q)
+    → can_hit k w ≡ true → (haystack : List ℕ) (error : F) (e : E)
+    → IsAsked k matcher.meaning input w.line haystack → errors.is_message error e → matcher.fails haystack error
+    → IsWalkFault step errors matcher k input first e now
+failed-matcher errors matcher bare so_far within line room haystack error e asked message fails =
+    walks.fault-matcher _ errors matcher _ _ _ _ _ so_far.reported so_far.inside.at (at so_far within line) bare room
+    haystack error e asked message fails

@@ -11,7 +11,6 @@ ghost use Rattle.grep_walk.specs.Windows.{IsInWindow};
 
 use crate::config::Config;
 use crate::walk::Walk;
-use grep_lines::laws::{lines_append, lines_are_few, lines_are_numbered, lines_join};
 use grep_lines::preceding_by_pos;
 
 impl Config {
@@ -68,10 +67,6 @@ impl Config {
             (drop result window.now ++ more) (gone ++ (window.now ++ (more ++ after)))
             (length window.now - result) (recounted walk.now line through) }
     {
-        lines_join();
-        lines_append();
-        lines_are_numbered();
-        lines_are_few();
         let near = self.lines_before(walk);
         self.step_back(window, window.len(), near)
     }

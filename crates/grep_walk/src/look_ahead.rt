@@ -14,7 +14,7 @@ ghost use Rattle.grep_walk.specs.Walks.{skip_unmatched, IsOrdered};
 use crate::config::Config;
 use crate::walk::Walk;
 use grep_lines::{LineStep, line_of};
-use grep_matcher::{LineMatchKind, LineTerminator, Matcher};
+use grep_matcher::{LineMatchKind, Matcher};
 
 /// What is known of the lines of a window from a walk's line on, by positions in the window.
 #[derive(Clone, Copy)]
@@ -107,7 +107,6 @@ impl Config {
             return false;
         }
         match matcher.line_terminator() {
-            Some(LineTerminator::Byte(0)) => false,
             Some(terminator) => terminator == self.line_terminator,
             None => match matcher.non_matching_bytes() {
                 Some(absent) => absent.contains(self.line_terminator.as_byte()),

@@ -1,5 +1,5 @@
 -- What a search of a reader whose matches are counted has written.
-use Rattle.std.proofs.Common.{◌≡◌, ℕ, ◌-◌, ◌^◌, min, List, [], ◌∷◌, ◌++◌, length, refl, sym, ap, ◌∙◌, subst, arith}
+use Rattle.std.proofs.Common.{◌≡◌, ℕ, List, [], ◌∷◌, ◌++◌, length, refl, sym, ap, ◌∙◌, subst, arith}
 use Rattle.std.proofs.lemmas.Bool.{lt-ltb}
 use Rattle.std.specs.Prelude.{Bool, true, false, not, ◌||◌, decimal, if◌then◌else◌, nat_lt, Option, None, Result, Ok}
 use Rattle.std.specs.Prelude.{Err, IfOk, IfErr, MatchResult}
@@ -31,8 +31,7 @@ found-count [] = refl
 found-count (planned ∷ later) = go (is_match planned.call) (found-count later)
   where
     go : (b : Bool) → nat_lt 0 (match_count later) ≡ has_match later
-        → nat_lt 0 (min (length (if b then planned.call ∷ match_calls later else match_calls later)) (2 ^ 64 - 1))
-        ≡ (b || has_match later)
+        → nat_lt 0 (length (if b then planned.call ∷ match_calls later else match_calls later)) ≡ (b || has_match later)
     go true before = lt-ltb 0 _ (omega arith)
     go false before = before
 
@@ -74,18 +73,11 @@ module _ {R W : Type 0} (remaining : R → Option (List ℕ)) (read_step : R →
           let seen : IsInput state.settings taken.ended taken.pieces bytes =
           subst (λ (s : SearcherState). IsInput s.settings taken.ended taken.pieces bytes) (sym same_state)
           (input.0, input.1, input.2 ∙ sym (no_bytes (settings_of_options options) (not options.count) _)) in
-          count state.settings (search_plan state.settings (literal_meaning literal) bytes) n
-          (subst (λ m. IsRun {E = SearchError Global} IsCountStep state.settings m
-          (search_plan state.settings (literal_meaning literal) bytes) (Ok tt) n) none
-          (run bytes seen))
-          ∙ ap (λ (s : SearcherState). min (length (match_calls
-          (search_plan s.settings (literal_meaning literal) bytes).calls)) (2 ^ 64 - 1))
-          same_state
-          ∙ ap (λ m. min (length (match_calls (search_plan (searched_settings options) m bytes).calls)) (2 ^ 64 - 1))
-          same_meaning
-          ∙ ap (λ m. min m (2 ^ 64 - 1)) (no_count (settings_of_options options) (not options.count)
-          (meaning_of options)
-          bytes);
+          count state.settings (literal_meaning literal) bytes start n none (run bytes seen)
+          ∙ ap (λ (s : SearcherState). length (match_calls
+          (search_plan s.settings (literal_meaning literal) bytes).calls)) same_state
+          ∙ ap (λ m. length (match_calls (search_plan (searched_settings options) m bytes).calls)) same_meaning
+          ∙ no_count (settings_of_options options) (not options.count) (meaning_of options) bytes;
     }
 
     -- the count is written

@@ -43,9 +43,9 @@ abbrev pub has_match : List Planned → Bool
 has_match [] = false
 has_match (planned ∷ later) = is_match planned.call || has_match later
 
--- how many calls report a match, up to the greatest number of 64 bits
+-- how many calls report a match
 abbrev pub match_count : List Planned → ℕ
-match_count calls = min (length (match_calls calls)) (2 ^ 64 - 1)
+match_count calls = length (match_calls calls)
 
 -- that number, and a line feed
 abbrev pub count_text : List Planned → List ℕ

@@ -2,7 +2,7 @@
 use crate::files::{FILES, compile};
 use crate::write_title;
 use grep_output::Writing;
-use grep_printer::{SearchSeparator, StandardBuilder};
+use grep_printer::{ColorSpecs, SearchSeparator, StandardBuilder};
 use grep_searcher::{SearchError, SearcherBuilder};
 
 /// Writes lines with each of the fields before them.
@@ -105,6 +105,70 @@ pub fn write_across(rt: &HostRuntime) -> Result<(), SearchError> {
         &searcher,
         &printer,
         r"(?s)bar.*baz|o*",
+    )
+}
+
+/// Writes paths, numbers and matches in colours.
+pub fn write_colors(rt: &HostRuntime) -> Result<(), SearchError> {
+    let mut searcher = SearcherBuilder::new();
+    let mut printer = StandardBuilder::new();
+    printer.color_specs(ColorSpecs::Default);
+    write_lines(rt, "-n --color always f|o|$", &searcher, &printer, "f|o|$")?;
+    printer
+        .max_columns(Some(11))
+        .heading(true)
+        .separator_search(SearchSeparator::Blank);
+    write_lines(
+        rt,
+        "-n --heading -M11 --color always foo",
+        &searcher,
+        &printer,
+        "foo",
+    )?;
+    searcher.before_context(1).invert_match(true);
+    let mut printer = StandardBuilder::new();
+    printer
+        .color_specs(ColorSpecs::Default)
+        .column(true)
+        .byte_offset(true)
+        .separator_search(SearchSeparator::Dashes);
+    write_lines(
+        rt,
+        "-n --column -b -B1 -v --color always foo",
+        &searcher,
+        &printer,
+        "foo",
+    )
+}
+
+/// Writes parts, and matches across lines, in colours.
+pub fn write_colored_parts(rt: &HostRuntime) -> Result<(), SearchError> {
+    let mut searcher = SearcherBuilder::new();
+    let mut printer = StandardBuilder::new();
+    printer.color_specs(ColorSpecs::Default);
+    searcher.multi_line(true);
+    write_lines(
+        rt,
+        r"-n -U --color always o\n+[bn]|a\w",
+        &searcher,
+        &printer,
+        r"o\n+[bn]|a\w",
+    )?;
+    printer.only_matching(true).path_terminator(Some(0));
+    write_lines(
+        rt,
+        r"-n -o -0 -U --color always o\n+[bn]|a\w",
+        &searcher,
+        &printer,
+        r"o\n+[bn]|a\w",
+    )?;
+    searcher.multi_line(false);
+    write_lines(
+        rt,
+        "-n -o -0 --color always o*$",
+        &searcher,
+        &printer,
+        "o*$",
     )
 }
 

@@ -27,6 +27,8 @@ fn write_all(rt: &HostRuntime) -> Result<(), SearchError> {
     lines::write_parts(rt)?;
     lines::write_limited(rt)?;
     lines::write_across(rt)?;
+    lines::write_colors(rt)?;
+    lines::write_colored_parts(rt)?;
     summaries::write_summaries(rt)?;
     messages::write_messages(rt)?;
     Ok(())

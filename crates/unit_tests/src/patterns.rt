@@ -1,4 +1,6 @@
 //! The literal matcher, sets of bytes, ranges and terminators.
+ghost use Rattle.std.specs.Prelude.{◌<◌};
+
 use crate::texts::debugs;
 use grep_matcher::{ByteSet, LineTerminator, LiteralMatcher, Match, Matcher};
 use std::alloc::Global;
@@ -106,6 +108,38 @@ fn literals(rt: HostRuntime) {
     for row in FIND_ROWS {
         assert!(rt; copies(rt.alloc(), row.0, row.1, row.2), "{row:?}");
         assert!(rt; borrows(row.0, row.1, row.2), "{row:?}");
+    }
+}
+
+// A literal whose bytes are all frequent in text, which is searched for by three of them.
+const FREQUENT: &[u8; 6] = b"tea on";
+
+// Bytes among which the literal doesn't occur, and most of it often does.
+fn near_misses() -> [u8; 400] {
+    let mut haystack = [b'u'; 400];
+    for i in 0..400 {
+        haystack[i] = b"tea un"[i % 6];
+    }
+    haystack
+}
+
+// Whether the literal is found at a position among them.
+fn finds_at(position: usize) -> bool
+    requires { position < 395 }
+{
+    let mut haystack = near_misses();
+    for i in 0..6 {
+        haystack[position + i] = FREQUENT[i];
+    }
+    let matcher = LiteralMatcher::borrowed(FREQUENT);
+    finds(&matcher, &haystack, Some((position, position + 6)))
+}
+
+#[test]
+fn literals_of_frequent_bytes(rt: HostRuntime) {
+    assert!(rt; borrows(FREQUENT, &near_misses(), None));
+    for position in 0..395 {
+        assert!(rt; finds_at(position), "{position}");
     }
 }
 

@@ -1,6 +1,6 @@
 pub mod MatchedLines
-pub mod DecodingErrors
 pub mod Expressions
-pub mod MatchSinks
+pub mod JsonLines
+pub mod MarkedCalls
 pub mod NumberedTexts
 pub mod Prefixes

@@ -1,35 +1,22 @@
 -- What these callers return, said of the matched lines: those that are selected, or trailing after
 -- a selected one.
-use Rattle.std.specs.Prelude.{ℕ, ◌+◌, Bool, List, map, Option, take}
-use Rattle.std.specs.List.{concat}
-use Rattle.std.specs.Option.{option_map}
+use Rattle.std.specs.Prelude.{ℕ, ◌+◌, List, map, take}
+use Rattle.std.specs.List.{flat_map}
 use Rattle.grep_searcher.specs.MatchHandlers.{KeptReport, kept_line}
 use Rattle.grep_searcher.specs.Meanings.{Meaning}
-use Rattle.grep_searcher.specs.Reports.{first_below, line_count, line, some_below, start}
+use Rattle.grep_searcher.specs.Reports.{line}
 use Rattle.grep_searcher.specs.SearchLaws.{matched_lines}
-use Rattle.grep_searcher.specs.SelectedLines.{is_selected}
 use Rattle.grep_searcher.specs.Settings.{Settings}
-
--- whether a line is selected
-abbrev pub has_selected : Settings → Meaning → List ℕ → Bool
-has_selected settings meaning bytes =
-    some_below (is_selected settings meaning bytes) (line_count settings bytes)
 
 -- the first matched lines, at most n, with their numbers, their offsets and their bytes
 abbrev pub first_lines : ℕ → Settings → Meaning → List ℕ → List KeptReport
 first_lines n settings meaning bytes =
     map (kept_line settings bytes) (take n (matched_lines settings meaning bytes))
 
--- the number of the first selected line, counted from 1, and its offset
-abbrev pub first_selected : Settings → Meaning → List ℕ → Option (ℕ × ℕ)
-first_selected settings meaning bytes =
-    option_map (λ i. (i + 1, start settings bytes i))
-    (first_below (is_selected settings meaning bytes) (line_count settings bytes))
-
 -- the bytes of the matched lines, joined
 abbrev pub matched_bytes : Settings → Meaning → List ℕ → List ℕ
 matched_bytes settings meaning bytes =
-    concat (map (line settings bytes) (matched_lines settings meaning bytes))
+    flat_map (line settings bytes) (matched_lines settings meaning bytes)
 
 -- the number and the text of each matched line, in order
 abbrev pub numbered_lines_of : Settings → Meaning → List ℕ → List (ℕ × List ℕ)

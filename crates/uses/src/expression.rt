@@ -1,8 +1,8 @@
 //! How many lines match a regular expression.
-ghost use Rattle.std.specs.Prelude.{◌≡◌, false, true, IfOk};
+ghost use Rattle.std.specs.Prelude.{◌≡◌, false, IfOk};
 ghost use Rattle.grep_searcher.specs.Asking.{is_across};
+ghost use Rattle.grep_searcher.specs.Inputs.{searched_bytes};
 ghost use Rattle.grep_searcher.specs.LineCounts.{matched_count};
-ghost use Rattle.grep_searcher.specs.SliceSearches.{is_searched_unchanged};
 ghost use Rattle.uses.specs.Expressions.{line_meaning};
 
 use crate::count::count_matching_lines;
@@ -26,9 +26,9 @@ pub fn count_pattern_lines(
     bytes: &[u8],
 ) -> Result<u64, SearchError>
     ensures count { is_across searcher.old.settings (line_meaning pattern.now) ≡ false
-        → searcher.old.settings.binary_detection ≡ BinaryDetection.None
-        → is_searched_unchanged searcher.old.settings bytes.now ≡ true → IfOk result (λ count.
-        count ≡ matched_count searcher.old.settings (line_meaning pattern.now) bytes.now) }
+        → searcher.old.settings.binary_detection ≡ BinaryDetection.None → IfOk result (λ count.
+        count ≡ matched_count searcher.old.settings (line_meaning pattern.now)
+        (searched_bytes searcher.old.settings bytes.now)) }
     ensures settings { searcher.new.settings ≡ searcher.old.settings }
 {
     let mut builder = RegexMatcherBuilder::new();

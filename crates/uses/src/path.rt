@@ -1,21 +1,20 @@
 //! How many lines of a file match, and whether one does.
-ghost use Rattle.std.specs.Prelude.{◌≡◌, ℕ, List, Some, None, true, IfOk, IfErr};
+ghost use Rattle.std.specs.Prelude.{◌≡◌, ℕ, List, Some, true, IfOk, IfErr};
 ghost use Rattle.std.specs.declared.io.Error.{Error};
-ghost use Rattle.grep_searcher.specs.Asking.{IsLawful, refusal_of};
+ghost use Rattle.grep_searcher.specs.BoundedReads.{IsReadToMatch};
 ghost use Rattle.grep_searcher.specs.Inputs.{searched_bytes};
 ghost use Rattle.grep_searcher.specs.LineCounts.{IsLineCount, IsLineSearch};
-ghost use Rattle.grep_searcher.specs.Meanings.{IsInfallible};
-ghost use Rattle.uses.specs.MatchedLines.{has_selected};
+ghost use Rattle.grep_searcher.specs.MatchHandlers.{has_selected};
+ghost use Rattle.grep_searcher.specs.SearchFailures.{IsFaultless};
 
-use grep_searcher::laws::{files_count_lines, known_files_run, runs_find_selected};
+use grep_searcher::laws::{files_count_lines, files_find_lines};
 use grep_searcher::sinks::{Count, Found, OnMatch};
 use grep_searcher::{Matcher, SearchError, Searcher};
 use std::alloc::Global;
 use std::path::AsPath;
 use std::rt::Files;
 
-/// Opens the file at a path, and returns how many of its decoded lines are matched, up to the
-/// largest `u64`.
+/// Opens the file at a path, and returns how many of its decoded lines are matched.
 ///
 /// An error is that of opening the file, or one of reading it; or it is made of the matcher's, of a
 /// configuration that the searcher refuses, of the heap limit, of being out of memory, or of more
@@ -36,9 +35,7 @@ pub fn count_in_path<R: Files, M: Matcher + Drop, P: AsPath>(
         → IsLineCount (M.facts matcher) searcher.old.settings input count)) }
     ensures settings { searcher.new.settings ≡ searcher.old.settings }
     ensures buffers { searcher.old.has_buffers ≡ true → searcher.new.has_buffers ≡ true }
-    ensures error { IsInfallible (M.facts matcher).fails
-        → IsLawful (M.facts matcher) searcher.old.settings
-        → refusal_of searcher.old.settings (M.facts matcher).meaning ≡ None
+    ensures error { IsFaultless (M.facts matcher) searcher.old.settings
         → IfErr result (λ e. (error : Error) × (e ≡ SearchError.Io error)) }
 {
     let mut matches: Count<SearchError> = Count::new();
@@ -48,9 +45,11 @@ pub fn count_in_path<R: Files, M: Matcher + Drop, P: AsPath>(
 }
 
 /// Opens the file at a path, and returns whether one of its decoded lines is selected. The search
-/// ends at the first one.
+/// ends at the first one, and if the searcher has a heap limit, no more bytes are read beyond that
+/// line than the limit has, and three.
 ///
-/// The errors, and what is promised, are as in `count_in_path`.
+/// The errors, and what is promised, are as in `count_in_path`; how far is read is promised of a file
+/// that is searched as it is.
 pub fn has_match<R: Files, M: Matcher + Drop, P: AsPath>(
     rt: &R,
     searcher: &mut Searcher,
@@ -58,21 +57,20 @@ pub fn has_match<R: Files, M: Matcher + Drop, P: AsPath>(
     path: P,
 ) -> Result<bool, SearchError>
     ensures found { IsLineSearch (M.facts matcher) searcher.old.settings
-        → IfOk result (λ found. (file : R.File) × ((input : List ℕ)
+        → IfOk result (λ found. (file read : R.File) × ((input : List ℕ)
         → R.File.remaining file ≡ Some input
-        → found ≡ has_selected searcher.old.settings (M.facts matcher).meaning
-        (searched_bytes searcher.old.settings input))) }
+        → (found ≡ has_selected searcher.old.settings (M.facts matcher).meaning
+        (searched_bytes searcher.old.settings input))
+        × IsReadToMatch searcher.old.settings (M.facts matcher).meaning input
+        (R.File.remaining read))) }
     ensures settings { searcher.new.settings ≡ searcher.old.settings }
     ensures buffers { searcher.old.has_buffers ≡ true → searcher.new.has_buffers ≡ true }
-    ensures error { IsInfallible (M.facts matcher).fails
-        → IsLawful (M.facts matcher) searcher.old.settings
-        → refusal_of searcher.old.settings (M.facts matcher).meaning ≡ None
+    ensures error { IsFaultless (M.facts matcher) searcher.old.settings
         → IfErr result (λ e. (error : Error) × (e ≡ SearchError.Io error)) }
 {
     let found: Found<SearchError> = Found::new();
     let mut sink = OnMatch::new(found);
     searcher.search_path(rt, matcher, path, &mut sink)?;
-    known_files_run::<Global, M, R::File, OnMatch<Found<SearchError>>>();
-    runs_find_selected::<SearchError>();
+    files_find_lines::<Global, M, R::File, SearchError>();
     Ok(sink.handler().found())
 }

@@ -1,29 +1,33 @@
 //! How many lines start with a prefix: a matcher of one's own.
-ghost use Rattle.std.specs.Prelude.{◌≡◌, ◌-◌, ◌^◌, min, IfOk};
-ghost use Rattle.grep_searcher.specs.BuiltSettings.{default_settings};
+ghost use Rattle.std.specs.Prelude.{◌≡◌, false, IfOk};
+ghost use Rattle.grep_searcher.specs.HitLines.{IsUnlimited};
 ghost use Rattle.grep_searcher.specs.Inputs.{searched_bytes};
-ghost use Rattle.uses.specs.Prefixes.{prefixed_count};
+ghost use Rattle.grep_searcher.specs.LineCounts.{IsLineSearch};
+ghost use Rattle.uses.specs.Prefixes.{prefix_facts, prefixed_count};
 
 use crate::count::count_matching_lines;
 use grep_searcher::laws::hits_are_selected;
 use grep_searcher::{ByteSet, LineTerminator, Match, Matcher, SearchError, Searcher};
-use std::alloc::Global;
 use std::io;
 use std::marker::Model;
 
-/// Returns how many lines of `bytes`, decoded, start with `prefix`, up to the largest `u64`. Lines
-/// end at line feeds.
+/// Returns how many lines of `bytes`, decoded, start with `prefix`, with a searcher that searches by
+/// line and has no limit, no stop, no inversion and no binary detection, as a new one.
 ///
-/// An error is one of being out of memory; or, if the bytes have to be decoded, of more than
-/// 2^64 - 1 decoded bytes.
-pub fn count_with_prefix(alloc: Global, prefix: &[u8], bytes: &[u8]) -> Result<u64, SearchError>
-    ensures { IfOk result (λ count. count
-        ≡ min (prefixed_count prefix.now (searched_bytes default_settings bytes.now))
-        (2 ^ 64 - 1)) }
+/// An error is one of `count_matching_lines`, but for that of a matcher.
+pub fn count_with_prefix(
+    searcher: &mut Searcher,
+    prefix: &[u8],
+    bytes: &[u8],
+) -> Result<u64, SearchError>
+    ensures count { IsLineSearch (prefix_facts prefix.now) searcher.old.settings
+        → IsUnlimited searcher.old.settings → searcher.old.settings.invert_match ≡ false
+        → IfOk result (λ count. count ≡ prefixed_count searcher.old.settings prefix.now
+        (searched_bytes searcher.old.settings bytes.now)) }
+    ensures settings { searcher.new.settings ≡ searcher.old.settings }
 {
-    let mut searcher = Searcher::new(alloc)?;
     hits_are_selected();
-    count_matching_lines(&mut searcher, PrefixMatcher { prefix }, bytes)
+    count_matching_lines(searcher, PrefixMatcher { prefix }, bytes)
 }
 
 // Matches a haystack that starts with a prefix, from 0 to the prefix's length.
@@ -41,15 +45,11 @@ impl<'p> Model for PrefixMatcher<'p> {
 }
 
 impl Matcher for PrefixMatcher<'_> {
-    ghost use Rattle.uses.specs.Prefixes.{prefix_meaning};
+    ghost use Rattle.uses.specs.Prefixes.{prefix_facts};
 
     type Error = io::Error;
 
-    ghost facts = { λ prefix. record {
-      meaning = prefix_meaning prefix;
-      fails = λ _ _. ⊥;
-      is_lawful = λ _. Unit {0};
-    } };
+    ghost facts = { prefix_facts };
 
     fn find(&self, haystack: &[u8]) -> Result<Option<Match>, io::Error> {
         if haystack.starts_with(self.prefix) {

@@ -1,130 +1,79 @@
-//! A whole search with a sink of its own: the example of the README.
-ghost use Rattle.std.specs.Prelude.{◌≡◌, ◌⊎◌, IfOk, IfErr};
+//! A report of the matches with the lines near them, by a closure that gets each call.
+ghost use Rattle.std.specs.Prelude.{◌≡◌, ◌++◌, ◌∷◌, true, IfOk, OnOk};
+ghost use Rattle.grep_searcher.specs.Asking.{IsLawful, search_plan};
 ghost use Rattle.grep_searcher.specs.Inputs.{searched_bytes};
-ghost use Rattle.grep_searcher.specs.Literals.{literal_meaning};
-ghost use Rattle.grep_searcher.specs.SearchErrors.{IsOutOfMemory};
-ghost use Rattle.grep_searcher.specs.SearchLaws.{line_plan};
-ghost use Rattle.uses.specs.DecodingErrors.{IsDecodingError};
-ghost use Rattle.uses.specs.MatchSinks.{one_before, reporter, report_of};
+ghost use Rattle.grep_searcher.specs.PassedCalls.{passed_call};
+ghost use Rattle.uses.specs.MarkedCalls.{marked, one_before, report_of};
 
-use grep_searcher::laws::{runs_fold_all, searches_fail, searches_run};
+use grep_searcher::laws::{calls_are_passed, searches_run};
+use grep_searcher::sinks::{Calls, SinkCall};
 use grep_searcher::{
-    ConfigError, LiteralMatcher, SearchError, Searcher, SearcherBuilder, Sink, SinkContext,
-    SinkFinish, SinkMatch,
+    BinaryDetection, ConfigError, Matcher, SearchError, Searcher, SearcherBuilder,
 };
-use std::alloc::{AllocError, Allocator, Global};
-use std::marker::Model;
+use std::alloc::{AllocError, Global};
 
-/// Returns a report of a log: each line that has the literal, after a `>`, and the line before it,
-/// after a space. Two dashes are between two reported lines if lines were left out there.
+/// Returns a report of `bytes`, decoded: each match after a `>`, and each line near one after a
+/// space. Two dashes are between two reported lines if lines were left out there. How many lines
+/// near a match are reported is in the searcher's settings.
 ///
-/// An error is one of being out of memory. If the log has to be decoded, it may also be of more
-/// than 2^64 - 1 decoded bytes.
-pub fn in_context(alloc: Global, log: &[u8], literal: &[u8]) -> Result<Vec<u8>, SearchError>
-    ensures report { IfOk result (λ text.
-        text.items ≡ report_of (line_plan one_before (literal_meaning literal.now)
-        (searched_bytes one_before log.now)).calls) }
-    ensures error { IfErr result (λ e.
-        IsOutOfMemory e ⊎ ((e ≡ SearchError.Config ConfigError.Memory)
-        ⊎ IsDecodingError reporter (literal_meaning literal.now) log.now e)) }
+/// An error is made of the matcher's, of a configuration that the searcher refuses, or of being out
+/// of memory. If the bytes have to be decoded, it may also be of the heap limit, or of more than
+/// 2^64 - 1 decoded bytes.
+pub fn in_context<M: Matcher + Drop>(
+    alloc: Global,
+    searcher: &mut Searcher,
+    matcher: M,
+    bytes: &[u8],
+) -> Result<Vec<u8>, SearchError>
+    ensures report { IsLawful (M.facts matcher) searcher.old.settings
+        → searcher.old.settings.binary_detection ≡ BinaryDetection.None → IfOk result (λ text.
+        text.items ≡ report_of (search_plan searcher.old.settings (M.facts matcher).meaning
+        (searched_bytes searcher.old.settings bytes.now))) }
+    ensures settings { searcher.new.settings ≡ searcher.old.settings }
+    ensures buffers { searcher.old.has_buffers ≡ true → searcher.new.has_buffers ≡ true }
 {
-    let mut searcher = SearcherBuilder::new().before_context(1).build(alloc)?;
-    let matcher = LiteralMatcher::new(alloc, literal)?;
-    let mut report = Report {
-        text: Vec::new(alloc),
-    };
-    searches_fail::<Global, LiteralMatcher, Report>();
-    searcher.search_slice(matcher, log, &mut report)?;
-    searches_run::<Global, LiteralMatcher, _>(&report);
-    runs_fold_all::<Report>();
-    Ok(report.into_text())
+    let mut text = Vec::new(alloc);
+    let mut sink = Calls(
+        |call: SinkCall<'_>|
+            ensures { IfOk result (λ goes. (goes ≡ true)
+                × (text.exit.items ≡ text.entry.items ++ marked (passed_call call.entry))) }
+        {
+            write_call(&mut text, call)?;
+            Ok(true)
+        },
+    );
+    calls_are_passed::<_, u8>(&sink);
+    searches_run::<Global, M, _>(&sink);
+    searcher.search_slice(matcher, bytes, &mut sink)?;
+    Ok(text)
 }
 
-// A sink that writes a report.
-#[derive(Drop)]
-struct Report {
-    text: Vec<u8>,
+/// Returns a searcher that reports the line before each match too.
+///
+/// The only error is `Memory`, if there is none for its buffers.
+pub fn reporter(alloc: Global) -> Result<Searcher, ConfigError>
+    ensures { IfOk result (λ searcher.
+        searcher ≡ record { settings = one_before; has_buffers = true }) }
+{
+    SearcherBuilder::new().before_context(1).build(alloc)
 }
 
-impl Model for Report {
-    ghost use Rattle.std.specs.Prelude.{ℕ, List};
-
-    ghost Value = { List ℕ };
-
-    ghost view = { λ s. s.text.items };
-}
-
-impl Report {
-    ghost use Rattle.std.specs.Prelude.{◌∷◌, ◌++◌, OnOk};
-
-    // What it wrote.
-    fn into_text(self) -> Vec<u8>
-        ensures { result.items ≡ self }
-    {
-        let Report { text } = self;
-        text
-    }
-
-    // Writes a line after a mark.
-    fn write(&mut self, mark: u8, line: &[u8]) -> Result<(), AllocError>
-        ensures { OnOk result (self.new ≡ self.old ++ mark ∷ line.now) }
-    {
-        self.text.push(mark)?;
-        self.text.extend_from_slice(line)
+// Adds what a report has of a call. The only error is being out of memory.
+fn write_call(text: &mut Vec<u8>, call: SinkCall<'_>) -> Result<(), AllocError>
+    ensures { OnOk result (text.new.items ≡ text.old.items ++ marked (passed_call call.entry)) }
+{
+    match call {
+        SinkCall::Match(found) => write_line(text, b'>', found.bytes()),
+        SinkCall::Context(line) => write_line(text, b' ', line.bytes()),
+        SinkCall::Break => text.extend_from_slice(b"--\n"),
+        SinkCall::Begin | SinkCall::BinaryData(_) | SinkCall::Finish(_) => Ok(()),
     }
 }
 
-impl Sink for Report {
-    ghost use Rattle.std.specs.Prelude.{true};
-    ghost use Rattle.grep_searcher.specs.SinkFolds.{IsStepBy};
-    ghost use Rattle.uses.specs.MatchSinks.{reported};
-
-    type Error = SearchError;
-
-    ghost step = { IsStepBy (λ _ _. true) reported IsOutOfMemory };
-
-    ghost may_call = { λ _. Unit {0} };
-
-    fn begin<A: Allocator + Copy>(&mut self, _: &Searcher<A>) -> Result<bool, SearchError> {
-        Ok(true)
-    }
-
-    fn matched<A: Allocator + Copy>(
-        &mut self,
-        _: &Searcher<A>,
-        found: &SinkMatch<'_>,
-    ) -> Result<bool, SearchError> {
-        self.write(b'>', found.bytes())?;
-        Ok(true)
-    }
-
-    fn context<A: Allocator + Copy>(
-        &mut self,
-        _: &Searcher<A>,
-        line: &SinkContext<'_>,
-    ) -> Result<bool, SearchError> {
-        self.write(b' ', line.bytes())?;
-        Ok(true)
-    }
-
-    fn context_break<A: Allocator + Copy>(&mut self, _: &Searcher<A>) -> Result<bool, SearchError> {
-        self.text.extend_from_slice(b"--\n")?;
-        Ok(true)
-    }
-
-    fn binary_data<A: Allocator + Copy>(
-        &mut self,
-        _: &Searcher<A>,
-        _: u64,
-    ) -> Result<bool, SearchError> {
-        Ok(true)
-    }
-
-    fn finish<A: Allocator + Copy>(
-        &mut self,
-        _: &Searcher<A>,
-        _: &SinkFinish,
-    ) -> Result<(), SearchError> {
-        Ok(())
-    }
+// Adds a line after a mark.
+fn write_line(text: &mut Vec<u8>, mark: u8, line: &[u8]) -> Result<(), AllocError>
+    ensures { OnOk result (text.new.items ≡ text.old.items ++ mark ∷ line.now) }
+{
+    text.push(mark)?;
+    text.extend_from_slice(line)
 }

@@ -1,5 +1,5 @@
 //! A handler that keeps each match.
-ghost use Rattle.std.specs.Prelude.{◌≡◌, ◌++◌, ◌∷◌, [], OnOk};
+ghost use Rattle.std.specs.Prelude.{◌≡◌, ◌++◌, ◌∷◌, [], OnErr, OnOk};
 ghost use Rattle.grep_definitions.specs.SinkArguments.{match_call};
 ghost use Rattle.grep_searcher.specs.MatchHandlers.{kept_of};
 
@@ -10,7 +10,7 @@ use std::alloc::{AllocError, Allocator, Global};
 use std::marker::Model;
 
 /// Keeps each match that is reported, in order. It never ends a search; the only error is being
-/// out of memory for the match.
+/// out of memory for a match, and leaves those that were kept.
 #[derive(Drop)]
 pub struct Collect<A: Allocator + Copy = Global> {
     alloc: A,
@@ -55,7 +55,8 @@ impl<A: Allocator + Copy> Collect<A> {
 
     // Keeps a match. The only error is being out of memory.
     pub(crate) fn keep(&mut self, found: &SinkMatch<'_>) -> Result<(), AllocError>
-        ensures { OnOk result (self.new ≡ self.old ++ kept_of (match_call found.now) ∷ []) }
+        ensures kept { OnOk result (self.new ≡ self.old ++ kept_of (match_call found.now) ∷ []) }
+        ensures same { OnErr result (self.new ≡ self.old) }
     {
         let kept = KeptMatch::of(self.alloc, found)?;
         self.matches.push(kept)?;
@@ -65,8 +66,7 @@ impl<A: Allocator + Copy> Collect<A> {
 
 impl<A: Allocator + Copy> MatchHandler for Collect<A> {
     ghost use Rattle.std.specs.Prelude.{true};
-    ghost use Rattle.grep_report.specs.SearchErrors.{IsOutOfMemory};
-    ghost use Rattle.grep_searcher.specs.MatchHandlers.{collected};
+    ghost use Rattle.grep_searcher.specs.MatchHandlers.{collected, LacksMemory};
 
     type Error = SearchError<A>;
 
@@ -74,7 +74,7 @@ impl<A: Allocator + Copy> MatchHandler for Collect<A> {
 
     ghost next = { collected };
 
-    ghost fails = { IsOutOfMemory };
+    ghost fails = { LacksMemory };
 
     fn handle(&mut self, found: &SinkMatch<'_>) -> Result<bool, SearchError<A>> {
         self.keep(found)?;

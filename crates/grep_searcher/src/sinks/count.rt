@@ -84,7 +84,13 @@ impl<E> Sink for Count<E> {
         Ok(true)
     }
 
-    fn finish<A: Allocator + Copy>(&mut self, _: &Searcher<A>, _: &SinkFinish) -> Result<(), E> {
+    fn finish<A: Allocator + Copy>(
+        &mut self,
+        _: &Searcher<A>,
+        finish: &SinkFinish,
+    ) -> Result<(), E> {
+        // Read, so that it is known to fit.
+        let _byte_count = finish.byte_count();
         Ok(())
     }
 }

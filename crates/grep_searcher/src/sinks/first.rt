@@ -10,7 +10,7 @@ use std::marker::Model;
 
 /// Keeps the first matches that are reported, in order, up to a limit, and ends the search at the
 /// last of them; at limit 0 it keeps none, and the first match ends the search. The only error is
-/// being out of memory for a match.
+/// being out of memory for a match, and leaves those that were kept.
 #[derive(Drop)]
 pub struct First<A: Allocator + Copy = Global> {
     limit: usize,
@@ -54,8 +54,7 @@ impl<A: Allocator + Copy> First<A> {
 }
 
 impl<A: Allocator + Copy> MatchHandler for First<A> {
-    ghost use Rattle.grep_report.specs.SearchErrors.{IsOutOfMemory};
-    ghost use Rattle.grep_searcher.specs.MatchHandlers.{has_room, with_first};
+    ghost use Rattle.grep_searcher.specs.MatchHandlers.{has_room, LacksMemory, with_first};
 
     type Error = SearchError<A>;
 
@@ -63,7 +62,7 @@ impl<A: Allocator + Copy> MatchHandler for First<A> {
 
     ghost next = { with_first };
 
-    ghost fails = { IsOutOfMemory };
+    ghost fails = { LacksMemory };
 
     fn handle(&mut self, found: &SinkMatch<'_>) -> Result<bool, SearchError<A>> {
         if self.has_room() {

@@ -50,7 +50,7 @@ impl<E> MatchHandler for Found<E> {
 
     ghost next = { λ _ _. true };
 
-    ghost fails = { λ _. ⊥ };
+    ghost fails = { λ _ _ _ _. ⊥ };
 
     fn handle(&mut self, _: &SinkMatch<'_>) -> Result<bool, E> {
         self.found = true;

@@ -22,8 +22,8 @@ pub trait MatchHandler {
     /// The state after a match: the state before, the call with its data.
     ghost next: { Self → Call → Self };
 
-    /// The errors that there may be.
-    ghost fails: { Self.Error → Type 0 };
+    /// What an error says: the state before, the call with its data, the error, the state after.
+    ghost fails: { Self → Call → Self.Error → Self → Type 0 };
 
     /// Handles a match. Returns whether the search goes on; an error is the handler's own.
     fn handle(&mut self, found: &SinkMatch<'_>) -> Result<bool, Self::Error>
@@ -31,7 +31,7 @@ pub trait MatchHandler {
 }
 
 /// A sink that passes each match to a handler. Any other call goes on, does nothing and never
-/// fails.
+/// fails. Its steps also say that the byte count at the end is a number of 64 bits.
 #[derive(Drop)]
 pub struct OnMatch<H> {
     handler: H,
@@ -69,11 +69,11 @@ impl<H> OnMatch<H> {
 }
 
 impl<H: MatchHandler> Sink for OnMatch<H> {
-    ghost use Rattle.grep_definitions.specs.SinkFolds.{IsMatchStep};
+    ghost use Rattle.grep_searcher.specs.MatchHandlers.{IsHandlerStep};
 
     type Error = H::Error;
 
-    ghost step = { IsMatchStep H.goes H.next H.fails };
+    ghost step = { IsHandlerStep H.goes H.next H.fails };
 
     ghost may_call = { λ _. Unit {0} };
 
@@ -112,8 +112,10 @@ impl<H: MatchHandler> Sink for OnMatch<H> {
     fn finish<A: Allocator + Copy>(
         &mut self,
         _: &Searcher<A>,
-        _: &SinkFinish,
+        finish: &SinkFinish,
     ) -> Result<(), H::Error> {
+        // Read, so that it is known to fit.
+        let _byte_count = finish.byte_count();
         Ok(())
     }
 }

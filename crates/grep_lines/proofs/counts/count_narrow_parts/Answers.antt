@@ -10,17 +10,10 @@ loop-rest-preserved c =
     let others = c.split_at.result.1.now in
     let equals : ℕ → _ = λ (b : ℕ). b == c.args.terminator in
     let sum : (length bytes - length rest) + 16 ≡ length bytes - length others =
-    omega (arith, now.within, c.split_at.ensures.back_len) in
+    omega arith in
     record {
-      counted = omega (
-        arith,
-        now.counted,
-        c.count_narrow-total.ensures,
-        count-split equals 16 rest,
-        ap (count_by equals) c.split_at.ensures.front,
-        ap (count_by equals) c.split_at.ensures.back,
-      );
-      within = omega (arith, now.within, c.split_at.ensures.back_len);
+      counted = omega (arith, count-split equals 16 rest, ap (count_by equals) c.split_at.ensures.front, ap (count_by equals) c.split_at.ensures.back);
+      within = omega arith;
       end = c.split_at.ensures.back ∙ (ap (drop 16) now.end
           ∙ (drop-drop 16 (length bytes - length rest) bytes ∙ ap (λ k. drop k bytes) sum));
     }

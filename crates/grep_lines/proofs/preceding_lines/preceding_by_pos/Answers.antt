@@ -13,7 +13,7 @@ loop-left-init c =
           (λ over. omega (arith, start.ensures.zero (omega arith)))
           (cases_lt 0 c.args.pos);
       closed = λ more. ⊎_elim (λ some. (start.ensures.last some).closed more)
-          (λ over. absurd (omega (arith, more, start.ensures.zero (omega arith)))) (cases_lt 0 c.args.pos);
+          (λ over. absurd (omega (arith, start.ensures.zero (omega arith)))) (cases_lt 0 c.args.pos);
       back = subst (IsBack c.args.terminator c.args.bytes.now c.args.pos start.result) none
           (IsBack-first c.args.terminator c.args.bytes.now c.args.pos start.result start.ensures.zero
           start.ensures.last);

@@ -12,7 +12,7 @@ pub returns-clause-bytes : goal.returns-clause-bytes
 returns-clause-bytes c =
     let found = c.in_ok-first.ensures in
     rw c.replace_each.ensures (replaced-whole c.args.src c.args.new c.args.bytes.now c.in_ok-first.first
-    (omega (arith, found.0.high)) (λ k below. false_from_ne_true _ (found.0.before k (omega arith) below)))
+    (omega arith) (λ k below. false_from_ne_true _ (found.0.before k (omega arith) below)))
 
 pub returns-clause-first : goal.returns-clause-first
 returns-clause-first c =

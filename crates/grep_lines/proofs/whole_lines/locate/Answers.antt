@@ -23,7 +23,7 @@ unfolding pair
 returns-then-bytes-end-clause-value c =
     let t = c.args.terminator in
     let bytes = c.args.bytes.now in
-    let within : c.args.found.0 ≤ length bytes = omega (arith, c.requires, c.start.ensures.ordered) in
+    let within : c.args.found.0 ≤ length bytes = omega arith in
     let start = block_start-is t bytes c.args.found c.start.result c.last_start-start.result within
     c.start.ensures.value
     c.last_start-start.ensures in
@@ -40,7 +40,7 @@ unfolding pair
 returns-clause-value c =
     let t = c.args.terminator in
     let bytes = c.args.bytes.now in
-    let within : c.args.found.0 ≤ length bytes = omega (arith, c.requires, c.start.ensures.ordered) in
+    let within : c.args.found.0 ≤ length bytes = omega arith in
     let start = block_start-is t bytes c.args.found c.start.result c.last_start-start.result within
     c.start.ensures.value
     c.last_start-start.ensures in

@@ -2,4 +2,5 @@ use Rattle.grep_printer.proofs.SuccessiveLemmas.{parts-are-successive}
 use Rattle.grep_printer.proofs.laws.parts_are_successive.Goals as goal
 
 pub returns : goal.returns
-returns c = parts-are-successive
+returns g c matcher bytes limit = parts-are-successive bytes limit (g.M.FindAt.first_at matcher bytes)
+    (g.met.M.FindAt.are_first matcher bytes).within

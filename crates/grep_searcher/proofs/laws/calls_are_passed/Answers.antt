@@ -1,5 +1,11 @@
-use Rattle.grep_searcher.proofs.PassedCallLemmas.{closures-keep_passed}
+use Rattle.grep_searcher.proofs.PassedCallLemmas.{closures-append, closures-are_passed, closures-keep_passed}
 use Rattle.grep_searcher.proofs.laws.calls_are_passed.Goals as goal
 
-pub returns : goal.returns
-returns g c = closures-keep_passed (goal.F-step g) _
+pub returns-clause-passed : goal.returns-clause-passed
+returns-clause-passed g c = closures-are_passed (goal.F-step g) _
+
+pub returns-clause-appended : goal.returns-clause-appended
+returns-clause-appended g c = closures-append (goal.F-step g) _ _
+
+pub returns-clause-kept : goal.returns-clause-kept
+returns-clause-kept g c = closures-keep_passed (goal.F-step g) _

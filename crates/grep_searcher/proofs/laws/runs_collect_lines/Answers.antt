@@ -1,4 +1,4 @@
-use Rattle.grep_searcher.proofs.MatchHandlerLemmas.{runs-collect, runs-collect_lines}
+use Rattle.grep_searcher.proofs.MatchHandlerLemmas.{runs-collect, runs-collect_lines, runs-collect_until}
 use Rattle.grep_searcher.proofs.laws.runs_collect_lines.Goals as goal
 
 pub returns-clause-all : goal.returns-clause-all
@@ -6,3 +6,6 @@ returns-clause-all g c = runs-collect _
 
 pub returns-clause-lines : goal.returns-clause-lines
 returns-clause-lines g c = runs-collect_lines c.matches_are_matched_lines.ensures _
+
+pub returns-clause-failed : goal.returns-clause-failed
+returns-clause-failed g c = runs-collect_until _

@@ -39,7 +39,7 @@ returns-in-Ok-clause-failed g c =
 
 pub returns-clause-failed : goal.returns-clause-failed
 returns-clause-failed g c =
-    let fault = (rw c.in-Err.is at c.search_reader.ensures.succeeds) (λ _ _ _ _ _ _ h. h) (λ _ _ h. h) (λ _. tt)
+    let fault = (rw c.in-Err.is at c.search_reader.ensures.succeeds) (λ _ _ _ _ _ _ h. h.1) (λ _ _ h. h) (λ _. tt)
     (allowed c.args.options.now c.in_ok-searcher.searcher c.in_ok-matcher.matcher c.in_ok-searcher.ensures.settings) in
     count-unread g.R.Source.remaining g.R.Source.step g.W.Output.step c.args.options.now c.requires c.args.reader.now
     c.search_reader.new.reader c.in_ok-searcher.searcher c.in_ok-matcher.matcher fault.0 fault.1 c.in-Err.error

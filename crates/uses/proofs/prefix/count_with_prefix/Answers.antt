@@ -1,26 +1,19 @@
-use Rattle.std.proofs.Common.{◌≡◌, ◌-◌, ◌^◌, min, false, refl, sym, ap, subst, ◌∙◌}
-use Rattle.std.specs.Prelude.{IfOk}
-use Rattle.grep_searcher.specs.Asking.{is_across}
-use Rattle.grep_searcher.specs.BuiltSettings.{default_settings}
+use Rattle.std.proofs.Common.{◌≡◌, ℕ, Bool, true, false, Some, None, length, refl, subst, if◌then◌else◌}
+use Rattle.std.specs.Prelude.{IfOk, is_some, nat_eq}
+use Rattle.std.specs.List.{starts_with}
 use Rattle.grep_searcher.specs.Inputs.{searched_bytes}
-use Rattle.grep_searcher.specs.LineCounts.{matched_count}
-use Rattle.grep_searcher.specs.Settings.{Settings}
-use Rattle.uses.specs.Prefixes.{prefix_meaning}
-use Rattle.uses.proofs.PrefixLemmas.{matched-prefixed}
+use Rattle.uses.specs.Prefixes.{prefix_facts}
 use Rattle.uses.proofs.prefix.count_with_prefix.Goals as goal
 
-pub returns : goal.returns
-returns c =
+is_found : (k : ℕ) (b : Bool) → is_some {T = ℕ × ℕ} (if b then Some (0, k) else None) ≡ b
+is_found k true = refl
+is_found k false = refl
+
+pub returns-clause-count : goal.returns-clause-count
+returns-clause-count c = λ by free plain.
     let prefix = c.args.prefix.now in
-    let input = c.args.bytes.now in
-    let settings : c.in_ok-searcher.searcher.settings ≡ default_settings =
-    ap (λ s. s.settings) c.in_ok-searcher.ensures.settings in
-    let by_line = subst (λ s. is_across s (prefix_meaning prefix) ≡ false) (sym settings) refl in
-    subst (λ k. IfOk c.count_matching_lines.result (λ count. count ≡ min k (2 ^ 64 - 1)))
-    (ap (λ s. matched_count s (prefix_meaning prefix) (searched_bytes s input)) settings
-    ∙ matched-prefixed c.hits_are_selected.ensures.counted prefix (searched_bytes default_settings input))
-    (c.count_matching_lines.ensures.decoded (record {
-      lawful = λ asks. tt;
-      by_line = by_line;
-      undetected = ap (λ (s : Settings). s.binary_detection) settings;
-    }))
+    let settings = c.args.searcher.now.settings in
+    subst (λ k. IfOk c.count_matching_lines.result (λ count. count ≡ k))
+    (c.hits_are_selected.ensures.predicates settings (prefix_facts prefix).meaning
+    (searched_bytes settings c.args.bytes.now) (λ line. starts_with nat_eq line prefix) free plain
+    (λ line. is_found (length prefix) (starts_with nat_eq line prefix))) (c.count_matching_lines.ensures.count by)

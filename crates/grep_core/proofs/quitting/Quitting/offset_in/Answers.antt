@@ -11,4 +11,4 @@ returns-in-Some g c =
 pub returns-in-None : goal.returns-in-None
 returns-in-None g c =
     sym (ap (option_map (λ index. c.args.offset + index))
-    (position-found c.args.self.now.byte c.args.bytes.now None c.in-None.ensures))
+    (position-found _ _ None c.in-None.ensures))

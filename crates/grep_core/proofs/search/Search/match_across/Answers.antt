@@ -9,33 +9,33 @@ use Rattle.grep_core.proofs.search.Search.match_across.Goals as goal
 pub returns-in_err-begin-clause-fault : goal.returns-in_err-begin-clause-fault
 returns-in_err-begin-clause-fault g c =
     let p = err_from_is_err_and c.from_residual.result c.from_residual.ensures.1 in
-    rw (p.1, p.2) (ends.fault-begin g.C.Calls.step _ _ c.args.self.now.config c.args.bytes.now c.args.sink.now _ _
+    rw (p.1, p.2) (ends.fault-begin _ _ _ _ _ _ _ _
     c.in_err-begin.ensures.step)
 
 pub returns-then-not-branch-clause-reported : goal.returns-then-not-branch-clause-reported
 returns-then-not-branch-clause-reported g c =
     let unbegun : c.in_ok-begin.field-0 ≡ false = search rules in (
       stopped (counted 0),
-      ends.counted-unbegun c.args.self.now.config (g.M.Matcher.facts c.args.matcher.now).meaning c.args.bytes.now
-          g.C.Calls.step
-          c.args.sink.now _ (rw unbegun at c.in_ok-begin.ensures.step),
+      ends.counted-unbegun _ (g.M.Matcher.facts c.args.matcher.now).meaning _
+          _
+          _ _ (rw unbegun at c.in_ok-begin.ensures.step),
     )
 
 pub returns-in_err-begin-clause-in_order : goal.returns-in_err-begin-clause-in_order
 returns-in_err-begin-clause-in_order g c =
     let p = err_from_is_err_and c.from_residual.result c.from_residual.ensures.1 in
-    rw (p.1, p.2) (order.failed-begin g.C.Calls.step c.args.self.now.config _ _ c.args.sink.now _ _
+    rw (p.1, p.2) (order.failed-begin _ _ _ _ _ _ _
     c.in_err-begin.ensures.step)
 
 pub returns-then-not-branch-clause-in_order : goal.returns-then-not-branch-clause-in_order
 returns-then-not-branch-clause-in_order g c =
-    order.begun-to-0 g.C.Calls.step c.args.self.now.config c.args.sink.now _ _ c.in_ok-begin.ensures.step
+    order.begun-to-0 _ _ _ _ _ c.in_ok-begin.ensures.step
 
 pub returns-clause-in_order : goal.returns-clause-in_order
 returns-clause-in_order g c =
     let goes : c.in_ok-begin.field-0 ≡ true = search rules in
-    order.order-begun g.C.Calls.step c.args.self.now.config
-    (makers_of g.M.Error.Display.output g.C.Error.SinkError.makers)
-    (g.M.Matcher.facts c.args.matcher.now)
-    c.args.sink.now c.begin.new.sink c.search_across.result c.search_across.new.sink
+    order.order-begun _ _
+    _
+    _
+    _ _ _ _
     (rw goes at c.in_ok-begin.ensures.step) c.search_across.ensures.in_order

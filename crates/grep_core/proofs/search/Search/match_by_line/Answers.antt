@@ -1,6 +1,5 @@
 use Rattle.std.proofs.Common.{rules, ◌≡◌, ◌∙◌, [], arith, sym, true, false}
 use Rattle.std.proofs.lemmas.Result.{err_from_is_err_and}
-use Rattle.grep_matcher.specs.Lines.{byte_of}
 use Rattle.grep_definitions.specs.Plans.{all_true, stopped, counted}
 use Rattle.grep_walk.proofs.WalkLemmas as walks
 use Rattle.grep_walk.proofs.WindowLemmas.{own-window}
@@ -13,17 +12,17 @@ use Rattle.grep_core.proofs.search.Search.match_by_line.Goals as goal
 pub returns-in_err-begin-clause-fault : goal.returns-in_err-begin-clause-fault
 returns-in_err-begin-clause-fault g c =
     let p = err_from_is_err_and c.from_residual.result c.from_residual.ensures.1 in
-    rw (p.1, p.2) (λ lawful. walks.fault-begin g.C.Calls.step _ _ c.args.self.now.config c.args.bytes.now
-    c.args.sink.now _ _
+    rw (p.1, p.2) (λ lawful. walks.fault-begin _ _ _ _ _
+    _ _ _
     c.in_err-begin.ensures.step)
 
 pub returns-then-not-branch-clause-reported : goal.returns-then-not-branch-clause-reported
 returns-then-not-branch-clause-reported g c = λ lawful.
     let unbegun : c.in_ok-begin.field-0 ≡ false = search rules in (
       stopped (counted 0),
-      walks.counted-fresh g.C.Calls.step c.args.self.now.config c.args.sink.now _ _ _ _ _
-          (walks.counted-unbegun c.args.self.now.config (g.M.Matcher.facts c.args.matcher.now).meaning c.args.bytes.now
-          g.C.Calls.step c.args.sink.now _ (rw unbegun at c.in_ok-begin.ensures.step)),
+      walks.counted-fresh _ _ _ _ _ _ _ _
+          (walks.counted-unbegun _ (g.M.Matcher.facts c.args.matcher.now).meaning _
+          _ _ _ (rw unbegun at c.in_ok-begin.ensures.step)),
     )
 
 pub returns-then-reports_nothing-clause-reported : goal.returns-then-reports_nothing-clause-reported
@@ -31,11 +30,11 @@ returns-then-reports_nothing-clause-reported g c = λ lawful.
     let idle = c.reports_nothing.ensures in
     let goes : c.in_ok-begin.field-0 ≡ true = search rules in (
       all_true,
-      walks.counted-fresh g.C.Calls.step c.args.self.now.config c.args.sink.now _ _ _ _ _
-          (walks.counted-idle c.args.self.now.config (g.M.Matcher.facts c.args.matcher.now).meaning c.args.bytes.now
-          g.C.Calls.step (fresh c.args.sink.now) _ (sym idle ∙ c.if-reports_nothing.true)
-          (walks.reported-begin c.args.self.now.config (g.M.Matcher.facts c.args.matcher.now).meaning c.args.bytes.now
-          g.C.Calls.step c.args.sink.now _ (rw goes at c.in_ok-begin.ensures.step))),
+      walks.counted-fresh _ _ _ _ _ _ _ _
+          (walks.counted-idle _ (g.M.Matcher.facts c.args.matcher.now).meaning _
+          _ _ _ (sym idle ∙ c.if-reports_nothing.true)
+          (walks.reported-begin _ (g.M.Matcher.facts c.args.matcher.now).meaning c.args.bytes.now
+          _ _ _ (rw goes at c.in_ok-begin.ensures.step))),
     )
 
 pub returns-in_err-search_window-clause-fault : goal.returns-in_err-search_window-clause-fault
@@ -45,12 +44,12 @@ returns-in_err-search_window-clause-fault g c =
     let idle = c.reports_nothing.ensures in
     let goes : c.in_ok-begin.field-0 ≡ true = search rules in
     let begun = rw goes at c.in_ok-begin.ensures.step in
-    rw (p.1, p.2) (λ lawful. walks.fault-by_line g.C.Calls.step _ _ c.args.self.now.config c.args.bytes.now
-    c.args.sink.now _ _
+    rw (p.1, p.2) (λ lawful. walks.fault-by_line _ _ _ _ _
+    _ _ _
     (c.in_err-search_window.ensures.fault lawful [] c.args.bytes.now (fresh c.args.sink.now)
-    (search.searched-start g.C.Calls.step c.args.self.now.config (g.M.Matcher.facts c.args.matcher.now).meaning
-    c.args.bytes.now c.args.bytes.now
-    c.args.sink.now c.begin.new.sink (own-window (byte_of c.args.self.now.config.line_terminator) c.args.bytes.now)
+    (search.searched-start _ _ _
+    _ _
+    _ _ (own-window _ _)
     (sym idle ∙ c.if-reports_nothing.false) begun)))
 
 pub returns-clause-reported : goal.returns-clause-reported
@@ -58,50 +57,50 @@ returns-clause-reported g c = λ lawful.
     let idle = c.reports_nothing.ensures in
     let goes : c.in_ok-begin.field-0 ≡ true = search rules in
     let begun = rw goes at c.in_ok-begin.ensures.step in
-    let start = search.searched-start g.C.Calls.step c.args.self.now.config (g.M.Matcher.facts c.args.matcher.now).meaning
-    c.args.bytes.now
-    c.args.bytes.now c.args.sink.now c.begin.new.sink (own-window (byte_of c.args.self.now.config.line_terminator)
-    c.args.bytes.now) (sym idle ∙ c.if-reports_nothing.false) begun in
+    let start = search.searched-start _ _ _
+    _
+    _ _ _ (own-window _
+    _) (sym idle ∙ c.if-reports_nothing.false) begun in
     let counted = search.counted-either g.C.Calls.step
     (makers_of g.M.Error.Display.output g.C.Error.SinkError.makers)
     (g.M.Matcher.facts c.args.matcher.now)
-    c.args.self.now.config [] c.args.bytes.now c.args.bytes.now (fresh c.args.sink.now)
-    c.in_ok-search_window.field-0 c.search_window.new.walk c.search_window.new.sink
+    _ [] _ _ _
+    _ _ _
     (λ on. c.in_ok-search_window.ensures.goes_on lawful on [] c.args.bytes.now (fresh c.args.sink.now) start)
     (λ off.
     let ends = c.in_ok-search_window.ensures.ends lawful off in
     (ends.0, ends.1 [] c.args.bytes.now (fresh c.args.sink.now) start)) (omega arith) in (
       counted.0,
-      walks.counted-fresh g.C.Calls.step c.args.self.now.config c.args.sink.now _ _ _ _ _ counted.1,
+      walks.counted-fresh _ _ _ _ _ _ _ _ counted.1,
     )
 
 pub returns-in_err-begin-clause-in_order : goal.returns-in_err-begin-clause-in_order
 returns-in_err-begin-clause-in_order g c =
     let p = err_from_is_err_and c.from_residual.result c.from_residual.ensures.1 in
-    rw (p.1, p.2) (order.failed-begin g.C.Calls.step c.args.self.now.config _ _ c.args.sink.now _ _
+    rw (p.1, p.2) (order.failed-begin _ _ _ _ _ _ _
     c.in_err-begin.ensures.step)
 
 pub returns-then-not-branch-clause-in_order : goal.returns-then-not-branch-clause-in_order
 returns-then-not-branch-clause-in_order g c =
-    order.begun-to-0 g.C.Calls.step c.args.self.now.config c.args.sink.now _ _ c.in_ok-begin.ensures.step
+    order.begun-to-0 _ _ _ _ _ c.in_ok-begin.ensures.step
 
 pub returns-then-reports_nothing-clause-in_order : goal.returns-then-reports_nothing-clause-in_order
 returns-then-reports_nothing-clause-in_order g c =
-    order.begun-to-0 g.C.Calls.step c.args.self.now.config c.args.sink.now _ _ c.in_ok-begin.ensures.step
+    order.begun-to-0 _ _ _ _ _ c.in_ok-begin.ensures.step
 
 pub returns-in_err-search_window-clause-in_order : goal.returns-in_err-search_window-clause-in_order
 returns-in_err-search_window-clause-in_order g c =
     let p = err_from_is_err_and c.from_residual-in_err-search_window.result
     c.from_residual-in_err-search_window.ensures.1 in
     let goes : c.in_ok-begin.field-0 ≡ true = search rules in
-    rw (p.1, p.2) (order.failed-begun g.C.Calls.step c.args.self.now.config _ _ c.args.sink.now _ _ _
+    rw (p.1, p.2) (order.failed-begun _ _ _ _ _ _ _ _
     (rw goes at c.in_ok-begin.ensures.step) c.in_err-search_window.ensures.in_order)
 
 pub returns-clause-in_order : goal.returns-clause-in_order
 returns-clause-in_order g c =
     let goes : c.in_ok-begin.field-0 ≡ true = search rules in
-    order.begun-to g.C.Calls.step c.args.self.now.config c.args.sink.now _ _ _ (rw goes at c.in_ok-begin.ensures.step)
-    (order.called-to g.C.Calls.step c.args.self.now.config
+    order.begun-to _ _ _ _ _ _ (rw goes at c.in_ok-begin.ensures.step)
+    (order.called-to _ _
     (makers_of g.M.Error.Display.output g.C.Error.SinkError.makers)
     (g.M.Matcher.facts c.args.matcher.now)
-    c.begin.new.sink _ c.in_ok-search_window.field-0 _ c.in_ok-search_window.ensures.in_order)
+    _ _ c.in_ok-search_window.field-0 _ c.in_ok-search_window.ensures.in_order)

@@ -1,30 +1,21 @@
 use Rattle.std.proofs.Common.{arith, ◌∙◌, sym, false, true, inl, refl}
 use Rattle.std.proofs.lemmas.Bool.{false≢true}
 use Rattle.grep_definitions.specs.BinaryBytes.{is_detecting}
-use Rattle.grep_definitions.specs.Inputs.{reports_nothing, IsReadingError}
 use Rattle.std.proofs.lemmas.Result.{err_from_is_err_and}
 use Rattle.grep_core.proofs.StreamBeginLemmas as streams
 use Rattle.grep_core.proofs.StreamBeginLemmas.{idle-unread}
 use Rattle.grep_definitions.proofs.CallOrderLemmas as order
-use Rattle.grep_report.specs.ErrorMakers.{makers_of}
 use Rattle.grep_core.proofs.search.Search.match_source.Goals as goal
 
 pub returns-in_err-begin-clause-fault : goal.returns-in_err-begin-clause-fault
 returns-in_err-begin-clause-fault g c =
-    let errors = makers_of g.M.Error.Display.output g.C.Error.SinkError.makers in
-    let facts = g.M.Matcher.facts c.args.matcher.now in
     let p = err_from_is_err_and c.from_residual.result c.from_residual.ensures.1 in
-    rw (p.1, p.2) (λ lawful has_buffers. inl (streams.fault-begin g.R.Source.remaining g.R.Source.step g.C.Calls.step
-    errors facts
-    (record { settings = c.args.self.now.config; has_buffers = has_buffers }) c.requires.by_line c.args.reader.now
-    c.args.sink.now _ _ c.in_err-begin.ensures.step))
+    rw (p.1, p.2) (λ lawful has_buffers. inl (streams.fault-begin _ _ _ _ _
+    c.requires.by_line _ _ c.in_err-begin.ensures.step))
 
 pub returns-then-not-branch-clause-counted : goal.returns-then-not-branch-clause-counted
 returns-then-not-branch-clause-counted g c = λ lawful.
-    rw c.new.ensures (streams.counted-unbegun g.R.Source.remaining g.R.Source.step g.C.Calls.step c.args.self.now.config
-    (g.M.Matcher.facts c.args.matcher.now).meaning c.requires.by_line c.lines_join.ensures c.lines_append.ensures
-    c.args.reader.now
-    c.args.sink.now c.begin.new.sink
+    rw c.new.ensures (streams.counted-unbegun _ _ _ _ _ c.requires.by_line c.lines_join.ensures c.lines_append.ensures
     (rw c.if-not-branch.true at c.in_ok-begin.ensures.step))
 
 pub returns-then-not-branch-clause-begun : goal.returns-then-not-branch-clause-begun
@@ -47,14 +38,10 @@ returns-then-not-reads_lines-clause-begun g c = record {
 
 pub returns-then-not-reads_lines-clause-counted : goal.returns-then-not-reads_lines-clause-counted
 returns-then-not-reads_lines-clause-counted g c = λ lawful.
-    let reads = c.reads_lines.ensures in
-    rw c.new-then-not-reads_lines.ensures (streams.counted-idle g.R.Source.remaining g.R.Source.step g.C.Calls.step
-    c.args.self.now.config
-    (g.M.Matcher.facts c.args.matcher.now).meaning c.requires.by_line c.lines_join.ensures c.lines_append.ensures
-    c.args.reader.now
-    c.args.sink.now c.begin.new.sink
-    (idle-unread (reports_nothing c.args.self.now.config) (is_detecting c.args.self.now.config.binary_detection)
-    (sym reads ∙ c.if-not-reads_lines.true)) (rw c.if-not-branch.false at c.in_ok-begin.ensures.step))
+    rw c.new-then-not-reads_lines.ensures (streams.counted-idle _ _ _ _ _ c.requires.by_line c.lines_join.ensures
+    c.lines_append.ensures
+    (idle-unread _ _
+    (sym c.reads_lines.ensures ∙ c.if-not-reads_lines.true)) (rw c.if-not-branch.false at c.in_ok-begin.ensures.step))
 
 pub returns-in-Err-clause-succeeds : goal.returns-in-Err-clause-succeeds
 returns-in-Err-clause-succeeds g c = λ never infallible lawful.
@@ -69,20 +56,20 @@ returns-in-Err-clause-fault g c = λ lawful.
 pub returns-in_err-begin-clause-broken : goal.returns-in_err-begin-clause-broken
 returns-in_err-begin-clause-broken g c =
     let p = err_from_is_err_and c.from_residual.result c.from_residual.ensures.1 in
-    rw (p.1, p.2) (order.order-failed g.C.Calls.step c.args.self.now.config _ _ _ {told = 0} (omega arith)
-    c.args.sink.now _ _
-    (order.failed-begin g.C.Calls.step c.args.self.now.config _ _ c.args.sink.now _ _ c.in_err-begin.ensures.step))
+    rw (p.1, p.2) (order.order-failed _ _ _ _ _ {bound = 0} (omega arith)
+    _ _ _
+    (order.failed-begin _ _ _ _ _ _ _ c.in_err-begin.ensures.step))
 
 pub returns-then-not-branch-clause-in_order : goal.returns-then-not-branch-clause-in_order
 returns-then-not-branch-clause-in_order g c =
-    rw c.new.ensures (order.begun-to-0 g.C.Calls.step c.args.self.now.config c.args.sink.now _ c.begin.new.sink
+    rw c.new.ensures (order.begun-to-0 _ _ _ _ _
     c.in_ok-begin.ensures.step)
 
 pub returns-in-Err-clause-broken : goal.returns-in-Err-clause-broken
 returns-in-Err-clause-broken g c =
-    order.order-read g.C.Calls.step c.args.self.now.config
-    (makers_of g.M.Error.Display.output g.C.Error.SinkError.makers)
-    (g.M.Matcher.facts c.args.matcher.now)
-    (IsReadingError g.R.Source.remaining g.R.Source.step c.args.reader.now c.read_by_line.new.reader)
-    c.args.sink.now _ c.in-Err.error _ (rw c.if-not-branch.false at c.in_ok-begin.ensures.step)
+    order.order-read _ _
+    _
+    _
+    _
+    _ _ _ _ (rw c.if-not-branch.false at c.in_ok-begin.ensures.step)
     c.in-Err.ensures.in_order

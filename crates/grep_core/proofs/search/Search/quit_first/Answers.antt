@@ -49,7 +49,6 @@ returns-in_err-binary_data-clause-quits g c =
 
 pub returns-clause-quits : goal.returns-clause-quits
 returns-clause-quits g c =
-    first-quit g.C.Calls.step c.args.self.now.config c.args.offset c.args.sink.now c.begin.new.sink
-    c.binary_data.new.sink c.finish-2.new.sink c.in_ok-binary_data.field-0 c.finish-2.result
+    first-quit _ _ _ _
     (rw c.if-not-branch.false at c.in_ok-begin.ensures.step) c.in_ok-binary_data.ensures.step
     (rw c.new-2.ensures at c.finish-2.ensures.step)

@@ -1,30 +1,142 @@
-use Rattle.std.proofs.Common.{rules, subst, false, inl, inr, None, Err, Bool, [], ap, arith, length, refl, sym, ◌∙◌}
-use Rattle.std.proofs.Common.{◌≡◌, ◌++◌, true, ℕ, Option}
+use Rattle.std.proofs.Common.{rules, false, inl, inr, None, Err, Bool, [], ap, arith, length, refl, sym, ◌∙◌}
+use Rattle.std.proofs.Common.{subst, ◌≡◌, ◌++◌, Ok, true, ℕ, Option}
 use Rattle.std.proofs.lemmas.Bool.{false≢true}
-use Rattle.std.proofs.lemmas.Option.{none-some}
 use Rattle.std.proofs.lemmas.Result.{err_from_is_err_and}
-use Rattle.grep_matcher.specs.Lines.{byte_of}
+use Rattle.grep_matcher.specs.Meanings.{Meaning}
 use Rattle.grep_core.proofs.CutLemmas as cuts
-use Rattle.grep_core.proofs.HeldLemmas as holding
+use Rattle.grep_core.proofs.HeldLemmas.{HasFilled, IsStream}
 use Rattle.grep_core.proofs.RollingLemmas as rolling
 use Rattle.grep_core.proofs.NotedLemmas as noting
 use Rattle.grep_core.proofs.ReadingLemmas as reading
-use Rattle.grep_core.proofs.UnreadLemmas as unread
-use Rattle.grep_core.specs.BinaryCalls.{FailsAtBinary, Noted, PassesBinary}
-use Rattle.grep_core.specs.Rolls.{IsTold}
+use Rattle.grep_core.proofs.UnreadLemmas.{IsShort, short-filled}
+use Rattle.grep_core.specs.BinaryCalls.{Noted, PassesBinary}
+use Rattle.grep_core.specs.Rolls.{IsStartAt, not_passed}
 use Rattle.grep_line_buffer.specs.Fills.{FailsToFill, IfRead}
+use Rattle.grep_definitions.specs.Asking.{IsLawful}
 use Rattle.grep_definitions.specs.BinaryBytes.{is_detecting}
-use Rattle.grep_definitions.specs.CallOrder.{of_call}
-use Rattle.grep_definitions.specs.Plans.{all_true}
+use Rattle.grep_definitions.specs.CallOrder.{HasCalled, of_call}
+use Rattle.grep_definitions.specs.Inputs.{IsReadForLine, reports_nothing}
+use Rattle.grep_definitions.specs.Plans.{all_true, begins}
 use Rattle.grep_walk.specs.Origins.{fresh}
 use Rattle.grep_definitions.proofs.CallOrderLemmas as order
 use Rattle.grep_core.proofs.OrderLemmas as passed
-use Rattle.grep_report.specs.ErrorMakers.{makers_of}
+use Rattle.grep_core.proofs.search.Search.read_by_line.Given.{Over}
 use Rattle.grep_core.proofs.search.Search.read_by_line.Goals as goal
+use Rattle.grep_core.proofs.search.Search.read_by_line.Goals.{After-error_io, After-lines_are_few, After-passes_binary, Else-not-branch}
 
--- a sink's state, with the offset of the byte that it was told of
+-- a sink's state, with the offset of the byte that was reported to it
 abbrev noted : {S : Type 0} → S → Option ℕ → Noted S
 noted sink binary = record { sink = sink; binary = binary }
+
+abbrev meaning-of : (g : Over) → g.row.M.Denot → Meaning
+meaning-of g matcher = (g.M.Matcher.facts matcher).meaning
+
+-- the search, and the laws
+abbrev stream : (g : Over) (c : goal.After-lines_are_few g) → IsStream g.R.Source.remaining g.R.Source.step c.args.self.now.config
+    (meaning-of g c.args.matcher.now) c.args.decoder.now
+stream g c = record {
+  by_line = c.requires.by_line;
+  built = λ passthru. (c.requires.configured.bare passthru).1;
+  begun = c.requires.started;
+  join = c.lines_join.ensures;
+  append = c.lines_append.ensures;
+  none = c.done_gives_nothing.ensures;
+  continues = c.fills_continue.ensures.fills;
+}
+
+-- a fill that succeeded
+abbrev filled : (g : Over) (c : goal.After-passes_binary g) → HasFilled g.R.Source.remaining g.R.Source.step
+    c.args.self.now.config c.fills.lines c.fills.decoder c.fills.reader c.fill.new.self c.fill.new.decoder
+    c.fill.new.reader
+filled g c =
+    let fill = c.in_default.ensures in
+    record {
+      fills = fill.reads;
+      fitting = c.fills.invariant.fitting;
+      same = c.fill.ensures.same;
+      filled = fill.filled;
+      room = c.binary_byte_offset.ensures.room;
+      tight = c.binary_byte_offset.ensures.cut;
+      within = c.fill.ensures.within;
+      done = c.fill.ensures.done;
+      settled = fill.settled;
+      passing = fill.passing;
+    }
+
+-- it finds no byte if none is looked for
+unfound : (g : Over) (c : goal.After-passes_binary g) → is_detecting c.args.self.now.config.binary_detection ≡ false
+    → c.fill.new.self.binary ≡ None
+unfound g c = passed.clear-filled _ c.fills.lines c.fill.new.self _ c.in_default.ensures.reads.found c.fills.invariant.detects
+    c.fills.invariant.clear
+
+-- a byte that it finds is the one of which the sink is passed
+exact : (g : Over) (c : goal.After-passes_binary g) → c.binary_byte_offset.result ≡ c.fill.new.self.binary
+exact g c = c.binary_byte_offset.ensures.exact c.in_default.ensures.fits
+
+-- after that no offset is known if no byte is looked for
+clear : (g : Over) (c : goal.After-passes_binary g) (goes : Bool)
+    → PassesBinary g.C.Calls.step c.args.self.now.config c.binary_byte_offset.result (noted c.fills.sink c.fills.binary)
+    goes (noted c.passes_binary.new.sink c.passes_binary.new.binary)
+    → is_detecting c.args.self.now.config.binary_detection ≡ false → c.passes_binary.new.binary ≡ None
+clear g c goes passes = passed.clear-passed g.C.Calls.step c.args.self.now.config c.binary_byte_offset.result
+    (λ none. exact g c ∙ unfound g c none) _
+    _ goes c.fills.invariant.noted_clear passes
+
+-- the search goes on after it
+passes : (g : Over) (c : goal.Else-not-branch g) → PassesBinary g.C.Calls.step c.args.self.now.config
+    c.fill.new.self.binary (noted c.fills.sink c.fills.binary) true
+    (noted c.passes_binary.new.sink c.passes_binary.new.binary)
+passes g c =
+    let goes : c.in_ok-passes_binary.field-0 ≡ true = search rules in
+    rw (exact g _, goes) at c.in_ok-passes_binary.ensures.passes
+
+called : (g : Over) (c : goal.Else-not-branch g) → HasCalled g.C.Calls.step c.args.self.now.config
+    (passed.known_count c.passes_binary.new.binary) c.args.sink.now all_true c.passes_binary.new.sink
+called g c = passed.passes-on _ _ _ (unfound g (goal.at.Else-not-branch g c).After-passes_binary)
+    _ _ _ c.fills.invariant.calls (passes g c)
+
+there : (g : Over) (c : goal.Else-not-branch g) → IsLawful (g.M.Matcher.facts c.args.matcher.now)
+    c.args.self.now.config → (first : g.row.C-Sink.Denot)
+    → g.C.Calls.step first c.args.self.now.config begins (Ok true) c.args.sink.now
+    → cuts.GoesOn g.C.Calls.step c.args.self.now.config (meaning-of g c.args.matcher.now) g.R.Source.remaining
+    g.R.Source.step c.args.decoder.now c.args.reader.now first c.fills.lines c.fills.decoder c.fills.reader c.fills.walk
+    c.in_default.ensures.reads.given c.fill.new.self (noted c.passes_binary.new.sink c.passes_binary.new.binary)
+there g c lawful first begun =
+    let here = (goal.at.Else-not-branch g c).After-passes_binary in
+    cuts.goes-on (stream g (goal.at.Else-not-branch g c).After-lines_are_few) (filled g here)
+    (c.fills.invariant.rolling lawful first begun) (c.fills.invariant.noted lawful) (passes g c)
+
+-- why no more is read
+short : (g : Over) (c : goal.After-error_io g) → (lawful : IsLawful (g.M.Matcher.facts c.args.matcher.now)
+    c.args.self.now.config) (first : g.row.C-Sink.Denot)
+    (begun : g.C.Calls.step first c.args.self.now.config begins (Ok true) c.args.sink.now) (has_buffers : Bool)
+    → IsShort g.R.Source.remaining g.R.Source.step
+    (record { settings = c.args.self.now.config; has_buffers = has_buffers }) (meaning-of g c.args.matcher.now)
+    c.args.reader.now (c.fills.invariant.rolling lawful first begun).rolling.given
+    ((c.fills.invariant.rolling lawful first begun).rolling.gone ++ c.fills.lines.shown) c.fill.new.reader
+    c.io_error.result
+short g c lawful first begun has_buffers =
+    let fill = c.in-Err.ensures in
+    short-filled _ (stream g (goal.at.After-error_io g c).After-lines_are_few)
+    (c.fills.invariant.rolling lawful first begun).rolling _ c.io_error.ensures (record {
+      fitting = c.fills.invariant.fitting;
+      allowed = c.requires.allowed;
+      same = c.fill.ensures.same;
+      grows = c.fill.ensures.grows;
+      within = c.fill.ensures.within;
+      fails = fill.error;
+      reads = fill.reads;
+      read = fill.read;
+      uncut = fill.uncut;
+      empty = fill.empty;
+      waits = fill.waits;
+    })
+
+-- a search that may report nothing has read for one line
+read-once : (g : Over) (c : goal.After-passes_binary g) → reports_nothing c.args.self.now.config ≡ true
+    → IsReadForLine g.R.Source.remaining g.R.Source.step c.args.self.now.config c.args.reader.now c.fill.new.reader
+read-once g c idle = reading.read-once c.done_gives_nothing.ensures c.reads_continue.ensures.more c.requires.fitting
+    c.requires.empty c.requires.started (c.fills.invariant.fresh idle) c.in_default.ensures.begins
 
 pub fills-init : goal.fills-init
 fills-init g c =
@@ -38,545 +150,189 @@ fills-init g c =
       decoded = ([], c.reads_continue.ensures.none c.args.decoder.now c.args.reader.now);
       detects = ap (λ b. b.detection) empty;
       clear = λ _. ap (λ b. b.binary) empty;
-      noted_detects = λ offset is. absurd (none-some offset (sym c.requires.binary ∙ is));
+      noted_clear = λ _. c.requires.binary;
       fresh = λ idle. (refl, refl, refl);
-      calls = order.called-none g.C.Calls.step c.args.self.now.config c.args.sink.now;
+      calls = order.called-none _ _ _;
       noted = λ lawful. c.requires.binary ∙ sym (ap (λ b. b.binary) empty);
       rolling = λ lawful first begun.
-          let rolls_on = rolling.rolling-start g.R.Source.remaining g.R.Source.step c.lines_join.ensures
-          c.lines_append.ensures
-          g.C.Calls.step c.args.self.now.config (g.M.Matcher.facts c.args.matcher.now).meaning
-          c.lines_are_numbered.ensures
-          c.lines_are_few.ensures c.args.decoder.now c.args.reader.now first c.args.sink.now c.args.lines.now
-          (ap (λ b. b.shown) empty) (ap (λ b. b.rest) empty) (ap (λ b. b.offset) empty) (ap (λ b. b.has_ended) empty)
-          (ap (λ b. b.binary) empty) (ap (λ b. b.detection) empty) c.requires.fitting.terminator
-          (c.reads_continue.ensures.none c.args.decoder.now c.args.reader.now) c.requires.busy
-          begun in
+          let rolls = rolling.rolling-start c.lines_join.ensures c.lines_append.ensures c.lines_are_numbered.ensures
+          c.lines_are_few.ensures empty c.requires.fitting.terminator
+          (c.reads_continue.ensures.none c.args.decoder.now c.args.reader.now) c.requires.busy begun in
           record {
             start = fresh first;
-            rolling = rolls_on;
-            told = subst (λ found. IsTold g.C.Calls.step c.args.self.now.config (g.M.Matcher.facts c.args.matcher.now).meaning
-                rolls_on.given 0 first found (fresh first)) (sym c.requires.binary) refl;
+            rolling = rolls;
+            passed = subst (IsStartAt g.C.Calls.step c.args.self.now.config (meaning-of g c.args.matcher.now) rolls.given 0
+                first (fresh first)) (sym c.requires.binary) (not_passed refl);
           };
     }
 
 pub returns-in-Err-clause-fault : goal.returns-in-Err-clause-fault
 returns-in-Err-clause-fault g c = λ lawful first begun has_buffers.
-    let on = c.fills.invariant.rolling lawful first begun in
-    let so_far = on.rolling in
-    let k = c.args.self.now.config in
-    let meaning = (g.M.Matcher.facts c.args.matcher.now).meaning in
-    let fill = c.in-Err.ensures in
-    let errors = makers_of g.M.Error.Display.output g.C.Error.SinkError.makers in
-    let facts = g.M.Matcher.facts c.args.matcher.now in
-    let short = unread.short-filled g.R.Source.remaining g.R.Source.step c.lines_join.ensures c.lines_append.ensures
-    g.C.Calls.step k meaning
-    c.args.decoder.now.capacity c.args.reader.now c.args.decoder.now c.requires.started on.start c.fills.lines
-    c.fill.new.self
-    c.fills.decoder c.fill.new.decoder c.fills.reader c.fill.new.reader c.fills.walk c.fills.sink so_far
-    c.fills.invariant.fitting
-    c.fill.ensures.same
-    (λ r2 fills. holding.held-next g.R.Source.remaining g.R.Source.step c.fills_continue.ensures.fills c.fills.lines
-    c.fill.new.self c.args.decoder.now c.fills.decoder c.fill.new.decoder c.args.reader.now c.fills.reader r2
-    so_far.gone
-    so_far.given so_far.between.offset so_far.uncut so_far.holds fills)
-    has_buffers c.fill.ensures.grows c.fill.ensures.within c.requires.allowed
-    c.done_gives_nothing.ensures c.requires.by_line
-    c.in-Err.error c.io_error.result c.io_error.ensures fill.error fill.reads fill.read
-    fill.uncut fill.empty fill.waits in
-    inr (cuts.cut-short g.R.Source.remaining g.R.Source.step c.lines_join.ensures c.lines_append.ensures g.C.Calls.step
-    k
-    meaning c.requires.by_line (λ passthru. (c.requires.configured.bare passthru).1)
-    c.args.decoder.now.capacity c.args.reader.now c.args.decoder.now c.requires.started c.done_gives_nothing.ensures
-    first c.fills.lines c.fills.decoder c.fills.reader c.fills.walk (noted c.fills.sink c.fills.binary) on
-    c.fills.invariant.fitting.terminator (c.fills.invariant.noted lawful) errors facts has_buffers c.fill.new.reader
-    c.error_io.result c.io_error.result short.mid short.taken short.begins short.cause c.error_io.ensures)
+    let at = (goal.at.returns-in-Err-clause-fault g c).After-error_io in
+    inr (cuts.cut-short (stream g (goal.at.returns-in-Err-clause-fault g c).After-lines_are_few)
+    (c.fills.invariant.rolling lawful first begun) c.fills.invariant.fitting.terminator
+    (c.fills.invariant.noted lawful) (g.M.Matcher.facts c.args.matcher.now) (short g at lawful first begun has_buffers)
+    c.error_io.ensures)
 
 pub returns-in-Err-clause-succeeds : goal.returns-in-Err-clause-succeeds
 returns-in-Err-clause-succeeds g c = λ _ _ lawful first begun has_buffers.
-    let on = c.fills.invariant.rolling lawful first begun in
-    let so_far = on.rolling in
-    let k = c.args.self.now.config in
-    let meaning = (g.M.Matcher.facts c.args.matcher.now).meaning in
-    let fill = c.in-Err.ensures in
-    let short = unread.short-filled g.R.Source.remaining g.R.Source.step c.lines_join.ensures c.lines_append.ensures
-    g.C.Calls.step k meaning
-    c.args.decoder.now.capacity c.args.reader.now c.args.decoder.now c.requires.started on.start c.fills.lines
-    c.fill.new.self
-    c.fills.decoder c.fill.new.decoder c.fills.reader c.fill.new.reader c.fills.walk c.fills.sink so_far
-    c.fills.invariant.fitting
-    c.fill.ensures.same
-    (λ r2 fills. holding.held-next g.R.Source.remaining g.R.Source.step c.fills_continue.ensures.fills c.fills.lines
-    c.fill.new.self c.args.decoder.now c.fills.decoder c.fill.new.decoder c.args.reader.now c.fills.reader r2
-    so_far.gone
-    so_far.given so_far.between.offset so_far.uncut so_far.holds fills)
-    has_buffers c.fill.ensures.grows c.fill.ensures.within c.requires.allowed
-    c.done_gives_nothing.ensures c.requires.by_line
-    c.in-Err.error c.io_error.result c.io_error.ensures fill.error fill.reads fill.read
-    fill.uncut fill.empty fill.waits in (
-      true,
-      so_far.gone ++ c.fills.lines.shown,
-      c.io_error.result,
-      (short.mid, short.taken, short.cause),
-      c.error_io.ensures,
-    )
+    let why = short g (goal.at.returns-in-Err-clause-succeeds g c).After-error_io lawful first begun _ in
+    (true, _, c.io_error.result, (why.mid, why.taken, why.cause), c.error_io.ensures)
 
 pub returns-in_err-passes_binary-clause-fault : goal.returns-in_err-passes_binary-clause-fault
 returns-in_err-passes_binary-clause-fault g c =
     let p = err_from_is_err_and c.from_residual.result c.from_residual.ensures.1 in
+    let at = (goal.at.returns-in_err-passes_binary-clause-fault g c).After-passes_binary in
     rw (p.1, p.2) (λ lawful first begun has_buffers.
-    let on = c.fills.invariant.rolling lawful first begun in
-    let so_far = on.rolling in
-    let k = c.args.self.now.config in
-    let meaning = (g.M.Matcher.facts c.args.matcher.now).meaning in
-    let fill = c.in_default.ensures in
-    let same = c.fill.ensures.same in
-    let ends_at = c.fills.invariant.fitting.terminator in
-    let exact = c.binary_byte_offset.ensures.exact fill.fits in
-    let held_now = holding.held-next g.R.Source.remaining g.R.Source.step c.fills_continue.ensures.fills c.fills.lines
-    c.fill.new.self c.args.decoder.now c.fills.decoder c.fill.new.decoder c.args.reader.now c.fills.reader
-    c.fill.new.reader so_far.gone so_far.given so_far.between.offset so_far.uncut so_far.holds fill.reads in
-    let errors = makers_of g.M.Error.Display.output g.C.Error.SinkError.makers in
-    let facts = g.M.Matcher.facts c.args.matcher.now in
-    inl (cuts.fault-cut g.R.Source.remaining g.R.Source.step c.lines_join.ensures c.lines_append.ensures g.C.Calls.step
-    k
-    meaning c.requires.by_line (λ passthru. (c.requires.configured.bare passthru).1)
-    c.args.decoder.now.capacity c.args.reader.now c.args.decoder.now c.requires.started c.done_gives_nothing.ensures
-    first c.fills.lines c.fills.decoder c.fills.reader c.fills.walk (noted c.fills.sink c.fills.binary) on ends_at
-    c.fill.new.self c.fill.new.decoder c.fill.new.reader same fill.reads held_now
-    c.fills.invariant.fitting c.binary_byte_offset.ensures.room c.binary_byte_offset.ensures.cut c.fill.ensures.within
-    refl (c.fills.invariant.noted lawful) (fill.settled so_far.between.unended so_far.uncut)
-    (fill.passing so_far.between.unended so_far.uncut)
-    errors facts has_buffers c.in_err-passes_binary.field-0.0 (noted c.passes_binary.new.sink
-    c.passes_binary.new.binary)
-    (subst (λ b. FailsAtBinary g.C.Calls.step k b (noted c.fills.sink c.fills.binary) c.in_err-passes_binary.field-0.0
-    (noted c.passes_binary.new.sink c.passes_binary.new.binary)) exact
-    c.in_err-passes_binary.ensures.fails)))
+    inl (cuts.fault-cut (stream g (goal.at.returns-in_err-passes_binary-clause-fault g c).After-lines_are_few) (filled g at)
+    (c.fills.invariant.rolling lawful first begun) (c.fills.invariant.noted lawful)
+    (g.M.Matcher.facts c.args.matcher.now) (noted c.passes_binary.new.sink c.passes_binary.new.binary)
+    (rw (exact g at) at c.in_err-passes_binary.ensures.fails)))
 
 pub returns-then-not-branch-clause-counted : goal.returns-then-not-branch-clause-counted
 returns-then-not-branch-clause-counted g c = λ lawful first begun.
-    let on = c.fills.invariant.rolling lawful first begun in
-    let so_far = on.rolling in
-    let k = c.args.self.now.config in
-    let meaning = (g.M.Matcher.facts c.args.matcher.now).meaning in
-    let fill = c.in_default.ensures in
-    let same = c.fill.ensures.same in
-    let ends_at = c.fills.invariant.fitting.terminator in
-    let exact = c.binary_byte_offset.ensures.exact fill.fits in
-    let held_now = holding.held-next g.R.Source.remaining g.R.Source.step c.fills_continue.ensures.fills c.fills.lines
-    c.fill.new.self c.args.decoder.now c.fills.decoder c.fill.new.decoder c.args.reader.now c.fills.reader
-    c.fill.new.reader so_far.gone so_far.given so_far.between.offset so_far.uncut so_far.holds fill.reads in
-    cuts.ended-cut g.R.Source.remaining g.R.Source.step c.lines_join.ensures c.lines_append.ensures g.C.Calls.step k
-    meaning c.requires.by_line (λ passthru. (c.requires.configured.bare passthru).1)
-    c.args.decoder.now.capacity c.args.reader.now c.args.decoder.now c.requires.started c.done_gives_nothing.ensures
-    first c.fills.lines c.fills.decoder c.fills.reader c.fills.walk (noted c.fills.sink c.fills.binary) on ends_at
-    c.fill.new.self c.fill.new.decoder c.fill.new.reader same fill.reads held_now
-    c.fills.invariant.fitting c.binary_byte_offset.ensures.room c.binary_byte_offset.ensures.cut c.fill.ensures.within
-    refl (c.fills.invariant.noted lawful) (fill.settled so_far.between.unended so_far.uncut)
-    (fill.passing so_far.between.unended so_far.uncut) (noted c.passes_binary.new.sink c.passes_binary.new.binary)
-    (subst (λ b. PassesBinary g.C.Calls.step k b (noted c.fills.sink c.fills.binary) false (noted
-    c.passes_binary.new.sink c.passes_binary.new.binary)) exact
-    (subst (λ x. PassesBinary g.C.Calls.step k c.binary_byte_offset.result (noted c.fills.sink c.fills.binary) x (noted
-    c.passes_binary.new.sink c.passes_binary.new.binary))
-    c.if-not-branch.true c.in_ok-passes_binary.ensures.passes))
+    let at = (goal.at.returns-then-not-branch-clause-counted g c).After-passes_binary in
+    cuts.ended-cut (stream g (goal.at.returns-then-not-branch-clause-counted g c).After-lines_are_few) (filled g at)
+    (c.fills.invariant.rolling lawful first begun) (c.fills.invariant.noted lawful)
+    {sink' = noted c.passes_binary.new.sink c.passes_binary.new.binary}
+    (rw (exact g at, c.if-not-branch.true) at c.in_ok-passes_binary.ensures.passes)
 
 pub returns-in_err-search_shown-clause-fault : goal.returns-in_err-search_shown-clause-fault
 returns-in_err-search_shown-clause-fault g c =
     let p = err_from_is_err_and c.from_residual-in_err-search_shown.result
     c.from_residual-in_err-search_shown.ensures.1 in
+    let on = (goal.at.returns-in_err-search_shown-clause-fault g c).Else-not-branch in
+    let at = (goal.at.Else-not-branch g on).After-passes_binary in
     rw (p.1, p.2) (λ lawful first begun has_buffers.
-    let on = c.fills.invariant.rolling lawful first begun in
-    let so_far = on.rolling in
-    let k = c.args.self.now.config in
-    let meaning = (g.M.Matcher.facts c.args.matcher.now).meaning in
-    let fill = c.in_default.ensures in
-    let same = c.fill.ensures.same in
-    let ends_at = c.fills.invariant.fitting.terminator in
-    let exact = c.binary_byte_offset.ensures.exact fill.fits in
-    let there = cuts.goes-on g.R.Source.remaining g.R.Source.step c.lines_join.ensures c.lines_append.ensures
-    g.C.Calls.step k
-    meaning c.requires.by_line (λ passthru. (c.requires.configured.bare passthru).1)
-    c.args.decoder.now.capacity c.args.reader.now c.args.decoder.now c.requires.started c.done_gives_nothing.ensures
-    c.fills_continue.ensures.fills first c.fills.lines c.fill.new.self c.fills.decoder c.fill.new.decoder c.fills.reader
-    c.fill.new.reader c.fills.walk (noted c.passes_binary.new.sink c.passes_binary.new.binary) (noted c.fills.sink
-    c.fills.binary) on ends_at same fill.reads
-    c.fills.invariant.fitting c.binary_byte_offset.ensures.room c.binary_byte_offset.ensures.cut c.fill.ensures.within
-    (c.fills.invariant.noted lawful) c.binary_byte_offset.result exact
-    c.in_ok-passes_binary.field-0 (search rules) c.in_ok-passes_binary.ensures.passes in
-    let busy = (sym c.reports_nothing.ensures ∙ c.if-reports_nothing.false) in
-    let errors = makers_of g.M.Error.Display.output g.C.Error.SinkError.makers in
-    let facts = g.M.Matcher.facts c.args.matcher.now in
-    inl (cuts.fault-shown g.R.Source.remaining g.R.Source.step c.lines_join.ensures c.lines_append.ensures
-    g.C.Calls.step k
-    meaning c.requires.by_line (λ passthru. (c.requires.configured.bare passthru).1)
-    c.args.decoder.now.capacity c.args.reader.now c.args.decoder.now c.requires.started c.done_gives_nothing.ensures
-    c.fills_continue.ensures.fills first c.fills.lines c.fill.new.self c.fills.decoder c.fill.new.decoder c.fills.reader
-    c.fill.new.reader c.fills.walk (noted c.passes_binary.new.sink c.passes_binary.new.binary) there ends_at same
-    fill.reads c.fills.invariant.fitting
-    c.search_shown.ensures.room c.fill.ensures.within
-    busy fill.filled c.fill.ensures.done errors facts has_buffers c.in_err-search_shown.field-0.0
-    c.search_shown.new.sink (c.in_err-search_shown.ensures.fault lawful)))
+    inl (cuts.fault-shown (stream g (goal.at.returns-in_err-search_shown-clause-fault g c).After-lines_are_few) (filled g at)
+    (there g on lawful first begun) (sym c.reports_nothing.ensures ∙ c.if-reports_nothing.false)
+    (g.M.Matcher.facts c.args.matcher.now) (c.in_err-search_shown.ensures.fault lawful)))
 
 pub returns-then-reports_nothing-clause-counted : goal.returns-then-reports_nothing-clause-counted
 returns-then-reports_nothing-clause-counted g c = λ lawful first begun.
-    let idle = (sym c.reports_nothing.ensures ∙ c.if-reports_nothing.true) in
-    let on = c.fills.invariant.rolling lawful first begun in
-    let so_far = on.rolling in
-    let k = c.args.self.now.config in
-    let meaning = (g.M.Matcher.facts c.args.matcher.now).meaning in
-    let fill = c.in_default.ensures in
-    let same = c.fill.ensures.same in
-    let ends_at = c.fills.invariant.fitting.terminator in
-    let exact = c.binary_byte_offset.ensures.exact fill.fits in
-    let there = cuts.goes-on g.R.Source.remaining g.R.Source.step c.lines_join.ensures c.lines_append.ensures
-    g.C.Calls.step k
-    meaning c.requires.by_line (λ passthru. (c.requires.configured.bare passthru).1)
-    c.args.decoder.now.capacity c.args.reader.now c.args.decoder.now c.requires.started c.done_gives_nothing.ensures
-    c.fills_continue.ensures.fills first c.fills.lines c.fill.new.self c.fills.decoder c.fill.new.decoder c.fills.reader
-    c.fill.new.reader c.fills.walk (noted c.passes_binary.new.sink c.passes_binary.new.binary) (noted c.fills.sink
-    c.fills.binary) on ends_at same fill.reads
-    c.fills.invariant.fitting c.binary_byte_offset.ensures.room c.binary_byte_offset.ensures.cut c.fill.ensures.within
-    (c.fills.invariant.noted lawful) c.binary_byte_offset.result exact
-    c.in_ok-passes_binary.field-0 (search rules) c.in_ok-passes_binary.ensures.passes in
-    cuts.counted-idle g.R.Source.remaining g.R.Source.step c.lines_join.ensures c.lines_append.ensures g.C.Calls.step k
-    meaning c.requires.by_line (λ passthru. (c.requires.configured.bare passthru).1)
-    c.args.decoder.now.capacity c.args.reader.now c.args.decoder.now c.requires.started c.done_gives_nothing.ensures
-    c.fills_continue.ensures.fills first c.fills.lines c.fill.new.self c.fills.decoder c.fill.new.decoder c.fills.reader
-    c.fill.new.reader c.fills.walk (noted c.passes_binary.new.sink c.passes_binary.new.binary) there ends_at same
-    fill.reads c.fills.invariant.fitting
-    c.binary_byte_offset.ensures.room c.fill.ensures.within
-    idle (fill.settled so_far.between.unended so_far.uncut) (fill.passing so_far.between.unended so_far.uncut)
+    let on = (goal.at.returns-then-reports_nothing-clause-counted g c).Else-not-branch in
+    let at = (goal.at.Else-not-branch g on).After-passes_binary in
+    cuts.counted-idle (stream g (goal.at.returns-then-reports_nothing-clause-counted g c).After-lines_are_few) (filled g at)
+    (there g on lawful first begun) (sym c.reports_nothing.ensures ∙ c.if-reports_nothing.true)
 
 pub returns-then-not-branch-2-clause-counted : goal.returns-then-not-branch-2-clause-counted
 returns-then-not-branch-2-clause-counted g c = λ lawful first begun.
-    let on = c.fills.invariant.rolling lawful first begun in
-    let so_far = on.rolling in
-    let k = c.args.self.now.config in
-    let meaning = (g.M.Matcher.facts c.args.matcher.now).meaning in
-    let fill = c.in_default.ensures in
-    let same = c.fill.ensures.same in
-    let ends_at = c.fills.invariant.fitting.terminator in
-    let exact = c.binary_byte_offset.ensures.exact fill.fits in
-    let there = cuts.goes-on g.R.Source.remaining g.R.Source.step c.lines_join.ensures c.lines_append.ensures
-    g.C.Calls.step k
-    meaning c.requires.by_line (λ passthru. (c.requires.configured.bare passthru).1)
-    c.args.decoder.now.capacity c.args.reader.now c.args.decoder.now c.requires.started c.done_gives_nothing.ensures
-    c.fills_continue.ensures.fills first c.fills.lines c.fill.new.self c.fills.decoder c.fill.new.decoder c.fills.reader
-    c.fill.new.reader c.fills.walk (noted c.passes_binary.new.sink c.passes_binary.new.binary) (noted c.fills.sink
-    c.fills.binary) on ends_at same fill.reads
-    c.fills.invariant.fitting c.binary_byte_offset.ensures.room c.binary_byte_offset.ensures.cut c.fill.ensures.within
-    (c.fills.invariant.noted lawful) c.binary_byte_offset.result exact
-    c.in_ok-passes_binary.field-0 (search rules) c.in_ok-passes_binary.ensures.passes in
-    let busy = (sym c.reports_nothing.ensures ∙ c.if-reports_nothing.false) in
-    cuts.counted-shown g.R.Source.remaining g.R.Source.step c.lines_join.ensures c.lines_append.ensures g.C.Calls.step k
-    meaning c.requires.by_line (λ passthru. (c.requires.configured.bare passthru).1)
-    c.args.decoder.now.capacity c.args.reader.now c.args.decoder.now c.requires.started c.done_gives_nothing.ensures
-    c.fills_continue.ensures.fills first c.fills.lines c.fill.new.self c.fills.decoder c.fill.new.decoder c.fills.reader
-    c.fill.new.reader c.fills.walk (noted c.passes_binary.new.sink c.passes_binary.new.binary) there ends_at same
-    fill.reads c.fills.invariant.fitting
-    c.search_shown.ensures.room c.fill.ensures.within
-    busy fill.filled c.fill.ensures.done c.search_shown.new.walk c.search_shown.new.sink
+    let on = (goal.at.returns-then-not-branch-2-clause-counted g c).Else-not-branch in
+    let at = (goal.at.Else-not-branch g on).After-passes_binary in
+    cuts.counted-shown (stream g (goal.at.returns-then-not-branch-2-clause-counted g c).After-lines_are_few) (filled g at)
+    (there g on lawful first begun) (sym c.reports_nothing.ensures ∙ c.if-reports_nothing.false)
     (c.in_ok-search_shown.ensures.ends lawful c.if-not-branch-2.true)
-    (fill.settled so_far.between.unended so_far.uncut) (fill.passing so_far.between.unended so_far.uncut)
 
 pub fills-preserved : goal.fills-preserved
 fills-preserved g c =
-    let fill = c.in_default.ensures in
     let k = c.args.self.now.config in
     let moves : c.in_ok-search_shown.field-0 ≡ true = search rules in
-    let goes : c.in_ok-passes_binary.field-0 ≡ true = search rules in
-    let exact = c.binary_byte_offset.ensures.exact fill.fits in
-    let passes : PassesBinary g.C.Calls.step k c.fill.new.self.binary (noted c.fills.sink c.fills.binary) true (noted
-    c.passes_binary.new.sink c.passes_binary.new.binary) =
-    subst (λ b. PassesBinary g.C.Calls.step k b (noted c.fills.sink c.fills.binary) true (noted c.passes_binary.new.sink
-    c.passes_binary.new.binary)) exact
-    (subst (λ x. PassesBinary g.C.Calls.step k c.binary_byte_offset.result (noted c.fills.sink c.fills.binary) x (noted
-    c.passes_binary.new.sink c.passes_binary.new.binary)) goes
-    c.in_ok-passes_binary.ensures.passes) in
-    let same = c.fill.ensures.same in
-    let unfound : is_detecting k.binary_detection ≡ false → c.fill.new.self.binary ≡ None =
-    passed.clear-filled k.binary_detection c.fills.lines c.fill.new.self fill.reads.given fill.reads.found
-    c.fills.invariant.detects c.fills.invariant.clear in
-    let detects = passed.detects-passed g.C.Calls.step k c.fill.new.self.binary unfound
-    (noted c.fills.sink c.fills.binary) (noted c.passes_binary.new.sink c.passes_binary.new.binary) true
-    c.fills.invariant.noted_detects passes in
-    let first = passed.passes-on g.C.Calls.step k c.fill.new.self.binary unfound (noted c.fills.sink c.fills.binary)
-    (noted c.passes_binary.new.sink c.passes_binary.new.binary)
-    c.args.sink.now c.fills.invariant.calls passes in
-    let later = rw moves at c.in_ok-search_shown.ensures.in_order in
-    let fitting = rolling.fitting-filled k.heap_limit (byte_of k.line_terminator)
-    c.fills.lines c.fill.new.self c.fills.invariant.fitting same c.fill.ensures.grows c.fill.ensures.within in
+    let on = (goal.at.fills-preserved g c).Else-not-branch in
+    let at = (goal.at.Else-not-branch g on).After-passes_binary in
+    let busy = sym c.reports_nothing.ensures ∙ c.if-reports_nothing.false in
+    let reads = c.in_default.ensures.reads in
     record {
-      fitting = c.search_shown.ensures.fitting _ _ fitting;
+      fitting = c.search_shown.ensures.fitting _ _ (rolling.fitting-filled c.fills.invariant.fitting c.fill.ensures.same
+          c.fill.ensures.grows c.fill.ensures.within);
       at = c.in_ok-search_shown.ensures.at moves;
       below = c.in_ok-search_shown.ensures.below moves;
       ordered = c.in_ok-search_shown.ensures.ordered;
       may_call = c.search_shown.ensures.may_call;
       decoded = (
-        c.fills.invariant.decoded.0 ++ fill.reads.given,
+        c.fills.invariant.decoded.0 ++ reads.given,
         c.reads_continue.ensures.more _ c.fills.decoder _ _ c.fills.reader _ _ _ c.fills.invariant.decoded.1
-            fill.reads.decodes,
+            reads.decodes,
       );
-      detects = c.in_ok-search_shown.ensures.detection ∙ (same.detection ∙ c.fills.invariant.detects);
-      clear = λ none. c.in_ok-search_shown.ensures.binary ∙ unfound none;
-      noted_detects = detects;
-      fresh = λ idle. absurd (false≢true (sym c.if-reports_nothing.false ∙ (c.reports_nothing.ensures ∙ idle)));
-      calls = order.called-then g.C.Calls.step k c.args.sink.now c.passes_binary.new.sink all_true
-          c.search_shown.new.sink first later;
-      noted = λ lawful. (noting.noted-passed g.C.Calls.step k c.fills.lines.binary c.fill.new.self.binary _ (noted
-          c.fills.sink c.fills.binary)
-          (noted c.passes_binary.new.sink c.passes_binary.new.binary)
-          fill.reads.found (c.fills.invariant.noted lawful) passes
-          ∙ sym (ap (λ b. b.binary) (c.in_ok-search_shown.ensures.goes_on lawful moves).moved));
-      rolling = λ lawful first begun.
-          let on = c.fills.invariant.rolling lawful first begun in
-          let so_far = on.rolling in
-          let meaning = (g.M.Matcher.facts c.args.matcher.now).meaning in
-          let ends_at = c.fills.invariant.fitting.terminator in
-          let exact = c.binary_byte_offset.ensures.exact fill.fits in
-          let there = cuts.goes-on g.R.Source.remaining g.R.Source.step c.lines_join.ensures c.lines_append.ensures
-          g.C.Calls.step k
-          meaning c.requires.by_line (λ passthru. (c.requires.configured.bare passthru).1)
-          c.args.decoder.now.capacity c.args.reader.now c.args.decoder.now c.requires.started
-          c.done_gives_nothing.ensures
-          c.fills_continue.ensures.fills first c.fills.lines c.fill.new.self c.fills.decoder c.fill.new.decoder
-          c.fills.reader
-          c.fill.new.reader c.fills.walk (noted c.passes_binary.new.sink c.passes_binary.new.binary) (noted c.fills.sink
-          c.fills.binary) on ends_at same fill.reads
-          c.fills.invariant.fitting c.binary_byte_offset.ensures.room c.binary_byte_offset.ensures.cut
-          c.fill.ensures.within
-          (c.fills.invariant.noted lawful) c.binary_byte_offset.result exact
-          c.in_ok-passes_binary.field-0 (search rules) c.in_ok-passes_binary.ensures.passes in
-          let busy = (sym c.reports_nothing.ensures ∙ c.if-reports_nothing.false) in
-          let next = rolling.rolling-next g.R.Source.remaining g.R.Source.step c.lines_join.ensures
-          c.lines_append.ensures
-          g.C.Calls.step k meaning busy c.args.decoder.now.capacity c.args.reader.now
-          c.args.decoder.now c.requires.started there.start c.fills.lines c.fill.new.self c.fills.decoder
-          c.fill.new.decoder
-          c.fills.reader c.fill.new.reader c.fills.walk c.passes_binary.new.sink there.rolling c.fills.invariant.fitting
-          same
-          fill.reads there.held_now there.uncut fill.filled c.search_shown.ensures.room c.fill.ensures.within
-          c.done_gives_nothing.ensures c.fill.ensures.done
-          c.search_shown.new.walk c.search_shown.new.lines c.search_shown.new.sink
-          (c.in_ok-search_shown.ensures.goes_on lawful moves)
-          (c.fills_continue.ensures.consumed c.fill.new.self there.rolling.gone) in
-          record {
-            start = there.start;
-            rolling = next;
-            told = subst (λ found. IsTold g.C.Calls.step k meaning next.given c.search_shown.new.walk.offset first found
-                there.start) (sym there.known)
-                (cuts.told-further g.C.Calls.step k meaning (there.rolling.given ++ there.held_now.0)
-                c.fills.walk.offset c.search_shown.new.walk.offset first c.fill.new.self.binary there.start
-                (omega (arith, c.in_ok-search_shown.ensures.ahead moves)) there.told);
-          };
+      detects = c.in_ok-search_shown.ensures.detection ∙ (c.fill.ensures.same.detection ∙ c.fills.invariant.detects);
+      clear = λ none. c.in_ok-search_shown.ensures.binary ∙ unfound g at none;
+      noted_clear = clear g (goal.at.fills-preserved g c).After-passes_binary _ c.in_ok-passes_binary.ensures.passes;
+      fresh = λ idle. absurd (false≢true (sym busy ∙ idle));
+      calls = order.called-then _ k _ _ _ _ (called g on)
+          (rw moves at c.in_ok-search_shown.ensures.in_order);
+      noted = λ lawful. noting.noted-passed g.C.Calls.step k c.fills.lines.binary _ _ (noted c.fills.sink c.fills.binary)
+          _ reads.found (c.fills.invariant.noted lawful)
+          (passes g on) ∙ sym c.in_ok-search_shown.ensures.binary;
+      rolling = λ lawful first begun. cuts.reads-on (stream g (goal.at.fills-preserved g c).After-lines_are_few) (filled g at)
+          (there g on lawful first begun) busy (c.in_ok-search_shown.ensures.goes_on lawful moves)
+          (omega (arith, c.in_ok-search_shown.ensures.ahead moves))
+          (c.fills_continue.ensures.consumed c.fill.new.self);
     }
 
 pub returns-in-Err-clause-in_order : goal.returns-in-Err-clause-in_order
 returns-in-Err-clause-in_order g c = inr (
   c.io_error.result,
-  passed.reading-error g.R.Source.remaining g.R.Source.step c.args.reader.now c.fill.new.reader c.in-Err.error
-      c.io_error.result
-      (λ e is.
+  passed.reading-error _ _ _ _ _ _ (λ e is.
       let fails = subst (λ fault. IfRead {X = Bool} (Err fault)
       (λ e. FailsToFill g.R.Source.remaining g.R.Source.step e c.fills.lines
       c.fills.decoder c.fills.reader c.fill.new.self c.fill.new.decoder c.fill.new.reader)) is c.in-Err.ensures.read in
-      passed.failed-read g.R.Source.remaining g.R.Source.step c.args.reader.now c.args.decoder.now c.fill.new.decoder
-      fails.mid
-      c.fill.new.reader _ e (ap (λ d. d.has_ended) c.requires.started)
+      passed.failed-read _ _ _ (ap (λ d. d.has_ended) c.requires.started)
       (c.reads_continue.ensures.more _ c.fills.decoder _ _ c.fills.reader _ _ _ c.fills.invariant.decoded.1
       fails.fills.decodes)
-      fails.unended fails.failed)
-      c.io_error.ensures,
+      fails.unended fails.failed) c.io_error.ensures,
   c.error_io.ensures,
-  order.called-most g.C.Calls.step c.args.self.now.config (passed.once c.fills.binary) c.args.sink.now all_true
-      c.fills.sink c.fills.invariant.calls,
+  order.called-most _ _ (passed.once _) _ _ _ c.fills.invariant.calls,
 )
 
 pub returns-in_err-passes_binary-clause-in_order : goal.returns-in_err-passes_binary-clause-in_order
 returns-in_err-passes_binary-clause-in_order g c =
     let p = err_from_is_err_and c.from_residual.result c.from_residual.ensures.1 in
-    let step = g.C.Calls.step in
-    let k = c.args.self.now.config in
-    let fill = c.in_default.ensures in
-    let exact = c.binary_byte_offset.ensures.exact fill.fits in
-    let clear : is_detecting k.binary_detection ≡ false → c.binary_byte_offset.result ≡ None =
-    λ none. exact ∙ passed.clear-filled k.binary_detection c.fills.lines c.fill.new.self fill.reads.given
-    fill.reads.found
-    c.fills.invariant.detects c.fills.invariant.clear none in
-    rw (p.1, p.2) (inl (of_call (passed.fails-at step k c.binary_byte_offset.result clear (noted c.fills.sink
-    c.fills.binary)
+    let at = (goal.at.returns-in_err-passes_binary-clause-in_order g c).After-passes_binary in
+    rw (p.1, p.2) (inl (of_call (passed.fails-at _ _ _
+    (λ none. exact g at ∙ unfound g at none) _
     (noted c.passes_binary.new.sink c.passes_binary.new.binary)
-    c.args.sink.now c.fills.invariant.calls _ c.in_err-passes_binary.ensures.fails)))
+    _ c.fills.invariant.calls _ c.in_err-passes_binary.ensures.fails)))
 
 pub returns-then-not-branch-clause-in_order : goal.returns-then-not-branch-clause-in_order
 returns-then-not-branch-clause-in_order g c =
-    let step = g.C.Calls.step in
-    let k = c.args.self.now.config in
-    let fill = c.in_default.ensures in
-    let exact = c.binary_byte_offset.ensures.exact fill.fits in
-    let clear : is_detecting k.binary_detection ≡ false → c.binary_byte_offset.result ≡ None =
-    λ none. exact ∙ passed.clear-filled k.binary_detection c.fills.lines c.fill.new.self fill.reads.given
-    fill.reads.found
-    c.fills.invariant.detects c.fills.invariant.clear none in
-    passed.passes-off step k c.binary_byte_offset.result clear (noted c.fills.sink c.fills.binary)
-    (noted c.passes_binary.new.sink c.passes_binary.new.binary)
-    c.args.sink.now c.fills.invariant.calls c.fills.walk.offset
-    (subst (λ x. PassesBinary step k c.binary_byte_offset.result (noted c.fills.sink c.fills.binary) x (noted
-    c.passes_binary.new.sink c.passes_binary.new.binary))
-    c.if-not-branch.true c.in_ok-passes_binary.ensures.passes)
+    let at = (goal.at.returns-then-not-branch-clause-in_order g c).After-passes_binary in
+    passed.passes-off _ _ _ (unfound g at)
+    _ _
+    _ c.fills.invariant.calls
+    (rw (exact g at, c.if-not-branch.true) at c.in_ok-passes_binary.ensures.passes)
 
 pub returns-then-not-branch-clause-noted : goal.returns-then-not-branch-clause-noted
 returns-then-not-branch-clause-noted g c =
-    let step = g.C.Calls.step in
-    let k = c.args.self.now.config in
-    let fill = c.in_default.ensures in
-    let exact = c.binary_byte_offset.ensures.exact fill.fits in
-    let clear : is_detecting k.binary_detection ≡ false → c.binary_byte_offset.result ≡ None =
-    λ none. exact ∙ passed.clear-filled k.binary_detection c.fills.lines c.fill.new.self fill.reads.given
-    fill.reads.found
-    c.fills.invariant.detects c.fills.invariant.clear none in
-    passed.undetected-none step k (noted c.passes_binary.new.sink c.passes_binary.new.binary)
-    (passed.detects-passed step k c.binary_byte_offset.result clear (noted c.fills.sink c.fills.binary) (noted
-    c.passes_binary.new.sink c.passes_binary.new.binary) _
-    c.fills.invariant.noted_detects c.in_ok-passes_binary.ensures.passes)
+    clear g (goal.at.returns-then-not-branch-clause-noted g c).After-passes_binary _ c.in_ok-passes_binary.ensures.passes
 
 pub returns-then-reports_nothing-clause-in_order : goal.returns-then-reports_nothing-clause-in_order
-returns-then-reports_nothing-clause-in_order g c =
-    let step = g.C.Calls.step in
-    let k = c.args.self.now.config in
-    let fill = c.in_default.ensures in
-    let exact = c.binary_byte_offset.ensures.exact fill.fits in
-    let clear : is_detecting k.binary_detection ≡ false → c.binary_byte_offset.result ≡ None =
-    λ none. exact ∙ passed.clear-filled k.binary_detection c.fills.lines c.fill.new.self fill.reads.given
-    fill.reads.found
-    c.fills.invariant.detects c.fills.invariant.clear none in
-    let goes : c.in_ok-passes_binary.field-0 ≡ true = search rules in
-    let passes : PassesBinary step k c.binary_byte_offset.result (noted c.fills.sink c.fills.binary) true (noted
-    c.passes_binary.new.sink c.passes_binary.new.binary) =
-    subst (λ x. PassesBinary step k c.binary_byte_offset.result (noted c.fills.sink c.fills.binary) x (noted
-    c.passes_binary.new.sink c.passes_binary.new.binary)) goes
-    c.in_ok-passes_binary.ensures.passes in
-    let first = passed.passes-on step k c.binary_byte_offset.result clear (noted c.fills.sink c.fills.binary)
-    (noted c.passes_binary.new.sink c.passes_binary.new.binary)
-    c.args.sink.now c.fills.invariant.calls passes in
-    let most = order.called-most step k (passed.once c.passes_binary.new.binary) c.args.sink.now all_true
-    c.passes_binary.new.sink first in
-    record { outcome = all_true; ends = tt; called = most }
+returns-then-reports_nothing-clause-in_order g c = record {
+  outcome = all_true;
+  ends = tt;
+  called = order.called-most _ _ (passed.once c.passes_binary.new.binary) _ _ _
+      (called g (goal.at.returns-then-reports_nothing-clause-in_order g c).Else-not-branch);
+}
 
 pub returns-then-reports_nothing-clause-noted : goal.returns-then-reports_nothing-clause-noted
 returns-then-reports_nothing-clause-noted g c =
-    let step = g.C.Calls.step in
-    let k = c.args.self.now.config in
-    let fill = c.in_default.ensures in
-    let exact = c.binary_byte_offset.ensures.exact fill.fits in
-    let clear : is_detecting k.binary_detection ≡ false → c.binary_byte_offset.result ≡ None =
-    λ none. exact ∙ passed.clear-filled k.binary_detection c.fills.lines c.fill.new.self fill.reads.given
-    fill.reads.found
-    c.fills.invariant.detects c.fills.invariant.clear none in
-    let goes : c.in_ok-passes_binary.field-0 ≡ true = search rules in
-    let passes : PassesBinary step k c.binary_byte_offset.result (noted c.fills.sink c.fills.binary) true (noted
-    c.passes_binary.new.sink c.passes_binary.new.binary) =
-    subst (λ x. PassesBinary step k c.binary_byte_offset.result (noted c.fills.sink c.fills.binary) x (noted
-    c.passes_binary.new.sink c.passes_binary.new.binary)) goes
-    c.in_ok-passes_binary.ensures.passes in
-    let detects = passed.detects-passed step k c.binary_byte_offset.result clear (noted c.fills.sink c.fills.binary)
-    (noted c.passes_binary.new.sink c.passes_binary.new.binary)
-    true
-    c.fills.invariant.noted_detects passes in
-    passed.undetected-none step k (noted c.passes_binary.new.sink c.passes_binary.new.binary) detects
+    clear g (goal.at.returns-then-reports_nothing-clause-noted g c).After-passes_binary _ c.in_ok-passes_binary.ensures.passes
 
 pub returns-in_err-search_shown-clause-in_order : goal.returns-in_err-search_shown-clause-in_order
 returns-in_err-search_shown-clause-in_order g c =
     let p = err_from_is_err_and c.from_residual-in_err-search_shown.result
     c.from_residual-in_err-search_shown.ensures.1 in
-    let step = g.C.Calls.step in
-    let k = c.args.self.now.config in
-    let fill = c.in_default.ensures in
-    let exact = c.binary_byte_offset.ensures.exact fill.fits in
-    let clear : is_detecting k.binary_detection ≡ false → c.binary_byte_offset.result ≡ None =
-    λ none. exact ∙ passed.clear-filled k.binary_detection c.fills.lines c.fill.new.self fill.reads.given
-    fill.reads.found
-    c.fills.invariant.detects c.fills.invariant.clear none in
-    let goes : c.in_ok-passes_binary.field-0 ≡ true = search rules in
-    let passes : PassesBinary step k c.binary_byte_offset.result (noted c.fills.sink c.fills.binary) true (noted
-    c.passes_binary.new.sink c.passes_binary.new.binary) =
-    subst (λ x. PassesBinary step k c.binary_byte_offset.result (noted c.fills.sink c.fills.binary) x (noted
-    c.passes_binary.new.sink c.passes_binary.new.binary)) goes
-    c.in_ok-passes_binary.ensures.passes in
-    let first = passed.passes-on step k c.binary_byte_offset.result clear (noted c.fills.sink c.fills.binary)
-    (noted c.passes_binary.new.sink c.passes_binary.new.binary)
-    c.args.sink.now c.fills.invariant.calls passes in
-    let most = order.called-most step k (passed.once c.passes_binary.new.binary) c.args.sink.now all_true
-    c.passes_binary.new.sink first in
-    let errors = makers_of g.M.Error.Display.output g.C.Error.SinkError.makers in
-    let facts = g.M.Matcher.facts c.args.matcher.now in
-    rw (p.1, p.2) (inl (order.failed-then step k errors facts c.args.sink.now c.passes_binary.new.sink
-    _
-    c.search_shown.new.sink most
+    rw (p.1, p.2) (inl (order.failed-then _ _ _ _ _ _ _ _
+    (order.called-most _ _ (passed.once c.passes_binary.new.binary) _ _ _
+    (called g (goal.at.returns-in_err-search_shown-clause-in_order g c).Else-not-branch))
     c.in_err-search_shown.ensures.in_order))
 
 pub returns-then-not-branch-2-clause-in_order : goal.returns-then-not-branch-2-clause-in_order
 returns-then-not-branch-2-clause-in_order g c =
-    let step = g.C.Calls.step in
-    let k = c.args.self.now.config in
-    let fill = c.in_default.ensures in
-    let exact = c.binary_byte_offset.ensures.exact fill.fits in
-    let clear : is_detecting k.binary_detection ≡ false → c.binary_byte_offset.result ≡ None =
-    λ none. exact ∙ passed.clear-filled k.binary_detection c.fills.lines c.fill.new.self fill.reads.given
-    fill.reads.found
-    c.fills.invariant.detects c.fills.invariant.clear none in
-    let goes : c.in_ok-passes_binary.field-0 ≡ true = search rules in
-    let passes : PassesBinary step k c.binary_byte_offset.result (noted c.fills.sink c.fills.binary) true (noted
-    c.passes_binary.new.sink c.passes_binary.new.binary) =
-    subst (λ x. PassesBinary step k c.binary_byte_offset.result (noted c.fills.sink c.fills.binary) x (noted
-    c.passes_binary.new.sink c.passes_binary.new.binary)) goes
-    c.in_ok-passes_binary.ensures.passes in
-    let first = passed.passes-on step k c.binary_byte_offset.result clear (noted c.fills.sink c.fills.binary)
-    (noted c.passes_binary.new.sink c.passes_binary.new.binary)
-    c.args.sink.now c.fills.invariant.calls passes in
-    let most = order.called-most step k (passed.once c.passes_binary.new.binary) c.args.sink.now all_true
-    c.passes_binary.new.sink first in
-    let ends = rw c.if-not-branch-2.true at c.in_ok-search_shown.ensures.in_order in
-    order.called-after-to step k (omega arith) c.args.sink.now c.passes_binary.new.sink
-    c.search_shown.new.walk.offset
-    c.search_shown.new.sink most
-    ends
+    order.called-after-to _ _ (omega arith) _ _ _ _
+    (order.called-most _ _ (passed.once c.passes_binary.new.binary) _ _ _
+    (called g (goal.at.returns-then-not-branch-2-clause-in_order g c).Else-not-branch))
+    (rw c.if-not-branch-2.true at c.in_ok-search_shown.ensures.in_order)
 
 pub returns-then-not-branch-2-clause-noted : goal.returns-then-not-branch-2-clause-noted
 returns-then-not-branch-2-clause-noted g c =
-    let step = g.C.Calls.step in
-    let k = c.args.self.now.config in
-    let fill = c.in_default.ensures in
-    let exact = c.binary_byte_offset.ensures.exact fill.fits in
-    let clear : is_detecting k.binary_detection ≡ false → c.binary_byte_offset.result ≡ None =
-    λ none. exact ∙ passed.clear-filled k.binary_detection c.fills.lines c.fill.new.self fill.reads.given
-    fill.reads.found
-    c.fills.invariant.detects c.fills.invariant.clear none in
-    let goes : c.in_ok-passes_binary.field-0 ≡ true = search rules in
-    let passes : PassesBinary step k c.binary_byte_offset.result (noted c.fills.sink c.fills.binary) true (noted
-    c.passes_binary.new.sink c.passes_binary.new.binary) =
-    subst (λ x. PassesBinary step k c.binary_byte_offset.result (noted c.fills.sink c.fills.binary) x (noted
-    c.passes_binary.new.sink c.passes_binary.new.binary)) goes
-    c.in_ok-passes_binary.ensures.passes in
-    let detects = passed.detects-passed step k c.binary_byte_offset.result clear (noted c.fills.sink c.fills.binary)
-    (noted c.passes_binary.new.sink c.passes_binary.new.binary)
-    true
-    c.fills.invariant.noted_detects passes in
-    passed.undetected-none step k (noted c.passes_binary.new.sink c.passes_binary.new.binary) detects
+    clear g (goal.at.returns-then-not-branch-2-clause-noted g c).After-passes_binary _ c.in_ok-passes_binary.ensures.passes
 
 pub returns-then-not-branch-clause-once : goal.returns-then-not-branch-clause-once
-returns-then-not-branch-clause-once g c = λ idle.
-    reading.read-once g.R.Source.remaining g.R.Source.step c.args.self.now.config c.args.decoder.now.capacity
-    c.done_gives_nothing.ensures c.reads_continue.ensures.more c.args.lines.now c.requires.fitting c.requires.empty
-    c.args.decoder.now c.requires.started c.args.reader.now c.fills.lines c.fills.decoder c.fills.reader
-    c.fill.new.reader (c.fills.invariant.fresh idle) c.in_default.ensures.begins
+returns-then-not-branch-clause-once g c =
+    read-once g (goal.at.returns-then-not-branch-clause-once g c).After-passes_binary
 
 pub returns-then-reports_nothing-clause-once : goal.returns-then-reports_nothing-clause-once
-returns-then-reports_nothing-clause-once g c = λ idle.
-    reading.read-once g.R.Source.remaining g.R.Source.step c.args.self.now.config c.args.decoder.now.capacity
-    c.done_gives_nothing.ensures c.reads_continue.ensures.more c.args.lines.now c.requires.fitting c.requires.empty
-    c.args.decoder.now c.requires.started c.args.reader.now c.fills.lines c.fills.decoder c.fills.reader
-    c.fill.new.reader (c.fills.invariant.fresh idle) c.in_default.ensures.begins
+returns-then-reports_nothing-clause-once g c =
+    read-once g (goal.at.returns-then-reports_nothing-clause-once g c).After-passes_binary
 
 pub returns-then-not-branch-2-clause-once : goal.returns-then-not-branch-2-clause-once
 returns-then-not-branch-2-clause-once g c = λ idle.

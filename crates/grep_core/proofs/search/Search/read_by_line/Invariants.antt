@@ -5,7 +5,7 @@ use Rattle.grep_definitions.specs.BinaryBytes.{is_detecting}
 use Rattle.grep_definitions.specs.CallOrder.{HasCalled}
 use Rattle.grep_definitions.specs.Inputs.{reports_nothing}
 use Rattle.grep_definitions.specs.Plans.{all_true, begins}
-use Rattle.grep_core.proofs.OrderLemmas.{DetectsNoted, told_once}
+use Rattle.grep_core.proofs.OrderLemmas.{known_count}
 use Rattle.grep_definitions.specs.Asking.{IsLawful}
 use Rattle.grep_core.specs.Rolls.{IsReadingOn}
 use Rattle.grep_core.specs.SearchBuffers.{IsFitting, detection_of}
@@ -23,10 +23,10 @@ invariant-fills g l = record {
       l.reader;
   detects : l.lines.detection ≡ detection_of l.self.config.binary_detection;
   clear : is_detecting l.self.config.binary_detection ≡ false → l.lines.binary ≡ None;
-  noted_detects : DetectsNoted g.C.Calls.step l.self.config (record { sink = l.sink; binary = l.binary });
+  noted_clear : is_detecting l.self.config.binary_detection ≡ false → l.binary ≡ None;
   fresh : reports_nothing l.self.config ≡ true
       → (l.lines ≡ l.fn.lines) × (l.decoder ≡ l.fn.decoder) × (l.reader ≡ l.fn.reader);
-  calls : HasCalled g.C.Calls.step l.self.config (told_once l.binary) l.fn.sink all_true l.sink;
+  calls : HasCalled g.C.Calls.step l.self.config (known_count l.binary) l.fn.sink all_true l.sink;
   noted : IsLawful (g.M.Matcher.facts l.matcher) l.self.config
       → l.binary ≡ l.lines.binary;
   rolling : IsLawful (g.M.Matcher.facts l.matcher) l.self.config

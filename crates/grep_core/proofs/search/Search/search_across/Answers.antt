@@ -22,15 +22,15 @@ Bare settings = settings.passthru ≡ true → (settings.after_context ≡ 0) ×
 pub returns-in-Err-clause-fault : goal.returns-in-Err-clause-fault
 returns-in-Err-clause-fault g c =
     let fault = c.in-Err.ensures.fault in
-    λ first begun. ends.fault-first g.C.Calls.step _ _ c.args.self.now.config c.args.bytes.now first c.args.sink.now
-    begun fault.0 c.in-Err.error _ fault.1 fault.2 c.error_message.ensures
+    λ first begun. ends.fault-first _ _ _ _ _ _ _
+    begun _ _ _ fault.1 fault.2 c.error_message.ensures
 
 pub returns-in-Err-unit_at-clause-fault : goal.returns-in-Err-unit_at-clause-fault
 returns-in-Err-unit_at-clause-fault g c =
     let fault = c.in-Err-unit_at.ensures.fault in
-    λ first begun. ends.fault-matcher g.C.Calls.step _ _ c.args.self.now.config c.args.bytes.now first c.lines.walk
-    c.lines.sink c.lines.invariant.walk (c.lines.invariant.reported first begun)
-    fault.0 c.in-Err-unit_at.error _ fault.1 c.in-Err-unit_at.ensures.open fault.2
+    λ first begun. ends.fault-matcher _ _ _ _ _ first _
+    _ c.lines.invariant.walk (c.lines.invariant.reported first begun)
+    _ _ _ fault.1 c.in-Err-unit_at.ensures.open fault.2
     c.error_message-in-Err-unit_at.ensures
 
 pub returns-then-next-bytes-clause-reported : goal.returns-then-next-bytes-clause-reported
@@ -44,14 +44,14 @@ returns-then-next-bytes-clause-reported g c = λ first begun.
     c.lines.invariant.same
     c.lines.invariant.walk.placed.at in
     let next = subst (units.IsNext k meaning c.args.bytes.now c.lines.walk c.lines.start) (sym chosen)
-    (units.next-is k meaning c.args.bytes.now c.lines.start c.lines.walk c.in-Ok-unit_at.unit c.unit_at.new.blocks
+    (units.next-is
     c.lines.invariant.walk
     at ready c.lines-test.true ahead) in
     let plain : k.passthru ≡ false = search rules in (
       all_true,
-      ends.counted-past k meaning c.args.bytes.now g.C.Calls.step first c.lines.walk c.lines.start
-          c.next_chosen-next.result
-          c.lines.invariant.same c.lines.invariant.walk next c.if-next-bytes.true plain c.if-walk-eq0.true c.lines.sink
+      ends.counted-past k _ _ _ first _ _
+          _
+          c.lines.invariant.same c.lines.invariant.walk next c.if-next-bytes.true plain c.if-walk-eq0.true _
           (c.lines.invariant.reported first begun),
     )
 
@@ -67,7 +67,7 @@ lines-preserved-then-walk-eq0 g c =
     c.lines.invariant.same
     c.lines.invariant.walk.placed.at in
     let next = subst (units.IsNext k meaning c.args.bytes.now c.lines.walk c.lines.start) (sym chosen)
-    (units.next-is k meaning c.args.bytes.now c.lines.start c.lines.walk c.in-Ok-unit_at.unit c.unit_at.new.blocks
+    (units.next-is
     c.lines.invariant.walk
     at ready c.lines-test.true ahead) in
     let plain : k.passthru ≡ false = search rules in
@@ -83,11 +83,10 @@ lines-preserved-then-walk-eq0 g c =
         length-drop c.lines.start c.args.bytes.now,
       );
       ordered = rw past at c.skip_lines-walk.ensures.ordered;
-      ready = units.ready-past k meaning c.args.bytes.now c.lines.start c.lines.walk c.in-Ok-unit_at.unit
-          c.unit_at.new.blocks
+      ready = units.ready-past
           c.lines.invariant.walk at ready c.lines-test.true ahead _ c.next_chosen-next.result
           chosen refl;
-      walk = steps.across-past k meaning c.args.bytes.now c.lines.walk c.lines.start c.next_chosen-next.result
+      walk = steps.across-past
           c.lines.invariant.same
           c.lines.invariant.walk next plain c.if-walk-eq0.true;
       reported = c.lines.invariant.reported;
@@ -108,16 +107,14 @@ returns-in_err-sink_line-clause-fault g c =
     c.in_err-sink_line.ensures.reported in
     let bare = c.requires.configured.bare in
     let p = err_from_is_err_and c.from_residual.result c.from_residual.ensures.1 in
-    let turned = turns.turned k meaning c.args.bytes.now bare c.lines.start c.end_across-end.result
-    c.next_chosen-next.result
-    c.lines.walk c.in-Ok-unit_at.unit c.unit_at.new.blocks c.lines.invariant.walk c.lines.invariant.same ready
+    let turned = turns.turned bare c.lines.invariant.walk c.lines.invariant.same ready
     ahead chosen c.end_across-end.ensures.low c.end_across-end.ensures.within
-    (c.lines.start == c.next_chosen-next.result) refl unit line in
-    rw (p.1, p.2) (λ first begun. ends.fault-sink g.C.Calls.step _ _ k c.args.bytes.now first _ _ _ turned.across
-    (ends.reported-next k meaning c.args.bytes.now g.C.Calls.step first c.lines.walk _ _ c.lines.sink turned.front
+    _ refl unit line in
+    rw (p.1, p.2) (λ first begun. ends.fault-sink _ _ _ k _ first _ _ _ turned.across
+    (ends.reported-next k meaning _ g.C.Calls.step first c.lines.walk _ _ c.lines.sink turned.front
     (c.lines.invariant.reported first begun) (failed _) _
     (reported [] c.args.bytes.now
-    (λ _. turns.in-window k meaning c.args.bytes.now c.lines.walk c.lines.start c.lines.invariant.same
+    (λ _. turns.in-window k _ _ _ _ c.lines.invariant.same
     c.lines.invariant.walk))))
 
 pub returns-then-not-branch-clause-reported : goal.returns-then-not-branch-clause-reported
@@ -133,20 +130,18 @@ returns-then-not-branch-clause-reported g c = λ first begun.
     let stops : c.in_ok-sink_line.field-0 ≡ false = search rules in
     let reported = rw (c.of-verdict.ensures.chosen, c.of-verdict.ensures.trailing, stops) at
     c.in_ok-sink_line.ensures.reported in
-    let turned = turns.turned k meaning c.args.bytes.now bare c.lines.start c.end_across-end.result
-    c.next_chosen-next.result
-    c.lines.walk c.in-Ok-unit_at.unit c.unit_at.new.blocks c.lines.invariant.walk c.lines.invariant.same ready
+    let turned = turns.turned bare c.lines.invariant.walk c.lines.invariant.same ready
     ahead chosen c.end_across-end.ensures.low c.end_across-end.ensures.within
-    (c.lines.start == c.next_chosen-next.result) refl unit line in
+    _ refl unit line in
     let stop = line_end c.lines.walk (slice_range c.args.bytes.now c.lines.start c.end_across-end.result) in (
       stopped (counted stop),
-      ends.counted-stopped k meaning c.args.bytes.now g.C.Calls.step first _ stop c.end_across-end.result _
+      ends.counted-stopped k _ _ _ first _ _ _ _
           turned.across
           (sym turned.end_is)
-          (ends.reported-next k meaning c.args.bytes.now g.C.Calls.step first c.lines.walk _ _ c.lines.sink turned.front
+          (ends.reported-next k meaning _ g.C.Calls.step first c.lines.walk _ _ c.lines.sink turned.front
           (c.lines.invariant.reported first begun) (stopped (counted stop)) _
           (reported [] c.args.bytes.now
-          (λ _. turns.in-window k meaning c.args.bytes.now c.lines.walk c.lines.start c.lines.invariant.same
+          (λ _. turns.in-window k _ _ _ _ c.lines.invariant.same
           c.lines.invariant.walk))),
     )
 
@@ -165,24 +160,22 @@ lines-preserved g c =
     let reported = rw (c.of-verdict.ensures.chosen, c.of-verdict.ensures.trailing, goes) at
     c.in_ok-sink_line.ensures.reported in
     let here = rw goes at c.in_ok-sink_line.ensures.called in
-    let turned = turns.turned k meaning c.args.bytes.now bare c.lines.start c.end_across-end.result
-    c.next_chosen-next.result
-    c.lines.walk c.in-Ok-unit_at.unit c.unit_at.new.blocks c.lines.invariant.walk c.lines.invariant.same ready
+    let turned = turns.turned bare c.lines.invariant.walk c.lines.invariant.same ready
     ahead chosen c.end_across-end.ensures.low c.end_across-end.ensures.within
-    (c.lines.start == c.next_chosen-next.result) refl unit line in
+    _ refl unit line in
     rw after (record {
       within = c.end_across-end.ensures.within;
       same = turned.offset;
-      ordered = turns.ordered-across k meaning c.args.bytes.now _ turned.across;
+      ordered = turns.ordered-across k _ _ _ turned.across;
       ready = turned.ready;
       walk = turned.across;
-      reported = λ first begun. ends.reported-next k meaning c.args.bytes.now g.C.Calls.step first c.lines.walk _ _
+      reported = λ first begun. ends.reported-next k meaning _ g.C.Calls.step first c.lines.walk _ _
           c.lines.sink
           turned.front (c.lines.invariant.reported first begun) all_true _
           (reported [] c.args.bytes.now
-          (λ _. turns.in-window k meaning c.args.bytes.now c.lines.walk c.lines.start c.lines.invariant.same
+          (λ _. turns.in-window k _ _ _ _ c.lines.invariant.same
           c.lines.invariant.walk));
-      called = called-then g.C.Calls.step k c.args.sink.now c.lines.sink all_true c.sink_line.new.sink
+      called = called-then _ k _ _ _ _
           c.lines.invariant.called (here 0);
       may_call = c.in_ok-sink_line.ensures.may_call;
     })
@@ -192,7 +185,7 @@ returns-clause-reported g c = λ first begun.
     let k = c.args.self.now.config in
     let meaning = (g.M.Matcher.facts c.args.matcher.now).meaning in (
       all_true,
-      ends.counted-end k meaning c.args.bytes.now g.C.Calls.step first c.lines.walk c.lines.sink c.lines.invariant.walk
+      ends.counted-end k _ _ _ first _ _ c.lines.invariant.walk
           (omega (arith, c.lines.invariant.within, c.lines.invariant.same, c.lines-test.false))
           (c.lines.invariant.reported first begun),
     )
@@ -200,7 +193,7 @@ returns-clause-reported g c = λ first begun.
 pub returns-in-Err-clause-in_order : goal.returns-in-Err-clause-in_order
 returns-in-Err-clause-in_order g c =
     of_question _ c.in-Err.error c.in-Err.ensures.fault.2 c.error_message.ensures
-    (called-none g.C.Calls.step c.args.self.now.config c.args.sink.now)
+    (called-none _ _ _)
 
 pub returns-in-Err-unit_at-clause-in_order : goal.returns-in-Err-unit_at-clause-in_order
 returns-in-Err-unit_at-clause-in_order g c =
@@ -218,8 +211,8 @@ returns-then-next-bytes-clause-in_order g c = record {
 pub returns-in_err-sink_line-clause-in_order : goal.returns-in_err-sink_line-clause-in_order
 returns-in_err-sink_line-clause-in_order g c =
     let p = err_from_is_err_and c.from_residual.result c.from_residual.ensures.1 in
-    rw (p.1, p.2) (of_call (called-then g.C.Calls.step c.args.self.now.config c.args.sink.now c.lines.sink (failed _)
-    c.sink_line.new.sink c.lines.invariant.called (c.in_err-sink_line.ensures.called 0)))
+    rw (p.1, p.2) (of_call (called-then _ _ _ _ _
+    _ c.lines.invariant.called (c.in_err-sink_line.ensures.called 0)))
 
 pub returns-then-not-branch-clause-in_order : goal.returns-then-not-branch-clause-in_order
 returns-then-not-branch-clause-in_order g c =
@@ -228,9 +221,9 @@ returns-then-not-branch-clause-in_order g c =
     record {
       outcome = stopped (counted c.end_across-end.result);
       ends = refl;
-      called = called-then g.C.Calls.step c.args.self.now.config c.args.sink.now c.lines.sink
-          (stopped (counted c.end_across-end.result))
-          c.sink_line.new.sink c.lines.invariant.called (here c.end_across-end.result);
+      called = called-then _ _ _ _
+          _
+          _ c.lines.invariant.called (here c.end_across-end.result);
     }
 
 pub returns-clause-in_order : goal.returns-clause-in_order

@@ -18,46 +18,46 @@ facts-of g matcher = g.M.Matcher.facts matcher
 
 pub returns-in-Some-clause-searched : goal.returns-in-Some-clause-searched
 returns-in-Some-clause-searched g c = λ lawful.
-    slice-search g.C.Calls.step (errors-of g) (facts-of g c.args.matcher.now) c.args.self.now.config c.args.bytes.now
-    c.args.sink.now c.search_until.result c.search_until.new.sink
+    slice-search _ _ _ _ _
+    _ _ _
     (searched-at g.C.Calls.step (errors-of g) (facts-of g c.args.matcher.now) c.args.self.now.config c.args.bytes.now
-    c.args.sink.now
-    c.in-Some.byte (sym c.quit_byte.ensures ∙ c.in-Some.is) c.is_across-is_across.result c.is_across-is_across.ensures
-    c.search_until.result c.search_until.new.sink (c.search_until.ensures.searched (λ _. lawful)))
+    _
+    _ (sym c.quit_byte.ensures ∙ c.in-Some.is) c.is_across-is_across.ensures
+    _ c.search_until.new.sink (c.search_until.ensures.searched (λ _. lawful)))
 
 pub returns-clause-searched : goal.returns-clause-searched
 returns-clause-searched g c = λ lawful.
     let finish = rw c.new.ensures at c.finish.ensures.step in
     let reported = rw c.is_across-is_across.ensures at (c.in_ok-count.ensures.reported (λ _. lawful)) in
     let quit = c.quit_byte.ensures in
-    slice-search g.C.Calls.step (errors-of g) (facts-of g c.args.matcher.now) c.args.self.now.config c.args.bytes.now
-    c.args.sink.now c.finish.result c.finish.new.sink
+    slice-search _ _ _ _ _
+    _ _ _
     (subst (λ look. IsBytesSearched g.C.Calls.step (errors-of g) (facts-of g c.args.matcher.now) look
     c.args.self.now.config
     c.args.bytes.now c.args.sink.now c.finish.result
     c.finish.new.sink)
-    (sym (look-plain c.args.self.now.config.binary_detection (λ b is. c.in_default.not-Some b (quit ∙ is))))
-    (searched-finish g.C.Calls.step (errors-of g) (facts-of g c.args.matcher.now) c.args.self.now.config
-    c.args.bytes.now c.args.sink.now
-    c.in_ok-count.count reported.0 c.match_bytes.new.sink c.finish.result c.finish.new.sink reported.1 finish))
+    (sym (look-plain _ (λ b is. c.in_default.not-Some b (quit ∙ is))))
+    (searched-finish _ (errors-of g) (facts-of g c.args.matcher.now) _
+    c.args.bytes.now _
+    _ _ _ _ _ reported.1 finish))
 
 pub search_until-requires-clause-detecting : goal.search_until-requires-clause-detecting
 search_until-requires-clause-detecting g c =
-    look-detects c.args.self.now.config.binary_detection c.in-Some.byte (sym c.quit_byte.ensures ∙ c.in-Some.is)
+    look-detects _ _ (sym c.quit_byte.ensures ∙ c.in-Some.is)
 
 pub returns-in_err-count-clause-in_order : goal.returns-in_err-count-clause-in_order
 returns-in_err-count-clause-in_order g c =
     let p = err_from_is_err_and c.from_residual.result c.from_residual.ensures.1 in
-    rw (p.1, p.2) (order.order-failed g.C.Calls.step c.args.self.now.config (errors-of g)
-    (facts-of g c.args.matcher.now) (λ _. ⊥) (omega arith)
-    c.args.sink.now _ _ c.in_err-count.ensures.in_order)
+    rw (p.1, p.2) (order.order-failed _ _ _
+    _ _ (omega arith)
+    _ _ _ c.in_err-count.ensures.in_order)
 
 pub returns-clause-in_order : goal.returns-clause-in_order
 returns-clause-in_order g c =
-    order.order-finished g.C.Calls.step c.args.self.now.config (errors-of g) (facts-of g c.args.matcher.now) (λ _. ⊥)
+    order.order-finished _ _ _ _ _
     (omega arith)
-    c.args.sink.now
-    c.match_bytes.new.sink c.in_ok-count.count None c.finish.result c.finish.new.sink (λ none. refl)
+    _
+    _ _ None _ _ (λ none. refl)
     c.in_ok-count.ensures.in_order
     (rw c.new.ensures at c.finish.ensures.step)
 
@@ -70,9 +70,9 @@ returns-in_err-count-clause-searched g c = λ lawful.
     let p = err_from_is_err_and c.from_residual.result c.from_residual.ensures.1 in
     let fault = rw c.is_across-is_across.ensures at (c.in_err-count.ensures.fault (λ _. lawful)) in
     let quit = c.quit_byte.ensures in
-    rw (p.1, p.2) (slice-search g.C.Calls.step (errors-of g) (facts-of g c.args.matcher.now) c.args.self.now.config
-    c.args.bytes.now c.args.sink.now _ _
+    rw (p.1, p.2) (slice-search _ _ _ _
+    _ _ _ _
     (subst (λ look. IsBytesSearched g.C.Calls.step (errors-of g) (facts-of g c.args.matcher.now) look
     c.args.self.now.config c.args.bytes.now c.args.sink.now (Err c.in_err-count.field-0.0) c.match_bytes.new.sink)
-    (sym (look-plain c.args.self.now.config.binary_detection (λ b is. c.in_default.not-Some b (quit ∙ is))))
+    (sym (look-plain _ (λ b is. c.in_default.not-Some b (quit ∙ is))))
     fault))

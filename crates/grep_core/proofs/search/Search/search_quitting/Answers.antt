@@ -23,9 +23,9 @@ pub returns-in_err-count-clause-searched : goal.returns-in_err-count-clause-sear
 returns-in_err-count-clause-searched g c = λ lawful.
     let error = err_from_is_err_and c.from_residual.result c.from_residual.ensures.1 in
     rw error.1
-    (fault-until g.C.Calls.step g.C.Calls.may_call (errors-of g) (facts-of g c.args.matcher.now) c.args.self.now.config
-    c.args.sink.now.byte c.args.bytes.now c.requires.none c.args.sink.now refl c.requires.has_break c.requires.found
-    c.args.is_across error.0 c.match_bytes.new.sink
+    (fault-until _ g.C.Calls.may_call _ _ _
+    _ _ c.requires.none _ refl c.requires.has_break c.requires.found
+    _
     (subst (λ e. IsFaultIn (Quits g.C.Calls.step g.C.Calls.may_call) (errors-of g) (facts-of g c.args.matcher.now)
     (calls_if c.args.self.now.config (g.M.Matcher.facts c.args.matcher.now).meaning c.args.is_across) c.args.self.now.config
     c.args.bytes.now
@@ -33,27 +33,27 @@ returns-in_err-count-clause-searched g c = λ lawful.
 
 pub returns-in_err-count-clause-same_sink : goal.returns-in_err-count-clause-same_sink
 returns-in_err-count-clause-same_sink g c =
-    order.begun-keeps (Quits g.C.Calls.step g.C.Calls.may_call) c.args.self.now.config (errors-of g)
-    (facts-of g c.args.matcher.now)
-    (λ quitting. quitting.sink.ghost_name) (λ old call result new step. step.0) c.args.sink.now c.match_bytes.result
-    c.match_bytes.new.sink c.match_bytes.ensures.in_order
+    order.begun-keeps _ _ _
+    _
+    (λ quitting. quitting.sink.ghost_name) (λ old call result new step. step.0) _ _
+    _ c.match_bytes.ensures.in_order
 
 pub returns-clause-searched : goal.returns-clause-searched
 returns-clause-searched g c = λ lawful.
     let counted = c.in_ok-count.ensures.reported lawful in
     until-finished g.C.Calls.step g.C.Calls.may_call (errors-of g) (facts-of g c.args.matcher.now)
-    c.args.self.now.config
-    c.args.sink.now.byte c.args.bytes.now c.requires.none c.args.sink.now refl c.requires.has_break c.requires.found
-    c.args.is_across c.in_ok-count.count counted.0 c.match_bytes.new.sink c.finish.result c.finish.new.sink counted.1
+    _
+    _ _ c.requires.none _ refl c.requires.has_break c.requires.found
+    _ _ c.finish.new.sink counted.1
     (rw c.new.ensures at c.finish.ensures.step)
 
 pub returns-clause-same_sink : goal.returns-clause-same_sink
 returns-clause-same_sink g c =
     c.finish.ensures.step.0
-    ∙ (order.begun-keeps (Quits g.C.Calls.step g.C.Calls.may_call) c.args.self.now.config (errors-of g)
-    (facts-of g c.args.matcher.now)
-    (λ quitting. quitting.sink.ghost_name) (λ old call result new step. step.0) c.args.sink.now c.match_bytes.result
-    c.match_bytes.new.sink c.match_bytes.ensures.in_order)
+    ∙ (order.begun-keeps _ _ _
+    _
+    (λ quitting. quitting.sink.ghost_name) (λ old call result new step. step.0) _ _
+    _ c.match_bytes.ensures.in_order)
 
 pub returns-in_err-count-clause-in_order : goal.returns-in_err-count-clause-in_order
 returns-in_err-count-clause-in_order g c =
@@ -61,16 +61,16 @@ returns-in_err-count-clause-in_order g c =
     let step = g.C.Calls.step in
     let may_call = g.C.Calls.may_call in
     let k = c.args.self.now.config in
-    rw (error.1, error.2) (order.order-failed step k (errors-of g) (facts-of g c.args.matcher.now) (λ _. ⊥) (omega
+    rw (error.1, error.2) (order.order-failed _ k _ _ _ (omega
     arith)
-    c.args.sink.now.sink.now _ _
-    (order.passed-begun-failed step (Quits step may_call) k (λ q. q.sink.now)
+    _ _ _
+    (order.passed-begun-failed _ _ k (λ q. q.sink.now)
     (passed.FoundNone step k may_call c.requires.detecting)
-    (λ q n. count_to q.found n) (passed.quits-one step k may_call c.requires.detecting) (errors-of g)
-    (facts-of g c.args.matcher.now)
+    (λ q n. count_to q.found n) (passed.quits-one step k may_call c.requires.detecting) _
+    _
     (passed.quits-begun step k may_call c.requires.detecting) (passed.quits-held step k may_call c.requires.detecting)
-    c.args.sink.now _
-    c.match_bytes.new.sink c.requires.found c.in_err-count.ensures.in_order))
+    _ _
+    _ c.requires.found c.in_err-count.ensures.in_order))
 
 pub returns-clause-in_order : goal.returns-clause-in_order
 returns-clause-in_order g c =
@@ -78,16 +78,16 @@ returns-clause-in_order g c =
     let may_call = g.C.Calls.may_call in
     let k = c.args.self.now.config in
     let finish = rw c.new.ensures at c.finish.ensures.step in
-    order.order-finished step k (errors-of g) (facts-of g c.args.matcher.now) (λ _. ⊥) (omega arith)
-    c.args.sink.now.sink.now
-    c.match_bytes.new.sink.sink.now
-    (count_to c.match_bytes.new.sink.found c.in_ok-count.count) c.match_bytes.new.sink.found c.finish.result
-    c.finish.new.sink.sink.now
+    order.order-finished _ k _ _ _ (omega arith)
+    _
+    _
+    _ c.match_bytes.new.sink.found _
+    _
     (λ none. absurd (false≢true (sym none ∙ c.requires.detecting)))
-    (order.passed-begun-to step (Quits step may_call) k (λ q. q.sink.now)
+    (order.passed-begun-to _ _ k (λ q. q.sink.now)
     (passed.FoundNone step k may_call c.requires.detecting)
     (λ q n. count_to q.found n) (passed.quits-one step k may_call c.requires.detecting) (errors-of g)
     (facts-of g c.args.matcher.now)
     (passed.quits-begun step k may_call c.requires.detecting) (passed.quits-held step k may_call c.requires.detecting)
-    c.args.sink.now
-    c.in_ok-count.count c.match_bytes.new.sink c.requires.found c.in_ok-count.ensures.in_order) finish.2.2
+    _
+    _ _ c.requires.found c.in_ok-count.ensures.in_order) finish.2.2

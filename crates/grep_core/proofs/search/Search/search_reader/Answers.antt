@@ -1,4 +1,4 @@
-use Rattle.std.proofs.Common.{Bool, true, sym, ◌∙◌}
+use Rattle.std.proofs.Common.{Bool, sym, ◌∙◌}
 use Rattle.grep_report.specs.ErrorMakers.{ErrorMakers}
 use Rattle.grep_matcher.specs.Meanings.{MatcherFacts}
 use Rattle.grep_definitions.specs.Settings.{SearcherState, Settings}
@@ -21,11 +21,11 @@ state-of settings has_buffers = record { settings = settings; has_buffers = has_
 pub returns-then-is_across-clause-searched : goal.returns-then-is_across-clause-searched
 returns-then-is_across-clause-searched g c = λ lawful has_buffers.
     let mode = (sym c.is_across.ensures ∙ c.if-is_across.true) in
-    read-across g.R.Source.remaining g.R.Source.step (state-of c.args.self.now.config has_buffers) g.C.Calls.step
-    (errors-of g)
-    (facts-of g c.args.matcher.now) c.args.reader.now c.args.sink.now c.search_contents.result
-    c.search_contents.new.reader
-    c.search_contents.new.sink mode (c.search_contents.ensures.searched has_buffers)
+    read-across _ _ _ _
+    _
+    _ _ _ _
+    _
+    _ mode (c.search_contents.ensures.searched has_buffers)
 
 pub returns-then-is_across-clause-succeeds : goal.returns-then-is_across-clause-succeeds
 returns-then-is_across-clause-succeeds g c = λ never infallible lawful.
@@ -34,7 +34,7 @@ returns-then-is_across-clause-succeeds g c = λ never infallible lawful.
     (λ e unread has_buffers.
     let why = unread has_buffers in
     let planned = unread-planned g.R.Source.remaining g.R.Source.step (state-of c.args.self.now.config has_buffers)
-    (g.M.Matcher.facts c.args.matcher.now).meaning c.args.reader.now why.1 true mode why.0 c.search_contents.new.reader why.2
+    (g.M.Matcher.facts c.args.matcher.now).meaning c.args.reader.now why.1 _ mode why.0 c.search_contents.new.reader why.2
     in
     (planned.0, planned.1, why.1, planned.2, why.3))
     (c.search_contents.ensures.succeeds never infallible)
@@ -42,11 +42,11 @@ returns-then-is_across-clause-succeeds g c = λ never infallible lawful.
 pub returns-clause-searched : goal.returns-clause-searched
 returns-clause-searched g c = λ lawful has_buffers.
     let mode = (sym c.is_across.ensures ∙ c.if-is_across.false) in
-    read-by_line g.R.Source.remaining g.R.Source.step (state-of c.args.self.now.config has_buffers) g.C.Calls.step
-    (errors-of g)
-    (facts-of g c.args.matcher.now) c.args.reader.now c.args.sink.now c.search_by_line.result
-    c.search_by_line.new.reader
-    c.search_by_line.new.sink mode (c.search_by_line.ensures.searched lawful has_buffers)
+    read-by_line _ _ _ _
+    _
+    _ _ _ _
+    _
+    _ mode (c.search_by_line.ensures.searched lawful has_buffers)
 
 pub returns-then-is_across-clause-in_order : goal.returns-then-is_across-clause-in_order
 returns-then-is_across-clause-in_order g c =

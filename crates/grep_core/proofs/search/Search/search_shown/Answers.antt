@@ -5,15 +5,20 @@ use Rattle.grep_matcher.specs.Lines.{byte_of}
 use Rattle.grep_core.proofs.RollLemmas as rolls
 use Rattle.grep_definitions.specs.Plans.{all_true}
 use Rattle.grep_definitions.proofs.CallOrderLemmas.{called-none}
+use Rattle.grep_core.proofs.search.Search.search_shown.Given.{Over}
 use Rattle.grep_core.proofs.search.Search.search_shown.Goals as goal
+use Rattle.grep_core.proofs.search.Search.search_shown.Goals.{After-search_window}
+
+-- where the search of the window begins
+start : (g : Over) (c : goal.After-search_window g) → c.args.walk.now.offset - c.absolute_byte_offset.result
+    ≡ c.args.walk.now.offset - c.args.lines.now.offset
+start g c = ap (λ o. c.args.walk.now.offset - o) c.absolute_byte_offset.ensures
 
 pub returns-then-start-window-clause-ends : goal.returns-then-start-window-clause-ends
 returns-then-start-window-clause-ends g c = λ lawful _.
-    let shown = c.buffer-window.ensures in
-    rolls.ended-nothing c.lines_join.ensures c.lines_append.ensures g.C.Calls.step c.args.self.now.config
-    (g.M.Matcher.facts c.args.matcher.now).meaning c.args.lines.now c.args.walk.now c.args.sink.now
+    rolls.ended-nothing c.lines_join.ensures c.lines_append.ensures
     (ap (λ o. c.args.walk.now.offset - o) (sym c.absolute_byte_offset.ensures)
-    ∙ (c.if-start-window.true ∙ ap (λ xs. length xs) shown.value))
+    ∙ (c.if-start-window.true ∙ ap (λ xs. length xs) c.buffer-window.ensures.value))
     c.requires.low
 
 pub returns-in_err-search_window-clause-fault : goal.returns-in_err-search_window-clause-fault
@@ -25,31 +30,33 @@ returns-in_err-search_window-clause-fault g c =
 
 pub returns-then-not-branch-clause-ends : goal.returns-then-not-branch-clause-ends
 returns-then-not-branch-clause-ends g c = λ lawful _.
-    let shown = c.buffer-window.ensures in
     let searched = c.in_ok-search_window.ensures in
     let ends = searched.ends lawful c.if-not-branch.true in
-    rolls.ended-within c.lines_join.ensures c.lines_append.ensures g.C.Calls.step c.args.self.now.config
-    (g.M.Matcher.facts c.args.matcher.now).meaning c.args.lines.now c.args.walk.now c.args.sink.now
-    c.buffer-window.result.now (c.args.walk.now.offset - c.absolute_byte_offset.result) shown.value
-    (ap (λ o. c.args.walk.now.offset - o) c.absolute_byte_offset.ensures)
-    c.search_window.new.walk c.search_window.new.sink searched.ahead
-    (omega (arith, searched.within, ap (λ xs. length xs) shown.value, c.absolute_byte_offset.ensures, c.requires.low))
-    ends.0 ends.1
+    rolls.ended-within c.lines_join.ensures c.lines_append.ensures _ c.buffer-window.ensures.value
+    (start g (goal.at.returns-then-not-branch-clause-ends g c).After-search_window) searched.ahead
+    (omega (
+      arith,
+      searched.within,
+      ap (λ xs. length xs) c.buffer-window.ensures.value,
+      c.absolute_byte_offset.ensures,
+      c.requires.low,
+    )) _ ends.1
 
 pub returns-then-not-is_terminated-clause-ends : goal.returns-then-not-is_terminated-clause-ends
 returns-then-not-is_terminated-clause-ends g c = λ lawful _.
-    let shown = c.buffer-window.ensures in
     let searched = c.in_ok-search_window.ensures in
     let goes : c.in_ok-search_window.field-0 ≡ true = search rules in
-    let opens = c.if-not-is_terminated.ensures in
-    rolls.ended-broken c.lines_join.ensures c.lines_append.ensures g.C.Calls.step c.args.self.now.config
-    (g.M.Matcher.facts c.args.matcher.now).meaning c.args.lines.now c.args.walk.now c.args.sink.now
-    c.buffer-window.result.now (c.args.walk.now.offset - c.absolute_byte_offset.result) shown.value
-    (ap (λ o. c.args.walk.now.offset - o) c.absolute_byte_offset.ensures)
-    c.search_window.new.walk c.search_window.new.sink searched.ahead
-    (omega (arith, searched.within, ap (λ xs. length xs) shown.value, c.absolute_byte_offset.ensures, c.requires.low))
-    (searched.goes_on lawful goes)
-    (λ closed. opens (subst (IsClosed (byte_of c.args.self.now.config.line_terminator)) (sym shown.value) closed))
+    rolls.ended-broken c.lines_join.ensures c.lines_append.ensures _ c.buffer-window.ensures.value
+    (start g (goal.at.returns-then-not-is_terminated-clause-ends g c).After-search_window)
+    (searched.goes_on lawful goes) searched.ahead
+    (omega (
+      arith,
+      searched.within,
+      ap (λ xs. length xs) c.buffer-window.ensures.value,
+      c.absolute_byte_offset.ensures,
+      c.requires.low,
+    ))
+    (rw c.buffer-window.ensures.value at c.if-not-is_terminated.ensures)
 
 pub returns-clause-goes_on : goal.returns-clause-goes_on
 returns-clause-goes_on g c = λ lawful _.
@@ -57,8 +64,8 @@ returns-clause-goes_on g c = λ lawful _.
     let searched = c.in_ok-search_window.ensures in
     let goes : c.in_ok-search_window.field-0 ≡ true = search rules in
     let same = ap (λ xs. length xs) shown.value in
-    let closes = c.if-not-is_terminated.ensures in
-    let closed = subst (IsClosed (byte_of c.args.self.now.config.line_terminator)) shown.value closes in
+    let closed = subst (IsClosed (byte_of c.args.self.now.config.line_terminator)) shown.value
+    c.if-not-is_terminated.ensures in
     let first = rw shown.value at c.first_kept-count.ensures in
     record {
       count = c.first_kept-count.result;
@@ -76,21 +83,15 @@ returns-clause-goes_on g c = λ lawful _.
       moved = c.consume.ensures;
       closed = closed;
       few = first.few;
-      next = rolls.next-rolled c.lines_join.ensures c.lines_append.ensures g.C.Calls.step c.args.self.now.config
-          (g.M.Matcher.facts c.args.matcher.now).meaning c.args.lines.now c.args.walk.now c.args.sink.now
-          c.buffer-window.result.now (c.args.walk.now.offset - c.absolute_byte_offset.result) shown.value
-          (ap (λ o. c.args.walk.now.offset - o) c.absolute_byte_offset.ensures)
-          c.search_window.new.walk c.search_window.new.sink searched.ahead
-          (omega (arith, searched.within, same, c.absolute_byte_offset.ensures, c.requires.low))
-          (searched.goes_on lawful goes) c.first_kept-count.result
-          (omega (arith, c.first_kept-count.ensures.within, same)) closed
-          (λ gone opens. first.closed gone opens closed)
+      next = rolls.next-rolled c.lines_join.ensures c.lines_append.ensures c.args.lines.now shown.value
+          (start g (goal.at.returns-clause-goes_on g c).After-search_window) (searched.goes_on lawful goes)
+          _ closed (λ gone opens. first.closed gone opens closed)
           (λ gone more after opens closes. first.kept gone more after opens closed closes);
     }
 
 pub returns-then-start-window-clause-in_order : goal.returns-then-start-window-clause-in_order
 returns-then-start-window-clause-in_order g c =
-    record { outcome = all_true; ends = tt; called = called-none g.C.Calls.step c.args.self.now.config c.args.sink.now }
+    record { outcome = all_true; ends = tt; called = called-none _ _ _ }
 
 pub returns-then-not-branch-clause-in_order : goal.returns-then-not-branch-clause-in_order
 returns-then-not-branch-clause-in_order g c = rw c.if-not-branch.true at c.in_ok-search_window.ensures.in_order

@@ -1,4 +1,4 @@
-use Rattle.std.proofs.Common.{◌∙◌, None, Some, sym, subst}
+use Rattle.std.proofs.Common.{◌∙◌, sym, subst}
 use Rattle.grep_report.specs.ErrorMakers.{ErrorMakers}
 use Rattle.grep_matcher.specs.Meanings.{MatcherFacts}
 use Rattle.grep_definitions.specs.SearchTurns.{calls_if}
@@ -18,16 +18,15 @@ facts-of g matcher = g.M.Matcher.facts matcher
 
 pub search_quitting-requires-clause-none : goal.search_quitting-requires-clause-none
 search_quitting-requires-clause-none g c =
-    rw c.new-quitting.ensures.byte (first-found c.args.byte c.args.bytes.now c.min.result None c.min.ensures
+    rw c.new-quitting.ensures.byte (first-found _ _ c.min.ensures
     c.in-None.ensures)
 
 pub returns-in-Some-clause-searched : goal.returns-in-Some-clause-searched
 returns-in-Some-clause-searched g c = λ lawful.
-    quit-searched g.C.Calls.step (errors-of g) (facts-of g c.args.matcher.now) c.args.self.now.config c.args.byte
+    quit-searched (errors-of g) (facts-of g c.args.matcher.now) c.args.byte
     c.args.bytes.now
-    c.args.is_across c.in-Some.offset
-    (first-found c.args.byte c.args.bytes.now c.min.result (Some c.in-Some.offset) c.min.ensures c.in-Some.ensures)
-    c.args.sink.now c.quit_first.result c.quit_first.new.sink c.quit_first.ensures.quits
+    c.args.is_across _
+    (first-found _ _ c.min.ensures c.in-Some.ensures) c.quit_first.ensures.quits
 
 pub returns-in-None-clause-searched : goal.returns-in-None-clause-searched
 returns-in-None-clause-searched g c = λ lawful.
@@ -40,8 +39,7 @@ returns-in-None-clause-searched g c = λ lawful.
 
 pub returns-in-Some-clause-in_order : goal.returns-in-Some-clause-in_order
 returns-in-Some-clause-in_order g c =
-    quit-in-order g.C.Calls.step c.args.self.now.config g.C.Calls.may_call c.requires.detecting (errors-of g)
-    (facts-of g c.args.matcher.now) _ c.args.sink.now c.quit_first.result c.quit_first.new.sink
+    quit-in-order _ _ g.C.Calls.may_call c.requires.detecting _
     c.quit_first.ensures.quits
 
 pub returns-in-None-clause-in_order : goal.returns-in-None-clause-in_order

@@ -1,5 +1,5 @@
 use Rattle.std.proofs.Common.{rules, ◌≡◌, ◌∙◌, ℕ, length, refl, ap, sym, subst, arith, true, false, length-take}
-use Rattle.std.proofs.Common.{length-drop, ◌-◌, drop, ◌+◌}
+use Rattle.std.proofs.Common.{length-drop, ◌-◌, drop, ◌+◌, List}
 use Rattle.std.proofs.lemmas.Bool.{false≢true}
 use Rattle.std.proofs.lemmas.Result.{err_from_is_err_and}
 use Rattle.std.specs.Prelude.{slice_range}
@@ -7,28 +7,44 @@ use Rattle.grep_lines.specs.Positions.{IsLineStart}
 use Rattle.grep_matcher.specs.Lines.{lines}
 use Rattle.grep_report.specs.ErrorMakers.{ErrorMakers}
 use Rattle.grep_matcher.specs.Meanings.{MatcherFacts}
-use Rattle.grep_definitions.specs.Settings.{Settings}
+use Rattle.grep_definitions.specs.Asking.{IsLawful}
 use Rattle.grep_definitions.specs.Plans.{all_true, failed, stopped, counted}
-use Rattle.grep_walk.specs.Walks.{chooses, trails, is_over, line_end, after_line}
+use Rattle.grep_walk.specs.Origins.{Origin}
+use Rattle.grep_walk.specs.Windows.{HasSearched}
+use Rattle.grep_walk.specs.Walks.{chooses, is_over, line_end, after_line}
 use Rattle.grep_walk.proofs.SkipLemmas as skips
 use Rattle.grep_walk.proofs.WindowSearchLemmas as search
 use Rattle.grep_walk.proofs.WindowSearchLemmas.{ordered-next}
 use Rattle.grep_walk.proofs.UncountedLemmas as uncounted
+use Rattle.grep_walk.specs.WalkFaults.{at_call}
 use Rattle.grep_core.proofs.search.Search.search_window.Given.{Over}
 use Rattle.grep_definitions.specs.CallOrder.{of_call, of_question}
 use Rattle.grep_definitions.proofs.CallOrderLemmas.{called-none, called-then}
 use Rattle.grep_report.specs.ErrorMakers.{makers_of}
 use Rattle.grep_core.proofs.search.Search.search_window.Goals as goal
-
--- under passthru there are no contexts
-abbrev Bare : Settings → Type 0
-Bare settings = settings.passthru ≡ true → (settings.after_context ≡ 0) × (settings.before_context ≡ 0)
+use Rattle.grep_core.proofs.search.Search.search_window.Goals.{After-at-known}
 
 abbrev errors : (g : Over) → ErrorMakers g.row.M-Error.Denot g.row.C-Error.Denot
 errors g = makers_of g.M.Error.Display.output g.C.Error.SinkError.makers
 
 abbrev facts : (g : Over) → g.row.M.Denot → MatcherFacts g.row.M-Error.Denot
 facts g matcher = g.M.Matcher.facts matcher
+
+-- the line that a walk decides, after those that it skipped
+reached : (g : Over) (c : goal.After-at-known g) → IsLawful (facts g c.args.matcher.now) c.args.self.now.config
+    → (gone input : List ℕ) (first : Origin g.row.C-Sink.Denot)
+    → HasSearched g.C.Calls.step c.args.self.now.config (facts g c.args.matcher.now).meaning gone c.args.window.now input
+    first c.args.start c.args.walk.now c.args.sink.now
+    → uncounted.HasLine g.C.Calls.step c.args.self.now.config (facts g c.args.matcher.now).meaning gone
+    c.args.window.now input first c.skip_unmatched-start.result c.in-Some.end c.skip_unmatched-start.new.walk
+    c.lines.sink c.at-known.result
+reached g c lawful gone input first so_far =
+    let now = c.lines.invariant.searched lawful gone input first so_far in
+    uncounted.line-reached c.requires.configured.bare now c.in-Ok.ensures.bounded
+    (c.in-Ok.ensures.known lawful _ now.walked.inside.line.begins
+    (c.lines.invariant.known lawful gone input first so_far)) c.skip_unmatched-start.ensures.low
+    c.skip_unmatched-start.ensures.position c.skip_unmatched-start.ensures.walk c.terminator-terminator.ensures
+    c.in-Some.ensures.line c.at-known.ensures
 
 pub lines-init : goal.lines-init
 lines-init g c = record {
@@ -37,21 +53,20 @@ lines-init g c = record {
   ahead = omega arith;
   ordered = c.requires.ordered;
   bounded = record { ordered = omega arith; within = omega arith };
-  known = λ lawful gone input first so_far. skips.known-nothing c.args.self.now.config
-      (g.M.Matcher.facts c.args.matcher.now).meaning
-      c.args.window.now c.args.start;
+  known = λ lawful gone input first so_far. skips.known-nothing _
+      _
+      _ _;
   searched = λ lawful gone input first so_far. so_far;
-  called = called-none g.C.Calls.step c.args.self.now.config c.args.sink.now;
+  called = called-none _ _ _;
   may_call = c.requires.may_call;
 }
 
 pub returns-in-Err-clause-fault : goal.returns-in-Err-clause-fault
 returns-in-Err-clause-fault g c =
     let ahead = c.in-Err.ensures in
-    λ lawful gone input first so_far. uncounted.failed-ahead g.C.Calls.step
-    (errors g) (facts g c.args.matcher.now) c.args.self.now.config gone c.args.window.now input first
+    λ lawful gone input first so_far. uncounted.failed-ahead
+    _ _
     (λ passthru. absurd (false≢true (sym ahead.allowed.allowed.selects ∙ passthru)))
-    c.lines_join.ensures c.lines_append.ensures c.lines.sink c.lines.walk c.lines.start
     (c.lines.invariant.searched lawful gone input first so_far) ahead.some ahead.allowed c.in-Err.error _
     c.error_message.ensures ahead.fault
 
@@ -64,10 +79,7 @@ returns-in_default-clause-goes_on g c = λ lawful goes gone input first so_far.
     let now = c.lines.invariant.searched lawful gone input first so_far in
     let known = learns lawful _ now.walked.inside.line.begins
     (c.lines.invariant.known lawful gone input first so_far) in
-    let here = uncounted.searched-on _ (errors g) (facts g c.args.matcher.now) _ _ _ _ _ bare
-    c.lines_join.ensures c.lines_append.ensures _ _ _ c.in-Ok.ahead now
-    (omega (arith, c.in-Ok.ensures.bounded.ordered, c.in-Ok.ensures.bounded.within)) known _ _
-    position skipped in
+    let here = uncounted.searched-on bare now c.in-Ok.ensures.bounded known position skipped in
     let terminator = c.terminator-terminator.ensures in
     search.passed-all _ _ _ _ _ _ _ _ _ _ here c.in_default.ensures.end
     (subst (λ b. (i : ℕ) → IsLineStart b c.args.window.now c.skip_unmatched-start.result i → i
@@ -76,83 +88,36 @@ returns-in_default-clause-goes_on g c = λ lawful goes gone input first so_far.
 
 pub returns-in-Err-judge-clause-fault : goal.returns-in-Err-judge-clause-fault
 returns-in-Err-judge-clause-fault g c =
-    let learns = c.in-Ok.ensures.known in
-    let position = c.skip_unmatched-start.ensures.position in
-    let skipped = c.skip_unmatched-start.ensures.walk in
     let below = c.in-Err-judge.ensures.open in
     λ lawful gone input first so_far.
-    let bare = c.requires.configured.bare in
-    let now = c.lines.invariant.searched lawful gone input first so_far in
-    let known = learns lawful _ now.walked.inside.line.begins
-    (c.lines.invariant.known lawful gone input first so_far) in
-    let terminator = c.terminator-terminator.ensures in
-    let turn = uncounted.line-reached _ (errors g) (facts g c.args.matcher.now) _ _ _ _ _ bare c.lines_join.ensures
-    c.lines_append.ensures _ _ _ _ now c.in-Ok.ensures.bounded known _ _ c.skip_unmatched-start.ensures.low
-    position skipped _ _ terminator
-    c.in-Some.ensures.line _ c.at-known.ensures in
-    uncounted.failed-asked _ (errors g) (facts g c.args.matcher.now) _ _ _ _ _ bare _ _ _ _ turn.here
-    c.in-Some.ensures.within.0
-    c.in-Some.ensures.within.1 turn.line below c.in-Err-judge.error _ c.error_message-in-Err-judge.ensures
+    let turn = reached g (goal.at.returns-in-Err-judge-clause-fault g c).After-at-known lawful _ _ _ so_far in
+    uncounted.failed-asked _ _ c.requires.configured.bare turn c.in-Some.ensures.within.1 below c.in-Err-judge.error _ c.error_message-in-Err-judge.ensures
     c.in-Err-judge.ensures.fault
 
 pub returns-in_err-sink_line-clause-fault : goal.returns-in_err-sink_line-clause-fault
 returns-in_err-sink_line-clause-fault g c =
-    let learns = c.in-Ok.ensures.known in
-    let position = c.skip_unmatched-start.ensures.position in
-    let skipped = c.skip_unmatched-start.ensures.walk in
     let decided = c.in-Ok-judge.ensures.decided in
     let p = err_from_is_err_and c.from_residual.result c.from_residual.ensures.1 in
     rw (p.1, p.2) (λ lawful gone input first so_far.
-    let bare = c.requires.configured.bare in
-    let now = c.lines.invariant.searched lawful gone input first so_far in
-    let known = learns lawful _ now.walked.inside.line.begins
-    (c.lines.invariant.known lawful gone input first so_far) in
-    let terminator = c.terminator-terminator.ensures in
-    let turn = uncounted.line-reached _ (errors g) (facts g c.args.matcher.now) _ _ _ _ _ bare c.lines_join.ensures
-    c.lines_append.ensures _ _ _ _ now c.in-Ok.ensures.bounded known _ _ c.skip_unmatched-start.ensures.low
-    position skipped _ _ terminator
-    c.in-Some.ensures.line _ c.at-known.ensures in
-    uncounted.failed-line _ (errors g) (facts g c.args.matcher.now) _ _ _ _ _ bare _ _ _ _ turn.here
-    c.in-Some.ensures.within.0
-    c.in-Some.ensures.within.1 turn.line (chooses c.in-Ok-judge.verdict) (trails c.in-Ok-judge.verdict)
-    (decided turn.agrees) _ _
-    (c.in_err-sink_line.ensures.reported gone input
-    (uncounted.inside-counted _ (errors g) (facts g c.args.matcher.now) _ _ _ _ _ _ _ _ turn.here)))
+    let turn = reached g (goal.at.returns-in_err-sink_line-clause-fault g c).After-at-known lawful _ _ _ so_far in
+    at_call (uncounted.line-comes c.requires.configured.bare turn c.in-Some.ensures.within.1 (decided turn.agrees)
+    (failed _) _ (c.in_err-sink_line.ensures.reported gone input (uncounted.inside-counted turn.here))))
 
 pub returns-then-not-branch-clause-ends : goal.returns-then-not-branch-clause-ends
 returns-then-not-branch-clause-ends g c = λ lawful ends.
-    let learns = c.in-Ok.ensures.known in
-    let position = c.skip_unmatched-start.ensures.position in
-    let skipped = c.skip_unmatched-start.ensures.walk in
     let decided = c.in-Ok-judge.ensures.decided in
     let stops : c.in_ok-sink_line.field-0 ≡ false = search rules in
     let reported = rw stops at c.in_ok-sink_line.ensures.reported in (
       stopped (counted (line_end c.skip_unmatched-start.new.walk
           (slice_range c.args.window.now c.skip_unmatched-start.result c.in-Some.end))),
       λ gone input first so_far.
-          let bare = c.requires.configured.bare in
-          let now = c.lines.invariant.searched lawful gone input first so_far in
-          let known = learns lawful _ now.walked.inside.line.begins
-          (c.lines.invariant.known lawful gone input first so_far) in
-          let terminator = c.terminator-terminator.ensures in
-          let turn = uncounted.line-reached _ (errors g) (facts g c.args.matcher.now) _ _ _ _ _ bare
-          c.lines_join.ensures
-          c.lines_append.ensures _ _ _ _ now c.in-Ok.ensures.bounded known _ _ c.skip_unmatched-start.ensures.low
-          position skipped
-          _ _ terminator c.in-Some.ensures.line _ c.at-known.ensures in
-          uncounted.counted-stopped _ (errors g) (facts g c.args.matcher.now) _ _ _ _ _ bare _ _ _ _ turn.here
-          c.in-Some.ensures.within.0
-          c.in-Some.ensures.within.1 turn.line (chooses c.in-Ok-judge.verdict) (trails c.in-Ok-judge.verdict)
-          (decided turn.agrees) _
-          (reported gone input (uncounted.inside-counted _ (errors g) (facts g c.args.matcher.now) _ _ _ _ _ _ _ _
-          turn.here)),
+          let turn = reached g (goal.at.returns-then-not-branch-clause-ends g c).After-at-known lawful _ _ _ so_far in
+          uncounted.line-comes c.requires.configured.bare turn c.in-Some.ensures.within.1 (decided turn.agrees)
+          (stopped _) _ (reported gone input (uncounted.inside-counted turn.here)) refl,
     )
 
 pub returns-then-is_over-clause-ends : goal.returns-then-is_over-clause-ends
 returns-then-is_over-clause-ends g c = λ lawful ends.
-    let learns = c.in-Ok.ensures.known in
-    let position = c.skip_unmatched-start.ensures.position in
-    let skipped = c.skip_unmatched-start.ensures.walk in
     let decided = c.in-Ok-judge.ensures.decided in
     let chosen = c.is_chosen-chosen.ensures in
     let next = c.after_line.ensures
@@ -166,29 +131,14 @@ returns-then-is_over-clause-ends g c = λ lawful ends.
     rw next (
       all_true,
       λ gone input first so_far.
-          let bare = c.requires.configured.bare in
-          let now = c.lines.invariant.searched lawful gone input first so_far in
-          let known = learns lawful _ now.walked.inside.line.begins
-          (c.lines.invariant.known lawful gone input first so_far) in
-          let terminator = c.terminator-terminator.ensures in
-          let turn = uncounted.line-reached _ (errors g) (facts g c.args.matcher.now) _ _ _ _ _ bare
-          c.lines_join.ensures
-          c.lines_append.ensures _ _ _ _ now c.in-Ok.ensures.bounded known _ _ c.skip_unmatched-start.ensures.low
-          position skipped
-          _ _ terminator c.in-Some.ensures.line _ c.at-known.ensures in
-          uncounted.counted-over _ (errors g) (facts g c.args.matcher.now) _ _ _ _ _ bare _ _ _ _ turn.here
-          c.in-Some.ensures.within.0
-          c.in-Some.ensures.within.1 turn.line (chooses c.in-Ok-judge.verdict) (trails c.in-Ok-judge.verdict)
-          (decided turn.agrees) _
-          (reported gone input (uncounted.inside-counted _ (errors g) (facts g c.args.matcher.now) _ _ _ _ _ _ _ _
-          turn.here)) over,
+          let turn = reached g (goal.at.returns-then-is_over-clause-ends g c).After-at-known lawful _ _ _ so_far in
+          (uncounted.line-comes c.requires.configured.bare turn c.in-Some.ensures.within.1 (decided turn.agrees)
+          all_true _ (reported gone input (uncounted.inside-counted turn.here))).0 over,
     )
 
 pub lines-preserved : goal.lines-preserved
 lines-preserved g c =
     let learns = c.in-Ok.ensures.known in
-    let position = c.skip_unmatched-start.ensures.position in
-    let skipped = c.skip_unmatched-start.ensures.walk in
     let decided = c.in-Ok-judge.ensures.decided in
     let chosen = c.is_chosen-chosen.ensures in
     let next = c.after_line.ensures
@@ -214,36 +164,23 @@ lines-preserved g c =
         c.lines.invariant.same,
       );
       ahead = omega (arith, c.lines.invariant.ahead, c.skip_unmatched-start.ensures.low, c.in-Some.ensures.within.0);
-      ordered = ordered-next c.args.self.now.config c.skip_unmatched-start.new.walk c.skip_unmatched-start.result
+      ordered = ordered-next c.args.self.now.config _ c.skip_unmatched-start.result
           c.in-Some.end c.args.window.now
           (chooses c.in-Ok-judge.verdict) c.in-Some.ensures.within.0 c.in-Some.ensures.within.1
           c.skip_unmatched-start.ensures.ordered;
       bounded = c.in-Ok.ensures.bounded;
       known = λ lawful gone input first so_far.
           let now = c.lines.invariant.searched lawful gone input first so_far in
-          skips.known-later c.args.self.now.config (g.M.Matcher.facts c.args.matcher.now).meaning c.args.window.now
-          c.lines.start
-          c.in-Some.end c.in-Ok.ahead (omega (arith, c.skip_unmatched-start.ensures.low, c.in-Some.ensures.within.0))
+          skips.known-later _ _ _
+          _
+          _ _ (omega (arith, c.skip_unmatched-start.ensures.low, c.in-Some.ensures.within.0))
           (learns lawful _ now.walked.inside.line.begins (c.lines.invariant.known lawful gone input first so_far));
       searched = λ lawful gone input first so_far.
-          let bare = c.requires.configured.bare in
-          let now = c.lines.invariant.searched lawful gone input first so_far in
-          let known = learns lawful _ now.walked.inside.line.begins
-          (c.lines.invariant.known lawful gone input first so_far) in
-          let terminator = c.terminator-terminator.ensures in
-          let turn = uncounted.line-reached _ (errors g) (facts g c.args.matcher.now) _ _ _ _ _ bare
-          c.lines_join.ensures
-          c.lines_append.ensures _ _ _ _ now c.in-Ok.ensures.bounded known _ _ c.skip_unmatched-start.ensures.low
-          position skipped
-          _ _ terminator c.in-Some.ensures.line _ c.at-known.ensures in
-          uncounted.searched-next _ (errors g) (facts g c.args.matcher.now) _ _ _ _ _ bare _ _ _ _ turn.here
-          c.in-Some.ensures.within.0
-          c.in-Some.ensures.within.1 turn.line (chooses c.in-Ok-judge.verdict) (trails c.in-Ok-judge.verdict)
-          (decided turn.agrees) _
-          (reported gone input (uncounted.inside-counted _ (errors g) (facts g c.args.matcher.now) _ _ _ _ _ _ _ _
-          turn.here)) on;
-      called = called-then g.C.Calls.step c.args.self.now.config c.args.sink.now c.lines.sink all_true
-          c.sink_line.new.sink
+          let turn = reached g (goal.at.lines-preserved g c).After-at-known lawful _ _ _ so_far in
+          (uncounted.line-comes c.requires.configured.bare turn c.in-Some.ensures.within.1 (decided turn.agrees)
+          all_true _ (reported gone input (uncounted.inside-counted turn.here))).1 on;
+      called = called-then _ _ _ _ _
+          _
           c.lines.invariant.called (here 0);
       may_call = c.in_ok-sink_line.ensures.may_call;
     })
@@ -260,8 +197,8 @@ returns-in-Err-judge-clause-in_order g c =
 pub returns-in_err-sink_line-clause-in_order : goal.returns-in_err-sink_line-clause-in_order
 returns-in_err-sink_line-clause-in_order g c =
     let p = err_from_is_err_and c.from_residual.result c.from_residual.ensures.1 in
-    rw (p.1, p.2) (of_call (called-then g.C.Calls.step c.args.self.now.config c.args.sink.now c.lines.sink (failed _)
-    c.sink_line.new.sink c.lines.invariant.called (c.in_err-sink_line.ensures.called 0)))
+    rw (p.1, p.2) (of_call (called-then _ _ _ _ _
+    _ c.lines.invariant.called (c.in_err-sink_line.ensures.called 0)))
 
 pub returns-then-not-branch-clause-in_order : goal.returns-then-not-branch-clause-in_order
 returns-then-not-branch-clause-in_order g c =
@@ -271,8 +208,8 @@ returns-then-not-branch-clause-in_order g c =
       outcome = stopped (counted (c.skip_unmatched-start.new.walk.offset + length
           (slice_range c.args.window.now c.skip_unmatched-start.result c.in-Some.end)));
       ends = refl;
-      called = called-then g.C.Calls.step c.args.self.now.config c.args.sink.now c.lines.sink (stopped _)
-          c.sink_line.new.sink
+      called = called-then _ _ _ _ _
+          _
           c.lines.invariant.called (here _);
     }
 
@@ -283,7 +220,7 @@ returns-then-is_over-clause-in_order g c =
     record {
       outcome = all_true;
       ends = tt;
-      called = called-then g.C.Calls.step c.args.self.now.config c.args.sink.now c.lines.sink all_true
-          c.sink_line.new.sink
+      called = called-then _ _ _ _ _
+          _
           c.lines.invariant.called (here 0);
     }

@@ -30,6 +30,6 @@ returns-clause-reported g c =
           subst (IsLineStart (byte_of k.line_terminator) c.args.window.now c.step_back-first.result) same
           (back (w.line - gone_lines) inside.line.begins);
     } in
-    rw (before.pending-near k input w.next_unreported w.line end
+    rw (before.pending-near k input _ _ end
     (w.line - near) c.requires.through (omega (arith, near_is)))
     (c.sink_before_lines.ensures.reported gone input inside first end)

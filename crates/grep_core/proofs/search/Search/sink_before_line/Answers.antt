@@ -14,9 +14,8 @@ returns-then-not-branch-clause-reported g c =
     let stops : c.in_ok-sink_break.field-0 ≡ false = search rules in
     let reported = rw (stops, gap) at c.in_ok-sink_break.ensures.reported in
     rw near (λ end. AreMade-unbroken g.C.Calls.step c.args.self.now.config
-    (is_gap c.args.self.now.config w.next_unreported
-    c.args.index w.line)
-    (context Before (number_of c.args.self.now.config c.args.index) c.args.offset c.args.line.now) end c.args.sink.now
+    _
+    _ end c.args.sink.now
     (stopped (counted end)) c.sink_break.new.sink (λ x. cc) (reported end))
 
 pub returns-clause-reported : goal.returns-clause-reported
@@ -26,9 +25,9 @@ returns-clause-reported g c =
     let near = le-leb (w.line - c.args.index) c.args.self.now.config.before_context c.requires.near in
     let goes : c.in_ok-sink_break.field-0 ≡ true = search rules in
     let reported = rw (goes, gap) at c.in_ok-sink_break.ensures.reported in
-    rw near (λ end. AreMade-broken g.C.Calls.step c.args.self.now.config
+    rw near (λ end. AreMade-broken g.C.Calls.step _
     (is_gap c.args.self.now.config w.next_unreported
     c.args.index w.line)
-    (context Before (number_of c.args.self.now.config c.args.index) c.args.offset c.args.line.now) end c.args.sink.now
-    c.sink_break.new.sink
-    c.sink_context.result c.sink_context.new.sink (reported end) c.sink_context.ensures.step)
+    _ end c.args.sink.now
+    _
+    _ _ (reported end) c.sink_context.ensures.step)

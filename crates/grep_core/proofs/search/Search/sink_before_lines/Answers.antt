@@ -16,9 +16,9 @@ returns-in_err-sink_before_line-clause-reported g c =
     let k = c.args.self.now.config in
     let window = c.args.window.now in
     let w = c.args.walk.now in
-    before.window-ended k gone window input w c.args.start inside end g.C.Calls.step c.args.sink.now c.loop-at.sink
+    before.window-ended k _ _ _ w _ inside end g.C.Calls.step c.args.sink.now c.loop-at.sink
     c.sink_before_line.new.sink
-    c.args.index c.loop-at.at c.loop-at.position c.in-Some.next c.loop-at.offset (c.loop-at.invariant.at gone from) line
+    c.args.index _ _ _ c.loop-at.offset (c.loop-at.invariant.at gone from) line
     c.loop-at.invariant.same c.loop-at.invariant.low (c.loop-at.invariant.reported gone input inside from end)
     (failed _) (c.in_err-sink_before_line.ensures.reported end) c.loop-at-test.true (λ x. cc))
 
@@ -31,19 +31,19 @@ returns-then-not-branch-clause-reported g c =
     let k = c.args.self.now.config in
     let window = c.args.window.now in
     let w = c.args.walk.now in
-    before.window-ended k gone window input w c.args.start inside end g.C.Calls.step c.args.sink.now c.loop-at.sink
+    before.window-ended k _ _ _ w _ inside end g.C.Calls.step c.args.sink.now c.loop-at.sink
     c.sink_before_line.new.sink
-    c.args.index c.loop-at.at c.loop-at.position c.in-Some.next c.loop-at.offset (c.loop-at.invariant.at gone from) line
+    _ _ _ _ _ (c.loop-at.invariant.at gone from) line
     c.loop-at.invariant.same c.loop-at.invariant.low (c.loop-at.invariant.reported gone input inside from end)
     (stopped (counted end)) (here end) c.loop-at-test.true (λ x. cc)
 
 pub returns-in_default-clause-reported : goal.returns-in_default-clause-reported
 returns-in_default-clause-reported g c = λ gone input inside from end.
     let last = c.in_default.ensures.last in
-    before.window-short c.args.self.now.config gone c.args.window.now input c.args.walk.now c.args.start inside
+    before.window-short _ _ _ _ _ _ inside
     g.C.Calls.step
     c.args.sink.now
-    c.loop-at.sink _ all_true c.loop-at.at c.loop-at.position (c.loop-at.invariant.at gone from) last
+    c.loop-at.sink _ all_true _ _ (c.loop-at.invariant.at gone from) last
     c.loop-at-test.true
 
 pub returns-clause-reported : goal.returns-clause-reported
@@ -75,20 +75,20 @@ loop-at-preserved g c =
       );
       low = omega (arith, c.loop-at.invariant.low);
       below = omega (arith, c.loop-at-test.true);
-      at = λ gone from. windows.next-line k gone window window c.loop-at.at c.loop-at.position c.in-Some.next
+      at = λ gone from. windows.next-line k _ _ window _ _ _
           (c.loop-at.invariant.at gone from) line;
-      reported = λ gone input inside from end. before.window-more k gone window input w c.args.start inside end
+      reported = λ gone input inside from end. before.window-more k _ _ _ w _ inside end
           g.C.Calls.step
           c.args.sink.now c.loop-at.sink c.sink_before_line.new.sink
-          c.args.index c.loop-at.at c.loop-at.position c.in-Some.next c.loop-at.offset
+          _ _ _ _ _
           (c.loop-at.invariant.at gone from) line
           c.loop-at.invariant.same c.loop-at.invariant.low (c.loop-at.invariant.reported gone input inside from end)
           all_true (here end);
-      called = called-then g.C.Calls.step k c.args.sink.now c.loop-at.sink all_true c.sink_before_line.new.sink
-          c.loop-at.invariant.called (called-before g.C.Calls.step k w.next_unreported c.loop-at.at w.line
-          (number_of k c.loop-at.at)
-          c.loop-at.offset 0 (slice_range window c.loop-at.position c.in-Some.next) c.loop-at.sink all_true
-          c.sink_before_line.new.sink
+      called = called-then _ k _ _ _ _
+          c.loop-at.invariant.called (called-before _ k _ _ _
+          _
+          _ 0 _ _ _
+          _
           (here 0));
       may_call = c.in_ok-sink_before_line.ensures.may_call;
     }
@@ -96,20 +96,20 @@ loop-at-preserved g c =
 pub returns-in_err-sink_before_line-clause-called : goal.returns-in_err-sink_before_line-clause-called
 returns-in_err-sink_before_line-clause-called g c =
     let p = err_from_is_err_and c.from_residual.result c.from_residual.ensures.1 in
-    rw (p.1, p.2) (λ end. called-then g.C.Calls.step c.args.self.now.config c.args.sink.now c.loop-at.sink (failed _)
-    c.sink_before_line.new.sink c.loop-at.invariant.called (called-before g.C.Calls.step c.args.self.now.config
-    c.args.walk.now.next_unreported c.loop-at.at c.args.walk.now.line (number_of c.args.self.now.config c.loop-at.at)
-    c.loop-at.offset
-    end (slice_range c.args.window.now c.loop-at.position c.in-Some.next) c.loop-at.sink _ c.sink_before_line.new.sink
+    rw (p.1, p.2) (λ end. called-then _ _ _ _ _
+    _ c.loop-at.invariant.called (called-before _ _
+    _ _ _ _
+    _
+    end _ _ _ _
     (c.in_err-sink_before_line.ensures.reported end)))
 
 pub returns-then-not-branch-clause-called : goal.returns-then-not-branch-clause-called
 returns-then-not-branch-clause-called g c = λ end.
     let stops : c.in_ok-sink_before_line.field-0 ≡ false = search rules in
     let here = rw stops at c.in_ok-sink_before_line.ensures.reported in
-    called-then g.C.Calls.step c.args.self.now.config c.args.sink.now c.loop-at.sink (stopped (counted end))
-    c.sink_before_line.new.sink c.loop-at.invariant.called (called-before g.C.Calls.step c.args.self.now.config
-    c.args.walk.now.next_unreported c.loop-at.at c.args.walk.now.line (number_of c.args.self.now.config c.loop-at.at)
-    c.loop-at.offset
-    end (slice_range c.args.window.now c.loop-at.position c.in-Some.next) c.loop-at.sink (stopped (counted end))
-    c.sink_before_line.new.sink (here end))
+    called-then _ _ _ _ _
+    _ c.loop-at.invariant.called (called-before _ _
+    _ _ _ _
+    _
+    end _ _ _
+    _ (here end))

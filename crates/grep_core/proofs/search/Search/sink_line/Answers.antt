@@ -47,9 +47,8 @@ returns-then-is_chosen-clause-reported g c =
     let goes : c.in_ok-sink_before_context.field-0 ≡ true = search rules in
     let reported = rw goes at c.in_ok-sink_before_context.ensures.reported in
     rw chosen (λ gone input inside. AreMade-append g.C.Calls.step c.args.self.now.config
-    (pending_turns c.args.self.now.config input w.next_unreported w.line stop w.next_unreported
-    (w.line - w.next_unreported))
-    (match_turns c.args.self.now.config w.next_unreported w.line w.offset stop here) c.args.sink.now
+    _
+    _ c.args.sink.now
     c.sink_before_context.new.sink
     (outcome_of stop c.sink_matched.result) c.sink_matched.new.sink (reported gone input inside stop)
     (c.sink_matched.ensures.reported stop))
@@ -64,14 +63,14 @@ returns-then-is_chosen-clause-called g c = λ stop.
     let w = c.args.walk.now in
     let goes : c.in_ok-sink_before_context.field-0 ≡ true = search rules in
     let first = rw goes at c.in_ok-sink_before_context.ensures.called in
-    called-then g.C.Calls.step c.args.self.now.config c.args.sink.now c.sink_before_context.new.sink
-    (outcome_of stop c.sink_matched.result)
-    c.sink_matched.new.sink (first stop) (called-match g.C.Calls.step c.args.self.now.config w.next_unreported w.line
-    w.offset stop (slice_range c.args.window.now c.args.start c.args.end) c.sink_before_context.new.sink
-    (outcome_of stop c.sink_matched.result)
-    c.sink_matched.new.sink (c.sink_matched.ensures.reported stop))
+    called-then _ _ _ _
+    _
+    _ (first stop) (called-match _ _ w.next_unreported w.line
+    w.offset stop (slice_range c.args.window.now c.args.start c.args.end) _
+    _
+    _ (c.sink_matched.ensures.reported stop))
 
 pub returns-then-self-clause-called : goal.returns-then-self-clause-called
 returns-then-self-clause-called g c = λ stop.
-    called-one g.C.Calls.step c.args.self.now.config _ stop c.args.sink.now c.sink_context.result
-    c.sink_context.new.sink c.sink_context.ensures.step refl refl
+    called-one _ _ _ stop _ _
+    _ c.sink_context.ensures.step refl refl

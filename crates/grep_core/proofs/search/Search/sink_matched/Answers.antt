@@ -12,8 +12,8 @@ returns-then-not-branch-clause-reported g c =
     let stops : c.in_ok-sink_break.field-0 ≡ false = search rules in
     let reported = rw (stops, gap) at c.in_ok-sink_break.ensures.reported in
     λ stop. AreMade-unbroken g.C.Calls.step c.args.self.now.config
-    (nat_lt 0 c.args.self.now.config.after_context && is_gap c.args.self.now.config w.next_unreported w.line w.line)
-    (matches (number_of c.args.self.now.config w.line) w.offset (slice_range c.args.window.now c.args.start c.args.end)) stop
+    _
+    _ stop
     c.args.sink.now (stopped (counted stop)) c.sink_break.new.sink (λ x. cc) (reported stop)
 
 pub returns-clause-reported : goal.returns-clause-reported
@@ -24,7 +24,7 @@ returns-clause-reported g c =
     let reported = rw (goes, gap) at c.in_ok-sink_break.ensures.reported in
     let number = c.number-number.ensures in
     let step = rw (c.new-found.ensures, number) at c.matched.ensures.step in
-    λ stop. AreMade-broken g.C.Calls.step c.args.self.now.config
+    λ stop. AreMade-broken g.C.Calls.step _
     (nat_lt 0 c.args.self.now.config.after_context && is_gap c.args.self.now.config w.next_unreported w.line w.line)
-    (matches (number_of c.args.self.now.config w.line) w.offset (slice_range c.args.window.now c.args.start c.args.end)) stop
-    c.args.sink.now c.sink_break.new.sink c.matched.result c.matched.new.sink (reported stop) step
+    _ stop
+    c.args.sink.now _ _ _ (reported stop) step

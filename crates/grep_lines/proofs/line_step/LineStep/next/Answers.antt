@@ -5,7 +5,7 @@ use Rattle.grep_lines.proofs.line_step.LineStep.next.Goals as goal
 pub returns-then-self-clause-last : goal.returns-then-self-clause-last
 returns-then-self-clause-last c =
     rw (← c.self.view_is) (λ i all here. all_passed _ c.args.bytes.now c.self.inside.start i (IsAt-start _ _ _ i here)
-    (omega (arith, c.if-self.true)))
+    (omega arith))
 
 pub returns-clause-first : goal.returns-clause-first
 returns-clause-first c =

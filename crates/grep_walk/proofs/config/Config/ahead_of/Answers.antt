@@ -17,8 +17,7 @@ returns-then-is_confirmed-clause-known c = λ meaning i here lawful.
     let rest = drop c.args.start c.args.window.now in
     let located : IsLocated (byte_of settings.line_terminator) rest (position_of c.in-Some.found) c.line_of-line.result
     =
-    IsLocated-empty (byte_of settings.line_terminator) c.as_byte-terminator.result (position_of c.in-Some.found) rest _
-    (position_of c.in-Some.found, position_of c.in-Some.found) c.line_of-line.result
+    IsLocated-empty _ _ _ rest _ _ _
     (c.as_byte-terminator.ensures ∙ ap (λ (s : Settings). byte_of s.line_terminator) c.self.view_is)
     (take_all (length c.args.window.now - c.args.start) rest
     (omega (arith, length-drop c.args.start c.args.window.now)))
@@ -37,8 +36,7 @@ returns-else-is_confirmed-clause-known c = λ meaning i here lawful.
     let rest = drop c.args.start c.args.window.now in
     let located : IsLocated (byte_of settings.line_terminator) rest (position_of c.in-Some.found) c.line_of-line.result
     =
-    IsLocated-empty (byte_of settings.line_terminator) c.as_byte-terminator.result (position_of c.in-Some.found) rest _
-    (position_of c.in-Some.found, position_of c.in-Some.found) c.line_of-line.result
+    IsLocated-empty _ _ _ rest _ _ _
     (c.as_byte-terminator.ensures ∙ ap (λ (s : Settings). byte_of s.line_terminator) c.self.view_is)
     (take_all (length c.args.window.now - c.args.start) rest
     (omega (arith, length-drop c.args.start c.args.window.now)))

@@ -4,9 +4,6 @@ use Rattle.grep_walk.proofs.config.Config.asks_ahead.Goals as goal
 pub returns-then-self : goal.returns-then-self
 returns-then-self g c = search rules
 
-pub returns-in-Some-Byte-eq0 : goal.returns-in-Some-Byte-eq0
-returns-in-Some-Byte-eq0 g c = search rules
-
 pub returns-in-Some : goal.returns-in-Some
 returns-in-Some g c = search rules
 

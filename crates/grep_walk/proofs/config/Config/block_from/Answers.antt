@@ -13,7 +13,7 @@ returns c =
     let t = byte_of c.args.self.now.line_terminator in
     let part = c.new-part.result in
     let size = length-drop low c.args.bytes.now in
-    let whole : shown ≡ rest = take_all (length c.args.bytes.now - low) rest (omega (arith, size)) in
+    let whole : shown ≡ rest = take_all (length c.args.bytes.now - low) rest (omega arith) in
     let terminator : c.as_byte.result ≡ t = c.as_byte.ensures
     ∙ ap (λ (s : Settings). byte_of s.line_terminator) c.self.view_is in
     let part_is : part ≡ (found.0 - low, found.1 - low) = c.new-part.ensures
@@ -30,10 +30,10 @@ returns c =
     let at_end : c.offset.result.1 ≡ c.locate.result.1 + low = ap (λ x. x.1) c.offset.ensures in
     let all : length shown ≡ length c.args.bytes.now - low = ap length whole ∙ size in
     record {
-      begins = omega (arith, at_start, ap (λ x. x.0) at.value, start);
-      ends = omega (arith, at_end, ap (λ x. x.1) at.value, end);
-      after = omega (arith, at_start);
-      before = λ over. omega (arith, at_start, at.starts, from_start, over);
-      past = omega (arith, at_end, at.ends, from_end, c.requires.low);
-      within = omega (arith, at_end, at.within, all, c.requires.low, c.requires.within);
+      begins = omega (arith, ap (λ x. x.0) at.value);
+      ends = omega (arith, ap (λ x. x.1) at.value);
+      after = omega arith;
+      before = λ over. omega arith;
+      past = omega arith;
+      within = omega arith;
     }

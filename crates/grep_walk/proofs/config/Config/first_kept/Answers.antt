@@ -1,5 +1,4 @@
 use Rattle.std.proofs.Common.{◌∙◌, sym, arith}
-use Rattle.grep_matcher.specs.Lines.{byte_of}
 use Rattle.grep_walk.specs.Walks.{recounted}
 use Rattle.grep_walk.proofs.UncountedLemmas.{near-same}
 use Rattle.grep_walk.proofs.WindowLemmas.{gone-closed, rolled, rest-few}
@@ -8,24 +7,19 @@ use Rattle.grep_walk.proofs.config.Config.first_kept.Goals as goal
 pub returns-clause-few : goal.returns-clause-few
 returns-clause-few c =
     let back = c.step_back.ensures in
-    let few = rest-few c.lines_join.ensures c.lines_append.ensures (byte_of c.args.self.now.line_terminator)
-    c.args.window.now
-    c.step_back.result c.lines_before-near.result back.within back.closed back.start in
-    omega (arith, c.lines_before-near.ensures, few)
+    let few = rest-few c.args.window.now c.step_back.result c.lines_before-near.result back.within back.closed back.start in
+    omega arith
 
 pub returns-clause-closed : goal.returns-clause-closed
 returns-clause-closed c = λ gone opens closed.
     let back = c.step_back.ensures in
-    gone-closed c.lines_join.ensures c.lines_append.ensures c.lines_are_numbered.ensures c.lines_are_few.ensures
-    c.args.self.now gone
-    c.args.window.now c.step_back.result c.lines_before-near.result back.within back.closed opens closed
+    gone-closed c.args.self.now gone c.args.window.now c.step_back.result c.lines_before-near.result back.within
+    back.closed opens closed
 
 pub returns-clause-kept : goal.returns-clause-kept
 returns-clause-kept c = λ gone more after opens closed closes line through counts inside.
     let back = c.step_back.ensures in
-    rolled c.lines_join.ensures c.lines_append.ensures c.lines_are_numbered.ensures c.lines_are_few.ensures
-    c.args.self.now gone
-    c.args.window.now c.step_back.result c.lines_before-near.result back.within back.closed opens closed
-    more after (recounted c.args.walk.now line through)
+    rolled c.args.self.now gone c.args.window.now c.step_back.result c.lines_before-near.result back.within back.closed
+    opens closed more after (recounted c.args.walk.now line through)
     (c.lines_before-near.ensures ∙ sym (near-same c.args.self.now c.args.walk.now line through counts)) closes
     back.start inside

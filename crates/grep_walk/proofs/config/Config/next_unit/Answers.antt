@@ -43,7 +43,7 @@ returns-then-end-start-clause-unit g c =
     let part = rw c.end-in-Some-2.ensures.value at c.block_from-block.ensures in
     unit-apart _ _ _ _ _ c.next_match.new.blocks _ c.matches.invariant.reached c.next_match.ensures.next _ found _ over
     part
-    (omega (arith, c.if-end-start.true, c.end-in-Some-2-2.ensures.value, c.start.ensures.value))
+    (omega arith)
 
 pub returns-then-end-start-clause-left : goal.returns-then-end-start-clause-left
 returns-then-end-start-clause-left g c =
@@ -52,7 +52,7 @@ returns-then-end-start-clause-left g c =
     let part = rw c.end-in-Some-2.ensures.value at c.block_from-block.ensures in
     rw c.end-blocks.ensures.value (left-apart _ _ _ _ _ c.next_match.new.blocks _ c.matches.invariant.reached
     c.next_match.ensures.next
-    _ found _ over part (omega (arith, c.if-end-start.true, c.end-in-Some-2-2.ensures.value, c.start.ensures.value)))
+    _ found _ over part (omega arith))
 
 pub matches-preserved : goal.matches-preserved
 matches-preserved g c =
@@ -61,7 +61,7 @@ matches-preserved g c =
     let part = rw c.end-in-Some-2.ensures.value at c.block_from-block.ensures in
     let joined = reached-joined _ _ _ _ _ c.next_match.new.blocks _ c.matches.invariant.reached
     c.next_match.ensures.next _ found _
-    over part (omega (arith, c.if-end-start.false, c.end-in-Some-2-2.ensures.value, c.start.ensures.value)) in
+    over part (omega arith) in
     record { reached = rw (c.with_end-unit.ensures, c.end-in-Some-2-3.ensures.value) joined }
 
 pub returns-clause-left : goal.returns-clause-left

@@ -1,0 +1,201 @@
+-- The front of an input, by whole lines, bytes that end in the terminator, and how many bytes the line after them has.
+use Rattle.std.proofs.Common.{◌≡◌, ◌≢◌, ℕ, ◌+◌, ◌-◌, ◌<◌, ◌≤◌, List, [], ◌∷◌, ◌++◌, length, take, drop, get_or, inl}
+use Rattle.std.proofs.Common.{inr, refl, sym, ◌∙◌, ap, subst, arith, ⊎_elim, append-nil, append_assoc, length-append, length-drop}
+use Rattle.std.proofs.Math.Seq.{take-append-add, get_or-append_right}
+use Rattle.std.proofs.lemmas.Bool.{cases_lt}
+use Rattle.std.proofs.lemmas.List.{take-append-le, take-append-drop, take_all, take_at, get_or-append-add, get_or-drop}
+use Rattle.std.proofs.lemmas.List.{get_or-take, length-take-le}
+use Rattle.std.proofs.lemmas.List.{nil_from_length}
+use Rattle.std.proofs.lemmas.List.Elements.{All-get_or}
+use Rattle.std.proofs.lemmas.List.Folds.{concat-append}
+use Rattle.std.specs.List.{concat}
+use Rattle.std.specs.Prelude.{All, slice_index, slice_index_or}
+use Rattle.grep_matcher.specs.Lines.{byte_of, lines, line_start}
+use Rattle.grep_matcher.specs.Meanings.{Meaning}
+use Rattle.grep_lines.proofs.LawLemmas.{AreLines-lines}
+use Rattle.grep_lines.proofs.LineLemmas.{lines-append}
+use Rattle.grep_lines.specs.Positions.{IsLineStart}
+use Rattle.grep_definitions.specs.Inputs.{IsClosed, IsCrowded, IsTooLong}
+use Rattle.grep_definitions.specs.Settings.{Settings}
+use Rattle.grep_definitions.proofs.LineLengthLemmas.{lines-within, lines-end, first-long, first-open}
+use Rattle.grep_definitions.proofs.SearchLawLemmas as laws
+use Rattle.grep_definitions.proofs.LineRangeLemmas.{comes-from}
+use Rattle.grep_definitions.specs.LineSearch
+
+module _ (t : ℕ) where
+  -- two closed parts are closed
+  pub closed-append : (front back : List ℕ) → IsClosed t front → IsClosed t back → IsClosed t (front ++ back)
+  closed-append front [] shut closed = subst (IsClosed t) (sym (append-nil front)) shut
+  closed-append front (b ∷ back) shut closed = λ some.
+      let last : (length (front ++ (b ∷ back)) - 1) - length front ≡ length (b ∷ back) - 1 =
+      omega (arith, length-append front (b ∷ back)) in
+      get_or-append_right front (b ∷ back) (length (front ++ (b ∷ back)) - 1) 0
+      (omega (arith, length-append front (b ∷ back)))
+      ∙ (ap (λ i. get_or (b ∷ back) i 0) last ∙ closed (omega arith))
+
+  -- so is what follows a position in closed bytes
+  pub closed-drop : (bytes : List ℕ) (r : ℕ) → IsClosed t bytes → IsClosed t (drop r bytes)
+  closed-drop bytes r closed = λ some.
+      let last : r + (length (drop r bytes) - 1) ≡ length bytes - 1 = omega (arith, length-drop r bytes) in
+      get_or-drop r bytes (length (drop r bytes) - 1) 0
+      ∙ (ap (λ i. get_or bytes i 0) last ∙ closed (omega (arith, length-drop r bytes)))
+
+  -- and what comes before a position right after the terminator
+  pub closed-take : (bytes : List ℕ) (r : ℕ) → r ≤ length bytes → (0 < r → slice_index bytes (r - 1) ≡ t)
+      → IsClosed t (take r bytes)
+  closed-take bytes r within ends = λ some.
+      let size = length-take-le r bytes within in
+      ap (λ n. get_or (take r bytes) (n - 1) 0) size
+      ∙ (get_or-take r bytes (r - 1) 0 (omega arith) ∙ ends (omega arith))
+
+-- of two ways to cut a list the longer front begins with the shorter one
+pub longer-front : (front back whole rest : List ℕ) → front ++ back ≡ whole ++ rest → length front ≤ length whole
+    → whole ≡ front ++ drop (length front) whole
+longer-front front back whole rest same long =
+    let first : take (length front) whole ≡ front =
+    sym (take-append-le (length front) whole rest long)
+    ∙ (ap (take (length front)) (sym same) ∙ take_at front back (length front) refl) in
+    sym (take-append-drop (length front) whole) ∙ ap (λ xs. xs ++ drop (length front) whole) first
+
+-- no line of some bytes is too long for a buffer that holds them, if it ends or leaves room
+pub lines-fit : (t size : ℕ) (bytes : List ℕ) → length bytes ≤ size
+    → (length bytes ≡ size → IsClosed t bytes)
+    → All (λ line. IsTooLong t size line → ⊥) (lines t bytes)
+lines-fit t size bytes within full = λ k x below. go (get_or (lines t bytes) k x)
+    (lines-within AreLines-lines t bytes k x below)
+    (λ closed. lines-end AreLines-lines t bytes closed k x below)
+  where
+    go : (line : List ℕ) → length line ≤ length bytes → (IsClosed t bytes → slice_index line (length line - 1) ≡ t)
+        → IsTooLong t size line → ⊥
+    go line short ends (inl long) = absurd (omega arith)
+    go line short ends (inr (same, broken)) =
+        broken (ap (λ n. slice_index line (n - 1)) (sym same) ∙ ends (full (omega arith)))
+
+module _ (t : ℕ) (front back : List ℕ) (closed : IsClosed t front) where
+  -- where the lines after a front begin
+  pub start-after : (i : ℕ) → line_start t (front ++ back) (length (lines t front) + i)
+      ≡ length front + line_start t back i
+  start-after i =
+      ap (λ ls. length (concat (take (length (lines t front) + i) ls))) (lines-append t front back closed)
+      ∙ (ap (λ ls. length (concat ls)) (take-append-add (lines t front) (lines t back) i)
+      ∙ (ap length (concat-append (lines t front) (take i (lines t back)))
+      ∙ (length-append (concat (lines t front)) (concat (take i (lines t back)))
+      ∙ ap (λ xs. length xs + line_start t back i) (AreLines-lines t front).joined)))
+
+  -- how many there are
+  pub count-after : length (lines t (front ++ back)) ≡ length (lines t front) + length (lines t back)
+  count-after = ap length (lines-append t front back closed) ∙ length-append (lines t front) (lines t back)
+
+  -- where they begin
+  pub start-there : IsLineStart t (front ++ back) (length front) (length (lines t front))
+  start-there =
+      let none : length (lines t front) ≡ length (lines t front) + 0 = omega arith in
+      record {
+        listed = omega (arith, count-after);
+        begins = ap (line_start t (front ++ back)) none ∙ (start-after 0 ∙ omega arith);
+      }
+
+  -- the first of them
+  pub line-after : slice_index_or (lines t (front ++ back)) (length (lines t front)) []
+      ≡ slice_index_or (lines t back) 0 []
+  line-after =
+      let none : length (lines t front) ≡ length (lines t front) + 0 = omega arith in
+      ap (λ ls. get_or ls (length (lines t front)) []) (lines-append t front back closed)
+      ∙ (ap (λ i. get_or (lines t front ++ lines t back) i []) none
+      ∙ get_or-append-add (lines t front) (lines t back) 0 [])
+
+-- a list with something at its front isn't empty
+some-first : (ls : List (List ℕ)) → 0 < length (get_or ls 0 []) → 0 < length ls
+some-first [] some = absurd (omega arith)
+some-first (line ∷ ls) some = omega arith
+
+-- bytes without lines are none
+no-lines : (t : ℕ) (bytes : List ℕ) → length (lines t bytes) ≡ 0 → bytes ≡ []
+no-lines t bytes none = sym (AreLines-lines t bytes).joined ∙ ap concat (nil_from_length (lines t bytes) none)
+
+-- bytes that don't end a line begin one that is too long for a buffer of so many
+open-long : (t least : ℕ) (tail more : List ℕ) → All (λ b. b ≢ t) tail → 0 < least → least ≤ length tail
+    → IsTooLong t least (slice_index_or (lines t (tail ++ more)) 0 [])
+open-long t least tail more lacks some enough =
+    go (slice_index_or (lines t (tail ++ more)) 0 []) (first-open t tail more lacks)
+  where
+    go : (line : List ℕ) → (take (length tail) line ≡ tail) × (length tail ≤ length line) → IsTooLong t least line
+    go line (begins, long) = ⊎_elim inl
+        (λ same.
+        let all : line ≡ tail = sym (take_all (length tail) line (omega arith)) ∙ begins in
+        inr (
+          omega arith,
+          subst (λ xs. slice_index xs (least - 1) ≢ t) (sym all)
+              (All-get_or (λ b. b ≢ t) tail (least - 1) 0 (omega arith) lacks),
+        ))
+        (cases_lt least (length line))
+
+-- a buffer that shows some lines after those that are gone, and holds bytes after them that end none, can't hold the
+-- next line
+pub crowded : (k : Settings) (meaning : Meaning) (gone shown tail later : List ℕ) (least : ℕ)
+    → IsClosed (byte_of k.line_terminator) gone → IsClosed (byte_of k.line_terminator) shown
+    → All (λ b. b ≢ byte_of k.line_terminator) tail
+    → length (lines (byte_of k.line_terminator) shown) ≤ k.before_context → 0 < least
+    → least ≤ length shown + length tail
+    → IsCrowded k meaning ((gone ++ shown) ++ (tail ++ later)) (gone ++ shown) least
+crowded k meaning gone shown tail later least opens shut lacks few some enough =
+    let seen_closed = closed-append t gone shown opens shut in
+    let count : length (lines t (gone ++ shown)) ≡ length (lines t gone) + length (lines t shown) =
+    count-after t gone shown opens in
+    let first = start-after t gone (shown ++ (tail ++ later)) opens 0 in
+    let none : length (lines t gone) + 0 ≡ length (lines t (gone ++ shown)) - length (lines t shown) =
+    omega arith in
+    let from : line_start t ((gone ++ shown) ++ (tail ++ later))
+    (length (lines t (gone ++ shown)) - length (lines t shown))
+    ≡ length gone + 0 = ap (line_start t ((gone ++ shown) ++ (tail ++ later))) (sym none)
+    ∙ (ap (λ xs. line_start t xs (length (lines t gone) + 0)) (append_assoc gone shown (tail ++ later)) ∙ first) in
+    let next = start-after t (gone ++ shown) (tail ++ later) seen_closed 1 in
+    let long = first-long t tail later lacks in
+    record {
+      kept = length (lines t shown);
+      passed = omega arith;
+      near = few;
+      full = omega (arith, length-append gone shown);
+      alone = λ single.
+          let empty = no-lines t shown single in
+          let all : least ≤ length tail = omega (arith, ap length empty) in
+          let broken = first-open t tail later lacks in
+          let lines_after = some-first (lines t (tail ++ later)) (omega arith) in (
+            omega (arith, count-after t (gone ++ shown) (tail ++ later) seen_closed),
+            subst (IsTooLong t least) (sym (line-after t (gone ++ shown) (tail ++ later) seen_closed))
+                (open-long t least tail later lacks some all),
+          );
+    }
+  where
+    t : ℕ
+    t = byte_of k.line_terminator
+
+-- if the byte count is within the lines that were seen, each line with a turn was seen
+pub turns-within : (k : Settings) (meaning : Meaning) (seen back : List ℕ)
+    → (0 < length back → IsClosed (byte_of k.line_terminator) seen)
+    → LineSearch.byte_count k meaning (seen ++ back) ≤ length seen
+    → LineSearch.turn_count k meaning (seen ++ back) ≤ length (lines (byte_of k.line_terminator) seen)
+turns-within k meaning seen back closed within = go back closed within
+  where
+    t : ℕ
+    t = byte_of k.line_terminator
+
+    few : (bytes : List ℕ) → LineSearch.turn_count k meaning bytes ≤ length (lines t bytes)
+    few bytes = laws.turn_count-le k meaning bytes
+
+    above : (bytes : List ℕ) (m : ℕ) → line_start t bytes m ≡ length seen
+        → LineSearch.byte_count k meaning bytes ≤ length seen
+        → LineSearch.turn_count k meaning bytes ≤ m
+    above bytes m is within = comes-from {t = t} {bytes = bytes} (record { listed = few bytes; begins = refl }) m (omega arith)
+
+    go : (back : List ℕ) → (0 < length back → IsClosed t seen)
+        → LineSearch.byte_count k meaning (seen ++ back) ≤ length seen
+        → LineSearch.turn_count k meaning (seen ++ back) ≤ length (lines t seen)
+    go [] closed within = subst (λ xs. LineSearch.turn_count k meaning xs ≤ length (lines t seen))
+        (sym (append-nil seen)) (few seen)
+    go (b ∷ back) closed within =
+        let shut = closed (omega arith) in
+        let last = start-after t seen (b ∷ back) shut 0 in
+        let none : length (lines t seen) + 0 ≡ length (lines t seen) = omega arith in
+        above (seen ++ (b ∷ back)) (length (lines t seen))
+        (sym (ap (line_start t (seen ++ (b ∷ back))) none) ∙ (last ∙ omega arith)) within

@@ -1,0 +1,12 @@
+use Rattle.std.proofs.Common.{◌^◌, arith, length, subst, sym}
+use Rattle.grep_report.specs.SinkReports.{match_bytes}
+use Rattle.grep_printer.proofs.PartLemmas.{ordered-within}
+use Rattle.grep_printer.specs.MatchedParts.{AreInOrder}
+use Rattle.grep_printer.proofs.standard.Standard.push_match.Goals as goal
+
+pub push_lines-requires-clause-ordered : goal.push_lines-requires-clause-ordered
+push_lines-requires-clause-ordered g c =
+    let fits = c.requires.fits in
+    subst (AreInOrder 0 (2 ^ 64)) (sym c.deref.ensures.value)
+    (ordered-within c.args.self.now.parts.items 0 (length (match_bytes c.args.found.now)) (2 ^ 64)
+    (omega (arith, fits)) c.requires.ordered)

@@ -1,0 +1,161 @@
+//! Colours.
+ghost use Rattle.std.specs.Prelude.{◌≡◌, ◌+◌, ◌<◌, ◌≤◌, ◌^◌, ◌++◌, false, IfOk, OnOk, length};
+ghost use Rattle.grep_printer.specs.ColorRuns.{after_run, run_text};
+ghost use Rattle.grep_printer.specs.ColoredTexts.{color_of, colored, column_color, is_matched};
+ghost use Rattle.grep_printer.specs.ColoredTexts.{line_color, matched_color, painted_from};
+ghost use Rattle.grep_printer.specs.ColoredTexts.{path_color, switch_text};
+ghost use Rattle.grep_printer.specs.MatchedParts.{AreInOrder};
+
+use grep_searcher::Match;
+use std::alloc::AllocError;
+
+// The escape after which a terminal shows a text without colours.
+const RESET: &[u8] = b"\x1b[0m";
+
+/// The colours of what a printer writes: the escape before it, if it has one. After it comes the
+/// escape that ends all of them.
+#[derive(Clone, Copy, Debug, PartialEq, Eq)]
+pub enum ColorSpecs {
+    /// No colours.
+    Plain,
+    /// The colours of ripgrep: a path is magenta, a line number green, and what matches bold and
+    /// red; a column and an offset have escapes that change nothing.
+    Default,
+}
+
+impl ColorSpecs {
+    /// The escape before a path.
+    pub fn path(&self) -> Option<&'static str>
+        ensures { color_of result ≡ path_color self.now }
+    {
+        match self {
+            ColorSpecs::Plain => None,
+            ColorSpecs::Default => Some("\x1b[0m\x1b[35m"),
+        }
+    }
+
+    /// The escape before a line number.
+    pub fn line(&self) -> Option<&'static str>
+        ensures { color_of result ≡ line_color self.now }
+    {
+        match self {
+            ColorSpecs::Plain => None,
+            ColorSpecs::Default => Some("\x1b[0m\x1b[32m"),
+        }
+    }
+
+    /// The escape before a column, and before an offset.
+    pub fn column(&self) -> Option<&'static str>
+        ensures { color_of result ≡ column_color self.now }
+    {
+        match self {
+            ColorSpecs::Plain => None,
+            ColorSpecs::Default => Some("\x1b[0m"),
+        }
+    }
+
+    /// The escape before the bytes of a line that match.
+    pub fn matched(&self) -> Option<&'static str>
+        ensures { color_of result ≡ matched_color self.now }
+    {
+        match self {
+            ColorSpecs::Plain => None,
+            ColorSpecs::Default => Some("\x1b[0m\x1b[1m\x1b[31m"),
+        }
+    }
+}
+
+// Pushes a text, in a colour if there is one.
+pub(crate) fn push_colored(
+    text: &mut Vec<u8>,
+    color: Option<&str>,
+    bytes: &[u8],
+) -> Result<(), AllocError>
+    ensures { OnOk result (text.new.items ≡ text.old.items ++ colored (color_of color.entry) bytes.now) }
+{
+    match color {
+        Some(color) => {
+            text.extend_from_slice(color.as_bytes())?;
+            text.extend_from_slice(bytes)?;
+            text.extend_from_slice(RESET)
+        }
+        None => text.extend_from_slice(bytes),
+    }
+}
+
+// Pushes a line, the first byte of which is at a position of its report, with the bytes in some
+// parts coloured that come before an end.
+pub(crate) fn push_painted(
+    text: &mut Vec<u8>,
+    color: &str,
+    parts: &[Match],
+    range: &Match,
+    line: &[u8],
+) -> Result<(), AllocError>
+    requires fits { range.now.0 + length line.now < 2 ^ 64 }
+    requires within { range.now.1 ≤ range.now.0 + length line.now }
+    requires ordered { AreInOrder 0 (2 ^ 64) parts.now }
+    ensures { OnOk result (text.new.items ≡ text.old.items ++ painted_from color.now
+        (is_matched parts.now range.now.1) false range.now.0 line.now) }
+{
+    let end = range.end();
+    let mut position = range.start();
+    let mut left = line;
+    let mut is_colored = false;
+    let mut rest = parts;
+    while let Some((part, later)) = rest.split_first() {
+        if part.start() >= end {
+            break;
+        }
+        let start = part.start().max(position);
+        let (gap, after) = left.split_at(start - position);
+        position = part.end().min(end).max(start);
+        let (found, after) = after.split_at(position - start);
+        is_colored = push_run(text, color, is_colored, false, gap)?;
+        is_colored = push_run(text, color, is_colored, true, found)?;
+        left = after;
+        rest = later;
+    }
+    push_rest(text, color, is_colored, left)
+}
+
+// Pushes the bytes after the last part of a line, by whether the byte before them is coloured.
+fn push_rest(text: &mut Vec<u8>, color: &str, before: bool, bytes: &[u8]) -> Result<(), AllocError>
+    ensures { OnOk result (text.new.items
+        ≡ (text.old.items ++ switch_text color.now before false) ++ bytes.now) }
+{
+    push_switch(text, color, before, false)?;
+    text.extend_from_slice(bytes)
+}
+
+// Pushes bytes that are all coloured, or none of which is, and returns whether the last byte that
+// was pushed is.
+fn push_run(
+    text: &mut Vec<u8>,
+    color: &str,
+    before: bool,
+    is_colored: bool,
+    bytes: &[u8],
+) -> Result<bool, AllocError>
+    ensures after { IfOk result (λ after. after ≡ after_run before is_colored bytes.now) }
+    ensures text { OnOk result
+        (text.new.items ≡ text.old.items ++ run_text color.now before is_colored bytes.now) }
+{
+    if bytes.is_empty() {
+        return Ok(before);
+    }
+    push_switch(text, color, before, is_colored)?;
+    text.extend_from_slice(bytes)?;
+    Ok(is_colored)
+}
+
+// Pushes what comes between two bytes, by whether the one before is coloured, and the one after.
+fn push_switch(text: &mut Vec<u8>, color: &str, before: bool, after: bool) -> Result<(), AllocError>
+    ensures { OnOk result (text.new.items ≡ text.old.items ++ switch_text color.now before after) }
+{
+    match (before, after) {
+        (false, true) => text.extend_from_slice(color.as_bytes()),
+        (true, false) => text.extend_from_slice(RESET),
+        _ => Ok(()),
+    }
+}

@@ -1,0 +1,65 @@
+-- Sinks and handlers that append something of each call to what they keep.
+use Rattle.std.proofs.Common.{◌≡◌, ℕ, Bool, true, false, List, [], ◌∷◌, ◌++◌, sym, ap, subst, ◌∙◌, inl, inr, append_assoc}
+use Rattle.std.proofs.lemmas.Bool.{false≢true}
+use Rattle.std.proofs.lemmas.List.{append-nil}
+use Rattle.std.proofs.lemmas.List.Folds.{flat_map-map}
+use Rattle.std.specs.Prelude.{Ok}
+use Rattle.std.specs.List.{flat_map}
+use Rattle.grep_definitions.specs.Plans.{AreMade, Call, Finish, finishes, IsFinished, Outcome, Planned, Steps}
+use Rattle.grep_definitions.specs.SearchLaws.{calls_of, MatchesAreMatchedLines, match_calls, match_of, matched_lines}
+use Rattle.grep_definitions.specs.Settings.{Settings}
+use Rattle.grep_definitions.specs.SinkFolds.{fold_while}
+use Rattle.grep_searcher.specs.AppendedParts.{AppendsMatches, AppendsParts, RunsAppend, RunsAppendLines, RunsAppendMatches}
+use Rattle.grep_searcher.proofs.MatchHandlerLemmas.{runs-handle}
+
+module _ {S E : Type 0} (step : Steps S E) (X : Type 0) where
+  module _ (kept : S → List X) (part : Call → List X) (by : AppendsParts step X kept part) (settings : Settings)
+      (finish : Finish) (new : S) where
+    abbrev last : Call
+    last = finishes finish.count finish.binary
+
+    made-append : (calls : List Planned) (old : S) (outcome : Outcome E) (mid : S)
+        → AreMade step settings old calls outcome mid → IsFinished step settings outcome mid finish (Ok tt) new
+        → kept new ≡ kept old ++ flat_map part (calls_of calls ++ last ∷ [])
+    made-append [] old outcome mid (is, same) finished =
+        let made = subst (λ o. IsFinished step settings o mid finish (Ok tt) new) is finished in
+        (by mid settings last true new made).1 ∙ ap (λ s. kept s ++ part last) same
+        ∙ ap (λ xs. kept old ++ xs) (sym (append-nil (part last)))
+    made-append (planned ∷ later) old outcome mid (inl (between, made, rest)) finished =
+        let more = flat_map part (calls_of later ++ last ∷ []) in
+        made-append later between outcome mid rest finished
+        ∙ ap (λ k. k ++ more) (by old settings planned.call true between made).1
+        ∙ append_assoc (kept old) (part planned.call) more
+    made-append (planned ∷ later) old outcome mid (inr (inl (is, made))) finished =
+        absurd (false≢true (by old settings planned.call false mid made).0)
+    made-append (planned ∷ later) old outcome mid (inr (inr (e, is, made))) finished =
+        let failed = subst (λ o. IsFinished step settings o mid finish (Ok tt) new) is finished in
+        absurd (let never = failed.0 in cc)
+
+  pub runs-append : RunsAppend step X
+  runs-append kept part by settings old plan new run =
+      made-append kept part by settings plan.finish new plan.calls old run.outcome run.mid run.made run.finished
+
+module _ {H E : Type 0} (goes : H → Call → Bool) (next : H → Call → H) (fails : H → Call → E → H → Type 0)
+    (X : Type 0) where
+  fold_while-append : (kept : H → List X) (part : Call → List X) → AppendsMatches goes next fails X kept part
+      → (old : H) (calls : List Call)
+      → kept (fold_while goes next old calls) ≡ kept old ++ flat_map part calls
+  fold_while-append kept part by old [] = sym (append-nil (kept old))
+  fold_while-append kept part by old (call ∷ later) =
+      let here = by old call in
+      rw here.0 (fold_while-append kept part by (next old call) later
+      ∙ ap (λ k. k ++ flat_map part later) here.1
+      ∙ append_assoc (kept old) (part call) (flat_map part later))
+
+  pub runs-append_matches : RunsAppendMatches goes next fails X
+  runs-append_matches kept part by settings old plan new run =
+      ap kept (runs-handle goes next fails settings old plan new run)
+      ∙ fold_while-append kept part by old (match_calls plan.calls)
+
+  pub runs-append_lines : MatchesAreMatchedLines → RunsAppendLines goes next fails X
+  runs-append_lines are_matched kept part by settings meaning bytes by_line old new run =
+      runs-append_matches kept part by settings old _ new run
+      ∙ ap (λ calls. kept old ++ flat_map part calls) (are_matched settings meaning bytes by_line)
+      ∙ ap (λ parts. kept old ++ parts)
+      (flat_map-map part (match_of settings bytes) (matched_lines settings meaning bytes))
