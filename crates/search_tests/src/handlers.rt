@@ -1,7 +1,7 @@
-//! Handlers of matches that take memory.
+//! A handler of matches that takes memory. `First` is run by `uses`.
 use crate::searches::search_slice_for_a;
 use grep_searcher::SearchError;
-use grep_searcher::sinks::{Collect, First, KeptMatch, OnMatch};
+use grep_searcher::sinks::{Collect, KeptMatch, OnMatch};
 use std::alloc::Global;
 
 // Whether one match was kept, with this number, offset and bytes.
@@ -22,14 +22,7 @@ fn collects(alloc: Global) -> Result<bool, SearchError> {
     Ok(is_kept(sink.handler().matches(), 2, 2, b"ab\n"))
 }
 
-fn keeps_the_first(alloc: Global) -> Result<bool, SearchError> {
-    let mut sink = OnMatch::new(First::new(alloc, 1));
-    search_slice_for_a(alloc, b"b\nab\na\n", &mut sink)?;
-    Ok(is_kept(sink.into_handler().into_matches().as_slice(), 2, 2, b"ab\n"))
-}
-
 #[test]
 fn matches_are_kept(rt: HostRuntime) {
     assert!(rt; matches!(collects(rt.alloc()), Ok(true)));
-    assert!(rt; matches!(keeps_the_first(rt.alloc()), Ok(true)));
 }

@@ -1,19 +1,12 @@
-//! Tests of searches that cases of `replay` can't show: searchers that are used again or copied,
-//! the window around a match, large inputs, and which calls a search makes of its reader and its
-//! matcher.
+//! Tests of searches that cases of `replay` can't show: which calls a search makes of its matcher
+//! and of a file, the window around a match, and sinks that call a closure.
 //!
-//! Each call of `grep_searcher` that needs memory succeeds here at least once, which no contract
-//! can promise.
+//! Each call of `grep_searcher` that needs memory succeeds at least once, here, in `replay` or in
+//! `refusals`, which no contract can promise.
 #![tactic(auto)]
 
 #[cfg(test)]
-mod across;
-#[cfg(test)]
-mod candidates;
-#[cfg(test)]
 mod closures;
-#[cfg(test)]
-mod detection;
 #[cfg(test)]
 mod files;
 #[cfg(test)]
@@ -21,14 +14,10 @@ mod handlers;
 #[cfg(test)]
 mod matchers;
 #[cfg(test)]
-mod messages;
+mod questions;
 #[cfg(test)]
 mod readers;
 #[cfg(test)]
-mod searchers;
-#[cfg(test)]
 mod searches;
-#[cfg(test)]
-mod tally;
 #[cfg(test)]
 mod windows;

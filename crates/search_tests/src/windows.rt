@@ -1,114 +1,50 @@
 //! The window around a match.
 use crate::searches::{search_reader_for_a, search_slice_for_a};
-use grep_searcher::{SearchError, Searcher, Sink, SinkContext, SinkFinish, SinkMatch};
+use grep_searcher::SinkMatch;
+use grep_searcher::sinks::Matches;
 use grep_testing::Pieces;
-use std::alloc::Allocator;
-use std::test::Fail;
-
-// Counts the matches of a search of `input`, those whose window is the whole input, and those whose
-// window has the match's bytes at its range, which are one line.
-#[derive(Drop)]
-struct Windows<'a> {
-    input: &'a [u8],
-    matches: u64,
-    whole: u64,
-    sound: u64,
-}
-
-impl<'a> Windows<'a> {
-    // The counts before a search.
-    fn new(input: &'a [u8]) -> Windows<'a> {
-        Windows {
-            input,
-            matches: 0,
-            whole: 0,
-            sound: 0,
-        }
-    }
-}
-
-// Whether a match's bytes are at its range in its window, and are one line.
-fn is_sound(found: &SinkMatch<'_>) -> bool {
-    let bytes = found.bytes();
-    let mut lines = found.lines();
-    found.buffer().get(found.bytes_range_in_buffer()) == Some(bytes)
-        && lines.next() == Some(bytes)
-        && lines.next().is_none()
-}
-
-impl Sink for Windows<'_> {
-    type Error = SearchError;
-
-    ghost step = { λ _ _ _ _ _. Unit {0} };
-
-    ghost may_call = { λ _. Unit {0} };
-
-    fn begin<A: Allocator + Copy>(&mut self, _searcher: &Searcher<A>) -> Result<bool, SearchError> {
-        Ok(true)
-    }
-
-    fn matched<A: Allocator + Copy>(
-        &mut self,
-        _searcher: &Searcher<A>,
-        found: &SinkMatch<'_>,
-    ) -> Result<bool, SearchError> {
-        self.matches = self.matches.saturating_add(1);
-        if found.buffer() == self.input {
-            self.whole = self.whole.saturating_add(1);
-        }
-        if is_sound(found) {
-            self.sound = self.sound.saturating_add(1);
-        }
-        Ok(true)
-    }
-
-    fn context<A: Allocator + Copy>(
-        &mut self,
-        _searcher: &Searcher<A>,
-        _near: &SinkContext<'_>,
-    ) -> Result<bool, SearchError> {
-        Ok(true)
-    }
-
-    fn context_break<A: Allocator + Copy>(
-        &mut self,
-        _searcher: &Searcher<A>,
-    ) -> Result<bool, SearchError> {
-        Ok(true)
-    }
-
-    fn binary_data<A: Allocator + Copy>(
-        &mut self,
-        _searcher: &Searcher<A>,
-        _binary_byte_offset: u64,
-    ) -> Result<bool, SearchError> {
-        Ok(true)
-    }
-
-    fn finish<A: Allocator + Copy>(
-        &mut self,
-        _searcher: &Searcher<A>,
-        _finish: &SinkFinish,
-    ) -> Result<(), SearchError> {
-        Ok(())
-    }
-}
+use std::alloc::Global;
+use std::io;
 
 const INPUT: &[u8] = b"x\na\nx\nab";
 
-#[test]
-fn of_a_slice(rt: HostRuntime) -> Result<(), Fail> {
-    let mut sink = Windows::new(INPUT);
-    search_slice_for_a(rt.alloc(), INPUT, &mut sink)?;
-    assert!(rt; sink.matches == 2 && sink.whole == 2 && sink.sound == 2);
-    Ok(())
+// How many matches there are whose window in a slice is the whole input.
+fn of_a_slice(alloc: Global) -> io::Result<u64> {
+    let mut whole = 0u64;
+    let mut sink = Matches(|found: &SinkMatch<'_>| {
+        if found.buffer() == INPUT {
+            whole = whole.saturating_add(1);
+        }
+        Ok(true)
+    });
+    search_slice_for_a(alloc, INPUT, &mut sink)?;
+    Ok(whole)
+}
+
+// How many matches there are over a reader in threes whose window is some bytes of the input.
+fn of_a_reader(alloc: Global) -> io::Result<u64> {
+    let mut sound = 0u64;
+    let mut sink = Matches(|found: &SinkMatch<'_>| {
+        if is_sound(found) {
+            sound = sound.saturating_add(1);
+        }
+        Ok(true)
+    });
+    let mut reader = Pieces::new(INPUT, 3, None);
+    search_reader_for_a(alloc, &mut reader, &mut sink)?;
+    Ok(sound)
+}
+
+// Whether a match's window is some bytes of the input, where the match says that they are.
+fn is_sound(found: &SinkMatch<'_>) -> bool {
+    let offset = usize::try_from(found.absolute_byte_offset()).unwrap_or(0);
+    let start = offset.saturating_sub(found.bytes_range_in_buffer().start);
+    let end = start.saturating_add(found.buffer().len());
+    INPUT.get(start..end) == Some(found.buffer())
 }
 
 #[test]
-fn of_a_reader(rt: HostRuntime) -> Result<(), Fail> {
-    let mut sink = Windows::new(INPUT);
-    let mut reader = Pieces::new(INPUT, 3, None);
-    search_reader_for_a(rt.alloc(), &mut reader, &mut sink)?;
-    assert!(rt; sink.matches == 2 && sink.sound == 2);
-    Ok(())
+fn windows(rt: HostRuntime) {
+    assert!(rt; matches!(of_a_slice(rt.alloc()), Ok(2)));
+    assert!(rt; matches!(of_a_reader(rt.alloc()), Ok(2)));
 }
