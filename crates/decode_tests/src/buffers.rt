@@ -3,107 +3,144 @@ ghost use Rattle.grep_line_buffer.specs.BufferStates.{IsWithin};
 
 use grep_decode::{Decoder, Source};
 use grep_line_buffer::{Detection, FillError, LineBuffer};
+use std::alloc::{AllocError, Global};
 use std::io;
-use std::process::Abort;
-use std::test::Fail;
 
 const LF: u8 = b'\n';
 
+// A buffer, and the decoder that it is filled from.
+#[derive(Drop)]
+struct Filled {
+    buffer: LineBuffer<Global>,
+    decoder: Decoder<Global>,
+}
+
+impl Filled {
+    // With this size and limit, and no detection.
+    fn new(alloc: Global, capacity: usize, limit: Option<usize>) -> Result<Filled, AllocError>
+        requires { IsWithin limit capacity }
+    {
+        Ok(Filled {
+            buffer: LineBuffer::new(alloc, capacity, limit, LF, Detection::None)?,
+            decoder: Decoder::new(alloc, 8)?,
+        })
+    }
+
+    // With this size, no limit, and this detection, which the buffer is made with.
+    fn detecting(
+        alloc: Global,
+        capacity: usize,
+        detection: Detection,
+    ) -> Result<Filled, AllocError> {
+        Ok(Filled {
+            buffer: LineBuffer::new(alloc, capacity, None, LF, detection)?,
+            decoder: Decoder::new(alloc, 8)?,
+        })
+    }
+
+    // With a size of 1, no limit, and this detection, which is set.
+    fn detecting_later(alloc: Global, detection: Detection) -> Result<Filled, AllocError> {
+        let mut buffer = LineBuffer::new(alloc, 1, None, LF, Detection::None)?;
+        buffer.set_binary_detection(detection);
+        Ok(Filled {
+            buffer,
+            decoder: Decoder::new(alloc, 8)?,
+        })
+    }
+
+    // Fills the buffer. The contract of the fill isn't passed on.
+    fn fill<R: Source>(&mut self, reader: &mut R) -> Result<bool, FillError> {
+        self.buffer.fill(&mut self.decoder, reader)
+    }
+
+    // Whether a fill returns this, or fails at the heap limit if it is `None`.
+    fn returns<R: Source>(&mut self, reader: &mut R, outcome: Option<bool>) -> bool {
+        match self.fill(reader) {
+            Ok(some) => outcome == Some(some),
+            Err(FillError::HeapLimit) => outcome.is_none(),
+            Err(_) => false,
+        }
+    }
+
+    // Whether these bytes are shown, and the offset of a binary byte is that one. All that is shown
+    // is consumed.
+    fn shows(&mut self, shown: &[u8], binary: Option<u64>) -> bool {
+        let bytes = self.buffer.buffer();
+        let (count, is_shown) = (bytes.len(), bytes == shown);
+        self.buffer.consume(count);
+        is_shown && self.buffer.binary_byte_offset() == binary
+    }
+}
+
+// What a fill returns, or `None` for a heap limit that was reached, what is shown then, and the
+// offset of a binary byte. All that is shown is consumed.
+type Fill = (Option<bool>, &'static [u8], Option<u64>);
+
+// Whether fills from a reader come to these, and the offset after them is that one.
+fn comes_to<R: Source>(filled: &mut Filled, reader: &mut R, fills: &[Fill], offset: u64) -> bool {
+    for (outcome, shown, binary) in fills {
+        if !filled.returns(reader, *outcome) || !filled.shows(shown, *binary) {
+            return false;
+        }
+    }
+    filled.buffer.absolute_byte_offset() == offset
+}
+
 const NAMES: &[u8] = b"homer\nlisa\nmaggie";
 
-// What a fill returns, or `None` for a heap limit that was reached, and what is shown then, all of
-// which is consumed.
-type Fill<'a> = (Option<bool>, &'a [u8]);
+const WHOLE: &[Fill] = &[
+    (Some(true), b"homer\nlisa\n", None),
+    (Some(true), b"maggie", None),
+    (Some(false), b"", None),
+    (Some(false), b"", None),
+];
 
-// Asserts what fills of a buffer show, and the offset after them.
-fn check_fills(
-    rt: &(impl Abort + AllocGlobal),
-    capacity: usize,
-    limit: Option<usize>,
-    fills: &[Fill<'_>],
-    offset: u64,
-) -> Result<(), Fail>
+const LINES: &[Fill] = &[
+    (Some(true), b"homer\n", None),
+    (Some(true), b"lisa\n", None),
+    (Some(true), b"maggie", None),
+    (Some(false), b"", None),
+];
+
+// With a limit of 6.
+const CUT: &[Fill] = &[
+    (Some(true), b"homer\n", None),
+    (Some(true), b"lisa\n", None),
+    (None, b"m", None),
+    (Some(true), b"aggie", None),
+    (Some(false), b"", None),
+];
+
+// With a limit of 1.
+const SINGLE: &[Fill] = &[(None, b"", None), (None, b"h", None)];
+
+// Whether fills of a new buffer from the names come to these.
+fn fills(alloc: Global, capacity: usize, limit: Option<usize>, fills: &[Fill], offset: u64) -> bool
     requires { IsWithin limit capacity }
 {
     let mut reader = NAMES;
-    let mut decoder = Decoder::new(rt.alloc(), 8)?;
-    let mut buffer = LineBuffer::new(rt.alloc(), capacity, limit, LF, Detection::None)?;
-    for (outcome, shown) in fills {
-        let filled = match buffer.fill(&mut decoder, &mut reader) {
-            Ok(some) => Some(some),
-            Err(FillError::HeapLimit) => None,
-            Err(_) => panic!(rt; "another error"),
-        };
-        assert!(rt; filled == *outcome);
-        assert!(rt; buffer.buffer() == *shown);
-        let count = buffer.buffer().len();
-        buffer.consume(count);
+    match Filled::new(alloc, capacity, limit) {
+        Ok(mut filled) => comes_to(&mut filled, &mut reader, fills, offset),
+        Err(_) => false,
     }
-    assert!(rt; buffer.absolute_byte_offset() == offset);
-    assert!(rt; buffer.binary_byte_offset().is_none());
-    Ok(())
 }
 
 #[test]
-fn large_buffer(rt: HostRuntime) -> Result<(), Fail> {
-    check_fills(
-        &rt,
-        65_536,
-        None,
-        &[
-            (Some(true), b"homer\nlisa\n"),
-            (Some(true), b"maggie"),
-            (Some(false), b""),
-            (Some(false), b""),
-        ],
-        17,
-    )
-}
-
-#[test]
-fn buffer_that_grows(rt: HostRuntime) -> Result<(), Fail> {
-    check_fills(
-        &rt,
-        0,
-        None,
-        &[
-            (Some(true), b"homer\n"),
-            (Some(true), b"lisa\n"),
-            (Some(true), b"maggie"),
-            (Some(false), b""),
-        ],
-        17,
-    )
-}
-
-#[test]
-fn limits(rt: HostRuntime) -> Result<(), Fail> {
-    check_fills(
-        &rt,
-        1,
-        Some(7),
-        &[
-            (Some(true), b"homer\n"),
-            (Some(true), b"lisa\n"),
-            (Some(true), b"maggie"),
-            (Some(false), b""),
-        ],
-        17,
-    )?;
-    check_fills(
-        &rt,
-        1,
-        Some(6),
-        &[
-            (Some(true), b"homer\n"),
-            (Some(true), b"lisa\n"),
-            (None, b"m"),
-            (Some(true), b"aggie"),
-            (Some(false), b""),
-        ],
-        17,
-    )?;
-    check_fills(&rt, 1, Some(1), &[(None, b""), (None, b"h")], 1)
+fn names(rt: HostRuntime) {
+    assert!(rt;
+        fills(rt.alloc(), 65_536, None, WHOLE, 17),
+        "a large buffer"
+    );
+    assert!(rt; fills(rt.alloc(), 0, None, LINES, 17), "one that grows");
+    assert!(rt;
+        fills(rt.alloc(), 1, Some(7), LINES, 17),
+        "one that grows to 7"
+    );
+    assert!(rt;
+        fills(rt.alloc(), 1, Some(6), CUT, 17),
+        "one that grows to 6"
+    );
+    assert!(rt; fills(rt.alloc(), 1, Some(1), SINGLE, 1), "one of 1");
 }
 
 // A reader of one byte at a time that keeps for how many bytes it was asked: a decimal digit a
@@ -131,139 +168,139 @@ impl Source for Bytes<'_> {
     }
 }
 
-#[test]
-fn free_part(rt: HostRuntime) -> Result<(), Fail> {
+// Whether a fill finds something, and the reader was asked for so many bytes then.
+fn asks(filled: &mut Filled, reader: &mut Bytes<'_>, asked: usize) -> bool {
+    filled.returns(reader, Some(true)) && reader.asked == asked
+}
+
+// Whether each read of a buffer of 4 asks for all that is free, and a fill after the end for none.
+fn asks_for_free_part(alloc: Global) -> bool {
     let mut reader = Bytes {
         bytes: b"ab\ncd",
         asked: 0,
     };
-    let mut decoder = Decoder::new(rt.alloc(), 8)?;
-    let mut buffer = LineBuffer::new(rt.alloc(), 4, None, LF, Detection::None)?;
-    assert!(rt; matches!(buffer.fill(&mut decoder, &mut reader), Ok(true)));
-    assert!(rt; reader.asked == 432);
-    buffer.consume(buffer.buffer().len());
-    assert!(rt; matches!(buffer.fill(&mut decoder, &mut reader), Ok(true)));
-    assert!(rt; buffer.buffer() == b"cd".as_slice());
-    assert!(rt; reader.asked == 432_432);
-    assert!(rt; matches!(buffer.fill(&mut decoder, &mut reader), Ok(true)));
-    assert!(rt; reader.asked == 432_432);
-    Ok(())
-}
-
-// Asserts what a buffer with detection shows at once, and the offsets after it.
-fn check_detection(
-    rt: &(impl Abort + AllocGlobal),
-    bytes: &[u8],
-    detection: Detection,
-    shown: &[u8],
-    binary: Option<u64>,
-) -> Result<(), Fail> {
-    let mut reader = bytes;
-    let mut decoder = Decoder::new(rt.alloc(), 8)?;
-    let mut buffer = LineBuffer::new(rt.alloc(), 65_536, None, LF, detection)?;
-    if !shown.is_empty() {
-        assert!(rt; matches!(buffer.fill(&mut decoder, &mut reader), Ok(true)));
-        assert!(rt; buffer.buffer() == shown);
-        assert!(rt; buffer.binary_byte_offset() == binary);
-        buffer.consume(buffer.buffer().len());
+    match Filled::new(alloc, 4, None) {
+        Ok(mut filled) => {
+            asks(&mut filled, &mut reader, 432)
+                && filled.shows(b"ab\n", None)
+                && asks(&mut filled, &mut reader, 432_432)
+                && asks(&mut filled, &mut reader, 432_432)
+                && filled.shows(b"cd", None)
+        }
+        Err(_) => false,
     }
-    assert!(rt; matches!(buffer.fill(&mut decoder, &mut reader), Ok(false)));
-    assert!(rt; buffer.absolute_byte_offset() == shown.len() as u64);
-    assert!(rt; buffer.binary_byte_offset() == binary);
-    buffer.clear();
-    assert!(rt; buffer.binary_byte_offset().is_none());
-    Ok(())
 }
 
 #[test]
-fn quit(rt: HostRuntime) -> Result<(), Fail> {
-    let quit = Detection::Quit(0);
-    check_detection(&rt, b"homer\nli\0sa\nmaggie\n", quit, b"homer\nli", Some(8))?;
-    check_detection(&rt, b"\0homer\nlisa\nmaggie\n", quit, b"", Some(0))?;
-    check_detection(
-        &rt,
+fn free_part(rt: HostRuntime) {
+    assert!(rt; asks_for_free_part(rt.alloc()));
+}
+
+// An input, a detection, the bytes that are shown at once, and the offset of the first binary byte.
+const DETECTION_ROWS: &[(&[u8], Detection, &[u8], Option<u64>)] = &[
+    (
+        b"homer\nli\0sa\nmaggie\n",
+        Detection::Quit(0),
+        b"homer\nli",
+        Some(8),
+    ),
+    (b"\0homer\nlisa\nmaggie\n", Detection::Quit(0), b"", Some(0)),
+    (
         b"homer\nlisa\nmaggie\n\0",
-        quit,
+        Detection::Quit(0),
         b"homer\nlisa\nmaggie\n",
         Some(18),
-    )?;
-    check_detection(&rt, b"homer\nlisa\n", quit, b"homer\nlisa\n", None)
-}
-
-#[test]
-fn convert(rt: HostRuntime) -> Result<(), Fail> {
-    let convert = Detection::Convert(0);
-    check_detection(
-        &rt,
+    ),
+    (b"homer\nlisa\n", Detection::Quit(0), b"homer\nlisa\n", None),
+    (
         b"homer\nli\0sa\nmaggie\n",
-        convert,
+        Detection::Convert(0),
         b"homer\nli\nsa\nmaggie\n",
         Some(8),
-    )?;
-    check_detection(
-        &rt,
+    ),
+    (
         b"homer\nlisa\nmaggie\n\0",
-        convert,
+        Detection::Convert(0),
         b"homer\nlisa\nmaggie\n\n",
         Some(18),
-    )?;
-    check_detection(&rt, b"a\0b\0", convert, b"a\nb\n", Some(1))?;
-    check_detection(
-        &rt,
+    ),
+    (b"a\0b\0", Detection::Convert(0), b"a\nb\n", Some(1)),
+    (
         b"homer\nlisa\n",
         Detection::Convert(LF),
         b"homer\nlisa\n",
         None,
-    )
+    ),
+];
+
+// Whether fills show these bytes at once, and nothing after them.
+fn shows_at_once(filled: &mut Filled, bytes: &[u8], shown: &[u8], binary: Option<u64>) -> bool {
+    let mut reader = bytes;
+    let is_shown = shown.is_empty()
+        || filled.returns(&mut reader, Some(true)) && filled.shows(shown, binary);
+    is_shown && filled.returns(&mut reader, Some(false)) && filled.shows(b"", binary)
 }
 
-// Asserts what a buffer of one byte shows of a reader that gives one byte at a time, fill by fill.
-fn check_single_bytes(
-    rt: &(impl Abort + AllocGlobal),
+// Whether they do of a new buffer, and a buffer that is cleared then has met no binary byte.
+fn detects(
+    alloc: Global,
+    bytes: &[u8],
     detection: Detection,
-    fills: &[(bool, &[u8], Option<u64>)],
-) -> Result<(), Fail> {
+    shown: &[u8],
+    binary: Option<u64>,
+) -> bool {
+    match Filled::detecting(alloc, 65_536, detection) {
+        Ok(mut filled) => {
+            let is_shown = shows_at_once(&mut filled, bytes, shown, binary)
+                && filled.buffer.absolute_byte_offset() == shown.len() as u64;
+            filled.buffer.clear();
+            is_shown && filled.buffer.binary_byte_offset().is_none()
+        }
+        Err(_) => false,
+    }
+}
+
+#[test]
+fn detection(rt: HostRuntime) {
+    for (bytes, detection, shown, binary) in DETECTION_ROWS {
+        let detects = detects(rt.alloc(), bytes, *detection, shown, *binary);
+        assert!(rt; detects, "in {bytes:?}");
+    }
+}
+
+const QUIT: &[Fill] = &[
+    (Some(true), b"homer\n", None),
+    (Some(true), b"li", Some(8)),
+    (Some(false), b"", Some(8)),
+    (Some(false), b"", Some(8)),
+];
+
+const CONVERT: &[Fill] = &[
+    (Some(true), b"homer\n", None),
+    (Some(true), b"li\n", Some(8)),
+    (Some(true), b"sa\n", Some(8)),
+    (Some(false), b"", Some(8)),
+];
+
+// Whether fills of a buffer of one byte, from a reader that gives one byte at a time, come to these.
+fn detects_in_single_bytes(
+    alloc: Global,
+    detection: Detection,
+    fills: &[Fill],
+    offset: u64,
+) -> bool {
     let mut reader = Bytes {
         bytes: b"homer\nli\0sa\n",
         asked: 0,
     };
-    let mut decoder = Decoder::new(rt.alloc(), 8)?;
-    let mut buffer = LineBuffer::new(rt.alloc(), 1, None, LF, Detection::None)?;
-    buffer.set_binary_detection(detection);
-    for (some, shown, binary) in fills {
-        let filled = match buffer.fill(&mut decoder, &mut reader) {
-            Ok(some) => some,
-            Err(_) => panic!(rt; "an error"),
-        };
-        assert!(rt; filled == *some);
-        assert!(rt; buffer.buffer() == *shown);
-        assert!(rt; buffer.binary_byte_offset() == *binary);
-        let count = buffer.buffer().len();
-        buffer.consume(count);
+    match Filled::detecting_later(alloc, detection) {
+        Ok(mut filled) => comes_to(&mut filled, &mut reader, fills, offset),
+        Err(_) => false,
     }
-    Ok(())
 }
 
 #[test]
-fn detection_in_single_bytes(rt: HostRuntime) -> Result<(), Fail> {
-    check_single_bytes(
-        &rt,
-        Detection::Quit(0),
-        &[
-            (true, b"homer\n", None),
-            (true, b"li", Some(8)),
-            (false, b"", Some(8)),
-            (false, b"", Some(8)),
-        ],
-    )?;
-    check_single_bytes(
-        &rt,
-        Detection::Convert(0),
-        &[
-            (true, b"homer\n", None),
-            (true, b"li\n", Some(8)),
-            (true, b"sa\n", Some(8)),
-            (false, b"", Some(8)),
-        ],
-    )
+fn detection_in_single_bytes(rt: HostRuntime) {
+    assert!(rt; detects_in_single_bytes(rt.alloc(), Detection::Quit(0), QUIT, 8));
+    assert!(rt; detects_in_single_bytes(rt.alloc(), Detection::Convert(0), CONVERT, 12));
 }

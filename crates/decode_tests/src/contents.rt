@@ -4,7 +4,6 @@ use grep_line_buffer::{FillError, read_contents};
 use std::alloc::Global;
 use std::io;
 use std::io::ErrorKind;
-use std::process::Abort;
 use std::test::Fail;
 
 // A reader that gives at most so many bytes at a call, then fails if it is to, and counts its
@@ -71,48 +70,65 @@ const ROWS: &[Row] = &[
     (Some(5), 2, true, End::Limit, b"homer", 3),
 ];
 
+// Reads all of a reader. The contract isn't passed on.
+fn read_all(
+    decoder: &mut Decoder<Global>,
+    reader: &mut Pieces<'_>,
+    limit: Option<usize>,
+    contents: &mut Vec<u8>,
+) -> Result<(), FillError> {
+    read_contents(decoder, reader, limit, contents)
+}
+
+// Whether reading comes to what a row says, into a vector that is used again.
+fn comes_to(decoder: &mut Decoder<Global>, row: &Row, contents: &mut Vec<u8>) -> bool {
+    let (limit, piece, fails, end, bytes, calls) = *row;
+    let mut reader = Pieces {
+        bytes: b"homer",
+        piece,
+        fails,
+        calls: 0,
+    };
+    decoder.start(None, false);
+    let read = read_all(decoder, &mut reader, limit, contents);
+    ends_so(&read, end) && contents.as_slice() == bytes && reader.calls == calls
+}
+
 #[test]
 fn rows(rt: HostRuntime) -> Result<(), Fail> {
+    let mut decoder = Decoder::new(rt.alloc(), 8)?;
     let mut contents = Vec::new(rt.alloc());
-    for (limit, piece, fails, end, bytes, calls) in ROWS {
-        let mut reader = Pieces {
-            bytes: b"homer",
-            piece: *piece,
-            fails: *fails,
-            calls: 0,
-        };
-        let mut decoder = Decoder::new(rt.alloc(), 8)?;
-        let read = read_contents(&mut decoder, &mut reader, *limit, &mut contents);
-        assert!(rt; ends_so(&read, *end) && contents.as_slice() == *bytes);
-        assert!(rt; reader.calls == *calls);
+    for (index, row) in ROWS.iter().enumerate() {
+        assert!(rt; comes_to(&mut decoder, row, &mut contents), "row {index}");
     }
     Ok(())
 }
 
-// Reads 200,000 bytes below a limit, and returns how many came, for how many there is room, and how
-// many calls of the reader were made.
-fn read_many(rt: &(impl Abort + AllocGlobal), limit: usize) -> Result<(usize, usize, usize), Fail> {
-    let bytes = vec![in rt.alloc(); 7u8; 200_000]?;
+// Whether reading 200,000 bytes below a limit makes so many calls of the reader and then has room
+// for so many bytes, and they are there if it is done.
+fn has_room(alloc: Global, limit: usize, is_done: bool, room: usize, calls: usize) -> bool {
+    let (Ok(bytes), Ok(mut decoder)) = (vec![in alloc; 7u8; 200_000], Decoder::new(alloc, 8)) else {
+        return false;
+    };
     let mut reader = Pieces {
         bytes: &bytes,
         piece: 200_000,
         fails: false,
         calls: 0,
     };
-    let mut decoder = Decoder::new(rt.alloc(), 8)?;
-    let mut contents = Vec::new(rt.alloc());
-    if read_contents(&mut decoder, &mut reader, Some(limit), &mut contents).is_err() {
-        return Ok((0, contents.capacity(), reader.calls));
-    }
-    Ok((contents.len(), contents.capacity(), reader.calls))
+    let mut contents = Vec::new(alloc);
+    let is_read = read_all(&mut decoder, &mut reader, Some(limit), &mut contents).is_ok();
+    is_read == is_done
+        && (contents.len() == 200_000 || !is_done)
+        && contents.capacity() == room
+        && reader.calls == calls
 }
 
 #[test]
-fn room(rt: HostRuntime) -> Result<(), Fail> {
-    assert!(rt; read_many(&rt, 1_000_000)? == (200_000, 262_144, 5));
-    assert!(rt; read_many(&rt, 200_001)? == (200_000, 200_001, 5));
-    assert!(rt; read_many(&rt, 200_000)? == (0, 200_000, 4));
-    Ok(())
+fn room(rt: HostRuntime) {
+    assert!(rt; has_room(rt.alloc(), 1_000_000, true, 262_144, 5));
+    assert!(rt; has_room(rt.alloc(), 200_001, true, 200_001, 5));
+    assert!(rt; has_room(rt.alloc(), 200_000, false, 200_000, 4));
 }
 
 // Whether an error is displayed as this text.

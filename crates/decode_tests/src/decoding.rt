@@ -1,8 +1,10 @@
 //! Decoded bytes.
+ghost use Rattle.std.specs.Prelude.{◌≤◌};
+
 use grep_decode::{Decoder, Label, Source};
+use std::alloc::Global;
 use std::io;
 use std::io::ErrorKind;
-use std::process::Abort;
 use std::test::Fail;
 
 // A reader that gives at most so many bytes at a read, and whose next read may fail.
@@ -73,48 +75,60 @@ const ROWS: &[(&[u8], Option<Label>, bool, &[u8])] = &[
     (b"", Some(Label::Utf16Le), false, b""),
 ];
 
-// Asserts what the reads give to a buffer of this size, from a reader that gives such pieces.
-fn check_row(
-    rt: &(impl Abort + AllocGlobal),
-    row: (&[u8], Option<Label>, bool, &[u8]),
+// One read into the front of a buffer, of this size. Its contract isn't passed on.
+fn read<'a, R: Source>(
+    decoder: &mut Decoder<Global>,
+    reader: &mut R,
+    buffer: &'a mut [u8; 64],
+    size: usize,
+) -> Option<&'a [u8]>
+    requires { size ≤ 64 }
+{
+    match decoder.read(reader, &mut buffer[..size]) {
+        Ok(count) => buffer.get(..count),
+        Err(_) => None,
+    }
+}
+
+// Whether reads into a buffer of this size give these bytes, of a reader that gives such pieces.
+fn gives(
+    decoder: &mut Decoder<Global>,
+    bytes: &[u8],
+    decoded: &[u8],
     piece: usize,
     size: usize,
-) -> Result<(), Fail> {
-    let (bytes, label, sniff, decoded) = row;
+) -> bool
+    requires { size ≤ 64 }
+{
     let mut reader = Pieces {
         bytes,
         piece,
         fault: None,
     };
-    let mut decoder = Decoder::new(rt.alloc(), 8)?;
-    decoder.start(label, sniff);
-    let mut given = Vec::new(rt.alloc());
     let mut buffer = [0; 64];
+    let mut rest = decoded;
     for _ in 0..1000 {
-        let Some(room) = buffer.get_mut(..size) else {
-            panic!(rt; "a size above 64");
-        };
-        let Ok(count) = decoder.read(&mut reader, room) else {
-            panic!(rt; "a fault");
-        };
-        if count == 0 {
-            break;
+        match read(decoder, &mut reader, &mut buffer, size) {
+            Some([]) => return rest.is_empty(),
+            Some(front) => match rest.strip_prefix(front) {
+                Some(after) => rest = after,
+                None => return false,
+            },
+            None => return false,
         }
-        given.extend_from_slice(buffer.get(..count).unwrap_or_default())?;
     }
-    assert!(rt;
-        given.as_slice() == decoded,
-        "of {bytes:?} in {piece} to {size}"
-    );
-    Ok(())
+    false
 }
 
 #[test]
 fn rows(rt: HostRuntime) -> Result<(), Fail> {
-    for row in ROWS {
+    let mut decoder = Decoder::new(rt.alloc(), 8)?;
+    for (bytes, label, sniff, decoded) in ROWS {
         for piece in [1, 2, 3, 64] {
             for size in [1, 2, 3, 4, 5, 64] {
-                check_row(&rt, *row, piece, size)?;
+                decoder.start(*label, *sniff);
+                let is_given = gives(&mut decoder, bytes, decoded, piece, size);
+                assert!(rt; is_given, "of {bytes:?} in {piece} to {size}");
             }
         }
     }
@@ -136,38 +150,47 @@ const REQUESTS: &[&[(usize, &[u8])]] = &[
     ],
 ];
 
+// Whether requests give these bytes.
+fn answers(decoder: &mut Decoder<Global>, requests: &[(usize, &[u8])]) -> bool {
+    let mut reader: &[u8] = b"abcdefghij";
+    let mut buffer = [0; 64];
+    for (size, bytes) in requests {
+        if *size > 64 || read(decoder, &mut reader, &mut buffer, *size) != Some(*bytes) {
+            return false;
+        }
+    }
+    true
+}
+
 #[test]
 fn requests(rt: HostRuntime) -> Result<(), Fail> {
-    for row in REQUESTS {
-        let mut reader: &[u8] = b"abcdefghij";
-        let mut decoder = Decoder::new(rt.alloc(), 8)?;
+    let mut decoder = Decoder::new(rt.alloc(), 8)?;
+    for (index, row) in REQUESTS.iter().enumerate() {
         decoder.start(None, true);
-        for (size, bytes) in *row {
-            let mut buffer = [0; 8];
-            let Ok(count) = decoder.read(&mut reader, &mut buffer[..*size]) else {
-                panic!(rt; "a fault");
-            };
-            assert!(rt; &buffer[..count] == *bytes, "a request of {size}");
-        }
+        assert!(rt; answers(&mut decoder, row), "row {index}");
     }
     Ok(())
 }
 
+// Whether the error of a reader is passed on, which is of kind `Interrupted`.
+fn is_interrupted(decoder: &mut Decoder<Global>) -> bool {
+    let mut reader = Pieces {
+        bytes: b"a\0b\0",
+        piece: 8,
+        fault: Some(ErrorKind::Interrupted),
+    };
+    match decoder.read(&mut reader, &mut [0; 8]) {
+        Ok(_) => false,
+        Err(error) => error.kind() == ErrorKind::Interrupted,
+    }
+}
+
 #[test]
 fn faults(rt: HostRuntime) -> Result<(), Fail> {
+    let mut decoder = Decoder::new(rt.alloc(), 8)?;
     for label in [None, Some(Label::Utf16Le)] {
-        let mut reader = Pieces {
-            bytes: b"a\0b\0",
-            piece: 8,
-            fault: Some(ErrorKind::Interrupted),
-        };
-        let mut decoder = Decoder::new(rt.alloc(), 8)?;
         decoder.start(label, true);
-        let mut buffer = [0; 8];
-        let Err(error) = decoder.read(&mut reader, &mut buffer) else {
-            panic!(rt; "no fault");
-        };
-        assert!(rt; error.kind() == ErrorKind::Interrupted);
+        assert!(rt; is_interrupted(&mut decoder));
     }
     Ok(())
 }
