@@ -1,10 +1,11 @@
 //! Labels of encodings, and the fault of one that isn't known.
+use crate::texts::{debugs, is_shown};
 use grep_decode::{Label, label_of};
-use grep_report::{ConfigError, Encoding, SearchError, SinkError};
-use std::test::Fail;
+use grep_report::{ConfigError, Encoding};
+use std::alloc::Global;
 
 // The labels of the Encoding Standard for these encodings.
-const LABELS: [(&str, Label); 15] = [
+const LABELS: &[(&str, Label)] = &[
     ("unicode-1-1-utf-8", Label::Utf8),
     ("unicode11utf8", Label::Utf8),
     ("unicode20utf8", Label::Utf8),
@@ -22,72 +23,89 @@ const LABELS: [(&str, Label); 15] = [
     ("utf-16be", Label::Utf16Be),
 ];
 
-#[test]
-fn spellings(rt: HostRuntime) -> Result<(), Fail> {
-    let alloc = rt.alloc();
-    for (spelling, label) in LABELS {
-        assert!(rt; label_of(spelling) == Some(label), "{spelling}");
-        let spaced = format!(in alloc;
-            "\t\n\x0C\r {} \r\x0C\n\t",
-            spelling.to_ascii_uppercase(alloc)?
-        )?;
-        assert!(rt; label_of(&spaced) == Some(label), "{spaced}");
-        match Encoding::new(alloc, &spaced) {
-            Ok(encoding) => assert!(rt; encoding.label() == label),
-            Err(error) => assert!(rt; false, "{error}"),
-        }
+// Whether this is a spelling of a label, also for an `Encoding`.
+fn spells(alloc: Global, spelling: &str, label: Label) -> bool {
+    match Encoding::new(alloc, spelling) {
+        Ok(encoding) => label_of(spelling) == Some(label) && encoding.label() == label,
+        Err(_) => false,
     }
-    Ok(())
+}
+
+// Whether it is, and in capitals too, among white space.
+fn is_label(alloc: Global, spelling: &str, label: Label) -> bool {
+    let Ok(capitals) = spelling.to_ascii_uppercase(alloc) else {
+        return false;
+    };
+    match format!(in alloc; "\t\n\x0C\r {capitals} \r\x0C\n\t") {
+        Ok(spaced) => spells(alloc, spelling, label) && spells(alloc, &spaced, label),
+        Err(_) => false,
+    }
+}
+
+#[test]
+fn spellings(rt: HostRuntime) {
+    for (spelling, label) in LABELS {
+        assert!(rt; is_label(rt.alloc(), spelling, *label), "{spelling}");
+    }
+}
+
+// Whether two labels are known, and of the same encoding if `is_same`.
+fn compares(alloc: Global, one: &str, other: &str, is_same: bool) -> bool {
+    match (Encoding::new(alloc, one), Encoding::new(alloc, other)) {
+        (Ok(one), Ok(other)) => (one == other) == is_same,
+        _ => false,
+    }
 }
 
 #[test]
 fn known_labels(rt: HostRuntime) {
-    let known = Encoding::new(rt.alloc(), "\tUTF8\n");
-    assert!(rt; known == Encoding::new(rt.alloc(), "utf-8"));
-    assert!(rt; known != Encoding::new(rt.alloc(), " UTF-16BE "));
-    assert!(rt; known.is_ok());
+    assert!(rt; compares(rt.alloc(), "\tUTF8\n", "utf-8", true));
+    assert!(rt; compares(rt.alloc(), "\tUTF8\n", " UTF-16BE ", false));
 }
 
-#[test]
-fn unknown_labels(rt: HostRuntime) -> Result<(), Fail> {
-    let alloc = rt.alloc();
-    for label in ["latin1", "", "utf 8", "\x0Butf-8", " utf\u{2013}8\t"] {
-        let Err(error) = Encoding::new(alloc, label) else {
-            assert!(rt; false, "{label:?} is unknown");
-            continue;
-        };
-        let bytes = label.as_bytes().to_vec(alloc)?;
-        assert!(rt;
-            error == ConfigError::UnknownEncoding { label: bytes },
-            "{label:?}"
-        );
-        assert!(rt; error.clone()? == error, "{label:?}");
-        assert!(rt; error != ConfigError::Memory);
-        let display = format!(in alloc; "unknown encoding: {label}")?;
-        let text = format!(in alloc; "{error}")?;
-        assert!(rt; text == display);
-        let text = format!(in alloc; "{}", SearchError::error_config(alloc, error))?;
-        assert!(rt; text == display, "as the error of a search");
+// Whether an error is that of an unknown label, which it has as it was given.
+fn has_label(error: &ConfigError, label: &str) -> bool {
+    match error {
+        ConfigError::UnknownEncoding { label: bytes } => bytes.as_slice() == label.as_bytes(),
+        _ => false,
     }
-    Ok(())
+}
+
+// Whether a label is unknown, and its error says so.
+fn is_unknown(alloc: Global, label: &str) -> bool {
+    let Ok(text) = format!(in alloc; "unknown encoding: {label}") else {
+        return false;
+    };
+    match Encoding::new(alloc, label) {
+        Ok(_) => false,
+        Err(error) => {
+            has_label(&error, label)
+                && error != ConfigError::Memory
+                && is_shown(alloc, error, &text)
+        }
+    }
+}
+
+const UNKNOWN: &[&str] = &["latin1", "", "utf 8", "\x0Butf-8", " utf\u{2013}8\t"];
+
+#[test]
+fn unknown_labels(rt: HostRuntime) {
+    for label in UNKNOWN {
+        assert!(rt; is_unknown(rt.alloc(), label), "{label}");
+    }
+}
+
+// Whether this is the debug form of what comes of a label.
+fn has_form(alloc: Global, label: &str, form: &str) -> bool {
+    match Encoding::new(alloc, label) {
+        Ok(encoding) => debugs(alloc, &encoding, form),
+        Err(error) => debugs(alloc, &error, form),
+    }
 }
 
 #[test]
-fn forms(rt: HostRuntime) -> Result<(), Fail> {
-    let alloc = rt.alloc();
-    let Err(error) = Encoding::new(alloc, "x") else {
-        assert!(rt; false, "x is unknown");
-        return Ok(());
-    };
-    let text = format!(in alloc; "{error:?}")?;
-    assert!(rt; text.as_str() == "UnknownEncoding { label: [120] }");
-    let text = format!(in alloc; "{:?}", label_of("utf-16"))?;
-    assert!(rt; text.as_str() == "Some(Utf16Le)");
-    let Ok(encoding) = Encoding::new(alloc, "utf-16") else {
-        assert!(rt; false, "utf-16 is known");
-        return Ok(());
-    };
-    let text = format!(in alloc; "{encoding:?}")?;
-    assert!(rt; text.as_str() == "Encoding { label: Utf16Le }");
-    Ok(())
+fn forms(rt: HostRuntime) {
+    assert!(rt; has_form(rt.alloc(), "x", "UnknownEncoding { label: [120] }"));
+    assert!(rt; has_form(rt.alloc(), "utf-16", "Encoding { label: Utf16Le }"));
+    assert!(rt; debugs(rt.alloc(), &label_of("utf-16"), "Some(Utf16Le)"));
 }

@@ -4,7 +4,7 @@ use grep_lines::{
     without_terminator,
 };
 use grep_matcher::{LineTerminator, Match};
-use std::test::Fail;
+use std::alloc::Global;
 
 const LF: u8 = b'\n';
 
@@ -47,29 +47,31 @@ fn steps(bytes: &[u8], lines: &[&[u8]]) -> bool {
 
 #[test]
 fn lines(rt: HostRuntime) {
-    for (bytes, lines) in LINE_ROWS {
-        assert!(rt; iterates(bytes, lines), "the lines of {bytes:?}");
-        assert!(rt; steps(bytes, lines), "the steps of {bytes:?}");
+    for (index, (bytes, lines)) in LINE_ROWS.iter().enumerate() {
+        assert!(rt;
+            iterates(bytes, lines) && steps(bytes, lines),
+            "row {index}"
+        );
     }
+}
+
+// Whether the next step of some bytes up to an end, from a start on, is this.
+fn steps_to(bytes: &[u8], start: usize, end: usize, step: Option<(usize, usize)>) -> bool {
+    start <= end && end <= bytes.len() && LineStep::new(LF, start, end).next(bytes) == step
 }
 
 #[test]
 fn steps_within(rt: HostRuntime) {
-    let none = LineStep::new(LF, 0, 0).next(b"abc");
-    assert!(rt; none.is_none(), "a step up to 0");
-    let some = LineStep::new(LF, 1, 3).next(b"abc\n");
-    assert!(rt; matches!(some, Some((1, 3))), "a step up to 3");
+    assert!(rt; steps_to(b"abc", 0, 0, None) && steps_to(b"abc\n", 1, 3, Some((1, 3))));
 }
+
+// Some bytes, and how many line feeds they have.
+const COUNT_ROWS: &[(&[u8], u64)] = &[(b"", 0), (b"\n", 1), (b"\n\n", 2), (b"a\nb\nc", 2)];
 
 #[test]
 fn counts(rt: HostRuntime) {
-    for (bytes, number) in [
-        (b"".as_slice(), 0),
-        (b"\n".as_slice(), 1),
-        (b"\n\n".as_slice(), 2),
-        (b"a\nb\nc".as_slice(), 2),
-    ] {
-        assert!(rt; count(bytes, LF) == number, "in {bytes:?}");
+    for (bytes, number) in COUNT_ROWS {
+        assert!(rt; count(bytes, LF) == *number, "{number}");
     }
 }
 
@@ -85,17 +87,24 @@ const LONG_ROWS: &[(usize, u64)] = &[
     (1000, 142),
 ];
 
-#[test]
-fn counts_in_many_bytes(rt: HostRuntime) -> Result<(), Fail> {
-    let mut bytes = Vec::new(rt.alloc());
+// Bytes of which each seventh is a line feed, as are all from an index on.
+fn sevenths(from: usize) -> [u8; 1000] {
+    let mut bytes = [b'x'; 1000];
     for index in 0..1000 {
-        bytes.push(if index % 7 == 6 { LF } else { b'x' })?;
+        if index % 7 == 6 || index >= from {
+            bytes[index] = LF;
+        }
     }
+    bytes
+}
+
+#[test]
+fn counts_in_many_bytes(rt: HostRuntime) {
+    let bytes = sevenths(1000);
     for (length, number) in LONG_ROWS {
-        let first = bytes.as_slice().get(..*length).unwrap_or_default();
+        let first = bytes.get(..*length).unwrap_or_default();
         assert!(rt; count(first, LF) == *number, "in {length} bytes");
     }
-    Ok(())
 }
 
 // Some bytes, where a match in them starts and ends, and where the whole lines that it reaches into
@@ -221,35 +230,24 @@ const REPLACED_ROWS: &[(&[u8], u8, u8, &[u8], Option<usize>)] = &[
     (b"abc", b'x', b'x', b"abc", None),
 ];
 
-#[test]
-fn replaced(rt: HostRuntime) -> Result<(), Fail> {
-    for row in REPLACED_ROWS {
-        let mut bytes = Vec::new(rt.alloc());
-        for byte in row.0 {
-            bytes.push(*byte)?;
-        }
-        let first = replace_bytes(bytes.as_mut_slice(), row.1, row.2);
-        assert!(rt; first == row.4, "the first of {row:?}");
-        assert!(rt; bytes.as_slice() == row.3, "the bytes of {row:?}");
-    }
-    Ok(())
+// Whether a byte in a copy of some bytes is replaced so.
+fn replaces(alloc: Global, row: &(&[u8], u8, u8, &[u8], Option<usize>)) -> bool {
+    let Ok(mut bytes) = row.0.to_vec(alloc) else {
+        return false;
+    };
+    replace_bytes(bytes.as_mut_slice(), row.1, row.2) == row.4 && bytes.as_slice() == row.3
 }
 
 #[test]
-fn replaced_in_many_bytes(rt: HostRuntime) -> Result<(), Fail> {
-    let mut bytes = Vec::new(rt.alloc());
-    for index in 0..1000 {
-        bytes.push(if index % 7 == 6 || index > 900 {
-            LF
-        } else {
-            b'x'
-        })?;
+fn replaced(rt: HostRuntime) {
+    for row in REPLACED_ROWS {
+        assert!(rt; replaces(rt.alloc(), row), "{row:?}");
     }
-    let first = replace_bytes(bytes.as_mut_slice(), LF, b'x');
-    assert!(rt; first == Some(6), "the first of many bytes");
-    assert!(rt;
-        bytes.as_slice().iter().all(|byte: &u8| *byte == b'x'),
-        "the many bytes"
-    );
-    Ok(())
+}
+
+#[test]
+fn replaced_in_many_bytes(rt: HostRuntime) {
+    let mut bytes = sevenths(901);
+    let first = replace_bytes(&mut bytes, LF, b'x');
+    assert!(rt; first == Some(6) && bytes == [b'x'; 1000]);
 }

@@ -19,22 +19,28 @@ const FIND_ROWS: &[(&[u8], &[u8], Option<(usize, usize)>)] = &[
     (b"a\n", b"b\na\n", Some((2, 4))),
 ];
 
-// Whether a literal matcher returns what a row says.
-fn finds(matcher: &LiteralMatcher<'_>, haystack: &[u8], range: Option<(usize, usize)>) -> bool {
-    let (Ok(found), Ok(shortest), Ok(is_match)) = (
-        matcher.find(haystack),
-        matcher.shortest_match(haystack),
-        matcher.is_match(haystack),
-    ) else {
-        return false;
-    };
-    match (found, range) {
-        (Some(found), Some((start, end))) => {
-            found.start() == start && found.end() == end && shortest == Some(end) && is_match
+// Whether a matcher finds what a row says.
+fn finds<M: Matcher>(matcher: &M, haystack: &[u8], range: Option<(usize, usize)>) -> bool {
+    match (matcher.find(haystack), range) {
+        (Ok(Some(found)), Some((start, end))) => {
+            found.start() == start && found.end() == end && ends(matcher, haystack, Some(end))
         }
-        (None, None) => shortest.is_none() && !is_match,
+        (Ok(None), None) => ends(matcher, haystack, None),
         _ => false,
     }
+}
+
+// Whether the shortest match that it finds ends there.
+fn ends<M: Matcher>(matcher: &M, haystack: &[u8], end: Option<usize>) -> bool {
+    let is_shortest = match matcher.shortest_match(haystack) {
+        Ok(shortest) => shortest == end,
+        Err(_) => false,
+    };
+    let is_known = match matcher.is_match(haystack) {
+        Ok(is_match) => is_match == end.is_some(),
+        Err(_) => false,
+    };
+    is_shortest && is_known
 }
 
 // Matches every haystack at its start, which `shortest_match` says and `find` fails to say.
@@ -105,9 +111,9 @@ fn borrows(literal: &[u8], haystack: &[u8], range: Option<(usize, usize)>) -> bo
 
 #[test]
 fn literals(rt: HostRuntime) {
-    for row in FIND_ROWS {
-        assert!(rt; copies(rt.alloc(), row.0, row.1, row.2), "{row:?}");
-        assert!(rt; borrows(row.0, row.1, row.2), "{row:?}");
+    for (index, row) in FIND_ROWS.iter().enumerate() {
+        let is_found = copies(rt.alloc(), row.0, row.1, row.2) && borrows(row.0, row.1, row.2);
+        assert!(rt; is_found, "row {index}");
     }
 }
 
@@ -152,9 +158,9 @@ const CANDIDATE_ROWS: &[(&[u8], &[u8], Option<(usize, bool)>)] = &[
     (b"a\r", b"b\na\r\n", Some((2, false))),
 ];
 
-// Whether the matcher of a literal finds this in lines.
-fn points(literal: &[u8], lines: &[u8], position: Option<(usize, bool)>) -> bool {
-    match LiteralMatcher::borrowed(literal).find_candidate_line(lines) {
+// Whether a matcher finds this in lines.
+fn points<M: Matcher>(matcher: &M, lines: &[u8], position: Option<(usize, bool)>) -> bool {
+    match matcher.find_candidate_line(lines) {
         Ok(Some(found)) => position == Some((found.position(), found.is_confirmed())),
         Ok(None) => position.is_none(),
         Err(_) => false,
@@ -163,8 +169,9 @@ fn points(literal: &[u8], lines: &[u8], position: Option<(usize, bool)>) -> bool
 
 #[test]
 fn candidates(rt: HostRuntime) {
-    for row in CANDIDATE_ROWS {
-        assert!(rt; points(row.0, row.1, row.2), "{row:?}");
+    for (index, row) in CANDIDATE_ROWS.iter().enumerate() {
+        let matcher = LiteralMatcher::borrowed(row.0);
+        assert!(rt; points(&matcher, row.1, row.2), "row {index}");
     }
 }
 
@@ -204,21 +211,22 @@ fn removes(byte: u8) -> bool {
 #[test]
 fn sets(rt: HostRuntime) {
     for byte in [0, 1, 10, 127, 128, 255] {
-        assert!(rt; adds(byte), "{byte}");
-        assert!(rt; removes(byte), "{byte}");
+        assert!(rt; adds(byte) && removes(byte), "{byte}");
     }
+}
+
+// Whether a range is this one.
+fn is_range(range: Match, start: usize, end: usize) -> bool {
+    range.start() == start && range.end() == end
 }
 
 #[test]
 fn ranges(rt: HostRuntime) {
-    let range = Match::new(2, 5);
-    assert!(rt; range.start() == 2 && range.end() == 5 && range.len() == 3);
-    assert!(rt; !range.is_empty());
-    assert!(rt; range.offset(7) == Match::new(9, 12));
-    assert!(rt; range.with_end(9) == Match::new(2, 9));
-    let empty = Match::zero(4);
-    assert!(rt; empty == Match::new(4, 4));
-    assert!(rt; empty.len() == 0 && empty.is_empty());
+    let (range, empty) = (Match::new(2, 5), Match::zero(4));
+    assert!(rt; is_range(range, 2, 5) && range.len() == 3 && !range.is_empty());
+    assert!(rt; is_range(range.offset(7), 9, 12) && is_range(range.with_end(9), 2, 9));
+    assert!(rt; is_range(empty, 4, 4) && empty.len() == 0 && empty.is_empty());
+    assert!(rt; empty == Match::new(4, 4) && empty != range);
     assert!(rt; debugs(rt.alloc(), &range, "Match { start: 2, end: 5 }"));
 }
 
@@ -240,8 +248,8 @@ fn splits_at(terminator: &LineTerminator, byte: u8, bytes: &[u8]) -> bool {
 #[test]
 fn terminators(rt: HostRuntime) {
     for (terminator, byte, bytes, form) in TERMINATOR_ROWS {
-        assert!(rt; splits_at(terminator, *byte, bytes), "{form}");
-        assert!(rt; debugs(rt.alloc(), terminator, form));
+        let is_split = splits_at(terminator, *byte, bytes);
+        assert!(rt; is_split && debugs(rt.alloc(), terminator, form), "{form}");
     }
     let line_feed = LineTerminator::byte(b'\n');
     assert!(rt; LineTerminator::default() == line_feed);

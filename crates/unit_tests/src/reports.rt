@@ -1,5 +1,5 @@
 //! Reports that are made by hand, and the texts of faults.
-use crate::texts::{debugs, displays};
+use crate::texts::{debugs, displays, is_shown};
 use grep_matcher::LineTerminator;
 use grep_report::{
     BinaryDetection, ConfigError, MmapChoice, SearchError, SinkContext, SinkContextKind, SinkError,
@@ -7,37 +7,45 @@ use grep_report::{
 };
 use std::alloc::Global;
 use std::io;
-use std::test::Fail;
 
-#[test]
-fn matches(rt: HostRuntime) -> Result<(), Fail> {
-    let buffer = b"xx\nab\ncd".as_slice();
-    let found = SinkMatch::new(b'\n', Some(4), 70, buffer, 3..8).clone()?;
-    assert!(rt; found.line_number() == Some(4));
-    assert!(rt; found.absolute_byte_offset() == 70);
-    assert!(rt; found.buffer() == buffer);
-    assert!(rt; found.bytes() == b"ab\ncd".as_slice());
-    assert!(rt; found.bytes_range_in_buffer() == (3..8));
-    Ok(())
+const BUFFER: &[u8] = b"xx\nab\ncd";
+
+// Whether a report of a match in the buffer has these parts.
+fn has_match(found: &SinkMatch<'_>) -> bool {
+    found.line_number() == Some(4)
+        && found.absolute_byte_offset() == 70
+        && found.buffer() == BUFFER
+        && found.bytes() == b"ab\ncd".as_slice()
+        && found.bytes_range_in_buffer() == (3..8)
 }
 
-#[test]
-fn lines_of_a_match(rt: HostRuntime) {
-    let found = SinkMatch::new(b'\n', None, 0, b"xx\nab\ncd", 3..8);
+// Whether the lines of a match are two.
+fn has_lines(found: &SinkMatch<'_>) -> bool {
     let mut lines = found.lines();
-    assert!(rt; lines.next() == Some(b"ab\n".as_slice()));
-    assert!(rt; lines.next() == Some(b"cd".as_slice()));
-    assert!(rt; lines.next().is_none());
+    lines.next() == Some(b"ab\n".as_slice())
+        && lines.next() == Some(b"cd".as_slice())
+        && lines.next().is_none()
 }
 
 #[test]
-fn contexts(rt: HostRuntime) -> Result<(), Fail> {
-    let line = SinkContext::new(SinkContextKind::After, None, 70, b"ab\n").clone()?;
-    assert!(rt; *line.kind() == SinkContextKind::After);
-    assert!(rt; line.line_number().is_none());
-    assert!(rt; line.absolute_byte_offset() == 70);
-    assert!(rt; line.bytes() == b"ab\n".as_slice());
-    Ok(())
+fn matches(rt: HostRuntime) {
+    let found = SinkMatch::new(b'\n', Some(4), 70, BUFFER, 3..8);
+    assert!(rt; has_lines(&found));
+    assert!(rt; matches!(found.clone(), Ok(copy) if has_match(&copy)));
+}
+
+// Whether a report of a line has these parts.
+fn has_line(line: &SinkContext<'_>) -> bool {
+    *line.kind() == SinkContextKind::After
+        && line.line_number().is_none()
+        && line.absolute_byte_offset() == 70
+        && line.bytes() == b"ab\n".as_slice()
+}
+
+#[test]
+fn contexts(rt: HostRuntime) {
+    let line = SinkContext::new(SinkContextKind::After, None, 70, b"ab\n");
+    assert!(rt; matches!(line.clone(), Ok(copy) if has_line(&copy)));
 }
 
 #[test]
@@ -54,8 +62,7 @@ fn kinds(rt: HostRuntime) {
 #[test]
 fn ends(rt: HostRuntime) {
     let finish = SinkFinish::new(9, Some(4));
-    assert!(rt; finish.byte_count() == 9);
-    assert!(rt; finish.binary_byte_offset() == Some(4));
+    assert!(rt; finish.byte_count() == 9 && finish.binary_byte_offset() == Some(4));
     let form = "SinkFinish { byte_count: 9, binary_byte_offset: Some(4) }";
     assert!(rt; debugs(rt.alloc(), &finish, form));
     assert!(rt; MmapChoice::default() == MmapChoice::never());
@@ -93,16 +100,6 @@ fn mismatch() -> ConfigError {
 
 const MISMATCH_TEXT: &str =
     "the matcher's line terminator is Byte(122), and the searcher's is Crlf";
-
-// Whether an error is displayed so, also a copy of it and as the error of a search.
-fn is_shown(alloc: Global, error: ConfigError, display: &str) -> bool {
-    let Ok(copy) = error.clone() else {
-        return false;
-    };
-    copy == error
-        && displays(alloc, &error, display)
-        && displays(alloc, &SearchError::error_config(alloc, copy), display)
-}
 
 const UNAVAILABLE_TEXT: &str = "search is unavailable: the heap limit is 0 bytes";
 

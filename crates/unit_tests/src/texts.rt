@@ -1,4 +1,5 @@
 //! Whether a value is written as some text. No memory for the text is no.
+use grep_report::{ConfigError, SearchError, SinkError};
 use std::alloc::Global;
 use std::fmt::{Debug, Display};
 
@@ -16,4 +17,14 @@ pub(crate) fn displays<T: Display>(alloc: Global, value: &T, form: &str) -> bool
         Ok(text) => text.as_str() == form,
         Err(_) => false,
     }
+}
+
+/// Whether an error is displayed so, also a copy of it and as the error of a search.
+pub(crate) fn is_shown(alloc: Global, error: ConfigError, display: &str) -> bool {
+    let Ok(copy) = error.clone() else {
+        return false;
+    };
+    copy == error
+        && displays(alloc, &error, display)
+        && displays(alloc, &SearchError::error_config(alloc, copy), display)
 }
