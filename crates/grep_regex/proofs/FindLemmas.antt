@@ -34,6 +34,14 @@ first_from-span f g last h (suc n) i room =
     (first_from-span f g last h n (i + 1) (omega arith))
     ∙ sym (span-at i (g i) _))
 
+-- patterns that match alike find the same
+pub find-alike : (a b : Re) → SameCaptures a b → (hay : List ℕ) (start : ℕ) → All (λ x. x < 256) hay
+    → start ≤ length hay → option_map span (find a hay start) ≡ option_map span (find b hay start)
+unfolding find
+find-alike a b same hay start small from =
+    first_from-span _ _ (length hay) (λ i inside. same.at hay small accept i) (length hay + 1 - start) start
+    (omega arith)
+
 -- the stripped pattern finds what the pattern finds that a text is read as, among the matches that hold none of the
 -- bytes
 pub find-stripped : (bytes : List ℕ) (whole stripped written : Re) → IsStripped bytes whole stripped

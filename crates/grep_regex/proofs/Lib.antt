@@ -1,3 +1,6 @@
+pub mod AbsentLemmas
+pub mod AbsentLoopLemmas
+pub mod PlainLemmas
 pub mod LocalityLemmas
 pub mod EngineLemmas
 pub mod OptionsLemmas

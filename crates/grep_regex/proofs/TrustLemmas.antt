@@ -1,10 +1,15 @@
 -- What a matcher finds in many lines can be trusted.
 use Rattle.std.proofs.Common.{◌≡◌, ℕ, ◌<◌, ◌≤◌, true, List, length, slice_index, Some, None, is_some, option_map}
 use Rattle.std.proofs.Common.{sym, ap, ap₂, ◌∙◌, subst, inl, inr, ⊎_elim, arith, get_or, true≢false, Option, nat_lt}
-use Rattle.std.proofs.Common.{lit<, refl}
-use Rattle.std.proofs.lemmas.Bool.{and_parts, not-true}
+use Rattle.std.proofs.Common.{lit<, refl, Bool, [], ◌∷◌, ◌⊎◌}
+use Rattle.std.proofs.Math.Logic.{∥∥₁_elim}
+use Rattle.std.proofs.lemmas.Bool.{and_from, and_parts, false_from_ne_true, not-true}
 use Rattle.std.proofs.lemmas.Bool.Decides.{nat_tests}
+use Rattle.std.proofs.lemmas.List.{get_or_default}
 use Rattle.std.proofs.lemmas.Option.{none-some, same_Some}
+use Rattle.std.specs.Arc.{arc_value}
+use Rattle.std.specs.Coded.{coded_bool}
+use base.Stored.{Coded-set}
 use Rattle.regex_hir.specs.Find.{Match, find}
 use Rattle.regex_hir.specs.Re.{Re}
 use Rattle.regex_hir.specs.Reads.{always_reads}
@@ -12,22 +17,25 @@ use Rattle.regex_hir.proofs.OptionLemmas.{option_cases}
 use Rattle.regex_vm.specs.Found.{span}
 use Rattle.grep_matcher.specs.Lawful.{IsLawfulResult, IsTrusted}
 use Rattle.grep_matcher.specs.Meanings.{Meaning}
-use Rattle.grep_matcher.specs.FindResults.{IsWithin, IsFrom}
-use Rattle.grep_matcher.specs.Lines.{byte_of}
+use Rattle.grep_matcher.specs.FindResults.{Avoids, IsWithin, IsFrom}
+use Rattle.grep_matcher.specs.Lines.{byte_of, bytes_of}
 use Rattle.grep_matcher.specs.declared.line_match_kind.LineMatchKind.TheVariants.{Confirmed, Candidate}
 use Rattle.grep_matcher.specs.declared.line_terminator.LineTerminator.{LineTerminator}
 use Rattle.grep_matcher.specs.declared.line_match_kind.LineMatchKind.{LineMatchKind}
 use Rattle.grep_matcher.specs.declared.line_terminator.LineTerminator.TheVariants.{Byte, Crlf}
 use Rattle.grep_matcher.proofs.StrippedLineLemmas.{line-is}
+use Rattle.grep_regex.specs.AbsentBytes.{is_absent}
 use Rattle.grep_regex.specs.Clear.{is_among}
 use Rattle.grep_regex.specs.Locality.{is_local, is_by_line, is_crlf, is_separator}
 use Rattle.grep_regex.specs.Patterns.{first_match_at, leftmost_match_at, excluded_bytes, written_re}
 use Rattle.grep_regex.specs.Views.{regex_first, regex_first_at, regex_meaning, regex_options, regex_patterns, program_re}
 use Rattle.grep_regex.specs.declared.regex.Regex.{Regex}
+use Rattle.grep_regex.proofs.AbsentLemmas.{absent-separator, absent-undeclared}
 use Rattle.grep_regex.proofs.ClearLemmas.{clear-at}
 use Rattle.grep_regex.proofs.EdgeLemmas.{IsSeparated}
 use Rattle.grep_regex.proofs.EngineLemmas.{finds-of, finds-at}
 use Rattle.grep_regex.proofs.FindLemmas.{clear-match}
+use Rattle.grep_regex.proofs.LocalityLemmas.{local-anywhere}
 use Rattle.grep_regex.proofs.MatchedLineLemmas.{match-within, kept, IsListed, kept-small, missed-all, missed, matched}
 use Rattle.grep_regex.proofs.MatchedLineLemmas.{FindsClear}
 
@@ -79,12 +87,47 @@ confirmed Crlf re by_line =
       reads = λ crlf. both.0;
     }
 
+-- the match of an expression holds no absent byte
+pub avoids-of : (r : Regex) (hay : List ℕ) (start : ℕ) → ((k : ℕ) → get_or hay k 0 < 256) → start ≤ length hay
+    → Avoids (is_absent (regex_options r) (regex_patterns r)) hay (regex_first_at r hay start)
+avoids-of r hay start small from = held (regex_first_at r hay start) refl
+  where
+    held : (found : Option (ℕ × ℕ)) → regex_first_at r hay start ≡ found
+        → Avoids (is_absent (regex_options r) (regex_patterns r)) hay found
+    held None is = tt
+    held (Some m) is = λ i low high. ∥∥₁_elim (arc_value r.shared).avoids (Coded-set coded_bool _ _)
+        (λ f. subst (Avoids (is_absent (regex_options r) (regex_patterns r)) hay) is
+        (f.at hay start (λ k d inside. rw (get_or_default hay k d 0 inside) (small k)) from) i low high)
+
+among-byte : (b x : ℕ) → is_among (b ∷ []) x ≡ true → x ≡ b
+among-byte b x is = grind (arith, nat_tests, is)
+
+among-crlf : (x : ℕ) → is_among (13 ∷ 10 ∷ []) x ≡ true → (x ≡ 13) ⊎ (x ≡ 10)
+among-crlf x is = grind (arith, nat_tests, is)
+
 module _ (r : Regex) (is_lawful : LineTerminator → Type 0) (bytes : List ℕ)
     (small : (k : ℕ) → get_or bytes k 0 < 256) where
-  -- what is found holds no byte of the terminator
-  finds-clear : (terminator : LineTerminator) → (regex_options r).line_terminator ≡ Some terminator → (hay : List ℕ)
-      → ((k : ℕ) → get_or hay k 0 < 256) → FindsClear terminator (program_re r) hay
-  finds-clear terminator is hay low m found k from to =
+  -- what is found in a haystack holds no byte of the terminator
+  abbrev AreClear : LineTerminator → Type 0
+  AreClear terminator = (hay : List ℕ) → ((k : ℕ) → get_or hay k 0 < 256)
+      → FindsClear terminator (program_re r) hay
+
+  abbrev absent : ℕ → Bool
+  absent = is_absent (regex_options r) (regex_patterns r)
+
+  -- it is so if each of them is absent
+  absent-clear : (terminator : LineTerminator)
+      → ((x : ℕ) → is_among (bytes_of terminator) x ≡ true → absent x ≡ true) → AreClear terminator
+  absent-clear terminator each hay low m found k from to =
+      let first : regex_first r hay ≡ Some (m.start, m.trace.end) =
+      sym (finds-of r hay low) ∙ ap (option_map span) found in
+      false_from_ne_true _ (λ has. true≢false (sym (each (slice_index hay k) has)
+      ∙ subst (Avoids absent hay) first (avoids-of r hay 0 low (omega arith)) k from to))
+
+  -- and of the declared one
+  declared-clear : (terminator : LineTerminator) → (regex_options r).line_terminator ≡ Some terminator
+      → AreClear terminator
+  declared-clear terminator is hay low m found k from to =
       let first : regex_first r hay ≡ Some (m.start, m.trace.end) =
       sym (finds-of r hay low) ∙ ap (option_map span) found in
       let inside : k < length hay = omega (arith, to, (subst (IsWithin hay) first (first-within r hay 0 low (omega arith)).1).1) in
@@ -93,7 +136,7 @@ module _ (r : Regex) (is_lawful : LineTerminator → Type 0) (bytes : List ℕ)
       ap (λ bytes. is_among bytes (slice_index hay k)) (sym (ap excluded_bytes is))
       ∙ clear-at (excluded_bytes (regex_options r).line_terminator) hay m.start m.trace.end clear k from to inside
 
-  module _ (terminator : LineTerminator) (is : (regex_options r).line_terminator ≡ Some terminator)
+  module _ (terminator : LineTerminator) (clear : AreClear terminator)
       (has : IsConfirmed terminator (program_re r)) where
     -- a line alone, by what was compiled
     alone : (i : ℕ) → IsListed terminator bytes i → is_some (regex_first r (kept terminator bytes i))
@@ -102,7 +145,7 @@ module _ (r : Regex) (is_lawful : LineTerminator → Type 0) (bytes : List ℕ)
         ap is_some (sym (finds-of r (kept terminator bytes i) (kept-small terminator bytes small i listed)))
 
     clear-alone : (i : ℕ) → IsListed terminator bytes i → FindsClear terminator (program_re r) (kept terminator bytes i)
-    clear-alone i listed = finds-clear terminator is (kept terminator bytes i)
+    clear-alone i listed = clear (kept terminator bytes i)
         (kept-small terminator bytes small i listed)
 
     none-lawful : regex_first r bytes ≡ None → IsLawfulResult terminator (regex_meaning r) bytes None
@@ -117,25 +160,52 @@ module _ (r : Regex) (is_lawful : LineTerminator → Type 0) (bytes : List ℕ)
               (regex_meaning r) i listed (clear-alone i listed) (rw m.2 ends),
           λ i listed holds confirmed. alone i listed
               ∙ matched terminator has.sep bytes (program_re r) has.local has.reads m.0 m.1 (regex_meaning r) i listed
-              (rw m.2 holds) (finds-clear terminator is bytes small m.0 m.1),
+              (rw m.2 holds) (clear bytes small m.0 m.1),
         )
 
-  module _ (by_line : is_by_line (regex_options r).line_terminator (program_re r) ≡ true) where
-    -- what is lawful for the declared terminator can be trusted
+  module _ (by_line : is_by_line (regex_options r).line_terminator (program_re r) ≡ true)
+      (strips : (regex_options r).line_terminator ≡ None → absent 13 ≡ true) where
+    -- if none is declared, the pattern is found by line under each whose bytes are absent
+    undeclared : (regex_options r).line_terminator ≡ None → is_by_line None (program_re r) ≡ true
+    undeclared none = subst (λ o. is_by_line o (program_re r) ≡ true) none by_line
+
+    by-absent : (terminator : LineTerminator) → absent (byte_of terminator) ≡ true
+        → AreClear terminator × IsConfirmed terminator (program_re r)
+    by-absent (Byte b) has =
+        let both = and_parts (always_reads (program_re r)) _
+        (undeclared (absent-undeclared (regex_options r) (regex_patterns r) b has)) in (
+          absent-clear (Byte b) (λ x is. ap absent (among-byte b x is) ∙ has),
+          confirmed (Byte b) (program_re r) (and_from _ _
+              (absent-separator (regex_options r) (regex_patterns r) b has)
+              (local-anywhere (Byte b) (program_re r) both.1)),
+        )
+    by-absent Crlf has =
+        let none = absent-undeclared (regex_options r) (regex_patterns r) 10 has in
+        let both = and_parts (always_reads (program_re r)) _ (undeclared none) in (
+          absent-clear Crlf (λ x is. ⊎_elim
+              (λ (return : x ≡ 13). ap absent return ∙ strips none)
+              (λ (feed : x ≡ 10). ap absent feed ∙ has)
+              (among-crlf x is)),
+          confirmed Crlf (program_re r) (and_from _ _ both.0 (local-anywhere Crlf (program_re r) both.1)),
+        )
+
+    -- what is lawful for each excluded terminator can be trusted
     trusted : (found : Option LineMatchKind)
-        → ((terminator : LineTerminator) → (regex_options r).line_terminator ≡ Some terminator
+        → ((terminator : LineTerminator) → AreClear terminator
         → IsConfirmed terminator (program_re r) → IsLawfulResult terminator (regex_meaning r) bytes found)
         → IsTrusted (regex_meaning r) is_lawful bytes found
-    trusted found each other lawful (inl declared) = each other declared
+    trusted found each other lawful (inl declared) = each other (declared-clear other declared)
         (confirmed other (program_re r) (subst (λ o. is_by_line o (program_re r) ≡ true) declared by_line))
-    trusted found each other lawful (inr absent) = absurd (true≢false (sym absent))
+    trusted found each other lawful (inr has) =
+        let both = by-absent other has in each other both.0 both.1
 
     pub trusted-none : regex_first r bytes ≡ None → IsTrusted (regex_meaning r) is_lawful bytes None
-    trusted-none none = trusted None (λ terminator is has. none-lawful terminator is has none)
+    trusted-none none = trusted None (λ terminator clear has. none-lawful terminator clear has none)
 
     pub trusted-some : (a b : ℕ) → regex_first r bytes ≡ Some (a, b)
         → IsTrusted (regex_meaning r) is_lawful bytes (Some (Confirmed a))
-    trusted-some a b found = trusted (Some (Confirmed a)) (λ terminator is has. some-lawful terminator is has a b found)
+    trusted-some a b found = trusted (Some (Confirmed a))
+        (λ terminator clear has. some-lawful terminator clear has a b found)
 
 -- the first line as a candidate says nothing
 pub trusted-first : (meaning : Meaning) (is_lawful : LineTerminator → Type 0) (bytes : List ℕ) →

@@ -47,7 +47,7 @@ between-alike : (before after : Look) {a b : Re} → SameCaptures a b
     → SameCaptures (between before after a) (between before after b)
 between-alike before after p = alike_cat (alike_refl _) (alike_cat p (alike_refl _))
 
-framed-alike : (o : Options) {a b : Re} → SameCaptures a b → SameCaptures (framed o a) (framed o b)
+pub framed-alike : (o : Options) {a b : Re} → SameCaptures a b → SameCaptures (framed o a) (framed o b)
 framed-alike o {a} {b} p = by-cases o.whole_line o.crlf o.word o.unicode
   where
     by-cases : (w r x u : Bool) → SameCaptures

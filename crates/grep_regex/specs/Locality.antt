@@ -62,8 +62,9 @@ is_local terminator (group n a) = is_local terminator a
 is_local terminator (plus greedy a) = is_local terminator a
 
 -- what the pattern finds in many lines it finds in one of them alone; under CRLF an empty match
--- could be between the carriage return and the line feed
+-- could be between the carriage return and the line feed. If no terminator is declared, it is so
+-- under each.
 abbrev pub is_by_line : Option LineTerminator → Re → Bool
-is_by_line None re = false
+is_by_line None re = always_reads re && is_local (Byte 0) re
 is_by_line (Some (Byte b)) re = is_separator b && is_local (Byte b) re
 is_by_line (Some Crlf) re = always_reads re && is_local Crlf re

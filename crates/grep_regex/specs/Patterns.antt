@@ -13,9 +13,11 @@ use Rattle.regex_syntax.specs.Grammar.{Names, read}
 use Rattle.regex_syntax.specs.Verdict.{default_config, default_flags, escaped_text}
 use Rattle.regex_syntax.specs.declared.Config.{Config}
 use Rattle.regex_vm.specs.Found.{span}
+use Rattle.grep_matcher.specs.FindResults.{Avoids}
 use Rattle.grep_matcher.specs.Meanings.{Meaning}
 use Rattle.grep_matcher.specs.Lines.{bytes_of}
 use Rattle.grep_matcher.specs.declared.line_terminator.LineTerminator.{LineTerminator}
+use Rattle.grep_regex.specs.AbsentBytes.{is_absent}
 use Rattle.grep_regex.specs.Clear.{find_clear}
 use Rattle.grep_regex.specs.declared.options.Options.{Options}
 
@@ -110,7 +112,7 @@ abbrev pub meaning_of : Options → List (List ℕ) → Meaning
 meaning_of o patterns = record {
   first = first_match o patterns;
   terminator = o.line_terminator;
-  absent = λ byte. false;
+  absent = is_absent o patterns;
 }
 
 -- the leftmost match of a pattern from a position on, with no regard to bytes
@@ -122,3 +124,8 @@ leftmost_match_at re haystack start = option_map span (find re haystack start)
 pub record FindsAs (o : Options) (patterns : List (List ℕ)) (re : Re) : Type 0 where
   pub at : (haystack : List ℕ) (start : ℕ) → All (λ x. x < 256) haystack → start ≤ length haystack →
       leftmost_match_at re haystack start ≡ first_match_at o patterns haystack start
+
+-- what the patterns find holds none of their absent bytes
+pub record AvoidsAbsent (o : Options) (patterns : List (List ℕ)) : Type 0 where
+  pub at : (haystack : List ℕ) (start : ℕ) → All (λ x. x < 256) haystack → start ≤ length haystack →
+      Avoids (is_absent o patterns) haystack (first_match_at o patterns haystack start)

@@ -1,6 +1,7 @@
 //! Matchers of regular expressions, over the kit's engines, for a line-oriented search.
 #![tactic(auto)]
 
+mod absent;
 mod builder;
 mod engine;
 mod error;

@@ -115,7 +115,7 @@ impl Matcher for RegexMatcher<'_> {
     }
 
     fn non_matching_bytes(&self) -> Option<&ByteSet> {
-        None
+        self.regex.absent()
     }
 }
 

@@ -150,7 +150,7 @@ impl<N: Naming> Matcher for NamedMatcher<'_, N> {
     }
 
     fn non_matching_bytes(&self) -> Option<&ByteSet> {
-        None
+        self.regex.absent()
     }
 }
 

@@ -1,12 +1,15 @@
 //! A compiled regular expression.
-ghost use Rattle.std.specs.Prelude.{◌≡◌, IfOk, IfErr, OnOk, IsTrue};
-ghost use Rattle.std.specs.Prelude.{map};
+ghost use Rattle.std.specs.Prelude.{◌≡◌, ℕ, IfOk, IfErr, OnOk, IsTrue, None, map};
+ghost use Rattle.std.specs.Option.{option_copied};
 ghost use Rattle.regex_hir.specs.Meaning.{meaning};
+ghost use Rattle.grep_matcher.specs.FindResults.{holds_if_some};
+ghost use Rattle.grep_regex.specs.AbsentBytes.{is_absent};
 ghost use Rattle.grep_regex.specs.Locality.{is_by_line};
-ghost use Rattle.grep_regex.specs.Patterns.{excluded_bytes, FindsAs};
+ghost use Rattle.grep_regex.specs.Patterns.{excluded_bytes, AvoidsAbsent, FindsAs};
 ghost use Rattle.grep_regex.specs.Refusals.{IsOfCompiler, IsTerminatorError};
 ghost use Rattle.grep_regex.specs.Stripped.{AreAscii};
 
+use crate::absent::absent_bytes;
 use crate::error::Error;
 use crate::frame::framed;
 use crate::locality::is_by_line;
@@ -16,7 +19,7 @@ use crate::options::Options;
 use crate::parse::{Choice, read_choice};
 use crate::strip::without_bytes;
 use crate::texts::Texts;
-use grep_matcher::LineTerminator;
+use grep_matcher::{ByteSet, LineTerminator};
 use regex_hir::Hir;
 use regex_meta::{Program, Searcher};
 use std::alloc::{AllocError, Global};
@@ -33,11 +36,17 @@ pub struct Regex {
 pub(crate) struct Shared {
     options: Options,
     patterns: Texts,
+    absent: Option<ByteSet>,
     program: Program,
     by_line: bool,
+    ghost lacks: { ∥ ((byte : ℕ) →
+        is_absent options patterns byte ≡ holds_if_some absent byte) ∥₁ },
+    ghost avoids: { ∥ AvoidsAbsent options patterns ∥₁ },
     ghost finds: { ∥ FindsAs options patterns (meaning program.hir) ∥₁ },
     ghost confirms: { ∥ (IsTrue by_line →
         IsTrue (is_by_line options.line_terminator (meaning program.hir))) ∥₁ },
+    ghost strips: { ∥ (IsTrue by_line → options.line_terminator ≡ None →
+        IsTrue (is_absent options patterns 13)) ∥₁ },
 }
 
 // Written out, so that a caller's proof sees one call.
@@ -53,6 +62,7 @@ impl Drop for Shared {
         let Shared {
             options: _options,
             patterns: _patterns,
+            absent: _absent,
             program: _program,
             by_line: _by_line,
         } = self;
@@ -61,10 +71,19 @@ impl Drop for Shared {
 
 impl Shared {
     fn is_by_line(&self) -> bool
-        ensures { IsTrue result →
+        ensures local { IsTrue result →
             IsTrue (is_by_line self.now.options.line_terminator (meaning self.now.program.hir)) }
+        ensures strips { IsTrue result → self.now.options.line_terminator ≡ None →
+            IsTrue (is_absent self.now.options self.now.patterns 13) }
     {
         self.by_line
+    }
+
+    fn absent(&self) -> Option<&ByteSet>
+        ensures { (byte : ℕ) → is_absent self.now.options self.now.patterns byte
+            ≡ holds_if_some (option_copied result) byte }
+    {
+        self.absent.as_ref()
     }
 }
 
@@ -111,12 +130,14 @@ impl Regex {
         let Choice { hir, groups } = read_choice(alloc, &options, patterns)?;
         let whole = framed(alloc, &options, hir)?;
         let stripped = without_bytes(alloc, &whole, excluded_bytes(&options.line_terminator))?;
-        let by_line = is_by_line(options.line_terminator, &stripped);
+        let absent = absent_bytes(&options, patterns);
+        let by_line = confirms(options.line_terminator, &absent, &stripped);
         let program = compiled(alloc, stripped, groups, options.size_limit)?;
         let patterns = Texts::new(alloc, patterns)?;
         let shared = Shared {
             options,
             patterns,
+            absent,
             program,
             by_line,
         };
@@ -150,10 +171,20 @@ impl Regex {
 
     // Whether what it finds in many lines it finds in one of them alone.
     pub(crate) fn is_by_line(&self) -> bool
-        ensures { IsTrue result →
+        ensures local { IsTrue result →
             IsTrue (is_by_line (regex_options self.now).line_terminator (program_re self.now)) }
+        ensures strips { IsTrue result → (regex_options self.now).line_terminator ≡ None →
+            IsTrue (is_absent (regex_options self.now) (regex_patterns self.now) 13) }
     {
         self.shared.is_by_line()
+    }
+
+    // The bytes that it knows no match to hold, if it knows of any.
+    pub(crate) fn absent(&self) -> Option<&ByteSet>
+        ensures { (byte : ℕ) → is_absent (regex_options self.now) (regex_patterns self.now) byte
+            ≡ holds_if_some (option_copied result) byte }
+    {
+        self.shared.absent()
     }
 
     // What searches for the expression.
@@ -184,7 +215,26 @@ fn check_terminator(terminator: Option<LineTerminator>) -> Result<(), Error>
     }
 }
 
-// The bytes that no match holds.
+// Whether what the pattern finds in many lines is in a line of them, by itself.
+fn confirms(terminator: Option<LineTerminator>, absent: &Option<ByteSet>, hir: &Hir) -> bool
+    ensures local { IsTrue result → IsTrue (is_by_line terminator (meaning hir.now)) }
+    ensures strips { IsTrue result → terminator ≡ None → IsTrue (holds_if_some absent.now 13) }
+{
+    is_by_line(terminator, hir) && is_stripped(terminator, absent)
+}
+
+// Whether the line terminator is declared, or no match holds a carriage return: it may be stripped
+// from a line with its line feed.
+fn is_stripped(terminator: Option<LineTerminator>, absent: &Option<ByteSet>) -> bool
+    ensures { IsTrue result → terminator ≡ None → IsTrue (holds_if_some absent.now 13) }
+{
+    match absent {
+        Some(set) => terminator.is_some() || set.contains(b'\r'),
+        None => terminator.is_some(),
+    }
+}
+
+// The bytes of the line terminator.
 fn excluded_bytes(terminator: &Option<LineTerminator>) -> &[u8]
     ensures { result.now ≡ excluded_bytes terminator.now }
 {

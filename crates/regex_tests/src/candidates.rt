@@ -28,8 +28,15 @@ const ROWS: &[Row] = &[
     ("z", r"b|\n", b"a\0\nb\0", Some((2, true))),
     ("zmw", r"b", b"ab\0b", Some((3, true))),
     ("zm", r"b$", b"a\0b\0", Some((0, false))),
-    ("k", r"b", b"a\nb\n", Some((0, false))),
-    ("", r"b", b"a\nb\n", Some((0, false))),
+    ("k", r"b", b"a\nb\n", Some((2, true))),
+    ("", r"b", b"a\nb\n", Some((2, true))),
+    ("F", r"b.", b"b\nb.\n", Some((2, true))),
+    ("w", r"b", b"ab\nb", Some((3, true))),
+    ("", r"b.", b"a\nb.\n", Some((0, false))),
+    ("i", r"b", b"a\nb\n", Some((0, false))),
+    ("x", r"b", b"a\nb\n", Some((0, false))),
+    ("F", "b\r", b"a\nb\r\n", Some((0, false))),
+    ("", r"", b"a\nb\n", Some((0, false))),
 ];
 
 #[test]

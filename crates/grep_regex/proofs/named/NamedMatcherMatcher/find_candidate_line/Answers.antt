@@ -10,10 +10,12 @@ returns-then-not-is_by_line-clause-trusted g c =
 
 pub returns-in-None-clause-trusted : goal.returns-in-None-clause-trusted
 returns-in-None-clause-trusted g c = trusted-none (named_regex c.args.self.now) (λ _. Unit {0}) c.args.haystack.now
-    (λ k. (c.type_inv.haystack k).fits) (c.is_by_line.ensures c.if-not-is_by_line.false)
+    (λ k. (c.type_inv.haystack k).fits) (c.is_by_line.ensures.local c.if-not-is_by_line.false)
+    (c.is_by_line.ensures.strips c.if-not-is_by_line.false)
     (sym c.in_ok-start.ensures.value ∙ c.in-None.is)
 
 pub returns-in-Some-clause-trusted : goal.returns-in-Some-clause-trusted
 returns-in-Some-clause-trusted g c = trusted-some (named_regex c.args.self.now) (λ _. Unit {0}) c.args.haystack.now
-    (λ k. (c.type_inv.haystack k).fits) (c.is_by_line.ensures c.if-not-is_by_line.false)
+    (λ k. (c.type_inv.haystack k).fits) (c.is_by_line.ensures.local c.if-not-is_by_line.false)
+    (c.is_by_line.ensures.strips c.if-not-is_by_line.false)
     c.in-Some.start c.in-Some.field-0-1 (sym c.in_ok-start.ensures.value ∙ c.in-Some.is)

@@ -1,0 +1,107 @@
+//! Which bytes no match of literals holds.
+ghost use Rattle.std.specs.Prelude.{◌≡◌, ◌&&◌, ℕ, chars, false, is_some, map, not, IsTrue};
+ghost use Rattle.std.specs.List.{list_any};
+ghost use Rattle.regex_hir.specs.Re.{literal};
+ghost use Rattle.regex_syntax.specs.Captures.{SameCaptures};
+ghost use Rattle.regex_syntax.specs.Verdict.{is_meta};
+ghost use Rattle.grep_matcher.specs.ByteSets.{holds};
+ghost use Rattle.grep_matcher.specs.FindResults.{holds_if_some};
+ghost use Rattle.grep_regex.specs.AbsentBytes.{is_plain, are_plain, is_absent};
+ghost use Rattle.grep_regex.specs.Alike.{AreAlike};
+ghost use Rattle.grep_regex.specs.Clear.{is_among};
+ghost use Rattle.grep_regex.specs.Locality.{is_separator};
+ghost use Rattle.grep_regex.specs.Patterns.{read_re, AvoidsAbsent};
+
+use crate::locality::is_separator;
+use crate::options::Options;
+use grep_matcher::ByteSet;
+use regex_syntax::is_meta_character;
+
+// The bytes that a matcher of the patterns knows no match to hold, if it knows of any.
+pub(crate) fn absent_bytes(options: &Options, patterns: &[&str]) -> Option<ByteSet>
+    ensures value { (byte : ℕ) → is_absent options.now (map (λ p. p.now) patterns.now) byte
+        ≡ holds_if_some result byte }
+    ensures avoids { AvoidsAbsent options.now (map (λ p. p.now) patterns.now) }
+{
+    if !are_plain(options, patterns) {
+        return None;
+    }
+    Some(separators_without(patterns))
+}
+
+// Whether no line terminator is declared, and each match is one of the patterns as it is written.
+fn are_plain(options: &Options, patterns: &[&str]) -> bool
+    ensures value { result ≡ are_plain options.now (map (λ p. p.now) patterns.now) }
+    ensures read { IsTrue result →
+        AreAlike (map (read_re options.now) (map (λ p. p.now) patterns.now))
+        (map literal (map (λ p. p.now) patterns.now)) }
+{
+    if !are_texts(options) {
+        return false;
+    }
+    for i in 0..patterns.len() {
+        if !is_plain(options, patterns[i]) {
+            return false;
+        }
+    }
+    true
+}
+
+// Whether the options leave patterns that are read as their own texts as they are written.
+fn are_texts(options: &Options) -> bool
+    ensures { result ≡ (not (is_some options.now.line_terminator)
+        && (not options.now.case_insensitive && not options.now.whole_line)) }
+{
+    options.line_terminator.is_none() && !options.case_insensitive && !options.whole_line
+}
+
+// Whether the pattern is read as its own text.
+fn is_plain(options: &Options, pattern: &str) -> bool
+    ensures value { result ≡ is_plain options.now pattern.now }
+    ensures read { IsTrue result → options.now.case_insensitive ≡ false →
+        SameCaptures (read_re options.now pattern.now) (literal pattern.now) }
+{
+    options.fixed_strings || (!options.ignore_whitespace && !has_meta_character(pattern))
+}
+
+// Whether a character of the pattern has a meaning of its own.
+fn has_meta_character(pattern: &str) -> bool
+    ensures { result ≡ list_any is_meta (chars pattern.now) }
+{
+    pattern.chars().any(|c| is_meta_character(c))
+}
+
+// The ASCII bytes that aren't in words and that none of the patterns has.
+fn separators_without(patterns: &[&str]) -> ByteSet
+    ensures { (byte : ℕ) → holds result byte ≡ (is_separator byte
+        && not (list_any (λ p. is_among p byte) (map (λ p. p.now) patterns.now))) }
+{
+    let mut absent = separators();
+    for i in 0..patterns.len() {
+        remove_all(&mut absent, patterns[i].as_bytes());
+    }
+    absent
+}
+
+// The ASCII bytes that aren't in words.
+fn separators() -> ByteSet
+    ensures { (byte : ℕ) → holds result byte ≡ is_separator byte }
+{
+    let mut all = ByteSet::empty();
+    for byte in 0..128 {
+        if is_separator(byte) {
+            all.add(byte);
+        }
+    }
+    all
+}
+
+// Removes each of the bytes from the set, and changes nothing else.
+fn remove_all(set: &mut ByteSet, bytes: &[u8])
+    ensures { (other : ℕ) →
+        holds set.new other ≡ (not (is_among bytes.now other) && holds set.old other) }
+{
+    for byte in bytes {
+        set.remove(*byte);
+    }
+}
