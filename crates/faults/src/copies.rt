@@ -1,6 +1,6 @@
 //! Copies of a searcher that a sink makes during a search.
 use crate::case::{End, Fault};
-use crate::trial::search;
+use crate::searches::{search_reader, search_slice};
 use grep_matcher::LiteralMatcher;
 use grep_searcher::{SearchError, Searcher, Sink, SinkContext, SinkFinish, SinkMatch};
 use grep_testing::{Comparison, Pieces, Recorder, Row};
@@ -89,14 +89,14 @@ fn reader_agrees<A: Allocator + Copy>(searcher: &mut Searcher<A>, row: &Row) -> 
     let mut comparison = Comparison::new(row);
     let mut reader = Pieces::new(row.input, 1, None);
     let matcher = LiteralMatcher::borrowed(row.literal);
-    let ended = searcher.search_reader(matcher, &mut reader, &mut comparison);
+    let ended = search_reader(searcher, matcher, &mut reader, &mut comparison);
     ended.is_ok() && comparison.is_whole()
 }
 
 fn slice_agrees<A: Allocator + Copy>(searcher: &mut Searcher<A>, row: &Row) -> bool {
     let mut comparison = Comparison::new(row);
     let matcher = LiteralMatcher::borrowed(row.literal);
-    let ended = searcher.search_slice(matcher, row.input, &mut comparison);
+    let ended = search_slice(searcher, matcher, row.input, &mut comparison);
     ended.is_ok() && comparison.is_whole()
 }
 
@@ -120,7 +120,7 @@ pub(crate) fn try_copies<W: io::Write>(
     let matcher = LiteralMatcher::borrowed(row.literal);
     let end = End::of(
         alloc,
-        search(&mut searcher, matcher, &mut reader, &mut sink),
+        search_reader(&mut searcher, matcher, &mut reader, &mut sink),
     );
     if !Fault::None.makes(row, sink.recorder.text(), end, reader.reads()) {
         sink.agreed = 0;

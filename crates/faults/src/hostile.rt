@@ -1,8 +1,9 @@
 //! Readers and matchers that don't behave, each with a search by the same searcher after it.
 use crate::case::Fault;
 use crate::readers::{Interrupted, Repeated, Resuming};
+use crate::searches::{search_reader, search_slice};
 use crate::tally::{Tally, Totals};
-use crate::trial::{comes_to, search, search_slice};
+use crate::trial::comes_to;
 use grep_decode::Source;
 use grep_matcher::{ByteSet, LineMatchKind, LineTerminator, LiteralMatcher, Match, Matcher};
 use grep_searcher::{BinaryDetection, SearchError, Searcher};
@@ -139,7 +140,7 @@ fn returns<M: Matcher>(searcher: &mut Searcher, matcher: &M) -> bool {
     let mut tally = Tally::new(u64::MAX);
     let mut reader = Pieces::new(BREAK.input, 3, None);
     search_slice(searcher, matcher, BREAK.input, &mut tally).is_ok()
-        && search(searcher, matcher, &mut reader, &mut tally).is_ok()
+        && search_reader(searcher, matcher, &mut reader, &mut tally).is_ok()
 }
 
 // Whether many of them do, with candidates anywhere.
@@ -169,13 +170,13 @@ fn adds_up<R: Source>(
     totals: Totals,
 ) -> bool {
     let matcher = LiteralMatcher::borrowed(b"a");
-    search(searcher, matcher, reader, &mut tally).is_ok() && tally.has(totals)
+    search_reader(searcher, matcher, reader, &mut tally).is_ok() && tally.has(totals)
 }
 
 fn is_interrupted(searcher: &mut Searcher) -> bool {
     let mut tally = Tally::new(u64::MAX);
     let matcher = LiteralMatcher::borrowed(b"a");
-    match search(searcher, matcher, &mut Interrupted, &mut tally) {
+    match search_reader(searcher, matcher, &mut Interrupted, &mut tally) {
         Err(SearchError::Io(error)) => error.kind() == io::ErrorKind::Interrupted,
         _ => false,
     }

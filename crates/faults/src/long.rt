@@ -1,7 +1,7 @@
 //! Long inputs.
 use crate::readers::Repeated;
+use crate::searches::search_reader;
 use crate::tally::{Tally, Totals};
-use crate::trial::search;
 use grep_matcher::LiteralMatcher;
 use grep_searcher::{ConfigError, SearchError, SearcherBuilder};
 use std::alloc::Global;
@@ -72,7 +72,7 @@ fn is_long(alloc: Global, row: &Long) -> Result<bool, ConfigError> {
     let mut tally = Tally::new(u64::MAX);
     let mut reader = Repeated::new(row.reader.0, row.reader.1, row.reader.2);
     let matcher = LiteralMatcher::borrowed(b"z");
-    let ended = search(&mut searcher, matcher, &mut reader, &mut tally);
+    let ended = search_reader(&mut searcher, matcher, &mut reader, &mut tally);
     Ok(match (ended, row.totals) {
         (Ok(()), Some(totals)) => tally.has(totals),
         (Err(SearchError::Io(error)), None) => {

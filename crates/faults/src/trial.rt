@@ -1,8 +1,8 @@
 //! The cases of a row.
 use crate::case::{End, Fault};
-use grep_decode::Source;
-use grep_matcher::{LiteralMatcher, Matcher};
-use grep_searcher::{SearchError, Searcher, Sink};
+use crate::searches::search_reader;
+use grep_matcher::LiteralMatcher;
+use grep_searcher::Searcher;
 use grep_testing::{Pieces, Recorder, Row};
 use std::alloc::Global;
 use std::io;
@@ -173,7 +173,7 @@ pub(crate) fn comes_to<W: io::Write>(
     let mut recorder = Recorder::new(alloc, fault.false_at(), fault.error_at());
     let mut reader = Pieces::new(row.input, 1, fault.of_reader());
     let matcher = LiteralMatcher::borrowed(row.literal);
-    let ended = search(searcher, matcher, &mut reader, &mut recorder);
+    let ended = search_reader(searcher, matcher, &mut reader, &mut recorder);
     let end = End::of(alloc, ended);
     let (calls, reads) = (recorder.text(), reader.reads());
     let agrees = fault.makes(row, calls, end, reads);
@@ -186,28 +186,4 @@ pub(crate) fn comes_to<W: io::Write>(
         )?;
     }
     Ok(agrees)
-}
-
-/// Searches what a reader gives. The contract of the search isn't passed on.
-pub(crate) fn search<M: Matcher + Drop, R: Source, S: Sink<Error = SearchError>>(
-    searcher: &mut Searcher,
-    matcher: M,
-    reader: &mut R,
-    sink: &mut S,
-) -> Result<(), SearchError>
-    requires { S.may_call sink.old }
-{
-    searcher.search_reader(matcher, reader, sink)
-}
-
-/// Searches a slice. The contract of the search isn't passed on.
-pub(crate) fn search_slice<M: Matcher + Drop, S: Sink<Error = SearchError>>(
-    searcher: &mut Searcher,
-    matcher: M,
-    bytes: &[u8],
-    sink: &mut S,
-) -> Result<(), SearchError>
-    requires { S.may_call sink.old }
-{
-    searcher.search_slice(matcher, bytes, sink)
 }

@@ -174,7 +174,7 @@ pub(crate) fn try_writers<W: io::Write>(alloc: Global, output: &mut W) -> io::Re
 
 // The options of a run.
 fn options(alloc: Global, run: &Run) -> Option<Options> {
-    let Ok(arguments) = arguments(alloc, run) else {
+    let Ok(arguments) = arguments(alloc, run.arguments) else {
         return None;
     };
     match Options::parse(alloc, &arguments) {
@@ -183,10 +183,11 @@ fn options(alloc: Global, run: &Run) -> Option<Options> {
     }
 }
 
-fn arguments(alloc: Global, run: &Run) -> Result<Vec<String>, AllocError> {
+/// Some words, as arguments.
+pub(crate) fn arguments(alloc: Global, words: &[&str]) -> Result<Vec<String>, AllocError> {
     let mut arguments = Vec::new(alloc);
-    for argument in run.arguments {
-        arguments.push(String::from_str(alloc, argument)?)?;
+    for word in words {
+        arguments.push(String::from_str(alloc, word)?)?;
     }
     Ok(arguments)
 }
@@ -260,8 +261,8 @@ fn is_of(alloc: Global, failure: Failure, error: &io::Error) -> bool {
     }
 }
 
-// A run over these bytes. Its contract isn't passed on.
-fn run_to<W: Output>(
+/// A run over these bytes. Its contract isn't passed on.
+pub(crate) fn run_to<W: Output>(
     alloc: Global,
     options: &Options,
     bytes: &[u8],

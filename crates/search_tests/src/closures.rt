@@ -1,5 +1,5 @@
 //! Sinks that call a closure, and sinks in a box and by reference. `UTF8` and `Lossy` are called by
-//! `uses` and by `refusals` too.
+//! `uses` and by `faults` too.
 use crate::searches::{search_slice, search_slice_for_a};
 use grep_matcher::LiteralMatcher;
 use grep_searcher::sinks::{Bytes, Calls, SinkCall, UTF8};

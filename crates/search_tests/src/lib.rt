@@ -2,7 +2,7 @@
 //! and of a file, the window around a match, and sinks that call a closure.
 //!
 //! Each call of `grep_searcher` that needs memory succeeds at least once, here, in `replay` or in
-//! `refusals`, which no contract can promise.
+//! `faults`, which no contract can promise.
 #![tactic(auto)]
 
 #[cfg(test)]

@@ -1,9 +1,9 @@
 //! The searches of the rows, each by one searcher that is used again if a request was refused.
-use crate::outcome::{Outcome, is_refusal};
+use crate::refusals::outcome::{Outcome, is_refusal};
 use crate::searches::search_reader;
 use grep_matcher::LiteralMatcher;
 use grep_searcher::{ConfigError, SearchError, Searcher};
-use grep_testing::{Recorder, Row};
+use grep_testing::{Pieces, Recorder, Row};
 use std::alloc::Global;
 
 /// What comes of the search of a row.
@@ -25,7 +25,8 @@ pub(crate) fn outcome(alloc: Global, row: &Row) -> Outcome {
 fn once(alloc: Global, searcher: &mut Searcher, row: &Row) -> Outcome {
     let mut recorder = Recorder::new(alloc, None, None);
     let matcher = LiteralMatcher::borrowed(row.literal);
-    let ended = search_reader(searcher, matcher, row.input, 1, &mut recorder);
+    let mut reader = Pieces::new(row.input, 1, None);
+    let ended = search_reader(searcher, matcher, &mut reader, &mut recorder);
     outcome_of(ended, row, recorder.text())
 }
 

@@ -1,10 +1,12 @@
 //! Searches, each by one searcher that is used again if a request was refused.
-use crate::outcome::{Outcome, is_refusal};
-use grep_matcher::{LiteralMatcher, Matcher};
+use crate::refusals::outcome::{Outcome, is_refusal};
+use crate::searches::{search_reader, search_slice};
+use crate::writers::run_to;
+use grep_matcher::LiteralMatcher;
 use grep_searcher::sinks::Lossy;
-use grep_searcher::{SearchError, Searcher, SearcherBuilder, Sink, SinkError};
+use grep_searcher::{Searcher, SearcherBuilder};
 use grep_testing::{Pieces, Recorder};
-use lgrep_cli::{Options, Output, Writing, run};
+use lgrep_cli::{Options, Writing};
 use std::alloc::{AllocError, Global};
 use std::io;
 
@@ -76,37 +78,13 @@ impl Input {
         let matcher = LiteralMatcher::borrowed(self.literal());
         let ended = match self {
             Input::Slice => search_slice(searcher, matcher, bytes, &mut recorder),
-            _ => search_reader(searcher, matcher, bytes, 0, &mut recorder),
+            _ => {
+                let mut reader = Pieces::new(bytes, 0, None);
+                search_reader(searcher, matcher, &mut reader, &mut recorder)
+            }
         };
         Outcome::of_search(ended, recorder.text(), self.calls())
     }
-}
-
-// Searches a slice. The contract of the search isn't passed on.
-fn search_slice<M: Matcher + Drop, E: SinkError<Global>, S: Sink<Error = E>>(
-    searcher: &mut Searcher,
-    matcher: M,
-    bytes: &[u8],
-    sink: &mut S,
-) -> Result<(), E>
-    requires { S.may_call sink.old }
-{
-    searcher.search_slice(matcher, bytes, sink)
-}
-
-/// Searches a reader of these bytes, which gives so many at a read, or as many as are asked for if
-/// that is 0. The contract of the search isn't passed on.
-pub(crate) fn search_reader<M: Matcher + Drop, S: Sink<Error = SearchError>>(
-    searcher: &mut Searcher,
-    matcher: M,
-    bytes: &[u8],
-    piece: usize,
-    sink: &mut S,
-) -> Result<(), SearchError>
-    requires { S.may_call sink.old }
-{
-    let mut reader = Pieces::new(bytes, piece, None);
-    searcher.search_reader(matcher, &mut reader, sink)
 }
 
 /// What comes of a search whose sink needs memory for the text of a match.
@@ -128,21 +106,11 @@ pub(crate) fn lossy(alloc: Global) -> Outcome {
 /// What comes of a run of `lgrep`, by these options.
 pub(crate) fn run_by(alloc: Global, options: &Options) -> Outcome {
     let mut writer = Writing::new(Vec::new(alloc));
-    let ended = run_over(alloc, options, b"b\na\n", &mut writer);
+    let ended = run_to(alloc, options, b"b\na\n", &mut writer);
     let written = writer.into_inner();
     match ended {
         Ok(true) if written.as_slice() == b"2:a\n".as_slice() => Outcome::Done,
         Err(error) if is_refusal(&error) => Outcome::Refused,
         _ => Outcome::Wrong,
     }
-}
-
-fn run_over<W: Output>(
-    alloc: Global,
-    options: &Options,
-    bytes: &[u8],
-    writer: &mut W,
-) -> Result<bool, SearchError> {
-    let mut reader = bytes;
-    run(alloc, options, &mut reader, writer)
 }

@@ -1,8 +1,9 @@
 //! What asks for memory.
-use crate::memoryless::{Plain, Search};
-use crate::outcome::Outcome;
-use crate::rows;
-use crate::searches::{Input, lossy, run_by};
+use crate::refusals::memoryless::{Plain, Search};
+use crate::refusals::outcome::Outcome;
+use crate::refusals::rows;
+use crate::refusals::searches::{Input, lossy, run_by};
+use crate::writers::arguments;
 use grep_matcher::LiteralMatcher;
 use grep_searcher::{ConfigError, Encoding, SearchError, Searcher, SinkError};
 use grep_testing::Row;
@@ -128,18 +129,9 @@ fn literal(alloc: Global) -> Outcome {
     }
 }
 
-// The arguments of a run.
-fn arguments(alloc: Global) -> Result<Vec<String>, AllocError> {
-    let mut arguments = Vec::new(alloc);
-    for argument in ["-A", "1", "a"] {
-        arguments.push(String::from_str(alloc, argument)?)?;
-    }
-    Ok(arguments)
-}
-
 // Reads the arguments, and may run by the options.
 fn parsed(alloc: Global, runs: bool) -> Outcome {
-    let Ok(arguments) = arguments(alloc) else {
+    let Ok(arguments) = arguments(alloc, &["-A", "1", "a"]) else {
         return Outcome::Refused;
     };
     match Options::parse(alloc, &arguments) {

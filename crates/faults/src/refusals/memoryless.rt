@@ -1,10 +1,11 @@
 //! What takes no memory.
+use crate::searches::{search_reader, search_slice};
 use grep_matcher::{LiteralMatcher, Matcher};
 use grep_searcher::{
     BinaryDetection, ConfigError, Encoding, LineIter, LineStep, LineTerminator, MmapChoice,
-    Searcher, SearcherBuilder, Sink, Source,
+    Searcher, SearcherBuilder,
 };
-use grep_testing::{BREAK, Comparison, Failed, Pieces, Row};
+use grep_testing::{BREAK, Comparison, Pieces, Row};
 use std::alloc::Global;
 
 /// What takes no memory once its searcher is built.
@@ -44,38 +45,14 @@ impl Search {
 fn is_slice_searched(searcher: &mut Searcher, row: &Row) -> bool {
     let mut comparison = Comparison::new(row);
     let matcher = LiteralMatcher::borrowed(row.literal);
-    search_slice(searcher, matcher, row.input, &mut comparison) && comparison.is_whole()
+    search_slice(searcher, matcher, row.input, &mut comparison).is_ok() && comparison.is_whole()
 }
 
 fn is_reader_searched(searcher: &mut Searcher, row: &Row) -> bool {
     let mut comparison = Comparison::new(row);
     let mut reader = Pieces::new(row.input, 1, None);
     let matcher = LiteralMatcher::borrowed(row.literal);
-    search_reader(searcher, matcher, &mut reader, &mut comparison) && comparison.is_whole()
-}
-
-// Whether a search of a slice succeeds. The contract of the search isn't passed on, here and below.
-fn search_slice<M: Matcher + Drop, S: Sink<Error = Failed>>(
-    searcher: &mut Searcher,
-    matcher: M,
-    bytes: &[u8],
-    sink: &mut S,
-) -> bool
-    requires { S.may_call sink.old }
-{
-    searcher.search_slice(matcher, bytes, sink).is_ok()
-}
-
-// Whether a search of a reader succeeds.
-fn search_reader<M: Matcher + Drop, R: Source, S: Sink<Error = Failed>>(
-    searcher: &mut Searcher,
-    matcher: M,
-    reader: &mut R,
-    sink: &mut S,
-) -> bool
-    requires { S.may_call sink.old }
-{
-    searcher.search_reader(matcher, reader, sink).is_ok()
+    search_reader(searcher, matcher, &mut reader, &mut comparison).is_ok() && comparison.is_whole()
 }
 
 // Asks for each setting, and sets the one that can be set.
