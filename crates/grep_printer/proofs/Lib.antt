@@ -1,6 +1,6 @@
 pub mod ColorLemmas
+pub mod JsonBytesLemmas
 pub mod JsonRunLemmas
-pub mod MessageLemmas
 pub mod PartLemmas
 pub mod PartTextLemmas
 pub mod PrintedRunLemmas

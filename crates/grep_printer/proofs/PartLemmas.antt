@@ -2,8 +2,9 @@
 use Rattle.std.proofs.Common.{◌≡◌, ℕ, zero, suc, ◌+◌, ◌≤◌, List, [], ◌∷◌, ◌++◌, Option, Some, None, Bool, true, false}
 use Rattle.std.proofs.Common.{ap, arith, sym, ◌∙◌, append_assoc, refl}
 use Rattle.std.proofs.lemmas.Bool.Decides.{nat_tests}
+use Rattle.std.proofs.lemmas.List.Elements.{All-nil, All-cons}
 use Rattle.std.specs.Option.{option_map_or}
-use Rattle.std.specs.Prelude.{if◌then◌else◌}
+use Rattle.std.specs.Prelude.{All, if◌then◌else◌}
 use Rattle.grep_printer.specs.MatchedParts.{AreInOrder, found_from, is_passed, parts_from, parts_in, position_after}
 use Rattle.grep_printer.specs.MatchedParts.{with_part}
 
@@ -36,6 +37,14 @@ pub ordered-within : (parts : List (ℕ × ℕ)) (low high other : ℕ) → high
 ordered-within [] low high other less ordered = tt
 ordered-within (first ∷ later) low high other less ordered =
     (ordered.0, ordered.1, omega (arith, less, ordered.2), ordered-within later first.1 high other less ordered.3)
+
+-- parts that lie in order by a position end by a later one
+pub ends-within : (parts : List (ℕ × ℕ)) (low high size : ℕ) → high ≤ size → AreInOrder low high parts
+    → All (λ part. part.1 ≤ size) parts
+ends-within [] low high size less ordered = All-nil (λ part. part.1 ≤ size)
+ends-within (part ∷ later) low high size less ordered =
+    let ends : part.1 ≤ size = omega (arith, less, ordered.2) in
+    All-cons (λ part. part.1 ≤ size) part later ends (ends-within later part.1 high size less ordered.3)
 
 -- the search for the next match begins later
 pub after-later : (position : ℕ) (found : ℕ × ℕ) → position ≤ found.0 → found.0 ≤ found.1

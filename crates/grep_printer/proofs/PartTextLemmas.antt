@@ -16,7 +16,7 @@ use Rattle.grep_printer.proofs.PartLemmas.{ordered-from}
 use Rattle.grep_printer.specs.MatchedParts.{AreInOrder, parts_after}
 use Rattle.grep_printer.specs.PartTexts.{across_text, clipped_text}
 use Rattle.grep_printer.specs.LineTexts.{next_number}
-use Rattle.grep_printer.specs.StandardTexts.{asked_bytes}
+use Rattle.grep_printer.specs.ReportedParts.{asked_bytes}
 use Rattle.grep_printer.specs.declared.fields.Layout.{Layout}
 use Rattle.grep_printer.specs.declared.fields.LineKind.{LineKind}
 

@@ -11,8 +11,7 @@ use Rattle.grep_searcher.specs.Settings.{Settings}
 use Rattle.grep_searcher.specs.declared.SearchError.{SearchError}
 use Rattle.grep_searcher.specs.declared.SearchError.TheVariants.{Io}
 use Rattle.grep_printer.specs.JsonTexts.{JsonFrame, json_printed_of, json_progress, json_text}
-use Rattle.grep_printer.specs.MatchedParts.{IsMessageOf}
-use Rattle.grep_printer.specs.StandardTexts.{asked_bytes}
+use Rattle.grep_printer.specs.ReportedParts.{FailsAtReport}
 use Rattle.grep_printer.specs.declared.json_printer.Json.{Json}
 use Rattle.grep_printer.specs.declared.json_printer.JsonSink.{JsonSink}
 
@@ -59,9 +58,7 @@ pub record FailsToWriteJson {M W : Type 0} (write_step : W → OutputCall → W 
 module _ {M W F : Type 0} (facts : M → MatcherFacts F) where
   -- the error is the matcher's, for the bytes of a report, as a message
   abbrev pub IsJsonError : JsonSink M W → Settings → List ℕ → SearchError Global → Type 0
-  IsJsonError sink settings bytes =
-      IsMessageOf (facts sink.matcher).fails
-      (asked_bytes settings (facts sink.matcher).meaning bytes)
+  IsJsonError sink settings bytes = FailsAtReport (facts sink.matcher) settings bytes
 
 module _ {M W F : Type 0} (facts : M → MatcherFacts F)
     (first_at : M → List ℕ → ℕ → Option (ℕ × ℕ)) where

@@ -10,8 +10,7 @@ use Rattle.grep_searcher.specs.Plans.{Plan}
 use Rattle.grep_searcher.specs.Settings.{Settings}
 use Rattle.grep_searcher.specs.SinkFolds.{run_fold}
 use Rattle.grep_printer.specs.JsonMessages.{begin_json, end_json, json_line, report_json}
-use Rattle.grep_printer.specs.MatchedParts.{parts_in}
-use Rattle.grep_printer.specs.StandardTexts.{asked_bytes}
+use Rattle.grep_printer.specs.ReportedParts.{reported_parts}
 use Rattle.grep_printer.specs.StatsSums.{capped_sum, no_stats}
 use Rattle.grep_printer.specs.declared.json_printer.JsonProgress.{JsonProgress}
 use Rattle.grep_printer.specs.declared.stats.Stats.{Stats}
@@ -78,8 +77,7 @@ module _ (frame : JsonFrame) where
   -- the matches in the bytes of a report
   abbrev pub submatches_of : List ℕ → List (ℕ × ℕ)
   submatches_of bytes =
-      parts_in (frame.first_at (asked_bytes frame.settings frame.meaning bytes))
-      (length (asked_bytes frame.settings frame.meaning bytes)) (length bytes)
+      reported_parts frame.first_at frame.settings frame.meaning bytes
 
   -- those in a line that isn't reported as a match: it has some if lines without a match are
   -- selected

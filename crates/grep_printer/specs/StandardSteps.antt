@@ -9,8 +9,8 @@ use Rattle.grep_searcher.specs.SearchErrors.{IsOutOfMemory}
 use Rattle.grep_searcher.specs.Settings.{Settings}
 use Rattle.grep_searcher.specs.declared.SearchError.{SearchError}
 use Rattle.grep_searcher.specs.declared.SearchError.TheVariants.{Io}
-use Rattle.grep_printer.specs.MatchedParts.{IsMessageOf}
-use Rattle.grep_printer.specs.StandardTexts.{Frame, asked_bytes, call_text, goes_on, is_text}
+use Rattle.grep_printer.specs.ReportedParts.{FailsAtReport}
+use Rattle.grep_printer.specs.StandardTexts.{Frame, call_text, goes_on, is_text}
 use Rattle.grep_printer.specs.StandardTexts.{opening_of, printed_of, progress_after, report_text}
 use Rattle.grep_printer.specs.declared.standard.StandardSink.{StandardSink}
 
@@ -55,9 +55,7 @@ pub record FailsToBeWritten {M W : Type 0} (write_step : W → OutputCall → W 
 module _ {M W F : Type 0} (facts : M → MatcherFacts F) where
   -- the error is the matcher's, for the bytes of a report, as a message
   abbrev pub IsErrorAt : StandardSink M W → Settings → List ℕ → SearchError Global → Type 0
-  IsErrorAt sink settings bytes =
-      IsMessageOf (facts sink.matcher).fails
-      (asked_bytes settings (facts sink.matcher).meaning bytes)
+  IsErrorAt sink settings bytes = FailsAtReport (facts sink.matcher) settings bytes
 
 module _ {M W F : Type 0} (facts : M → MatcherFacts F)
     (first_at : M → List ℕ → ℕ → Option (ℕ × ℕ)) where

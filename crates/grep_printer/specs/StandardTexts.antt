@@ -6,7 +6,6 @@ use Rattle.std.specs.Borrow.{Bor}
 use Rattle.grep_matcher.specs.Lines.{byte_of}
 use Rattle.grep_searcher.specs.Asking.{is_across}
 use Rattle.grep_searcher.specs.BinaryDetections.{convert_byte_of}
-use Rattle.grep_searcher.specs.Lines.{strip}
 use Rattle.grep_searcher.specs.Meanings.{Meaning}
 use Rattle.grep_searcher.specs.Plans.{Call, begins, matches, context, breaks, binary_data, finishes}
 use Rattle.grep_searcher.specs.Plans.{Plan}
@@ -17,8 +16,8 @@ use Rattle.grep_searcher.specs.declared.BinaryDetection.TheVariants.{None as no_
 use Rattle.grep_searcher.specs.declared.BinaryDetection.TheVariants.{Convert}
 use Rattle.grep_printer.specs.ColoredTexts.{colored, matched_color, path_color}
 use Rattle.grep_printer.specs.LineTexts.{opening_text}
-use Rattle.grep_printer.specs.MatchedParts.{parts_in}
 use Rattle.grep_printer.specs.PartTexts.{context_text, match_text}
+use Rattle.grep_printer.specs.ReportedParts.{reported_parts}
 use Rattle.grep_printer.specs.declared.colors.ColorSpecs.TheVariants.{Plain}
 use Rattle.grep_printer.specs.declared.config.Config.{Config}
 use Rattle.grep_printer.specs.declared.config.SearchSeparator.TheVariants.{Nothing}
@@ -89,12 +88,6 @@ layout_of frame = record {
   terminator = frame.settings.line_terminator;
 }
 
--- the bytes of a report about which the matcher is asked: a line without its terminator, or all of
--- it in a search across lines
-abbrev pub asked_bytes : Settings → Meaning → List ℕ → List ℕ
-asked_bytes settings meaning bytes =
-    if is_across settings meaning then bytes else strip settings.line_terminator bytes
-
 -- whether the parts of reports that match are asked for: to write them, their columns, or their
 -- colours
 abbrev pub asks_for_parts : Config → Bool
@@ -105,8 +98,7 @@ asks_for_parts config =
 abbrev pub parts_of : Frame → List ℕ → List (ℕ × ℕ)
 parts_of frame bytes =
     if asks_for_parts frame.config
-    then parts_in (frame.first_at (asked_bytes frame.settings frame.meaning bytes))
-    (length (asked_bytes frame.settings frame.meaning bytes)) (length bytes)
+    then reported_parts frame.first_at frame.settings frame.meaning bytes
     else []
 
 -- those of a line that isn't a match: it may have some if the lines without one are selected

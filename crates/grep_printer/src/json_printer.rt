@@ -14,13 +14,12 @@ ghost use Rattle.grep_printer.specs.JsonTexts.{context_submatches, end_text, is_
 ghost use Rattle.grep_printer.specs.JsonTexts.{new_json_progress, opening_line, report_line};
 ghost use Rattle.grep_printer.specs.JsonTexts.{stats_of, submatches_of, with_match};
 ghost use Rattle.grep_printer.specs.JsonTexts.{with_size, with_text};
-ghost use Rattle.grep_printer.specs.StandardTexts.{asked_bytes};
 ghost use Rattle.grep_printer.specs.StatsSums.{nanos_of};
 
 use crate::json_lines::{Report, add_begin, add_end, add_report, add_summary};
-use crate::parts::find_parts;
+use crate::parts::find_reported_parts;
 use crate::stats::{Stats, nanoseconds};
-use grep_lines::{line_count, without_terminator};
+use grep_lines::line_count;
 use grep_output::{Output, write_all};
 use grep_searcher::{
     FindAt, Match, SearchError, Searcher, Sink, SinkContext, SinkFinish, SinkMatch,
@@ -371,17 +370,6 @@ impl<'s, M: FindAt, W: Output> JsonSink<'s, M, W> {
 }
 
 impl<'s, M: FindAt, W: Output> JsonSink<'s, M, W> {
-    // The bytes of a report about which the matcher is asked.
-    fn asked<'b, A: Allocator + Copy>(&self, searcher: &Searcher<A>, bytes: &'b [u8]) -> &'b [u8]
-        ensures { result.now ≡ asked_bytes searcher.now.settings (M.facts self.now.matcher).meaning
-            bytes.now }
-    {
-        if searcher.multi_line_with_matcher(&self.matcher) {
-            return bytes;
-        }
-        without_terminator(bytes, searcher.line_terminator())
-    }
-
     // Finds the matches in a report.
     fn find_submatches<A: Allocator + Copy>(
         &mut self,
@@ -396,9 +384,7 @@ impl<'s, M: FindAt, W: Output> JsonSink<'s, M, W> {
         ensures error { IfErr result (λ e. IsOutOfMemory e
             ⊎ IsJsonError M.facts self.old searcher.now.settings bytes.now e) }
     {
-        let asked = self.asked(searcher, bytes);
-        let limit = bytes.len();
-        find_parts(&mut self.printer.submatches, &self.matcher, asked, limit)
+        find_reported_parts(&mut self.printer.submatches, searcher, &self.matcher, bytes)
     }
 
     // Finds the matches in a line that isn't a match, if lines without a match are selected.

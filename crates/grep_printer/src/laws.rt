@@ -21,9 +21,10 @@ pub fn parts_are_successive<M: FindAt>()
 {}
 
 /// A run of the sink of a `Summary` that ended in `Ok` has counted the matches up to the first
-/// after which the search doesn't go on, and has written the text for that count.
-pub fn runs_sum_up<W: Output>()
-    ensures { RunsSumUp W.step }
+/// after which the search doesn't go on, and their parts if those are counted, and has written the
+/// text for these counts.
+pub fn runs_sum_up<M: FindAt, W: Output>()
+    ensures { RunsSumUp M.facts M.first_at W.step }
 {}
 
 /// A run of the sink of a `Json` that ended in `Ok` has written the text of its plan: of each call,

@@ -18,10 +18,12 @@ mod reports;
 mod standard;
 mod stats;
 mod summary;
+mod summary_builder;
 
 pub use colors::ColorSpecs;
 pub use config::{SearchSeparator, StandardBuilder};
 pub use json_printer::{Json, JsonBuilder, JsonSink};
 pub use standard::{Standard, StandardSink};
 pub use stats::Stats;
-pub use summary::{Summary, SummaryKind, SummarySink};
+pub use summary::{Summary, SummarySink};
+pub use summary_builder::{SummaryBuilder, SummaryKind};

@@ -5,12 +5,47 @@ ghost use Rattle.grep_matcher.specs.FindResults.{IsFrom};
 ghost use Rattle.grep_searcher.specs.SearchErrors.{IsOutOfMemory};
 ghost use Rattle.grep_printer.specs.MatchedParts.{AreInOrder, IsMessageOf, found_from};
 ghost use Rattle.grep_printer.specs.MatchedParts.{is_passed, parts_after, parts_in, position_after};
+ghost use Rattle.grep_printer.specs.ReportedParts.{FailsAtReport, asked_bytes, reported_parts};
 
-use grep_searcher::{FindAt, Match, SearchError, SinkError};
-use std::alloc::{AllocError, Global};
+use grep_lines::without_terminator;
+use grep_searcher::{FindAt, Match, SearchError, Searcher, SinkError};
+use std::alloc::{AllocError, Allocator, Global};
+
+// Finds the parts of the bytes of a report that match, in order.
+pub(crate) fn find_reported_parts<M: FindAt, A: Allocator + Copy>(
+    parts: &mut Vec<Match>,
+    searcher: &Searcher<A>,
+    matcher: &M,
+    bytes: &[u8],
+) -> Result<(), SearchError>
+    ensures parts { OnOk result (parts.new.items ≡ reported_parts (M.first_at matcher.now)
+        searcher.now.settings (M.facts matcher.now).meaning bytes.now) }
+    ensures ordered { OnOk result (AreInOrder 0 (length bytes.now) parts.new.items) }
+    ensures error { IfErr result (λ e. IsOutOfMemory e
+        ⊎ FailsAtReport (M.facts matcher.now) searcher.now.settings bytes.now e) }
+{
+    let asked = asked(searcher, matcher, bytes);
+    find_parts(parts, matcher, asked, bytes.len())
+}
+
+// The bytes of a report about which the matcher is asked: a line without its terminator, or all of
+// it in a search across lines.
+fn asked<'b, M: FindAt, A: Allocator + Copy>(
+    searcher: &Searcher<A>,
+    matcher: &M,
+    bytes: &'b [u8],
+) -> &'b [u8]
+    ensures { result.now
+        ≡ asked_bytes searcher.now.settings (M.facts matcher.now).meaning bytes.now }
+{
+    if searcher.multi_line_with_matcher(matcher) {
+        return bytes;
+    }
+    without_terminator(bytes, searcher.line_terminator())
+}
 
 // Finds the parts of some bytes that match and start before a limit, in order.
-pub(crate) fn find_parts<M: FindAt>(
+fn find_parts<M: FindAt>(
     parts: &mut Vec<Match>,
     matcher: &M,
     bytes: &[u8],

@@ -12,16 +12,15 @@ ghost use Rattle.grep_printer.specs.MatchedParts.{AreInOrder};
 ghost use Rattle.grep_printer.specs.PartTexts.{column_of, context_text, match_text, writes_parts};
 ghost use Rattle.grep_printer.specs.StandardSteps.{IsComposing, IsErrorAt, IsWritten};
 ghost use Rattle.grep_printer.specs.StandardSteps.{FailsToBeWritten, frame_of, report_of};
-ghost use Rattle.grep_printer.specs.StandardTexts.{asked_bytes, binary_message, context_parts};
+ghost use Rattle.grep_printer.specs.StandardTexts.{binary_message, context_parts};
 ghost use Rattle.grep_printer.specs.StandardTexts.{is_hidden, is_text, layout_of, new_progress};
 ghost use Rattle.grep_printer.specs.StandardTexts.{parts_of, path_prefix};
 
 use crate::colors::push_colored;
 use crate::config::Config;
 use crate::fields::{Layout, LineKind, Place, push_digits};
-use crate::parts::find_parts;
+use crate::parts::find_reported_parts;
 use crate::reports::Report;
-use grep_lines::without_terminator;
 use grep_output::{Output, write_all};
 use grep_searcher::{
     BinaryDetection, FindAt, Match, SearchError, Searcher, Sink, SinkContext, SinkFinish, SinkMatch,
@@ -419,19 +418,7 @@ impl<'s, M: FindAt, W: Output> StandardSink<'s, M, W> {
             self.printer.parts.clear();
             return Ok(());
         }
-        let asked = self.asked(searcher, bytes);
-        find_parts(&mut self.printer.parts, &self.matcher, asked, bytes.len())
-    }
-
-    // The bytes of a report about which the matcher is asked.
-    fn asked<'b, A: Allocator + Copy>(&self, searcher: &Searcher<A>, bytes: &'b [u8]) -> &'b [u8]
-        ensures { result.now ≡ asked_bytes searcher.now.settings (M.facts self.now.matcher).meaning
-            bytes.now }
-    {
-        if searcher.multi_line_with_matcher(&self.matcher) {
-            return bytes;
-        }
-        without_terminator(bytes, searcher.line_terminator())
+        find_reported_parts(&mut self.printer.parts, searcher, &self.matcher, bytes)
     }
 
     // Makes the text of a match.

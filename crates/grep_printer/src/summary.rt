@@ -1,28 +1,24 @@
 //! The printer of summaries: counts, and paths.
-ghost use Rattle.std.specs.Prelude.{◌≡◌, ◌++◌, ◌∷◌, ◌||◌, [], false, true, OnOk, if◌then◌else◌};
-ghost use Rattle.std.specs.Prelude.{is_ok, not};
+ghost use Rattle.std.specs.Prelude.{◌≡◌, ◌⊎◌, ◌++◌, ◌∷◌, ◌||◌, [], false, true, IfErr, OnOk};
+ghost use Rattle.std.specs.Prelude.{if◌then◌else◌, is_ok, length, not};
 ghost use Rattle.grep_output.specs.Outputs.{Writes, flushes};
+ghost use Rattle.grep_searcher.specs.SearchErrors.{IsOutOfMemory};
+ghost use Rattle.grep_printer.specs.ReportedParts.{FailsAtReport};
+ghost use Rattle.grep_printer.specs.SummarySteps.{IsCounting, summary_frame};
 ghost use Rattle.grep_printer.specs.SummaryTexts;
-ghost use Rattle.grep_printer.specs.SummaryTexts.{finish_text, has_found, path_line};
+ghost use Rattle.grep_printer.specs.SummaryTexts.{count_line, counted_parts, counts_parts};
+ghost use Rattle.grep_printer.specs.SummaryTexts.{finish_text, has_found, no_counts, path_line};
+ghost use Rattle.grep_printer.specs.SummaryTexts.{with_report};
 
 use crate::fields::{push_digits, push_path};
+use crate::parts::find_reported_parts;
+use crate::summary_builder::{SummaryConfig, SummaryKind};
 use grep_output::{Output, write_all};
-use grep_searcher::{SearchError, Searcher, Sink, SinkContext, SinkFinish, SinkMatch};
+use grep_searcher::{
+    FindAt, Match, SearchError, Searcher, Sink, SinkContext, SinkFinish, SinkMatch,
+};
 use std::alloc::{AllocError, Allocator, Global};
 use std::io;
-
-/// What is written of a search.
-#[derive(Clone, Copy, Debug, PartialEq, Eq)]
-pub enum SummaryKind {
-    /// How many matches were reported, after the path, if any was.
-    Count,
-    /// The path, if a match was reported.
-    PathWithMatch,
-    /// The path, if no match was reported.
-    PathWithoutMatch,
-    /// Nothing.
-    Quiet,
-}
 
 /// A printer of summaries: it writes one line for a search, or none. `sink` gives the sink of one
 /// search after another.
@@ -31,45 +27,46 @@ pub struct Summary<W> {
     writer: W,
     // The text at hand.
     text: Vec<u8>,
-    kind: SummaryKind,
-    path_terminator: Option<u8>,
+    // The parts of the report at hand that match, if they are counted.
+    parts: Vec<Match>,
+    config: SummaryConfig,
     has_failed: bool,
 }
 
 impl<W> Summary<W> {
-    /// A printer that writes to `writer`, with the byte after a path if it isn't a colon or the end
-    /// of a line, as NUL. It takes memory from `alloc` when it writes.
-    pub fn new(
-        alloc: Global,
-        kind: SummaryKind,
-        path_terminator: Option<u8>,
-        writer: W,
-    ) -> Summary<W>
+    // A printer that has written nothing yet.
+    pub(crate) fn new(alloc: Global, config: SummaryConfig, writer: W) -> Summary<W>
         ensures writer { result.writer ≡ writer }
-        ensures kind { result.kind ≡ kind }
-        ensures path_terminator { result.path_terminator ≡ path_terminator }
+        ensures config { result.config ≡ config }
         ensures has_failed { result.has_failed ≡ false }
     {
         Summary {
             writer,
             text: Vec::new(alloc),
-            kind,
-            path_terminator,
+            parts: Vec::new(alloc),
+            config,
             has_failed: false,
         }
     }
 
-    /// The sink of a search with a path, if there is one.
-    pub fn sink<'s>(&'s mut self, path: Option<&'s str>) -> SummarySink<'s, W>
+    /// The sink of a search: the matcher is that of the search, and the path, if there is one, is
+    /// written with the summary.
+    pub fn sink<'s, M: FindAt>(
+        &'s mut self,
+        matcher: M,
+        path: Option<&'s str>,
+    ) -> SummarySink<'s, M, W>
         ensures printer { result.printer.ghost_name ≡ self.entry.ghost_name }
         ensures now { result.printer.now ≡ self.old }
+        ensures matcher { result.matcher ≡ matcher }
         ensures path { result.path ≡ path.entry }
-        ensures match_count { result.match_count ≡ 0 }
+        ensures counts { result.counts ≡ no_counts }
     {
         SummarySink {
             printer: self,
+            matcher,
             path,
-            match_count: 0,
+            counts: Counts::new(),
         }
     }
 
@@ -80,59 +77,99 @@ impl<W> Summary<W> {
         self.has_failed
     }
 
-    // Makes the text of a search that has ended, with so many matches.
+    /// The writer back.
+    pub fn into_inner(self) -> W
+        ensures { result ≡ self.writer }
+    {
+        let Summary {
+            writer,
+            text: _,
+            parts: _,
+            config: _,
+            has_failed: _,
+        } = self;
+        writer
+    }
+
+    // Makes the text of a search that has ended, with these counts.
     fn compose(
         &mut self,
         path: Option<&str>,
         terminator: u8,
-        match_count: u64,
+        counts: &Counts,
     ) -> Result<(), AllocError>
         ensures writer { self.new.writer ≡ self.old.writer }
-        ensures kind { self.new.kind ≡ self.old.kind }
-        ensures path_terminator { self.new.path_terminator ≡ self.old.path_terminator }
+        ensures config { self.new.config ≡ self.old.config }
         ensures has_failed { self.new.has_failed ≡ self.old.has_failed }
-        ensures text { OnOk result (self.new.text.items ≡ finish_text self.old.kind
-            self.old.path_terminator path.entry terminator match_count) }
+        ensures text { OnOk result (self.new.text.items ≡ finish_text self.old.config.kind
+            self.old.config path.entry terminator counts.now) }
     {
         self.text.clear();
-        match self.kind {
-            SummaryKind::Count if match_count > 0 => {
-                let mark = self.path_terminator.unwrap_or(b':');
-                push_path(&mut self.text, None, path, mark)?;
-                push_digits(&mut self.text, match_count, terminator)
+        match self.config.kind {
+            SummaryKind::Count if counts.match_count > 0 => {
+                push_count_line(
+                    &mut self.text,
+                    &self.config,
+                    path,
+                    terminator,
+                    counts.match_count,
+                )
             }
-            SummaryKind::PathWithMatch if match_count > 0 => self.push_path_line(path, terminator),
-            SummaryKind::PathWithoutMatch if match_count == 0 => {
-                self.push_path_line(path, terminator)
+            SummaryKind::CountMatches if counts.match_count > 0 => {
+                push_count_line(
+                    &mut self.text,
+                    &self.config,
+                    path,
+                    terminator,
+                    counts.part_count,
+                )
+            }
+            SummaryKind::PathWithMatch if counts.match_count > 0 => {
+                push_path_line(&mut self.text, &self.config, path, terminator)
+            }
+            SummaryKind::PathWithoutMatch if counts.match_count == 0 => {
+                push_path_line(&mut self.text, &self.config, path, terminator)
             }
             _ => Ok(()),
         }
     }
+}
 
-    // Pushes a path in a line of its own.
-    fn push_path_line(&mut self, path: Option<&str>, terminator: u8) -> Result<(), AllocError>
-        ensures writer { self.new.writer ≡ self.old.writer }
-        ensures kind { self.new.kind ≡ self.old.kind }
-        ensures path_terminator { self.new.path_terminator ≡ self.old.path_terminator }
-        ensures has_failed { self.new.has_failed ≡ self.old.has_failed }
-        ensures text { OnOk result (self.new.text.items ≡ self.old.text.items
-            ++ path_line self.old.path_terminator path.entry terminator) }
-    {
-        push_path(
-            &mut self.text,
-            None,
-            path,
-            self.path_terminator.unwrap_or(terminator),
-        )
-    }
+// Pushes a count after a path, in a line of its own.
+fn push_count_line(
+    text: &mut Vec<u8>,
+    config: &SummaryConfig,
+    path: Option<&str>,
+    terminator: u8,
+    count: u64,
+) -> Result<(), AllocError>
+    ensures { OnOk result (text.new.items
+        ≡ text.old.items ++ count_line config.now path.entry terminator count) }
+{
+    let mark = config.path_terminator.unwrap_or(b':');
+    push_path(text, config.color_specs.path(), path, mark)?;
+    push_digits(text, count, terminator)
+}
+
+// Pushes a path in a line of its own.
+fn push_path_line(
+    text: &mut Vec<u8>,
+    config: &SummaryConfig,
+    path: Option<&str>,
+    terminator: u8,
+) -> Result<(), AllocError>
+    ensures { OnOk result (text.new.items
+        ≡ text.old.items ++ path_line config.now path.entry terminator) }
+{
+    let mark = config.path_terminator.unwrap_or(terminator);
+    push_path(text, config.color_specs.path(), path, mark)
 }
 
 impl<W: Output> Summary<W> {
     /// Flushes the writer. An error is the writer's own.
     pub fn flush(&mut self) -> io::Result<()>
         ensures flushed { W.step self.old.writer (flushes result) self.new.writer }
-        ensures kind { self.new.kind ≡ self.old.kind }
-        ensures path_terminator { self.new.path_terminator ≡ self.old.path_terminator }
+        ensures config { self.new.config ≡ self.old.config }
         ensures has_failed { self.new.has_failed ≡ (self.old.has_failed || not (is_ok result)) }
     {
         let flushed = self.writer.flush();
@@ -143,8 +180,7 @@ impl<W: Output> Summary<W> {
     // Writes the text at hand.
     fn write_text(&mut self) -> io::Result<()>
         ensures written { Writes W.step self.old.writer self.old.text.items result self.new.writer }
-        ensures kind { self.new.kind ≡ self.old.kind }
-        ensures path_terminator { self.new.path_terminator ≡ self.old.path_terminator }
+        ensures config { self.new.config ≡ self.old.config }
         ensures has_failed { self.new.has_failed
             ≡ (if is_ok result then self.old.has_failed else true) }
     {
@@ -158,35 +194,84 @@ impl<W: Output> Summary<W> {
     }
 }
 
+// How many matches were reported, and how many parts they have that match, if those are counted.
+#[derive(Clone, Copy)]
+pub(crate) struct Counts {
+    pub(crate) match_count: u64,
+    pub(crate) part_count: u64,
+}
+
+impl Counts {
+    // Nothing was reported yet.
+    fn new() -> Counts
+        ensures { result ≡ no_counts }
+    {
+        Counts {
+            match_count: 0,
+            part_count: 0,
+        }
+    }
+
+    // With a match that has so many parts.
+    fn add_report(&mut self, parts: usize)
+        ensures { self.new ≡ with_report self.old parts }
+    {
+        self.match_count = self.match_count.saturating_add(1);
+        self.part_count = self.part_count.saturating_add(parts as u64);
+    }
+}
+
 /// The sink of one search, which counts the matches, and writes the summary when the search ends. A
 /// search of which only the first match counts ends there. A search that a binary byte ended
 /// (`BinaryDetection::Quit`) counts for nothing, as in ripgrep: nothing is written of it, and its
 /// matches don't count.
 #[derive(Drop)]
-pub struct SummarySink<'s, W> {
+pub struct SummarySink<'s, M, W> {
     printer: &'s mut Summary<W>,
+    matcher: M,
     path: Option<&'s str>,
-    match_count: u64,
+    counts: Counts,
 }
 
-impl<'s, W: Output> SummarySink<'s, W> {
+impl<'s, M: FindAt, W: Output> SummarySink<'s, M, W> {
     /// Whether the search found what it is for: a match, or under `PathWithoutMatch` none.
     pub fn has_match(&self) -> bool
-        ensures { result ≡ has_found self.now.printer.now.kind self.now.match_count }
+        ensures { result
+            ≡ has_found self.now.printer.now.config.kind self.now.counts.match_count }
     {
-        match self.printer.kind {
-            SummaryKind::PathWithoutMatch => self.match_count == 0,
-            _ => self.match_count > 0,
+        match self.printer.config.kind {
+            SummaryKind::PathWithoutMatch => self.counts.match_count == 0,
+            _ => self.counts.match_count > 0,
         }
+    }
+
+    // Finds the parts of a report that match, if they are counted.
+    fn find_parts<A: Allocator + Copy>(
+        &mut self,
+        searcher: &Searcher<A>,
+        bytes: &[u8],
+    ) -> Result<(), SearchError>
+        ensures counting { IsCounting self.old self.new }
+        ensures parts { OnOk result (self.new.printer.now.parts.items ≡ counted_parts
+            (summary_frame M.facts M.first_at self.old searcher.now.settings) bytes.now) }
+        ensures error { IfErr result (λ e. IsOutOfMemory e
+            ⊎ ((counts_parts self.old.printer.now.config.kind ≡ true)
+            × FailsAtReport (M.facts self.old.matcher) searcher.now.settings bytes.now e)) }
+    {
+        if !self.printer.config.kind.counts_parts() {
+            self.printer.parts.clear();
+            return Ok(());
+        }
+        find_reported_parts(&mut self.printer.parts, searcher, &self.matcher, bytes)
     }
 }
 
-impl<'s, W: Output> Sink for SummarySink<'s, W> {
+impl<'s, M: FindAt, W: Output> Sink for SummarySink<'s, M, W> {
     type Error = SearchError;
 
     ghost use Rattle.grep_printer.specs.SummarySteps.{SumsUp};
 
-    ghost step = { SumsUp W.step };
+    ghost step = { SumsUp M.facts M.first_at W.step };
 
     ghost may_call = { λ _. Unit {0} };
 
@@ -196,11 +281,17 @@ impl<'s, W: Output> Sink for SummarySink<'s, W> {
 
     fn matched<A: Allocator + Copy>(
         &mut self,
-        _searcher: &Searcher<A>,
-        _found: &SinkMatch<'_>,
+        searcher: &Searcher<A>,
+        found: &SinkMatch<'_>,
     ) -> Result<bool, SearchError> {
-        self.match_count = self.match_count.saturating_add(1);
-        Ok(matches!(self.printer.kind, SummaryKind::Count))
+        match self.find_parts(searcher, found.bytes()) {
+            Ok(()) => {
+                let parts = self.printer.parts.len();
+                self.counts.add_report(parts);
+                Ok(self.printer.config.kind.counts_on())
+            }
+            Err(error) => Err(error),
+        }
     }
 
     fn context<A: Allocator + Copy>(
@@ -232,12 +323,11 @@ impl<'s, W: Output> Sink for SummarySink<'s, W> {
         finish: &SinkFinish,
     ) -> Result<(), SearchError> {
         if is_left_out(searcher, finish) {
-            self.match_count = 0;
+            self.counts = Counts::new();
             return Ok(());
         }
         let terminator = searcher.line_terminator().as_byte();
-        self.printer
-            .compose(self.path, terminator, self.match_count)?;
+        self.printer.compose(self.path, terminator, &self.counts)?;
         match self.printer.write_text() {
             Ok(()) => Ok(()),
             Err(error) => Err(SearchError::Io(error)),

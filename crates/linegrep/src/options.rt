@@ -3,7 +3,9 @@ use crate::failures::Failure;
 use crate::json_run::JsonRun;
 use clap::ArgMatches;
 use grep_output::Output;
-use grep_printer::{JsonBuilder, SearchSeparator, Standard, StandardBuilder, Summary, SummaryKind};
+use grep_printer::{
+    JsonBuilder, SearchSeparator, Standard, StandardBuilder, Summary, SummaryBuilder, SummaryKind,
+};
 use grep_searcher::{
     BinaryDetection, ConfigError, Encoding, LineTerminator, Searcher, SearcherBuilder,
 };
@@ -57,7 +59,9 @@ pub fn build_printer<T: Clock + AllocGlobal, W: Output>(
     let alloc = rt.alloc();
     let terminator = path_terminator(matches);
     if let Some(kind) = summary_kind(matches) {
-        return Printer::Summary(Summary::new(alloc, kind, terminator, writer));
+        let mut builder = SummaryBuilder::new();
+        builder.kind(kind).path_terminator(terminator);
+        return Printer::Summary(builder.build(alloc, writer));
     }
     if matches.get_flag("json") {
         let printer = JsonBuilder::new().build(alloc, writer);

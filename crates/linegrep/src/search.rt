@@ -10,7 +10,7 @@ use clap::ArgMatches;
 use grep_output::Output;
 use grep_printer::{Standard, Summary};
 use grep_regex::{Naming, Regex};
-use grep_searcher::{BinaryDetection, FindAt, Matcher, SearchError, Searcher, Source};
+use grep_searcher::{BinaryDetection, FindAt, SearchError, Searcher, Source};
 use std::fmt::Display;
 use std::marker::Brand;
 use std::process::ExitCode;
@@ -303,7 +303,7 @@ fn print_input<R: Source, M: FindAt, W: Output>(
 }
 
 // Searches the file at a path, and writes a summary.
-fn sum_up_path<T: Files, M: Matcher, W: Output>(
+fn sum_up_path<T: Files, M: FindAt, W: Output>(
     rt: &T,
     searcher: &mut Searcher,
     matcher: &M,
@@ -311,21 +311,21 @@ fn sum_up_path<T: Files, M: Matcher, W: Output>(
     path: &str,
     shown: Option<&str>,
 ) -> Searched {
-    let mut sink = printer.sink(shown);
+    let mut sink = printer.sink(matcher, shown);
     let result = searcher.search_path(rt, matcher, path, &mut sink);
     let has_match = sink.has_match();
     Searched { has_match, result }
 }
 
 // Searches a reader, and writes a summary.
-fn sum_up_input<R: Source, M: Matcher, W: Output>(
+fn sum_up_input<R: Source, M: FindAt, W: Output>(
     searcher: &mut Searcher,
     matcher: &M,
     printer: &mut Summary<W>,
     input: &mut R,
     shown: Option<&str>,
 ) -> Searched {
-    let mut sink = printer.sink(shown);
+    let mut sink = printer.sink(matcher, shown);
     let result = searcher.search_reader(matcher, input, &mut sink);
     let has_match = sink.has_match();
     Searched { has_match, result }

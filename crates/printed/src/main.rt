@@ -29,7 +29,8 @@ fn write_all(rt: &HostRuntime) -> Result<(), SearchError> {
     lines::write_across(rt)?;
     lines::write_colors(rt)?;
     lines::write_colored_parts(rt)?;
-    summaries::write_summaries(rt)?;
+    summaries::write_counts(rt)?;
+    summaries::write_paths(rt)?;
     messages::write_messages(rt)?;
     Ok(())
 }

@@ -1,5 +1,5 @@
 use Rattle.std.proofs.Common.{rules}
-use Rattle.grep_printer.proofs.MessageLemmas.{bytes_json-text, bytes_json-other}
+use Rattle.grep_printer.proofs.JsonBytesLemmas.{bytes_json-text, bytes_json-other}
 use Rattle.grep_printer.proofs.messages.push_bytes.Goals as goal
 
 pub returns-in-Ok-clause-tokens : goal.returns-in-Ok-clause-tokens

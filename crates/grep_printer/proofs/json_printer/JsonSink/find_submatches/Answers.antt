@@ -1,23 +1,11 @@
-use Rattle.std.proofs.Common.{◌≤◌, ◌⊎◌, ℕ, List, length, subst, sym}
+use Rattle.std.proofs.Common.{◌≤◌, length, arith}
 use Rattle.std.proofs.lemmas.Result.{on_ok_weaker}
-use Rattle.std.specs.Prelude.{IfErr}
-use Rattle.grep_searcher.specs.SearchErrors.{IsOutOfMemory}
-use Rattle.grep_printer.proofs.MessageLemmas.{ends-within}
-use Rattle.grep_printer.proofs.PartTextLemmas.{asked-within}
-use Rattle.grep_printer.specs.MatchedParts.{IsMessageOf}
+use Rattle.grep_printer.proofs.PartLemmas.{ends-within}
 use Rattle.grep_printer.proofs.json_printer.JsonSink.find_submatches.Goals as goal
 
 pub returns-clause-within : goal.returns-clause-within
 returns-clause-within g c =
-    let meaning = (g.M.Matcher.facts c.args.self.now.matcher).meaning in
-    let within : length c.asked-asked.result.now ≤ length c.args.bytes.now =
-    subst (λ (asked : List ℕ). length asked ≤ length c.args.bytes.now) (sym c.asked-asked.ensures)
-    (asked-within c.args.searcher.now.settings meaning c.args.bytes.now) in
-    on_ok_weaker c.find_parts.result (ends-within c.find_parts.new.parts.items 0 (length c.asked-asked.result.now)
-    (length c.args.bytes.now) within) c.find_parts.ensures.ordered
-
-pub returns-clause-error : goal.returns-clause-error
-returns-clause-error g c =
-    subst (λ (asked : List ℕ). IfErr c.find_parts.result (λ e. IsOutOfMemory e
-    ⊎ IsMessageOf (g.M.Matcher.facts c.args.self.now.matcher).fails asked e)) c.asked-asked.ensures
-    c.find_parts.ensures.error
+    let size = length c.args.bytes.now in
+    on_ok_weaker c.find_reported_parts.result
+    (ends-within c.find_reported_parts.new.parts.items 0 size size (omega arith))
+    c.find_reported_parts.ensures.ordered

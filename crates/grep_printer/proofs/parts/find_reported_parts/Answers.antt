@@ -5,11 +5,11 @@ use Rattle.grep_printer.proofs.PartLemmas.{ordered-within}
 use Rattle.grep_printer.proofs.PartTextLemmas.{asked-within}
 use Rattle.grep_searcher.specs.SearchErrors.{IsOutOfMemory}
 use Rattle.grep_printer.specs.MatchedParts.{IsMessageOf}
-use Rattle.grep_printer.proofs.standard.StandardSink.find_parts.Goals as goal
+use Rattle.grep_printer.proofs.parts.find_reported_parts.Goals as goal
 
 pub returns-clause-ordered : goal.returns-clause-ordered
 returns-clause-ordered g c =
-    let meaning = (g.M.Matcher.facts c.args.self.now.matcher).meaning in
+    let meaning = (g.M.Matcher.facts c.args.matcher.now).meaning in
     let within : length c.asked-asked.result.now ≤ length c.args.bytes.now =
     subst (λ (asked : List ℕ). length asked ≤ length c.args.bytes.now) (sym c.asked-asked.ensures)
     (asked-within c.args.searcher.now.settings meaning c.args.bytes.now) in
@@ -19,5 +19,5 @@ returns-clause-ordered g c =
 pub returns-clause-error : goal.returns-clause-error
 returns-clause-error g c =
     subst (λ (asked : List ℕ). IfErr c.find_parts.result (λ e. IsOutOfMemory e
-    ⊎ IsMessageOf (g.M.Matcher.facts c.args.self.now.matcher).fails asked e)) c.asked-asked.ensures
+    ⊎ IsMessageOf (g.M.Matcher.facts c.args.matcher.now).fails asked e)) c.asked-asked.ensures
     c.find_parts.ensures.error

@@ -1,0 +1,29 @@
+-- The parts of a report that match, and the matcher's error in their place.
+use Rattle.std.specs.Prelude.{ℕ, if◌then◌else◌, List, length, Option}
+use Rattle.std.specs.Global.{Global}
+use Rattle.grep_matcher.specs.Meanings.{MatcherFacts}
+use Rattle.grep_searcher.specs.Asking.{is_across}
+use Rattle.grep_searcher.specs.Lines.{strip}
+use Rattle.grep_searcher.specs.Meanings.{Meaning}
+use Rattle.grep_searcher.specs.Settings.{Settings}
+use Rattle.grep_searcher.specs.declared.SearchError.{SearchError}
+use Rattle.grep_printer.specs.MatchedParts.{IsMessageOf, parts_in}
+
+-- the bytes of a report about which the matcher is asked: a line without its terminator, or all of
+-- it in a search across lines
+abbrev pub asked_bytes : Settings → Meaning → List ℕ → List ℕ
+asked_bytes settings meaning bytes =
+    if is_across settings meaning then bytes else strip settings.line_terminator bytes
+
+-- the parts of the bytes of a report, by which matches are found in bytes from a position on
+abbrev pub reported_parts : (List ℕ → ℕ → Option (ℕ × ℕ)) → Settings → Meaning → List ℕ
+    → List (ℕ × ℕ)
+reported_parts first_at settings meaning bytes =
+    parts_in (first_at (asked_bytes settings meaning bytes))
+    (length (asked_bytes settings meaning bytes)) (length bytes)
+
+-- an error is the matcher's, for the bytes of a report, as a message
+abbrev pub FailsAtReport : {F : Type 0} → MatcherFacts F → Settings → List ℕ → SearchError Global
+    → Type 0
+FailsAtReport facts settings bytes =
+    IsMessageOf facts.fails (asked_bytes settings facts.meaning bytes)

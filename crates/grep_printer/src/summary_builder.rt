@@ -1,0 +1,116 @@
+//! How a printer of summaries writes them.
+ghost use Rattle.std.specs.Prelude.{◌≡◌, false};
+ghost use Rattle.grep_printer.specs.SummaryTexts.{counts_on, counts_parts, default_summary_config};
+
+use crate::colors::ColorSpecs;
+use crate::summary::Summary;
+use std::alloc::Global;
+use std::marker::Model;
+
+/// What is written of a search.
+#[derive(Clone, Copy, Debug, PartialEq, Eq)]
+pub enum SummaryKind {
+    /// How many matches were reported, after the path, if any was.
+    Count,
+    /// How many parts of the reported matches match, as `StandardBuilder::only_matching` has them,
+    /// after the path, if any match was reported.
+    CountMatches,
+    /// The path, if a match was reported.
+    PathWithMatch,
+    /// The path, if no match was reported.
+    PathWithoutMatch,
+    /// Nothing.
+    Quiet,
+}
+
+impl SummaryKind {
+    // Whether the parts of reported matches are counted.
+    pub(crate) fn counts_parts(&self) -> bool
+        ensures { result ≡ counts_parts self.now }
+    {
+        matches!(self, SummaryKind::CountMatches)
+    }
+
+    // Whether the search goes on after a match: only to count the others.
+    pub(crate) fn counts_on(&self) -> bool
+        ensures { result ≡ counts_on self.now }
+    {
+        matches!(self, SummaryKind::Count | SummaryKind::CountMatches)
+    }
+}
+
+// How summaries are written.
+#[derive(Clone, Copy, Debug)]
+pub(crate) struct SummaryConfig {
+    pub(crate) kind: SummaryKind,
+    pub(crate) path_terminator: Option<u8>,
+    pub(crate) color_specs: ColorSpecs,
+}
+
+/// How a printer of summaries writes them. Each setter changes its own setting alone, and returns
+/// the builder.
+#[derive(Debug, Drop)]
+pub struct SummaryBuilder {
+    config: SummaryConfig,
+}
+
+impl Model for SummaryBuilder {
+    ghost use Rattle.grep_printer.specs.declared.summary_builder.SummaryConfig.{SummaryConfig};
+
+    ghost Value = { SummaryConfig };
+
+    ghost view = { λ b. b.config };
+}
+
+impl SummaryBuilder {
+    /// The default settings: the matches that are reported are counted, and nothing is coloured.
+    pub fn new() -> SummaryBuilder
+        ensures { result ≡ default_summary_config }
+    {
+        SummaryBuilder {
+            config: SummaryConfig {
+                kind: SummaryKind::Count,
+                path_terminator: None,
+                color_specs: ColorSpecs::Plain,
+            },
+        }
+    }
+
+    /// A printer with these settings, which writes to `writer`. It takes memory from `alloc` when
+    /// it writes, and when it counts the parts of a match.
+    pub fn build<W>(&self, alloc: Global, writer: W) -> Summary<W>
+        ensures writer { result.writer ≡ writer }
+        ensures config { result.config ≡ self.now }
+        ensures has_failed { result.has_failed ≡ false }
+    {
+        Summary::new(alloc, self.config, writer)
+    }
+
+    /// What is written of a search; by default how many matches were reported.
+    pub fn kind(&mut self, kind: SummaryKind) -> &mut SummaryBuilder
+        ensures reference { result.ghost_name ≡ self.entry.ghost_name }
+        ensures set { result.now ≡ record self.old { kind = kind } }
+    {
+        self.config.kind = kind;
+        self
+    }
+
+    /// The byte after a path, in place of a colon or of the end of the path's line, as NUL, if
+    /// there is one; by default there is none.
+    pub fn path_terminator(&mut self, terminator: Option<u8>) -> &mut SummaryBuilder
+        ensures reference { result.ghost_name ≡ self.entry.ghost_name }
+        ensures set { result.now ≡ record self.old { path_terminator = terminator } }
+    {
+        self.config.path_terminator = terminator;
+        self
+    }
+
+    /// The colours, of which a summary has that of the path; none by default.
+    pub fn color_specs(&mut self, specs: ColorSpecs) -> &mut SummaryBuilder
+        ensures reference { result.ghost_name ≡ self.entry.ghost_name }
+        ensures set { result.now ≡ record self.old { color_specs = specs } }
+    {
+        self.config.color_specs = specs;
+        self
+    }
+}
