@@ -1,18 +1,22 @@
 -- What the sink of a printer of JSON has written after a run along a plan, and a call that fails.
-use Rattle.std.proofs.Common.{◌≡◌, ◌⊎◌, ◌∙◌, [], ap, refl, subst}
+use Rattle.std.proofs.Common.{◌≡◌, ◌⊎◌, ◌∙◌, [], ap, inl, inr, refl, subst}
 use Rattle.std.specs.Global.{Global}
 use Rattle.std.specs.Prelude.{Bool, Err, List, Ok, Option, ℕ, true}
 use Rattle.grep_output.proofs.OutputLemmas.{Writes-none, Writes-more}
-use Rattle.grep_output.specs.Outputs.{OutputCall, WritesAll}
+use Rattle.grep_output.specs.Outputs.{Begins, FailsToWrite, OutputCall, WritesAll}
 use Rattle.grep_matcher.specs.Meanings.{MatcherFacts}
 use Rattle.grep_searcher.specs.Plans.{Call, Plan, IsRun, reported_bytes}
 use Rattle.grep_searcher.specs.SearchErrors.{IsOutOfMemory}
 use Rattle.grep_searcher.specs.Settings.{Settings}
 use Rattle.grep_searcher.specs.declared.SearchError.{SearchError}
-use Rattle.grep_printer.proofs.RunFoldLemmas.{run-keeps}
+use Rattle.grep_printer.proofs.RunFoldLemmas.{run-fails, run-keeps}
+use Rattle.grep_printer.proofs.TextFailureLemmas.{begins-before, begins-itself, fails-in, stops-in}
 use Rattle.grep_printer.specs.JsonSteps.{IsComposingCall, IsComposingJson, IsJsonError, IsSameJson, PrintsJson}
-use Rattle.grep_printer.specs.JsonSteps.{PrintsJsonCall, PrintsJsonPlan, json_frame}
-use Rattle.grep_printer.specs.JsonTexts.{JsonFrame, JsonPrinted, json_printed_with, json_progress, json_text}
+use Rattle.grep_printer.specs.JsonSteps.{PrintsJsonCall, PrintsJsonPlan, json_frame, json_text_of}
+use Rattle.grep_printer.specs.JsonTexts.{JsonFrame, JsonPrinted, json_printed_of, json_printed_with, json_progress}
+use Rattle.grep_printer.specs.JsonTexts.{json_text}
+use Rattle.grep_printer.specs.ReportedParts.{FailsAtReport}
+use Rattle.grep_printer.specs.TextFailures.{IsCutShort}
 use Rattle.grep_printer.specs.declared.json_printer.JsonSink.{JsonSink}
 
 -- one step after another
@@ -52,6 +56,13 @@ module _ {M W F : Type 0} (facts : M → MatcherFacts F) (first_at : M → List 
     progress : now.progress ≡ printed.progress
     has_failed : now.printer.now.has_failed ≡ start.printer.now.has_failed
 
+  -- the text of a call of such a sink
+  text-same : (frame : JsonFrame) (start : JsonSink M W) (printed : JsonPrinted) (old : JsonSink M W) (call : Call)
+      → HasPrinted frame start printed old
+      → json_text_of facts first_at old settings call ≡ json_text frame printed.progress call
+  text-same frame start printed old call before =
+      ap (λ f. json_text f old.progress call) before.framed ∙ ap (λ p. json_text frame p call) before.progress
+
   -- one more call
   printed-more : (frame : JsonFrame) (start : JsonSink M W) (printed : JsonPrinted) (old : JsonSink M W) (call : Call)
       (b : Bool) (new : JsonSink M W) → HasPrinted frame start printed old
@@ -65,13 +76,23 @@ module _ {M W F : Type 0} (facts : M → MatcherFacts F) (first_at : M → List 
       written = Writes-more write_step start.printer.now.writer old.printer.now.writer new.printer.now.writer
           printed.text (json_text frame printed.progress call) (Ok tt) before.written
           (subst (λ text. WritesAll write_step old.printer.now.writer text new.printer.now.writer)
-          (ap (λ f. json_text f old.progress call) before.framed ∙ ap (λ p. json_text frame p call) before.progress)
-          step.written);
+          (text-same frame start printed old call before) step.written);
       progress = step.progress ∙ (ap (λ f. json_progress f old.progress call) before.framed
           ∙ ap (λ p. json_progress frame p call) before.progress);
       has_failed = step.has_failed ∙ before.has_failed;
     },
   )
+
+  -- nothing is printed yet
+  printed-none : (old : JsonSink M W)
+      → HasPrinted (json_frame facts first_at old settings) old (record { progress = old.progress; text = [] }) old
+  printed-none old = record {
+    same = record { printer = refl; matcher = refl; path = refl; always_begin_end = refl };
+    framed = refl;
+    written = Writes-none write_step old.printer.now.writer;
+    progress = refl;
+    has_failed = refl;
+  }
 
   -- a run along a plan that ended in `Ok`
   pub run-prints-json : (old : JsonSink M W) (plan : Plan) (new : JsonSink M W)
@@ -81,11 +102,47 @@ module _ {M W F : Type 0} (facts : M → MatcherFacts F) (first_at : M → List 
       let frame = json_frame facts first_at old settings in
       let end = run-keeps (PrintsJsonCall facts first_at write_step) settings (HasPrinted frame old) (λ printed call. true)
       (json_printed_with frame) (printed-more frame old) (record { progress = old.progress; text = [] }) old plan new
-      (record {
-        same = record { printer = refl; matcher = refl; path = refl; always_begin_end = refl };
-        framed = refl;
-        written = Writes-none write_step old.printer.now.writer;
-        progress = refl;
-        has_failed = refl;
-      }) run in
+      (printed-none old) run in
       record { same = end.same; written = end.written; progress = end.progress; has_failed = end.has_failed }
+
+  -- a run along a plan that ended in an error
+  pub run-fails-to-print-json : (old : JsonSink M W) (plan : Plan) (e : SearchError Global) (new : JsonSink M W)
+      → IsRun (PrintsJsonCall facts first_at write_step) settings old plan (Err e) new
+      → IsSameJson old new × IsCutShort write_step old.printer.now.writer old.printer.now.has_failed
+      (json_printed_of (json_frame facts first_at old settings) old.progress plan).text e
+      (IsOutOfMemory e ⊎ ((bytes : List ℕ) × IsJsonError facts old settings bytes e))
+      new.printer.now.writer new.printer.now.has_failed
+  run-fails-to-print-json old plan e new run =
+      let frame = json_frame facts first_at old settings in
+      let all = (json_printed_of frame old.progress plan).text in
+      let way = run-fails (PrintsJsonCall facts first_at write_step) settings (HasPrinted frame old)
+      (λ printed call. true) (json_printed_with frame) (printed-more frame old)
+      (λ made end. Begins made.text end.text) (λ made. begins-itself made.text)
+      (λ made end call later. begins-before made.text (json_text frame made.progress call) end.text later)
+      (record { progress = old.progress; text = [] }) old plan e new (printed-none old) run in
+      let has = way.has in
+      let text = json_text frame way.made.progress way.call in
+      let mid = way.mid.printer.now.writer in (
+        same-more old way.mid new has.same way.failed.same,
+        elim way.failed.cause [
+          | inl writing ↦ inl (
+            fails-in write_step old.printer.now.writer mid way.made.text text all has.written way.leads
+                new.printer.now.writer e writing.error writing.is_io
+                (subst (λ t. FailsToWrite write_step mid t writing.error new.printer.now.writer)
+                (text-same frame old way.made way.mid way.call has) writing.failed),
+            writing.has_failed,
+          )
+          | inr before ↦ inr (
+            stops-in write_step old.printer.now.writer mid way.made.text text all has.written way.leads
+                new.printer.now.writer before.unwritten,
+            before.has_failed ∙ has.has_failed,
+            elim before.cause [
+              | inl memory ↦ inl memory
+              | inr refused ↦ inr (
+                reported_bytes way.call,
+                subst (λ m. FailsAtReport (facts m) settings (reported_bytes way.call) e) has.same.matcher refused,
+              )
+            ],
+          )
+        ],
+      )

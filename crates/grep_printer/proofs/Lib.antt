@@ -5,6 +5,8 @@ pub mod PartLemmas
 pub mod PartTextLemmas
 pub mod PrintedRunLemmas
 pub mod RunFoldLemmas
+pub mod SomeTextLemmas
 pub mod SuccessiveLemmas
 pub mod SummaryLemmas
+pub mod TextFailureLemmas
 pub mod TextLemmas

@@ -1,15 +1,21 @@
 -- What the sink of a printer has written after a run along a plan.
-use Rattle.std.proofs.Common.{◌≡◌, ◌∙◌, ap, refl, subst}
-use Rattle.std.specs.Prelude.{ℕ, List, Option, Bool, Ok}
+use Rattle.std.proofs.Common.{◌≡◌, ◌⊎◌, ◌∙◌, ◌∷◌, ◌++◌, [], ap, inl, inr, refl, subst}
+use Rattle.std.specs.Global.{Global}
+use Rattle.std.specs.Prelude.{ℕ, List, Option, Bool, true, false, ◌||◌, Err, Ok}
 use Rattle.grep_output.proofs.OutputLemmas.{Writes-none, Writes-more}
-use Rattle.grep_output.specs.Outputs.{OutputCall, WritesAll}
+use Rattle.grep_output.specs.Outputs.{Begins, FailsToWrite, OutputCall, WritesAll}
 use Rattle.grep_matcher.specs.Meanings.{MatcherFacts}
-use Rattle.grep_searcher.specs.Plans.{Call, Plan, IsRun}
+use Rattle.grep_searcher.specs.Plans.{Call, Plan, IsRun, reported_bytes}
 use Rattle.grep_searcher.specs.Settings.{Settings}
-use Rattle.grep_printer.proofs.RunFoldLemmas.{run-keeps}
-use Rattle.grep_printer.specs.StandardSteps.{IsSameSink, Prints, PrintsCall, PrintsPlan, frame_of}
-use Rattle.grep_printer.specs.StandardTexts.{Frame, Printed, call_text, goes_on, nothing_printed, printed_with}
-use Rattle.grep_printer.specs.StandardTexts.{progress_after}
+use Rattle.grep_searcher.specs.declared.SearchError.{SearchError}
+use Rattle.grep_printer.proofs.RunFoldLemmas.{FailsOnTheWay, run-fails, run-keeps}
+use Rattle.grep_printer.proofs.SomeTextLemmas.{text-more, text-none}
+use Rattle.grep_printer.proofs.TextFailureLemmas.{begins-before, begins-itself, fails-in, stops-in}
+use Rattle.grep_printer.specs.ReportedParts.{FailsAtReport}
+use Rattle.grep_printer.specs.StandardSteps.{FailsAlongPlan, FailsToWritePlan, IsSameSink, Prints, PrintsCall}
+use Rattle.grep_printer.specs.StandardSteps.{PrintsPlan, frame_of, text_of}
+use Rattle.grep_printer.specs.StandardTexts.{Frame, Printed, call_text, goes_on, is_text, nothing_printed}
+use Rattle.grep_printer.specs.StandardTexts.{printed_of, printed_with, progress_after}
 use Rattle.grep_printer.specs.declared.standard.StandardSink.{StandardSink}
 
 -- one step after another
@@ -37,28 +43,50 @@ module _ {M W F : Type 0} (facts : M → MatcherFacts F) (first_at : M → List 
     framed : frame_of facts first_at now settings ≡ frame
     written : WritesAll write_step start.printer.now.writer printed.text now.printer.now.writer
     progress : now.progress ≡ printed.progress
+    has_written : now.printer.now.has_written ≡ (start.printer.now.has_written || is_text printed.text)
     has_failed : now.printer.now.has_failed ≡ start.printer.now.has_failed
+
+  -- the text of a call of such a sink
+  text-same : (frame : Frame) (start : StandardSink M W) (printed : Printed) (old : StandardSink M W) (call : Call)
+      → HasPrinted frame start printed old
+      → text_of facts first_at old settings call ≡ call_text frame printed.progress call
+  text-same frame start printed old call before =
+      ap (λ f. call_text f old.progress call) before.framed ∙ ap (λ p. call_text frame p call) before.progress
 
   -- one more call, and whether the search goes on after it
   printed-more : (frame : Frame) (start : StandardSink M W) (printed : Printed) (old : StandardSink M W) (call : Call)
       (b : Bool) (new : StandardSink M W) → HasPrinted frame start printed old
       → Prints facts first_at write_step old settings call b new
       → (b ≡ goes_on frame printed.progress call) × HasPrinted frame start (printed_with frame printed call) new
-  printed-more frame start printed old call b new before step = (
-    step.goes_on ∙ (ap (λ f. goes_on f old.progress call) before.framed
-        ∙ ap (λ p. goes_on frame p call) before.progress),
-    record {
-      same = same-more start old new before.same step.same;
-      framed = same-frame old new step.same ∙ before.framed;
-      written = Writes-more write_step start.printer.now.writer old.printer.now.writer new.printer.now.writer
-          printed.text (call_text frame printed.progress call) (Ok tt) before.written
-          (subst (λ text. WritesAll write_step old.printer.now.writer text new.printer.now.writer)
-          (ap (λ f. call_text f old.progress call) before.framed ∙ ap (λ p. call_text frame p call) before.progress)
-          step.written);
-      progress = step.progress ∙ ap (λ p. progress_after p call) before.progress;
-      has_failed = step.has_failed ∙ before.has_failed;
-    },
-  )
+  printed-more frame start printed old call b new before step =
+      let here = text-same frame start printed old call before in (
+        step.goes_on ∙ (ap (λ f. goes_on f old.progress call) before.framed
+            ∙ ap (λ p. goes_on frame p call) before.progress),
+        record {
+          same = same-more start old new before.same step.same;
+          framed = same-frame old new step.same ∙ before.framed;
+          written = Writes-more write_step start.printer.now.writer old.printer.now.writer new.printer.now.writer
+              printed.text (call_text frame printed.progress call) (Ok tt) before.written
+              (subst (λ text. WritesAll write_step old.printer.now.writer text new.printer.now.writer) here step.written);
+          progress = step.progress ∙ ap (λ p. progress_after p call) before.progress;
+          has_written = step.has_written ∙ (ap (λ b. b || is_text (text_of facts first_at old settings call))
+              before.has_written ∙ (ap (λ t. (start.printer.now.has_written || is_text printed.text) || is_text t) here
+              ∙ text-more start.printer.now.has_written printed.text (call_text frame printed.progress call)));
+          has_failed = step.has_failed ∙ before.has_failed;
+        },
+      )
+
+  -- nothing is printed yet
+  printed-none : (old : StandardSink M W)
+      → HasPrinted (frame_of facts first_at old settings) old (nothing_printed old.progress) old
+  printed-none old = record {
+    same = record { printer = refl; matcher = refl; path = refl; config = refl };
+    framed = refl;
+    written = Writes-none write_step old.printer.now.writer;
+    progress = refl;
+    has_written = text-none old.printer.now.has_written;
+    has_failed = refl;
+  }
 
   -- a run along a plan that ended in `Ok`
   pub run-prints : (old : StandardSink M W) (plan : Plan) (new : StandardSink M W)
@@ -69,11 +97,65 @@ module _ {M W F : Type 0} (facts : M → MatcherFacts F) (first_at : M → List 
       let end = run-keeps (PrintsCall facts first_at write_step) settings (HasPrinted frame old)
       (λ printed call. goes_on frame printed.progress call) (printed_with frame) (printed-more frame old)
       (nothing_printed old.progress) old plan new
-      (record {
-        same = record { printer = refl; matcher = refl; path = refl; config = refl };
-        framed = refl;
-        written = Writes-none write_step old.printer.now.writer;
-        progress = refl;
-        has_failed = refl;
-      }) run in
-      record { same = end.same; written = end.written; progress = end.progress; has_failed = end.has_failed }
+      (printed-none old) run in
+      record {
+        same = end.same;
+        written = end.written;
+        progress = end.progress;
+        has_written = end.has_written;
+        has_failed = end.has_failed;
+      }
+
+  -- a call that fails after others
+  call-fails : (start : StandardSink M W) (e : SearchError Global) (new : StandardSink M W) (plan : Plan)
+      → FailsOnTheWay (PrintsCall facts first_at write_step) settings (HasPrinted (frame_of facts first_at start settings) start)
+      (λ printed call. goes_on (frame_of facts first_at start settings) printed.progress call)
+      (printed_with (frame_of facts first_at start settings)) (printed-more (frame_of facts first_at start settings) start)
+      (λ made end. Begins made.text end.text)
+      (printed_of (frame_of facts first_at start settings) start.progress plan) e new
+      → IsSameSink start new × (FailsToWritePlan facts first_at write_step start settings plan e new
+      ⊎ FailsAlongPlan facts first_at write_step start settings plan e new)
+  call-fails start e new plan way =
+      let has = way.has in
+      let all = (printed_of (frame_of facts first_at start settings) start.progress plan).text in
+      let here = text-same (frame_of facts first_at start settings) start way.made way.mid way.call has in (
+        same-more start way.mid new has.same way.failed.same,
+        elim way.failed.cause [
+          | inl writing ↦ inl (record {
+            failed = fails-in write_step start.printer.now.writer way.mid.printer.now.writer way.made.text
+                (call_text (frame_of facts first_at start settings) way.made.progress way.call) all has.written way.leads
+                new.printer.now.writer e writing.error writing.is_io
+                (subst (λ t. FailsToWrite write_step way.mid.printer.now.writer t writing.error new.printer.now.writer)
+                here writing.failed);
+            has_failed = writing.has_failed;
+          })
+          | inr before ↦ inr (record {
+            stopped = stops-in write_step start.printer.now.writer way.mid.printer.now.writer way.made.text
+                (call_text (frame_of facts first_at start settings) way.made.progress way.call) all has.written way.leads
+                new.printer.now.writer before.unwritten;
+            has_written = before.has_written ∙ has.has_written;
+            has_failed = before.has_failed ∙ has.has_failed;
+            cause = elim before.cause [
+              | inl memory ↦ inl memory
+              | inr refused ↦ inr (
+                reported_bytes way.call,
+                subst (λ m. FailsAtReport (facts m) settings (reported_bytes way.call) e) has.same.matcher refused,
+              )
+            ];
+          })
+        ],
+      )
+
+  -- a run along a plan that ended in an error
+  pub run-fails-to-print : (old : StandardSink M W) (plan : Plan) (e : SearchError Global) (new : StandardSink M W)
+      → IsRun (PrintsCall facts first_at write_step) settings old plan (Err e) new
+      → IsSameSink old new × (FailsToWritePlan facts first_at write_step old settings plan e new
+      ⊎ FailsAlongPlan facts first_at write_step old settings plan e new)
+  run-fails-to-print old plan e new run =
+      let frame = frame_of facts first_at old settings in
+      call-fails old e new plan
+      (run-fails (PrintsCall facts first_at write_step) settings (HasPrinted frame old)
+      (λ printed call. goes_on frame printed.progress call) (printed_with frame) (printed-more frame old)
+      (λ made end. Begins made.text end.text) (λ made. begins-itself made.text)
+      (λ made end call later. begins-before made.text (call_text frame made.progress call) end.text later)
+      (nothing_printed old.progress) old plan e new (printed-none old) run)

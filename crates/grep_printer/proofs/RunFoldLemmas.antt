@@ -1,6 +1,6 @@
--- What a fold over the calls of a plan has to do with a run along it that ended in `Ok`.
+-- What a fold over the calls of a plan has to do with a run along it.
 use Rattle.std.proofs.Common.{◌≡◌, List, [], ◌∷◌, inl, inr, sym, subst}
-use Rattle.std.specs.Prelude.{Bool, true, false, Ok}
+use Rattle.std.specs.Prelude.{Bool, true, false, Err, Ok, if◌then◌else◌}
 use Rattle.grep_searcher.specs.Plans.{Call, Plan, Planned, Finish, Outcome, AreMade}
 use Rattle.grep_searcher.specs.Plans.{IsFinished, IsRun, Steps, finishes}
 use Rattle.grep_searcher.specs.Settings.{Settings}
@@ -35,3 +35,85 @@ module _ {S E P : Type 0} (step : Steps S E) (settings : Settings) (Has : P → 
       → Has (run_fold goes next made plan.calls plan.finish) new
   run-keeps made old plan new has run =
       keeps plan.finish new plan.calls made old run.mid run.outcome has run.made run.finished
+
+  -- a call fails after others, and what is made with it leads to an end
+  pub record FailsOnTheWay (Leads : P → P → Type 0) (end : P) (e : E) (new : S) : Type 0 where
+    pub made : P
+    pub mid : S
+    pub call : Call
+    pub has : Has made mid
+    pub failed : step mid settings call (Err e) new
+    pub leads : Leads (next made call) end
+
+  -- what is made with more calls is led to
+  module _ (Leads : P → P → Type 0) (here : (made : P) → Leads made made)
+      (one_more : (made end : P) (call : Call) → Leads (next made call) end → Leads made end) where
+    abbrev end_at : P → Finish → P
+    end_at made finish = next made (finishes finish.count finish.binary)
+
+    leads-end : (made : P) (finish : Finish) → Leads made (end_at made finish)
+    leads-end made finish =
+        one_more made (end_at made finish) (finishes finish.count finish.binary) (here (end_at made finish))
+
+    leads-from : (finish : Finish) (planned : Planned) (later : List Planned) (made : P)
+        → Leads (next made planned.call) (run_fold goes next (next made planned.call) later finish)
+        → Leads (next made planned.call) (run_fold goes next made (planned ∷ later) finish)
+    leads-from finish planned later made others = go (goes made planned.call)
+      where
+        go : (b : Bool) → Leads (next made planned.call)
+            (if b then run_fold goes next (next made planned.call) later finish
+            else end_at (next made planned.call) planned.if_false)
+        go true = others
+        go false = leads-end (next made planned.call) planned.if_false
+
+    leads-on : (finish : Finish) (calls : List Planned) (made : P) → Leads made (run_fold goes next made calls finish)
+    leads-on finish [] made = leads-end made finish
+    leads-on finish (planned ∷ later) made =
+        one_more made (run_fold goes next made (planned ∷ later) finish) planned.call
+        (leads-from finish planned later made (leads-on finish later (next made planned.call)))
+
+    fails : (finish : Finish) (e : E) (new : S) (calls : List Planned) (made : P) (old mid : S) (outcome : Outcome E)
+        → Has made old → AreMade step settings old calls outcome mid
+        → IsFinished step settings outcome mid finish (Err e) new
+        → FailsOnTheWay Leads (run_fold goes next made calls finish) e new
+    fails finish e new [] made old mid outcome has (is, same) finished =
+        let last = subst (λ o. IsFinished step settings o mid finish (Err e) new) is finished in record {
+          made = made;
+          mid = mid;
+          call = finishes finish.count finish.binary;
+          has = subst (λ s. Has made s) (sym same) has;
+          failed = last;
+          leads = here (end_at made finish);
+        }
+    fails finish e new (planned ∷ later) made old mid outcome has (inl (between, step_here, rest)) finished =
+        let one = more made old planned.call true between has step_here in
+        rw (← one.0) (fails finish e new later (next made planned.call) between mid outcome one.1 rest finished)
+    fails finish e new (planned ∷ later) made old mid outcome has (inr (inl (is, step_here))) finished =
+        let one = more made old planned.call false mid has step_here in
+        let last = subst (λ o. IsFinished step settings o mid finish (Err e) new) is finished in
+        rw (← one.0) (record {
+          made = next made planned.call;
+          mid = mid;
+          call = finishes planned.if_false.count planned.if_false.binary;
+          has = one.1;
+          failed = last;
+          leads = here (end_at (next made planned.call) planned.if_false);
+        })
+    fails finish e new (planned ∷ later) made old mid outcome has (inr (inr (error, is, step_here))) finished =
+        let last = subst (λ o. IsFinished step settings o mid finish (Err e) new) is finished in
+        let same : error ≡ e = let given = last.0 in cc in record {
+          made = made;
+          mid = old;
+          call = planned.call;
+          has = has;
+          failed = subst (λ s. step old settings planned.call (Err e) s) (sym last.1)
+              (subst (λ r. step old settings planned.call (Err r) mid) same step_here);
+          leads = leads-from finish planned later made (leads-on finish later (next made planned.call));
+        }
+
+    -- a run along a plan that ended in an error fails at a call
+    pub run-fails : (made : P) (old : S) (plan : Plan) (e : E) (new : S) → Has made old
+        → IsRun step settings old plan (Err e) new
+        → FailsOnTheWay Leads (run_fold goes next made plan.calls plan.finish) e new
+    run-fails made old plan e new has run =
+        fails plan.finish e new plan.calls made old run.mid run.outcome has run.made run.finished

@@ -1,14 +1,21 @@
 -- What the sink of a printer of summaries has written after a run along a plan.
-use Rattle.std.proofs.Common.{◌≡◌, ◌∙◌, ap, refl, subst, []}
-use Rattle.std.specs.Prelude.{Bool, List, Ok, Option, ℕ}
+use Rattle.std.proofs.Common.{◌≡◌, ◌⊎◌, ◌∙◌, [], ap, inl, inr, refl, subst, sym}
+use Rattle.std.specs.Global.{Global}
+use Rattle.std.specs.Prelude.{Bool, true, Err, List, Ok, Option, ℕ}
 use Rattle.grep_output.proofs.OutputLemmas.{Writes-none, Writes-more}
-use Rattle.grep_output.specs.Outputs.{OutputCall, WritesAll}
+use Rattle.grep_output.specs.Outputs.{Begins, FailsToWrite, OutputCall, WritesAll}
 use Rattle.grep_matcher.specs.Meanings.{MatcherFacts}
-use Rattle.grep_searcher.specs.Plans.{Call, Plan, IsRun}
+use Rattle.grep_searcher.specs.Plans.{Call, Plan, IsRun, reported_bytes}
+use Rattle.grep_searcher.specs.SearchErrors.{IsOutOfMemory}
 use Rattle.grep_searcher.specs.Settings.{Settings}
-use Rattle.grep_printer.proofs.RunFoldLemmas.{run-keeps}
-use Rattle.grep_printer.specs.SummarySteps.{IsSameSummary, SumsUpCall, SumsUp, SumsUpPlan, summary_frame}
-use Rattle.grep_printer.specs.SummaryTexts.{SummaryFrame, Summed, counts_after, summary_text, summed_with, sums_on}
+use Rattle.grep_searcher.specs.declared.SearchError.{SearchError}
+use Rattle.grep_printer.proofs.RunFoldLemmas.{run-fails, run-keeps}
+use Rattle.grep_printer.proofs.TextFailureLemmas.{begins-before, begins-itself, fails-in, stops-in}
+use Rattle.grep_printer.specs.ReportedParts.{FailsAtReport}
+use Rattle.grep_printer.specs.SummarySteps.{IsSameSummary, SumsUpCall, SumsUp, SumsUpPlan, sum_of, summary_frame}
+use Rattle.grep_printer.specs.SummaryTexts.{SummaryFrame, Summed, counts_after, counts_parts, summary_text, summed_of}
+use Rattle.grep_printer.specs.SummaryTexts.{summed_with, sums_on}
+use Rattle.grep_printer.specs.TextFailures.{IsCutShort}
 use Rattle.grep_printer.specs.declared.summary.SummarySink.{SummarySink}
 
 -- one step after another
@@ -37,6 +44,13 @@ module _ {M W F : Type 0} (facts : M → MatcherFacts F) (first_at : M → List 
     counts : now.counts ≡ summed.counts
     has_failed : now.printer.now.has_failed ≡ start.printer.now.has_failed
 
+  -- the text of a call of such a sink
+  text-same : (frame : SummaryFrame) (start : SummarySink M W) (summed : Summed) (old : SummarySink M W) (call : Call)
+      → HasSummed frame start summed old
+      → sum_of facts first_at old settings call ≡ summary_text frame summed.counts call
+  text-same frame start summed old call before =
+      ap (λ f. summary_text f old.counts call) before.framed ∙ ap (λ n. summary_text frame n call) before.counts
+
   -- one more call, and whether the search goes on after it
   summed-more : (frame : SummaryFrame) (start : SummarySink M W) (summed : Summed) (old : SummarySink M W) (call : Call)
       (b : Bool) (new : SummarySink M W) → HasSummed frame start summed old
@@ -50,13 +64,23 @@ module _ {M W F : Type 0} (facts : M → MatcherFacts F) (first_at : M → List 
       written = Writes-more write_step start.printer.now.writer old.printer.now.writer new.printer.now.writer
           summed.text (summary_text frame summed.counts call) (Ok tt) before.written
           (subst (λ text. WritesAll write_step old.printer.now.writer text new.printer.now.writer)
-          (ap (λ f. summary_text f old.counts call) before.framed
-          ∙ ap (λ n. summary_text frame n call) before.counts) step.written);
+          (text-same frame start summed old call before) step.written);
       counts = step.counts ∙ ap (λ f. counts_after f old.counts call) before.framed
           ∙ ap (λ n. counts_after frame n call) before.counts;
       has_failed = step.has_failed ∙ before.has_failed;
     },
   )
+
+  -- nothing is written yet
+  summed-none : (old : SummarySink M W)
+      → HasSummed (summary_frame facts first_at old settings) old (record { counts = old.counts; text = [] }) old
+  summed-none old = record {
+    same = record { printer = refl; matcher = refl; path = refl; config = refl };
+    framed = refl;
+    written = Writes-none write_step old.printer.now.writer;
+    counts = refl;
+    has_failed = refl;
+  }
 
   -- a run along a plan that ended in `Ok`
   pub run-sums-up : (old : SummarySink M W) (plan : Plan) (new : SummarySink M W)
@@ -66,11 +90,49 @@ module _ {M W F : Type 0} (facts : M → MatcherFacts F) (first_at : M → List 
       let frame = summary_frame facts first_at old settings in
       let end = run-keeps (SumsUp facts first_at write_step) settings (HasSummed frame old) (λ summed call. sums_on frame.config.kind call)
       (summed_with frame) (summed-more frame old) (record { counts = old.counts; text = [] }) old plan new
-      (record {
-        same = record { printer = refl; matcher = refl; path = refl; config = refl };
-        framed = refl;
-        written = Writes-none write_step old.printer.now.writer;
-        counts = refl;
-        has_failed = refl;
-      }) run in
+      (summed-none old) run in
       record { same = end.same; written = end.written; counts = end.counts; has_failed = end.has_failed }
+
+  -- a run along a plan that ended in an error
+  pub run-fails-to-sum-up : (old : SummarySink M W) (plan : Plan) (e : SearchError Global) (new : SummarySink M W)
+      → IsRun (SumsUp facts first_at write_step) settings old plan (Err e) new
+      → IsSameSummary old new × IsCutShort write_step old.printer.now.writer old.printer.now.has_failed
+      (summed_of (summary_frame facts first_at old settings) old.counts plan).text e
+      (IsOutOfMemory e ⊎ ((counts_parts old.printer.now.config.kind ≡ true)
+      × (bytes : List ℕ) × FailsAtReport (facts old.matcher) settings bytes e))
+      new.printer.now.writer new.printer.now.has_failed
+  run-fails-to-sum-up old plan e new run =
+      let frame = summary_frame facts first_at old settings in
+      let all = (summed_of frame old.counts plan).text in
+      let way = run-fails (SumsUp facts first_at write_step) settings (HasSummed frame old)
+      (λ summed call. sums_on frame.config.kind call) (summed_with frame) (summed-more frame old)
+      (λ made end. Begins made.text end.text) (λ made. begins-itself made.text)
+      (λ made end call later. begins-before made.text (summary_text frame made.counts call) end.text later)
+      (record { counts = old.counts; text = [] }) old plan e new (summed-none old) run in
+      let has = way.has in
+      let text = summary_text frame way.made.counts way.call in
+      let mid = way.mid.printer.now.writer in (
+        same-more old way.mid new has.same way.failed.same,
+        elim way.failed.cause [
+          | inl writing ↦ inl (
+            fails-in write_step old.printer.now.writer mid way.made.text text all has.written way.leads
+                new.printer.now.writer e writing.error writing.is_io
+                (subst (λ t. FailsToWrite write_step mid t writing.error new.printer.now.writer)
+                (text-same frame old way.made way.mid way.call has) writing.failed),
+            writing.has_failed,
+          )
+          | inr before ↦ inr (
+            stops-in write_step old.printer.now.writer mid way.made.text text all has.written way.leads
+                new.printer.now.writer before.unwritten,
+            before.has_failed ∙ has.has_failed,
+            elim before.cause [
+              | inl memory ↦ inl memory
+              | inr refused ↦ inr (
+                ap (λ config. counts_parts config.kind) (sym has.same.config) ∙ refused.0,
+                reported_bytes way.call,
+                subst (λ m. FailsAtReport (facts m) settings (reported_bytes way.call) e) has.same.matcher refused.1,
+              )
+            ],
+          )
+        ],
+      )

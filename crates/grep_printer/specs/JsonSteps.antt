@@ -12,6 +12,7 @@ use Rattle.grep_searcher.specs.declared.SearchError.{SearchError}
 use Rattle.grep_searcher.specs.declared.SearchError.TheVariants.{Io}
 use Rattle.grep_printer.specs.JsonTexts.{JsonFrame, json_printed_of, json_progress, json_text}
 use Rattle.grep_printer.specs.ReportedParts.{FailsAtReport}
+use Rattle.grep_printer.specs.TextFailures.{IsCutShort}
 use Rattle.grep_printer.specs.declared.json_printer.Json.{Json}
 use Rattle.grep_printer.specs.declared.json_printer.JsonSink.{JsonSink}
 
@@ -158,6 +159,19 @@ module _ {M W F : Type 0} (facts : M → MatcherFacts F)
   RunsPrintJson =
       (settings : Settings) (old : JsonSink M W) (plan : Plan) (new : JsonSink M W)
       → IsRun PrintsJsonCall settings old plan (Ok tt) new → PrintsJsonPlan old settings plan new
+
+  -- a run of the sink that ended in an error has written some first bytes of the text of its plan:
+  -- the writer failed, there was no memory, or the matcher failed at a report
+  abbrev pub RunsFailToPrintJson : Type 0
+  RunsFailToPrintJson =
+      (settings : Settings) (old : JsonSink M W) (plan : Plan) (e : SearchError Global)
+      (new : JsonSink M W)
+      → IsRun PrintsJsonCall settings old plan (Err e) new
+      → IsSameJson old new
+      × IsCutShort write_step old.printer.now.writer old.printer.now.has_failed
+      (json_printed_of (json_frame facts first_at old settings) old.progress plan).text e
+      (IsOutOfMemory e ⊎ ((bytes : List ℕ) × IsJsonError facts old settings bytes e))
+      new.printer.now.writer new.printer.now.has_failed
 
 module _ {W : Type 0} (write_step : W → OutputCall → W → Type 0) where
   -- a text is written, and nothing else

@@ -12,3 +12,4 @@ pub mod StandardTexts
 pub mod StatsSums
 pub mod SummarySteps
 pub mod SummaryTexts
+pub mod TextFailures

@@ -12,6 +12,7 @@ use Rattle.grep_searcher.specs.declared.SearchError.TheVariants.{Io}
 use Rattle.grep_printer.specs.ReportedParts.{FailsAtReport}
 use Rattle.grep_printer.specs.StandardTexts.{Frame, call_text, goes_on, is_text}
 use Rattle.grep_printer.specs.StandardTexts.{opening_of, printed_of, progress_after, report_text}
+use Rattle.grep_printer.specs.TextFailures.{FailsInText, StopsInText}
 use Rattle.grep_printer.specs.declared.standard.StandardSink.{StandardSink}
 
 -- the matcher, the path and the settings of a sink stay, and so does the printer that it refers to
@@ -134,6 +135,9 @@ module _ {M W F : Type 0} (facts : M → MatcherFacts F)
         new.printer.now.writer
     pub progress : new.progress
         ≡ (printed_of (frame_of facts first_at old settings) old.progress plan).progress
+    pub has_written : new.printer.now.has_written
+        ≡ (old.printer.now.has_written
+        || is_text (printed_of (frame_of facts first_at old settings) old.progress plan).text)
     pub has_failed : new.printer.now.has_failed ≡ old.printer.now.has_failed
 
   -- a run of the sink that ended in `Ok` has written the text of its plan
@@ -141,3 +145,32 @@ module _ {M W F : Type 0} (facts : M → MatcherFacts F)
   RunsPrint =
       (settings : Settings) (old : StandardSink M W) (plan : Plan) (new : StandardSink M W)
       → IsRun PrintsCall settings old plan (Ok tt) new → PrintsPlan old settings plan new
+
+  -- the writer failed after some first bytes of the text of a plan
+  pub record FailsToWritePlan (old : StandardSink M W) (settings : Settings) (plan : Plan)
+      (e : SearchError Global) (new : StandardSink M W) : Type 0 where
+    pub failed : FailsInText write_step old.printer.now.writer
+        (printed_of (frame_of facts first_at old settings) old.progress plan).text e
+        new.printer.now.writer
+    pub has_failed : new.printer.now.has_failed ≡ true
+
+  -- some first bytes of it were written, and then there was no memory, or the matcher failed at a
+  -- report
+  pub record FailsAlongPlan (old : StandardSink M W) (settings : Settings) (plan : Plan)
+      (e : SearchError Global) (new : StandardSink M W) : Type 0 where
+    pub stopped : StopsInText write_step old.printer.now.writer
+        (printed_of (frame_of facts first_at old settings) old.progress plan).text
+        new.printer.now.writer
+    pub has_written : new.printer.now.has_written
+        ≡ (old.printer.now.has_written || is_text stopped.part)
+    pub has_failed : new.printer.now.has_failed ≡ old.printer.now.has_failed
+    pub cause : IsOutOfMemory e ⊎ ((bytes : List ℕ) × IsErrorAt facts old settings bytes e)
+
+  -- a run of the sink that ended in an error has written some first bytes of the text of its plan
+  abbrev pub RunsFailToPrint : Type 0
+  RunsFailToPrint =
+      (settings : Settings) (old : StandardSink M W) (plan : Plan) (e : SearchError Global)
+      (new : StandardSink M W)
+      → IsRun PrintsCall settings old plan (Err e) new
+      → IsSameSink old new
+      × (FailsToWritePlan old settings plan e new ⊎ FailsAlongPlan old settings plan e new)

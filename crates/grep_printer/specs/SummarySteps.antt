@@ -12,6 +12,7 @@ use Rattle.grep_searcher.specs.declared.SearchError.TheVariants.{Io}
 use Rattle.grep_printer.specs.ReportedParts.{FailsAtReport}
 use Rattle.grep_printer.specs.SummaryTexts.{SummaryFrame, counts_after, counts_parts, summary_text}
 use Rattle.grep_printer.specs.SummaryTexts.{summed_of, sums_on}
+use Rattle.grep_printer.specs.TextFailures.{IsCutShort}
 use Rattle.grep_printer.specs.declared.summary.SummarySink.{SummarySink}
 
 -- the matcher, the path and the settings of a sink stay, and so does the printer that it refers to
@@ -106,3 +107,19 @@ module _ {M W F : Type 0} (facts : M → MatcherFacts F)
   RunsSumUp =
       (settings : Settings) (old : SummarySink M W) (plan : Plan) (new : SummarySink M W)
       → IsRun SumsUp settings old plan (Ok tt) new → SumsUpPlan old settings plan new
+
+  -- a run of the sink that ended in an error has written some first bytes of the text of its plan:
+  -- the writer failed, there was no memory, or the matcher failed at a match of which the parts are
+  -- counted
+  abbrev pub RunsFailToSumUp : Type 0
+  RunsFailToSumUp =
+      (settings : Settings) (old : SummarySink M W) (plan : Plan) (e : SearchError Global)
+      (new : SummarySink M W)
+      → IsRun SumsUp settings old plan (Err e) new
+      → IsSameSummary old new
+      × IsCutShort write_step old.printer.now.writer old.printer.now.has_failed
+      (summed_of (summary_frame facts first_at old settings) old.counts plan).text e
+      (IsOutOfMemory e
+      ⊎ ((counts_parts old.printer.now.config.kind ≡ true)
+      × (bytes : List ℕ) × FailsAtReport (facts old.matcher) settings bytes e))
+      new.printer.now.writer new.printer.now.has_failed

@@ -1,16 +1,18 @@
 //! What the printers make of a search: each law is the contract of a function that does nothing.
-ghost use Rattle.grep_printer.specs.JsonSteps.{RunsPrintJson};
+ghost use Rattle.grep_printer.specs.JsonSteps.{RunsFailToPrintJson, RunsPrintJson};
 ghost use Rattle.grep_printer.specs.MatchedParts.{PartsAreSuccessive};
-ghost use Rattle.grep_printer.specs.StandardSteps.{RunsPrint};
-ghost use Rattle.grep_printer.specs.SummarySteps.{RunsSumUp};
+ghost use Rattle.grep_printer.specs.StandardSteps.{RunsFailToPrint, RunsPrint};
+ghost use Rattle.grep_printer.specs.SummarySteps.{RunsFailToSumUp, RunsSumUp};
 
 use grep_output::Output;
 use grep_searcher::{FindAt, Matcher};
 
 /// A run of the sink of a `Standard` that ended in `Ok` has written the text of its plan: of each
-/// call, in order, up to the first after which the search doesn't go on, and of `finish`.
+/// call, in order, up to the first after which the search doesn't go on, and of `finish`. One that
+/// ended in an error has written some first bytes of that text.
 pub fn runs_print<M: FindAt, W: Output>()
-    ensures { RunsPrint M.facts M.first_at W.step }
+    ensures ok { RunsPrint M.facts M.first_at W.step }
+    ensures error { RunsFailToPrint M.facts M.first_at W.step }
 {}
 
 /// The parts that a printer writes or counts are successive matches of the matcher: each is the
@@ -22,13 +24,15 @@ pub fn parts_are_successive<M: FindAt>()
 
 /// A run of the sink of a `Summary` that ended in `Ok` has counted the matches up to the first
 /// after which the search doesn't go on, and their parts if those are counted, and has written the
-/// text for these counts.
+/// text for these counts. One that ended in an error has written some first bytes of that text.
 pub fn runs_sum_up<M: FindAt, W: Output>()
-    ensures { RunsSumUp M.facts M.first_at W.step }
+    ensures ok { RunsSumUp M.facts M.first_at W.step }
+    ensures error { RunsFailToSumUp M.facts M.first_at W.step }
 {}
 
 /// A run of the sink of a `Json` that ended in `Ok` has written the text of its plan: of each call,
-/// in order.
+/// in order. One that ended in an error has written some first bytes of that text.
 pub fn runs_print_json<M: FindAt, W: Output>()
-    ensures { RunsPrintJson M.facts M.first_at W.step }
+    ensures ok { RunsPrintJson M.facts M.first_at W.step }
+    ensures error { RunsFailToPrintJson M.facts M.first_at W.step }
 {}
