@@ -4,6 +4,8 @@ pub mod JsonRunLemmas
 pub mod PartLemmas
 pub mod PartTextLemmas
 pub mod PrintedRunLemmas
+pub mod ReadBackLemmas
+pub mod ReportToldLemmas
 pub mod RunFoldLemmas
 pub mod SomeTextLemmas
 pub mod SuccessiveLemmas

@@ -1,5 +1,6 @@
 pub mod ColorRuns
 pub mod ColoredTexts
+pub mod JsonLaws
 pub mod JsonMessages
 pub mod JsonSteps
 pub mod JsonTexts

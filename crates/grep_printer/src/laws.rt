@@ -1,4 +1,5 @@
 //! What the printers make of a search: each law is the contract of a function that does nothing.
+ghost use Rattle.grep_printer.specs.JsonLaws.{MessagesAreReadBack, MessagesTell};
 ghost use Rattle.grep_printer.specs.JsonSteps.{RunsFailToPrintJson, RunsPrintJson};
 ghost use Rattle.grep_printer.specs.MatchedParts.{PartsAreSuccessive};
 ghost use Rattle.grep_printer.specs.StandardSteps.{RunsFailToPrint, RunsPrint};
@@ -35,4 +36,12 @@ pub fn runs_sum_up<M: FindAt, W: Output>()
 pub fn runs_print_json<M: FindAt, W: Output>()
     ensures ok { RunsPrintJson M.facts M.first_at W.step }
     ensures error { RunsFailToPrintJson M.facts M.first_at W.step }
+{}
+
+/// The line of a message is a text, which any reader of JSON reads as this message, and a line
+/// feed. The message of a report tells its type, path, bytes, number and offset, and the matches in
+/// it: no other report has it.
+pub fn messages_are_read_back()
+    ensures read { MessagesAreReadBack }
+    ensures tell { MessagesTell }
 {}
