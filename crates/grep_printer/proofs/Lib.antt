@@ -3,6 +3,7 @@ pub mod JsonBytesLemmas
 pub mod JsonRunLemmas
 pub mod PartLemmas
 pub mod PartTextLemmas
+pub mod PlanCountLemmas
 pub mod PrintedRunLemmas
 pub mod ReadBackLemmas
 pub mod ReportToldLemmas

@@ -7,6 +7,7 @@ pub mod JsonTexts
 pub mod LineTexts
 pub mod MatchedParts
 pub mod PartTexts
+pub mod PlanCounts
 pub mod ReportedParts
 pub mod StandardSteps
 pub mod StandardTexts

@@ -2,6 +2,7 @@
 ghost use Rattle.grep_printer.specs.JsonLaws.{MessagesAreReadBack, MessagesTell};
 ghost use Rattle.grep_printer.specs.JsonSteps.{RunsFailToPrintJson, RunsPrintJson};
 ghost use Rattle.grep_printer.specs.MatchedParts.{PartsAreSuccessive};
+ghost use Rattle.grep_printer.specs.PlanCounts.{JsonCounts, SummariesCount};
 ghost use Rattle.grep_printer.specs.StandardSteps.{RunsFailToPrint, RunsPrint};
 ghost use Rattle.grep_printer.specs.SummarySteps.{RunsFailToSumUp, RunsSumUp};
 
@@ -44,4 +45,11 @@ pub fn runs_print_json<M: FindAt, W: Output>()
 pub fn messages_are_read_back()
     ensures read { MessagesAreReadBack }
     ensures tell { MessagesTell }
+{}
+
+/// What a `Json` counts in a search, and a `Summary` that counts all matches of one, in terms of all
+/// its calls: the sums over the matches, up to the greatest number of 64 bits.
+pub fn matches_are_counted()
+    ensures json { JsonCounts }
+    ensures summary { SummariesCount }
 {}
