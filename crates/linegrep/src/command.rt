@@ -235,6 +235,9 @@ const VALUED: [Valued; 9] = [
     },
 ];
 
+// When colours are written.
+const COLOR: [&str; 3] = ["auto", "always", "never"];
+
 /// The command line of the program. An error is one of being out of memory.
 pub fn command<'a>(alloc: Global) -> Result<Command<'a>, Error> {
     let mut command = Command::new(alloc, "linegrep")
@@ -247,7 +250,8 @@ pub fn command<'a>(alloc: Global) -> Result<Command<'a>, Error> {
         .args_override_self(true)
         .arg(operands(alloc))?
         .arg(help(alloc))?
-        .arg(json(alloc)?)?;
+        .arg(json(alloc)?)?
+        .arg(color(alloc))?;
     for switch in &SWITCHES {
         command = command.arg(switch.arg(alloc))?;
     }
@@ -283,6 +287,14 @@ fn json<'a>(alloc: Global) -> Result<Arg<'a>, AllocError> {
         .conflicts_with("count")?
         .conflicts_with("files-with-matches")?
         .conflicts_with("files-without-match")
+}
+
+fn color<'a>(alloc: Global) -> Arg<'a> {
+    Arg::new(alloc, "color")
+        .long("color")
+        .value_name("WHEN")
+        .value_parser(COLOR.as_slice())
+        .help("Write paths, numbers and matches in colours; auto is for a terminal")
 }
 
 impl Switch {

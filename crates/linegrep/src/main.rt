@@ -1,6 +1,7 @@
 //! Searches files, or standard input, for lines that match a pattern, and writes them.
 #![tactic(auto)]
 
+mod colors;
 mod command;
 mod failures;
 mod globs;

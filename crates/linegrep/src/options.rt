@@ -1,4 +1,5 @@
 //! What the arguments ask for.
+use crate::colors::color_specs;
 use crate::failures::Failure;
 use crate::json_run::JsonRun;
 use clap::ArgMatches;
@@ -10,7 +11,7 @@ use grep_searcher::{
     BinaryDetection, ConfigError, Encoding, LineTerminator, Searcher, SearcherBuilder,
 };
 use std::alloc::{AllocError, Global};
-use std::rt::Clock;
+use std::rt::{Clock, Env};
 
 /// The searcher that the arguments ask for. Lines are numbered for a terminal, if nothing else is
 /// asked for. A failure is one of a setting, or of being out of memory.
@@ -49,8 +50,9 @@ pub enum Printer<W> {
     Json(JsonRun<W>),
 }
 
-/// The printer that the arguments ask for, which writes to `writer`. A terminal gets headings.
-pub fn build_printer<T: Clock + AllocGlobal, W: Output>(
+/// The printer that the arguments ask for, which writes to `writer`. A terminal gets headings, and
+/// colours.
+pub fn build_printer<T: Clock + Env + AllocGlobal, W: Output>(
     rt: &T,
     matches: &ArgMatches<'_>,
     is_terminal: bool,
@@ -76,6 +78,7 @@ pub fn build_printer<T: Clock + AllocGlobal, W: Output>(
         .only_matching(matches.get_flag("only-matching"))
         .max_columns(max_columns(matches))
         .path_terminator(terminator)
+        .color_specs(color_specs(rt, matches, is_terminal))
         .separator_search(separator(matches, heading));
     Printer::Lines(builder.build(alloc, writer))
 }
