@@ -2,7 +2,7 @@
 use crate::failures::Failure;
 use crate::options::texts;
 use clap::ArgMatches;
-use regex::Regex;
+use regex::{Matcher, Regex};
 use regex_syntax::is_meta_character;
 use std::alloc::{AllocError, Global};
 
@@ -21,7 +21,6 @@ pub enum Choice {
 #[derive(Drop)]
 pub struct Globs {
     globs: Vec<Glob>,
-    are_exclusions: bool,
 }
 
 // A glob: the paths that it matches, whether it leaves them out, and whether it matches folders
@@ -34,8 +33,8 @@ struct Glob {
 }
 
 impl Globs {
-    /// Reads the globs of `-g` from parsed arguments; an empty one is left out. A failure is that of a glob that isn't well
-    /// formed, or of being out of memory.
+    /// Reads the globs of `-g` from parsed arguments; an empty one is left out. A failure is that of
+    /// a glob that isn't well formed, or of being out of memory.
     pub fn read(alloc: Global, matches: &ArgMatches<'_>) -> Result<Globs, Failure> {
         let mut globs = Vec::new(alloc);
         for text in &texts(alloc, matches, "glob")? {
@@ -43,40 +42,74 @@ impl Globs {
                 globs.push(compile(alloc, text.as_str())?)?;
             }
         }
-        let are_exclusions = globs.iter().all(|glob: &Glob| glob.is_exclusion);
-        Ok(Globs {
-            globs,
-            are_exclusions,
-        })
+        Ok(Globs { globs })
     }
 
-    /// What the globs say of a path. The last that matches it decides. If none does, a file is left
-    /// out if there is a glob that asks for files. The only error is being out of memory.
-    pub fn choice(&self, alloc: Global, path: &str, is_folder: bool) -> Result<Choice, AllocError> {
-        let path = path.strip_prefix("./").unwrap_or(path);
-        for glob in self.globs.iter().rev() {
-            if glob.matches(alloc, path, is_folder)? {
-                return Ok(if glob.is_exclusion {
-                    Choice::LeftOut
-                } else {
-                    Choice::Chosen
-                });
-            }
+    /// What asks these globs about paths. The only error is being out of memory.
+    pub fn matcher(&self, alloc: Global) -> Result<GlobsMatcher<'_>, AllocError> {
+        let are_exclusions = self.globs.iter().all(|glob: &Glob| glob.is_exclusion);
+        let mut matchers = Vec::new(alloc);
+        for glob in &self.globs {
+            matchers.push(glob.matcher(alloc)?)?;
         }
-        if self.are_exclusions || is_folder {
-            Ok(Choice::Unmatched)
-        } else {
-            Ok(Choice::LeftOut)
-        }
+        Ok(GlobsMatcher {
+            matchers,
+            are_exclusions,
+        })
     }
 }
 
 impl Glob {
-    fn matches(&self, alloc: Global, path: &str, is_folder: bool) -> Result<bool, AllocError> {
-        if self.names_folders && !is_folder {
-            return Ok(false);
+    fn matcher(&self, alloc: Global) -> Result<GlobMatcher<'_>, AllocError> {
+        match self.regex.matcher(alloc) {
+            Ok(matcher) => Ok(GlobMatcher {
+                glob: self,
+                matcher,
+            }),
+            Err(error) => Err(error),
         }
-        Ok(self.regex.matcher(alloc)?.is_match(path))
+    }
+}
+
+/// Asks globs about paths: the engines of their expressions are made once for all paths.
+#[derive(Drop)]
+pub struct GlobsMatcher<'g> {
+    matchers: Vec<GlobMatcher<'g>>,
+    are_exclusions: bool,
+}
+
+// A glob with the engine of its expression.
+#[derive(Drop)]
+struct GlobMatcher<'g> {
+    glob: &'g Glob,
+    matcher: Matcher<'g>,
+}
+
+impl<'g> GlobsMatcher<'g> {
+    /// What the globs say of a path. The last that matches it decides. If none does, a file is left
+    /// out if there is a glob that asks for files.
+    pub fn choice(&mut self, path: &str, is_folder: bool) -> Choice {
+        let path = path.strip_prefix("./").unwrap_or(path);
+        for matcher in self.matchers.iter_mut().rev() {
+            if matcher.is_match(path, is_folder) {
+                return if matcher.glob.is_exclusion {
+                    Choice::LeftOut
+                } else {
+                    Choice::Chosen
+                };
+            }
+        }
+        if self.are_exclusions || is_folder {
+            Choice::Unmatched
+        } else {
+            Choice::LeftOut
+        }
+    }
+}
+
+impl<'g> GlobMatcher<'g> {
+    fn is_match(&mut self, path: &str, is_folder: bool) -> bool {
+        (is_folder || !self.glob.names_folders) && self.matcher.is_match(path)
     }
 }
 

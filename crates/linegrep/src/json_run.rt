@@ -1,9 +1,10 @@
 //! Searches of which the reports are written as JSON.
-use crate::search::Searched;
+use crate::haystacks::Haystack;
+use crate::printers::Searched;
 use grep_output::Output;
 use grep_printer::{Json, JsonSink, Stats};
-use grep_searcher::{FindAt, SearchError, Searcher, Source};
-use std::rt::{Clock, Files};
+use grep_searcher::{FindAt, SearchError, Searcher};
+use std::rt::Clock;
 use std::time::{Duration, Instant};
 
 /// A printer of JSON, with what all searches have come to so far, and when the run began. Where the
@@ -25,34 +26,18 @@ impl<W: Output> JsonRun<W> {
         }
     }
 
-    /// Searches the file at a path.
-    pub fn search_path<T: Files + Clock, M: FindAt>(
+    /// Searches a haystack, which messages name by a path.
+    pub fn search<T: Clock, M: FindAt, H: Haystack>(
         &mut self,
         rt: &T,
         searcher: &mut Searcher,
         matcher: &M,
-        path: &str,
+        haystack: &mut H,
+        path: Option<&str>,
     ) -> Searched {
         let start = Instant::now(rt).ok();
-        let mut sink = self.printer.sink(matcher, Some(path));
-        let result = searcher.search_path(rt, matcher, path, &mut sink);
-        let has_match = sink.has_match();
-        let ended = end(rt, &mut sink, start, result);
-        self.keep(has_match, ended)
-    }
-
-    /// Searches a reader, which messages name by a path.
-    pub fn search_input<T: Clock, R: Source, M: FindAt>(
-        &mut self,
-        rt: &T,
-        searcher: &mut Searcher,
-        matcher: &M,
-        input: &mut R,
-        path: &str,
-    ) -> Searched {
-        let start = Instant::now(rt).ok();
-        let mut sink = self.printer.sink(matcher, Some(path));
-        let result = searcher.search_reader(matcher, input, &mut sink);
+        let mut sink = self.printer.sink(matcher, path);
+        let result = haystack.search(searcher, matcher, &mut sink);
         let has_match = sink.has_match();
         let ended = end(rt, &mut sink, start, result);
         self.keep(has_match, ended)

@@ -5,9 +5,11 @@ mod colors;
 mod command;
 mod failures;
 mod globs;
+mod haystacks;
 mod json_run;
 mod options;
 mod patterns;
+mod printers;
 mod search;
 mod walk;
 

@@ -2,11 +2,10 @@
 use crate::colors::color_specs;
 use crate::failures::Failure;
 use crate::json_run::JsonRun;
+use crate::printers::Printer;
 use clap::ArgMatches;
 use grep_output::Output;
-use grep_printer::{
-    JsonBuilder, SearchSeparator, Standard, StandardBuilder, Summary, SummaryBuilder, SummaryKind,
-};
+use grep_printer::{JsonBuilder, SearchSeparator, StandardBuilder, SummaryBuilder, SummaryKind};
 use grep_searcher::{
     BinaryDetection, ConfigError, Encoding, LineTerminator, Searcher, SearcherBuilder,
 };
@@ -37,17 +36,6 @@ pub fn searcher(
         Ok(searcher) => Ok(searcher),
         Err(error) => Err(refused(alloc, error)),
     }
-}
-
-/// What writes what is found.
-#[derive(Drop)]
-pub enum Printer<W> {
-    /// Writes lines.
-    Lines(Standard<W>),
-    /// Writes a count or a path for each file, or nothing.
-    Summary(Summary<W>),
-    /// Writes messages in JSON.
-    Json(JsonRun<W>),
 }
 
 /// The printer that the arguments ask for, which writes to `writer`. A terminal gets headings, and
@@ -100,7 +88,10 @@ pub fn summary_kind(matches: &ArgMatches<'_>) -> Option<SummaryKind> {
 
 /// Whether paths are written: if they are asked for, or if several files may be searched.
 pub fn shows_paths(matches: &ArgMatches<'_>, searches_several: bool) -> bool {
-    if matches.get_flag("files-with-matches") || matches.get_flag("files-without-match") {
+    if matches.get_flag("files-with-matches")
+        || matches.get_flag("files-without-match")
+        || matches.get_flag("json")
+    {
         return true;
     }
     !matches.get_flag("no-filename") && (matches.get_flag("with-filename") || searches_several)

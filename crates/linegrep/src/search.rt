@@ -2,13 +2,14 @@
 ghost use Rattle.grep_regex.specs.Views.{IsNamed};
 
 use crate::failures::{Failure, report_cause};
-use crate::globs::Globs;
-use crate::options::{Printer, shows_paths};
+use crate::globs::{Globs, GlobsMatcher};
+use crate::haystacks::{Haystack, PathHaystack, ReaderHaystack};
+use crate::options::shows_paths;
 use crate::patterns::{Operands, compile};
+use crate::printers::{Printer, Searched};
 use crate::walk::{Found, Walk};
 use clap::ArgMatches;
 use grep_output::Output;
-use grep_printer::{Standard, Summary};
 use grep_regex::{Naming, Regex};
 use grep_searcher::{BinaryDetection, FindAt, SearchError, Searcher, Source};
 use std::fmt::Display;
@@ -54,26 +55,44 @@ where
     requires { IsNamed N.options N.patterns regex.now }
 {
     let alloc = rt.alloc();
-    let matcher = regex.named_matcher::<N>(alloc)?;
     let globs = Globs::read(alloc, matches)?;
-    let is_recursive = matches.get_flag("recursive");
-    let names_folder = is_recursive && names_folder(rt, &operands.paths);
+    let flags = Flags::new(rt, matches, &operands.paths);
     let mut run = Run {
         rt,
         searcher,
-        matcher,
+        matcher: regex.named_matcher::<N>(alloc)?,
         printer,
-        globs: &globs,
-        is_recursive,
-        shows_hidden: matches.get_flag("hidden"),
-        shows_paths: shows_paths(matches, names_folder || operands.paths.len() > 1),
-        is_silent: matches.get_flag("no-messages"),
-        is_quiet: matches.get_flag("quiet"),
+        globs: globs.matcher(alloc)?,
+        flags,
         has_match: false,
         has_error: false,
     };
     run.search_paths(&operands.paths, input)?;
     run.finish()
+}
+
+// What the arguments say of a run.
+#[derive(Clone, Copy)]
+struct Flags {
+    is_recursive: bool,
+    shows_hidden: bool,
+    shows_paths: bool,
+    is_silent: bool,
+    is_quiet: bool,
+}
+
+impl Flags {
+    fn new<T: Files>(rt: &T, matches: &ArgMatches<'_>, paths: &[String]) -> Flags {
+        let is_recursive = matches.get_flag("recursive");
+        let names_folder = is_recursive && names_folder(rt, paths);
+        Flags {
+            is_recursive,
+            shows_hidden: matches.get_flag("hidden"),
+            shows_paths: shows_paths(matches, names_folder || paths.len() > 1),
+            is_silent: matches.get_flag("no-messages"),
+            is_quiet: matches.get_flag("quiet"),
+        }
+    }
 }
 
 // A run over files: what it searches with, and what came of those that it has searched.
@@ -83,23 +102,10 @@ struct Run<'r, 'g, T, M, W> {
     searcher: Searcher,
     matcher: M,
     printer: Printer<W>,
-    globs: &'g Globs,
-    is_recursive: bool,
-    shows_hidden: bool,
-    shows_paths: bool,
-    is_silent: bool,
-    is_quiet: bool,
+    globs: GlobsMatcher<'g>,
+    flags: Flags,
     has_match: bool,
     has_error: bool,
-}
-
-/// What came of one search.
-#[derive(Drop)]
-pub struct Searched {
-    /// Whether it found a match.
-    pub has_match: bool,
-    /// Why it ended early, if it did.
-    pub result: Result<(), SearchError>,
 }
 
 impl<'r, 'g, T, M, W> Run<'r, 'g, T, M, W>
@@ -112,7 +118,7 @@ where
     // input.
     fn search_paths<R: Source>(&mut self, paths: &[String], input: &mut R) -> Result<(), Failure> {
         if paths.is_empty() {
-            return if self.is_recursive {
+            return if self.flags.is_recursive {
                 self.search_folder("")
             } else {
                 self.search_input(input)
@@ -122,7 +128,7 @@ where
             let path = path.as_str();
             if path == "-" {
                 self.search_input(input)?;
-            } else if self.is_recursive && is_folder(self.rt, path) {
+            } else if self.flags.is_recursive && is_folder(self.rt, path) {
                 self.search_folder(path)?;
             } else {
                 self.search_path(path)?;
@@ -136,7 +142,7 @@ where
 
     // Whether nothing that is found from now on makes a difference.
     fn is_over(&self) -> bool {
-        self.is_quiet && self.has_match
+        self.flags.is_quiet && self.has_match
     }
 
     // Searches the files of a folder. The search of one that has a NUL ends there, unless files are
@@ -154,9 +160,9 @@ where
 
     // Searches what a walk through a folder finds.
     fn walk(&mut self, folder: &str) -> Result<(), Failure> {
-        let mut walk = Walk::new(self.rt, self.globs, self.shows_hidden, folder)?;
+        let mut walk = Walk::new(self.rt, self.flags.shows_hidden, folder)?;
         for _ in 0..u64::MAX {
-            match walk.next()? {
+            match walk.next(&mut self.globs)? {
                 Some(Found::File(path)) => self.search_path(path.as_str())?,
                 Some(Found::Unread(path, error)) => self.report(path.as_str(), &error),
                 None => break,
@@ -170,50 +176,27 @@ where
 
     // Searches the file at a path.
     fn search_path(&mut self, path: &str) -> Result<(), Failure> {
-        let shown = shown(path, self.shows_paths);
-        let searched = match &mut self.printer {
-            Printer::Lines(printer) => {
-                print_path(
-                    self.rt,
-                    &mut self.searcher,
-                    &self.matcher,
-                    printer,
-                    path,
-                    shown,
-                )
-            }
-            Printer::Summary(printer) => {
-                sum_up_path(
-                    self.rt,
-                    &mut self.searcher,
-                    &self.matcher,
-                    printer,
-                    path,
-                    shown,
-                )
-            }
-            Printer::Json(run) => {
-                run.search_path(self.rt, &mut self.searcher, &self.matcher, path)
-            }
-        };
-        self.keep(path, searched)
+        let mut haystack = PathHaystack { rt: self.rt, path };
+        self.search(&mut haystack, path)
     }
 
     // Searches standard input.
     fn search_input<R: Source>(&mut self, input: &mut R) -> Result<(), Failure> {
-        let shown = shown(STDIN, self.shows_paths);
-        let searched = match &mut self.printer {
-            Printer::Lines(printer) => {
-                print_input(&mut self.searcher, &self.matcher, printer, input, shown)
-            }
-            Printer::Summary(printer) => {
-                sum_up_input(&mut self.searcher, &self.matcher, printer, input, shown)
-            }
-            Printer::Json(run) => {
-                run.search_input(self.rt, &mut self.searcher, &self.matcher, input, STDIN)
-            }
+        let mut haystack = ReaderHaystack { reader: input };
+        self.search(&mut haystack, STDIN)
+    }
+
+    // Searches a haystack with a name.
+    fn search<H: Haystack>(&mut self, haystack: &mut H, name: &str) -> Result<(), Failure> {
+        let path = if self.flags.shows_paths {
+            Some(name)
+        } else {
+            None
         };
-        self.keep(STDIN, searched)
+        let searched = self
+            .printer
+            .search(self.rt, &mut self.searcher, &self.matcher, haystack, path);
+        self.keep(name, searched)
     }
 
     // Goes on after a search. An error of reading is reported; one of writing ends the run.
@@ -232,7 +215,7 @@ where
     // Says what can't be read, and why.
     fn report<E: Display>(&mut self, path: &str, error: &E) {
         self.has_error = true;
-        if !self.is_silent {
+        if !self.flags.is_silent {
             let _ = report_cause(self.rt, path, error);
         }
     }
@@ -242,93 +225,11 @@ where
         if let Err(error) = self.printer.finish(self.rt) {
             return Err(Failure::Output(written_error(error)));
         }
-        if self.has_error && !(self.is_quiet && self.has_match) {
+        if self.has_error && !(self.flags.is_quiet && self.has_match) {
             return Ok(ExitCode::from(2));
         }
         Ok(ExitCode::from(if self.has_match { 0 } else { 1 }))
     }
-}
-
-impl<W: Output> Printer<W> {
-    // Whether the writer failed.
-    fn has_failed(&self) -> bool {
-        match self {
-            Printer::Lines(printer) => printer.has_failed(),
-            Printer::Summary(printer) => printer.has_failed(),
-            Printer::Json(run) => run.has_failed(),
-        }
-    }
-
-    // Writes what all searches have come to, if that is asked for, and what the writer keeps.
-    fn finish<T: Clock>(&mut self, rt: &T) -> Result<(), SearchError> {
-        let flushed = match self {
-            Printer::Lines(printer) => printer.flush(),
-            Printer::Summary(printer) => printer.flush(),
-            Printer::Json(run) => return run.finish(rt),
-        };
-        match flushed {
-            Ok(()) => Ok(()),
-            Err(error) => Err(SearchError::Io(error)),
-        }
-    }
-}
-
-// Searches the file at a path, and writes the lines that match.
-fn print_path<T: Files, M: FindAt, W: Output>(
-    rt: &T,
-    searcher: &mut Searcher,
-    matcher: &M,
-    printer: &mut Standard<W>,
-    path: &str,
-    shown: Option<&str>,
-) -> Searched {
-    let mut sink = printer.sink(matcher, shown);
-    let result = searcher.search_path(rt, matcher, path, &mut sink);
-    let has_match = sink.has_match();
-    Searched { has_match, result }
-}
-
-// Searches a reader, and writes the lines that match.
-fn print_input<R: Source, M: FindAt, W: Output>(
-    searcher: &mut Searcher,
-    matcher: &M,
-    printer: &mut Standard<W>,
-    input: &mut R,
-    shown: Option<&str>,
-) -> Searched {
-    let mut sink = printer.sink(matcher, shown);
-    let result = searcher.search_reader(matcher, input, &mut sink);
-    let has_match = sink.has_match();
-    Searched { has_match, result }
-}
-
-// Searches the file at a path, and writes a summary.
-fn sum_up_path<T: Files, M: FindAt, W: Output>(
-    rt: &T,
-    searcher: &mut Searcher,
-    matcher: &M,
-    printer: &mut Summary<W>,
-    path: &str,
-    shown: Option<&str>,
-) -> Searched {
-    let mut sink = printer.sink(matcher, shown);
-    let result = searcher.search_path(rt, matcher, path, &mut sink);
-    let has_match = sink.has_match();
-    Searched { has_match, result }
-}
-
-// Searches a reader, and writes a summary.
-fn sum_up_input<R: Source, M: FindAt, W: Output>(
-    searcher: &mut Searcher,
-    matcher: &M,
-    printer: &mut Summary<W>,
-    input: &mut R,
-    shown: Option<&str>,
-) -> Searched {
-    let mut sink = printer.sink(matcher, shown);
-    let result = searcher.search_reader(matcher, input, &mut sink);
-    let has_match = sink.has_match();
-    Searched { has_match, result }
 }
 
 // Whether there is a folder at one of the paths, or no path at all.
@@ -343,11 +244,6 @@ fn is_folder<T: Files>(rt: &T, path: &str) -> bool {
         Ok(metadata) => metadata.is_dir(),
         Err(_) => false,
     }
-}
-
-// A path, if paths are written.
-fn shown(path: &str, shows_paths: bool) -> Option<&str> {
-    if shows_paths { Some(path) } else { None }
 }
 
 // The writer's error in that of a search.

@@ -1,5 +1,5 @@
 //! The files of a folder and of the folders in it.
-use crate::globs::{Choice, Globs};
+use crate::globs::{Choice, GlobsMatcher};
 use std::rt::Files;
 use std::{fs, io};
 
@@ -15,9 +15,8 @@ pub enum Found {
 /// Walks through a folder and the folders in it, in the order of their names, and finds the regular
 /// files that are chosen. Links aren't followed.
 #[derive(Drop)]
-pub struct Walk<'r, 'g, T> {
+pub struct Walk<'r, T> {
     rt: &'r T,
-    globs: &'g Globs,
     shows_hidden: bool,
     // What is still to be visited, the next last.
     pending: Vec<Entry>,
@@ -31,34 +30,28 @@ enum Entry {
     Unread(String, io::Error),
 }
 
-impl<'r, 'g, T: Files + AllocGlobal + Clone + Drop> Walk<'r, 'g, T> {
+impl<'r, T: Files + AllocGlobal + Clone + Drop> Walk<'r, T> {
     /// A walk through the folder at a path, or through the current one if the path is empty. Hidden
     /// files and folders, whose names begin with a dot, are found only if `shows_hidden` is set or
     /// a glob asks for them. The only error is being out of memory.
-    pub fn new(
-        rt: &'r T,
-        globs: &'g Globs,
-        shows_hidden: bool,
-        folder: &str,
-    ) -> io::Result<Walk<'r, 'g, T>> {
+    pub fn new(rt: &'r T, shows_hidden: bool, folder: &str) -> io::Result<Walk<'r, T>> {
         let mut pending = Vec::new(rt.alloc());
         pending.push(Entry::Folder(String::from_str(rt.alloc(), folder)?))?;
         Ok(Walk {
             rt,
-            globs,
             shows_hidden,
             pending,
         })
     }
 
-    /// The next that is found, or `None` at the end. What can't be read is left out, and the walk
-    /// goes on. The only error is being out of memory.
-    pub fn next(&mut self) -> io::Result<Option<Found>> {
+    /// The next that is found and that the globs choose, or `None` at the end. What can't be read is
+    /// left out, and the walk goes on. The only error is being out of memory.
+    pub fn next(&mut self, globs: &mut GlobsMatcher<'_>) -> io::Result<Option<Found>> {
         for _ in 0..u64::MAX {
             match self.pending.pop() {
                 Some(Entry::File(path)) => return Ok(Some(Found::File(path))),
                 Some(Entry::Unread(path, error)) => return Ok(Some(Found::Unread(path, error))),
-                Some(Entry::Folder(path)) => match self.push_entries(path.as_str()) {
+                Some(Entry::Folder(path)) => match self.push_entries(globs, path.as_str()) {
                     Ok(()) => {}
                     Err(error) if error.kind() == io::ErrorKind::OutOfMemory => return Err(error),
                     Err(error) => {
@@ -73,14 +66,14 @@ impl<'r, 'g, T: Files + AllocGlobal + Clone + Drop> Walk<'r, 'g, T> {
     }
 
     // Adds what a folder holds, the last name first.
-    fn push_entries(&mut self, folder: &str) -> io::Result<()> {
+    fn push_entries(&mut self, globs: &mut GlobsMatcher<'_>, folder: &str) -> io::Result<()> {
         let alloc = self.rt.alloc();
         let mut entries = Vec::new(alloc);
         let name = name_of(folder);
         for entry in fs::read_dir(self.rt, name)? {
             match entry {
                 Ok(entry) => {
-                    if let Some(entry) = self.entry(folder, entry.file_name())? {
+                    if let Some(entry) = self.entry(globs, folder, entry.file_name())? {
                         entries.push(entry)?;
                     }
                 }
@@ -94,12 +87,17 @@ impl<'r, 'g, T: Files + AllocGlobal + Clone + Drop> Walk<'r, 'g, T> {
 
     // An entry of a folder, if it is one to visit. One that can't be looked at is left out like a
     // file.
-    fn entry(&self, folder: &str, name: &str) -> io::Result<Option<Entry>> {
+    fn entry(
+        &self,
+        globs: &mut GlobsMatcher<'_>,
+        folder: &str,
+        name: &str,
+    ) -> io::Result<Option<Entry>> {
         let path = self.join(folder, name)?;
         let kind = match fs::symlink_metadata(self.rt, path.as_str()) {
             Ok(metadata) => metadata.file_type(),
             Err(error) => {
-                return Ok(if self.is_chosen(path.as_str(), name, false)? {
+                return Ok(if self.is_chosen(globs, path.as_str(), name, false) {
                     Some(Entry::Unread(path, error))
                 } else {
                     None
@@ -107,7 +105,9 @@ impl<'r, 'g, T: Files + AllocGlobal + Clone + Drop> Walk<'r, 'g, T> {
             }
         };
         let is_folder = kind.is_dir();
-        if !(is_folder || kind.is_file()) || !self.is_chosen(path.as_str(), name, is_folder)? {
+        if !(is_folder || kind.is_file())
+            || !self.is_chosen(globs, path.as_str(), name, is_folder)
+        {
             return Ok(None);
         }
         Ok(Some(if is_folder {
@@ -117,11 +117,17 @@ impl<'r, 'g, T: Files + AllocGlobal + Clone + Drop> Walk<'r, 'g, T> {
         }))
     }
 
-    fn is_chosen(&self, path: &str, name: &str, is_folder: bool) -> io::Result<bool> {
-        match self.globs.choice(self.rt.alloc(), path, is_folder)? {
-            Choice::Chosen => Ok(true),
-            Choice::LeftOut => Ok(false),
-            Choice::Unmatched => Ok(self.shows_hidden || !name.starts_with('.')),
+    fn is_chosen(
+        &self,
+        globs: &mut GlobsMatcher<'_>,
+        path: &str,
+        name: &str,
+        is_folder: bool,
+    ) -> bool {
+        match globs.choice(path, is_folder) {
+            Choice::Chosen => true,
+            Choice::LeftOut => false,
+            Choice::Unmatched => self.shows_hidden || !name.starts_with('.'),
         }
     }
 

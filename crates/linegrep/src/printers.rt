@@ -1,0 +1,95 @@
+//! What writes what is found.
+use crate::haystacks::Haystack;
+use crate::json_run::JsonRun;
+use grep_output::Output;
+use grep_printer::{Standard, Summary};
+use grep_searcher::{FindAt, SearchError, Searcher};
+use std::rt::Clock;
+
+/// What writes what is found.
+#[derive(Drop)]
+pub enum Printer<W> {
+    /// Writes lines.
+    Lines(Standard<W>),
+    /// Writes a count or a path for each file, or nothing.
+    Summary(Summary<W>),
+    /// Writes messages in JSON.
+    Json(JsonRun<W>),
+}
+
+/// What came of one search.
+#[derive(Drop)]
+pub struct Searched {
+    /// Whether it found a match.
+    pub has_match: bool,
+    /// Why it ended early, if it did.
+    pub result: Result<(), SearchError>,
+}
+
+impl<W: Output> Printer<W> {
+    /// Searches a haystack, and writes what is found in it, with a path if there is one.
+    pub fn search<T: Clock, M: FindAt, H: Haystack>(
+        &mut self,
+        rt: &T,
+        searcher: &mut Searcher,
+        matcher: &M,
+        haystack: &mut H,
+        path: Option<&str>,
+    ) -> Searched {
+        match self {
+            Printer::Lines(printer) => print(printer, searcher, matcher, haystack, path),
+            Printer::Summary(printer) => sum_up(printer, searcher, matcher, haystack, path),
+            Printer::Json(run) => run.search(rt, searcher, matcher, haystack, path),
+        }
+    }
+
+    /// Whether the writer failed.
+    pub fn has_failed(&self) -> bool {
+        match self {
+            Printer::Lines(printer) => printer.has_failed(),
+            Printer::Summary(printer) => printer.has_failed(),
+            Printer::Json(run) => run.has_failed(),
+        }
+    }
+
+    /// Writes what all searches have come to, if that is asked for, and what the writer keeps.
+    pub fn finish<T: Clock>(&mut self, rt: &T) -> Result<(), SearchError> {
+        let flushed = match self {
+            Printer::Lines(printer) => printer.flush(),
+            Printer::Summary(printer) => printer.flush(),
+            Printer::Json(run) => return run.finish(rt),
+        };
+        match flushed {
+            Ok(()) => Ok(()),
+            Err(error) => Err(SearchError::Io(error)),
+        }
+    }
+}
+
+// Searches a haystack, and writes the lines that match.
+fn print<M: FindAt, W: Output, H: Haystack>(
+    printer: &mut Standard<W>,
+    searcher: &mut Searcher,
+    matcher: &M,
+    haystack: &mut H,
+    path: Option<&str>,
+) -> Searched {
+    let mut sink = printer.sink(matcher, path);
+    let result = haystack.search(searcher, matcher, &mut sink);
+    let has_match = sink.has_match();
+    Searched { has_match, result }
+}
+
+// Searches a haystack, and writes a summary.
+fn sum_up<M: FindAt, W: Output, H: Haystack>(
+    printer: &mut Summary<W>,
+    searcher: &mut Searcher,
+    matcher: &M,
+    haystack: &mut H,
+    path: Option<&str>,
+) -> Searched {
+    let mut sink = printer.sink(matcher, path);
+    let result = haystack.search(searcher, matcher, &mut sink);
+    let has_match = sink.has_match();
+    Searched { has_match, result }
+}
