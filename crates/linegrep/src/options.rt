@@ -75,12 +75,12 @@ pub fn build_printer<T: Clock + Env + AllocGlobal, W: Output>(
 pub fn summary_kind(matches: &ArgMatches<'_>) -> Option<SummaryKind> {
     if matches.get_flag("quiet") {
         Some(SummaryKind::Quiet)
+    } else if matches.get_flag("count") {
+        Some(SummaryKind::Count)
     } else if matches.get_flag("files-with-matches") {
         Some(SummaryKind::PathWithMatch)
     } else if matches.get_flag("files-without-match") {
         Some(SummaryKind::PathWithoutMatch)
-    } else if matches.get_flag("count") {
-        Some(SummaryKind::Count)
     } else {
         None
     }
@@ -88,10 +88,11 @@ pub fn summary_kind(matches: &ArgMatches<'_>) -> Option<SummaryKind> {
 
 /// Whether paths are written: if they are asked for, or if several files may be searched.
 pub fn shows_paths(matches: &ArgMatches<'_>, searches_several: bool) -> bool {
-    if matches.get_flag("files-with-matches")
-        || matches.get_flag("files-without-match")
-        || matches.get_flag("json")
-    {
+    let writes_paths = matches!(
+        summary_kind(matches),
+        Some(SummaryKind::PathWithMatch | SummaryKind::PathWithoutMatch)
+    );
+    if writes_paths || matches.get_flag("json") {
         return true;
     }
     !matches.get_flag("no-filename") && (matches.get_flag("with-filename") || searches_several)
