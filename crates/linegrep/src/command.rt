@@ -26,7 +26,7 @@ enum Kind {
     Texts,
 }
 
-const SWITCHES: [Switch; 28] = [
+const SWITCHES: [Switch; 29] = [
     Switch {
         name: "fixed-strings",
         letter: Some('F'),
@@ -141,6 +141,11 @@ const SWITCHES: [Switch; 28] = [
         name: "count",
         letter: Some('c'),
         help: "Write how many lines match, for each file",
+    },
+    Switch {
+        name: "count-matches",
+        letter: None,
+        help: "Write how many single matches there are, for each file",
     },
     Switch {
         name: "files-with-matches",
@@ -285,6 +290,7 @@ fn json<'a>(alloc: Global) -> Result<Arg<'a>, AllocError> {
         .action(ArgAction::SetTrue)
         .help("Write messages in JSON")
         .conflicts_with("count")?
+        .conflicts_with("count-matches")?
         .conflicts_with("files-with-matches")?
         .conflicts_with("files-without-match")
 }

@@ -48,9 +48,13 @@ pub fn build_printer<T: Clock + Env + AllocGlobal, W: Output>(
 ) -> Printer<W> {
     let alloc = rt.alloc();
     let terminator = path_terminator(matches);
+    let color_specs = color_specs(rt, matches, is_terminal);
     if let Some(kind) = summary_kind(matches) {
         let mut builder = SummaryBuilder::new();
-        builder.kind(kind).path_terminator(terminator);
+        builder
+            .kind(kind)
+            .path_terminator(terminator)
+            .color_specs(color_specs);
         return Printer::Summary(builder.build(alloc, writer));
     }
     if matches.get_flag("json") {
@@ -66,7 +70,7 @@ pub fn build_printer<T: Clock + Env + AllocGlobal, W: Output>(
         .only_matching(matches.get_flag("only-matching"))
         .max_columns(max_columns(matches))
         .path_terminator(terminator)
-        .color_specs(color_specs(rt, matches, is_terminal))
+        .color_specs(color_specs)
         .separator_search(separator(matches, heading));
     Printer::Lines(builder.build(alloc, writer))
 }
@@ -75,7 +79,9 @@ pub fn build_printer<T: Clock + Env + AllocGlobal, W: Output>(
 pub fn summary_kind(matches: &ArgMatches<'_>) -> Option<SummaryKind> {
     if matches.get_flag("quiet") {
         Some(SummaryKind::Quiet)
-    } else if matches.get_flag("count") {
+    } else if counts_matches(matches) {
+        Some(SummaryKind::CountMatches)
+    } else if matches.get_flag("count") || matches.get_flag("count-matches") {
         Some(SummaryKind::Count)
     } else if matches.get_flag("files-with-matches") {
         Some(SummaryKind::PathWithMatch)
@@ -83,6 +89,16 @@ pub fn summary_kind(matches: &ArgMatches<'_>) -> Option<SummaryKind> {
         Some(SummaryKind::PathWithoutMatch)
     } else {
         None
+    }
+}
+
+// Whether single matches are counted, and not lines. An inverted count is one of lines, but for the
+// options `-c` and `-o`.
+fn counts_matches(matches: &ArgMatches<'_>) -> bool {
+    if matches.get_flag("count-matches") {
+        !matches.get_flag("invert-match")
+    } else {
+        matches.get_flag("count") && matches.get_flag("only-matching")
     }
 }
 
