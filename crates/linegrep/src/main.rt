@@ -19,7 +19,7 @@ use crate::options::{build_printer, searcher};
 use crate::patterns::Operands;
 use crate::search::search_all;
 use clap::ArgMatches;
-use grep_output::Writing;
+use grep_output::{Output, Writing};
 use grep_searcher::Reading;
 use std::env;
 use std::io::{BufWriter, IsTerminal};
@@ -50,14 +50,23 @@ fn search_operands(
     operands: &Operands,
 ) -> Result<ExitCode, Failure> {
     let stdout = rt.stdout();
-    let is_terminal = stdout.is_terminal();
-    let searcher = searcher(rt.alloc(), matches, is_terminal)?;
-    let mut input = Reading::new(rt.stdin());
-    if is_terminal {
-        let printer = build_printer(rt, matches, is_terminal, Writing::new(stdout));
-        return search_all(rt, matches, operands, searcher, printer, &mut input);
+    if stdout.is_terminal() {
+        return search_to(rt, matches, operands, true, Writing::new(stdout));
     }
     let buffered = BufWriter::with_capacity(rt.alloc(), ROOM, stdout)?;
-    let printer = build_printer(rt, matches, is_terminal, Writing::new(buffered));
+    search_to(rt, matches, operands, false, Writing::new(buffered))
+}
+
+// Searches what the operands name, and writes what is found to `writer`.
+fn search_to<W: Output + Drop>(
+    rt: &HostRuntime,
+    matches: &ArgMatches<'_>,
+    operands: &Operands,
+    is_terminal: bool,
+    writer: W,
+) -> Result<ExitCode, Failure> {
+    let searcher = searcher(rt.alloc(), matches, is_terminal)?;
+    let printer = build_printer(rt, matches, is_terminal, writer);
+    let mut input = Reading::new(rt.stdin());
     search_all(rt, matches, operands, searcher, printer, &mut input)
 }
