@@ -87,47 +87,11 @@ impl<'c, A: Allocator + Copy, T> Search<'c, A, T> {
             decoder.start(self.config.label(), self.config.bom_sniffing);
             return self.search_contents::<M, R, C>(matcher, decoder, contents, reader, sink);
         }
-        self.search_by_line::<M, R, C>(matcher, buffers, reader, sink)
-    }
-
-    // Searches by line, as `search_reader` says.
-    fn search_by_line<M: Matcher, R: Source, C: Calls<T>>(
-        &self,
-        matcher: &M,
-        buffers: &mut Buffers<A>,
-        reader: &mut R,
-        sink: &mut C::Sink,
-    ) -> Result<(), C::Error>
-    where
-        C::Error: SinkError<A>,
-        requires allowed { is_at 0 self.now.config.heap_limit ≡ false }
-        requires fitting { AreFitting self.now.config buffers.old }
-        requires configured { IsConfigured (C.settings self.now.searcher.now) self.now.config }
-        requires by_line { is_across self.now.config (M.facts matcher.now).meaning ≡ false }
-        requires may_call { C.may_call sink.old }
-        ensures fitting { AreFitting self.now.config buffers.new }
-        ensures searched { IsLawful (M.facts matcher.now) self.now.config
-            → (has_buffers : Bool) → IsRead R.remaining R.step C.step
-            (makers_of M.Error.output C.Error.makers) (M.facts matcher.now)
-            (record { settings = self.now.config; has_buffers = has_buffers })
-            on_stream reader.old sink.old result reader.new sink.new }
-        ensures in_order { IsInOrder C.step
-            (makers_of M.Error.output C.Error.makers) (M.facts matcher.now) self.now.config
-            (IsReadingError R.remaining R.step reader.old reader.new) sink.old result sink.new }
-        ensures succeeds { NeverFails C.step C.may_call → IsInfallible (M.facts matcher.now).fails
-            → IsLawful (M.facts matcher.now) self.now.config
-            → IfErr result (λ e. (has_buffers : Bool) → (begun : Bool) × (seen : List ℕ)
-            × (error : Error) × IsUnread R.remaining R.step
-            (record { settings = self.now.config; has_buffers = has_buffers })
-            (M.facts matcher.now).meaning reader.old begun seen error reader.new
-            × C.Error.makers.is_io error e) }
-        ensures may_call { C.may_call sink.new }
-    {
         let finish = self.match_source::<M, R, C>(matcher, buffers, reader, sink)?;
         C::finish(self, sink, &finish)
     }
 
-    // Makes each call but `finish`, and returns what that has.
+    // Searches by line: makes each call but `finish`, and returns what that has.
     fn match_source<M: Matcher, R: Source, C: Calls<T>>(
         &self,
         matcher: &M,

@@ -1,10 +1,13 @@
-use Rattle.std.proofs.Common.{Bool, sym, ◌∙◌}
+use Rattle.std.proofs.Common.{Bool, sym, ◌∙◌, arith}
+use Rattle.std.proofs.lemmas.Result.{err_from_is_err_and}
 use Rattle.grep_report.specs.ErrorMakers.{ErrorMakers}
 use Rattle.grep_matcher.specs.Meanings.{MatcherFacts}
 use Rattle.grep_definitions.specs.Settings.{SearcherState, Settings}
 use Rattle.grep_definitions.proofs.PlannedUnreadLemmas.{unread-planned}
 use Rattle.grep_core.proofs.ResultLemmas.{if_err-each}
 use Rattle.grep_core.proofs.ReaderModeLemmas.{read-across, read-by_line}
+use Rattle.grep_core.proofs.StreamFinishLemmas.{stream-finished}
+use Rattle.grep_definitions.proofs.CallOrderLemmas.{order-finished}
 use Rattle.grep_core.proofs.search.Search.search_reader.Given.{Over}
 use Rattle.grep_report.specs.ErrorMakers.{makers_of}
 use Rattle.grep_core.proofs.search.Search.search_reader.Goals as goal
@@ -46,7 +49,22 @@ returns-clause-searched g c = λ lawful has_buffers.
     _
     _ _ _ _
     _
-    _ mode (c.search_by_line.ensures.searched lawful has_buffers)
+    _ mode (stream-finished _ _ (facts-of g c.args.matcher.now) _ _ _ _
+    mode _ _ _
+    _
+    _ _
+    c.in_ok-finish.ensures.begun
+    (c.in_ok-finish.ensures.counted lawful) c.finish.ensures.step)
+
+pub returns-in_err-finish-clause-searched : goal.returns-in_err-finish-clause-searched
+returns-in_err-finish-clause-searched g c = λ lawful has_buffers.
+    let mode = (sym c.is_across.ensures ∙ c.if-is_across.false) in
+    let error = err_from_is_err_and c.from_residual.result c.from_residual.ensures.1 in
+    read-by_line _ _ _ _
+    _
+    _ _ _ _
+    _
+    _ mode (rw (error.1, error.2) (c.in_err-finish.ensures.fault lawful has_buffers))
 
 pub returns-then-is_across-clause-in_order : goal.returns-then-is_across-clause-in_order
 returns-then-is_across-clause-in_order g c =
@@ -54,4 +72,15 @@ returns-then-is_across-clause-in_order g c =
 
 pub returns-clause-in_order : goal.returns-clause-in_order
 returns-clause-in_order g c =
-    c.search_by_line.ensures.in_order
+    order-finished _ _
+    _
+    _ _
+    (omega arith)
+    _ _ _ _
+    _
+    _ c.in_ok-finish.ensures.noted c.in_ok-finish.ensures.in_order c.finish.ensures.step
+
+pub returns-in_err-finish-clause-succeeds : goal.returns-in_err-finish-clause-succeeds
+returns-in_err-finish-clause-succeeds g c =
+    let error = err_from_is_err_and c.from_residual.result c.from_residual.ensures.1 in
+    rw (error.1, error.2) c.in_err-finish.ensures.succeeds
