@@ -1,13 +1,15 @@
 //! Each caller of `uses`, run once on its happy path.
 use crate::paths::temporary_path;
-use grep_searcher::{LiteralMatcher, SearchError, Searcher};
+use grep_searcher::sinks::ReportKind;
+use grep_searcher::{LiteralMatcher, SearchError, Searcher, SinkContextKind};
 use std::alloc::Global;
 use std::fs;
 use std::path::Path;
 use std::test::Fail;
 use uses::{
-    count_in_path, count_in_reader, count_matching_lines, count_pattern_lines, count_with_prefix,
-    first_matches, has_match, in_context, json_lines, matching_lines, numbered_lines, reporter,
+    count_blocks, count_in_path, count_in_reader, count_matching_lines, count_pattern_lines,
+    count_with_prefix, first_matches, first_with_context, has_match, in_context, json_lines,
+    matching_lines, numbered_lines, reporter,
 };
 
 // Line 2 and line 4 have an `a`.
@@ -61,6 +63,32 @@ fn keeps_one(alloc: Global) -> Result<bool, SearchError> {
 #[test]
 fn kept(rt: HostRuntime) {
     assert!(rt; matches!(keeps_one(rt.alloc()), Ok(true)));
+}
+
+// Whether the first match is kept, and the line before it and the line after it.
+fn keeps_lines_around(alloc: Global) -> Result<bool, SearchError> {
+    let matcher = LiteralMatcher::new(alloc, b"a")?;
+    let kept = first_with_context(alloc, matcher, INPUT, 1)?;
+    match kept.as_slice() {
+        [before, found, after] => Ok(
+            before.kind() == ReportKind::Context(SinkContextKind::Before)
+                && found.kind() == ReportKind::Match
+                && found.line_number() == Some(2)
+                && after.kind() == ReportKind::Context(SinkContextKind::After),
+        ),
+        _ => Ok(false),
+    }
+}
+
+#[test]
+fn kept_with_context(rt: HostRuntime) {
+    assert!(rt; matches!(keeps_lines_around(rt.alloc()), Ok(true)));
+}
+
+#[test]
+fn counted_across_lines(rt: HostRuntime) {
+    let blocks = count_blocks(rt.alloc(), b"a\nb\nx\na\nb\na\nb\n", b"a\nb");
+    assert!(rt; matches!(blocks, Ok(2)));
 }
 
 #[test]

@@ -1,7 +1,7 @@
 -- Sinks that lend matches to a closure.
 use Rattle.std.proofs.Common.{◌≡◌, ℕ, Bool, true, false, List, [], ◌∷◌, ◌++◌, refl, sym, ap, ◌∙◌, inl, inr, append_assoc}
 use Rattle.std.proofs.lemmas.List.{append-nil}
-use Rattle.std.specs.Prelude.{Result, Ok, map}
+use Rattle.std.specs.Prelude.{Result, Ok, Err, map}
 use Rattle.std.specs.List.{flat_map}
 use Rattle.std.specs.Borrow.{Bor}
 use Rattle.std.specs.declared.io.Error.{Error}
@@ -11,7 +11,7 @@ use Rattle.grep_definitions.specs.SearchLaws.{match_calls}
 use Rattle.grep_definitions.specs.SinkFolds.{AreTaken, IsTakenOk}
 use Rattle.grep_definitions.proofs.SinkFoldLemmas.{runs-take_matches}
 use Rattle.grep_searcher.specs.LentMatches.{AppendsLent, ClosuresAppendMatches, ClosuresAreLent, ClosuresKeepMatches}
-use Rattle.grep_searcher.specs.LentMatches.{IsLentAt, IsLentStep, LentSteps}
+use Rattle.grep_searcher.specs.LentMatches.{ClosuresFailLent, IsLent, IsLentAt, IsLentStep, LentSteps}
 use Rattle.grep_searcher.specs.MatchHandlers.{KeptReport, kept_of}
 
 module _ {F : Type 0} (call : F → Bor MatchReport → Result Bool Error → F → Type 0) where
@@ -29,6 +29,18 @@ module _ {F : Type 0} (call : F → Bor MatchReport → Result Bool Error → F 
   closures-are_lent closure settings old plan new run =
       runs-take_matches (LentSteps call closure) settings plan.finish new closure (IsLentAt call)
       (λ from made b after h. lent-takes (closure from) made b (closure after) h) old plan.calls run
+
+  lent-failed : (old : F) (made : Call) (e : Error) (new : F) → IsLentStep call old made (Err e) new
+      → IsLent call old made (Err e) new
+  lent-failed old begins e new (is, same) = absurd (cc)
+  lent-failed old (matches number offset bytes) e new lent = lent
+  lent-failed old (context kind number offset bytes) e new (is, same) = absurd (cc)
+  lent-failed old breaks e new (is, same) = absurd (cc)
+  lent-failed old (binary_data offset) e new (is, same) = absurd (cc)
+  lent-failed old (finishes count binary) e new (is, same) = absurd (cc)
+
+  pub closures-fail_lent : {S : Type 0} (closure : S → F) → ClosuresFailLent call closure
+  closures-fail_lent closure settings old made e new failed = lent-failed (closure old) made e (closure new) failed
 
   module _ {X : Type 0} (part : Call → List X) (name : F → ℕ) (kept : F → List X)
       (by : AppendsLent call part name kept) where

@@ -4,6 +4,7 @@ pub mod ClosureSinkLemmas
 pub mod CountSinkLemmas
 pub mod HitLineLemmas
 pub mod InputSearchLemmas
+pub mod KeptReportLemmas
 pub mod LentMatchLemmas
 pub mod LineCountLemmas
 pub mod MatchHandlerLemmas

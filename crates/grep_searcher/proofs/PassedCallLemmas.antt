@@ -3,7 +3,7 @@ use Rattle.std.proofs.Common.{◌≡◌, ℕ, Bool, true, false, List, [], ◌�
 use Rattle.std.proofs.Common.{append_assoc}
 use Rattle.std.proofs.lemmas.Bool.{false≢true}
 use Rattle.std.proofs.lemmas.List.{append-nil}
-use Rattle.std.specs.Prelude.{Result, Ok}
+use Rattle.std.specs.Prelude.{Result, Ok, Err}
 use Rattle.std.specs.List.{flat_map}
 use Rattle.std.specs.declared.io.Error.{Error}
 use Rattle.grep_definitions.specs.Plans.{Call, begins, matches, context, breaks, binary_data, finishes}
@@ -12,8 +12,8 @@ use Rattle.grep_definitions.specs.SearchLaws.{calls_of}
 use Rattle.grep_definitions.specs.Settings.{Settings}
 use Rattle.grep_searcher.specs.AppendedParts.{run_calls}
 use Rattle.grep_searcher.specs.declared.sinks.calls.SinkCall.{SinkCall}
-use Rattle.grep_searcher.specs.PassedCalls.{AppendsPassed, ArePassed, ClosuresAppend, ClosuresArePassed, ClosuresKeepCalls}
-use Rattle.grep_searcher.specs.PassedCalls.{is_finish, IsPassed, IsPassedStep, PassedSteps}
+use Rattle.grep_searcher.specs.PassedCalls.{AppendsPassed, ArePassed, ClosuresAppend, ClosuresArePassed, ClosuresFailPassed}
+use Rattle.grep_searcher.specs.PassedCalls.{ClosuresKeepCalls, is_finish, IsPassed, IsPassedStep, PassedSteps}
 
 module _ {F : Type 0} (call : F → SinkCall → Result Bool Error → F → Type 0) {S : Type 0} (closure : S → F) where
   module _ (settings : Settings) (finish : Finish) (new : S) where
@@ -36,6 +36,18 @@ module _ {F : Type 0} (call : F → SinkCall → Result Bool Error → F → Typ
   pub closures-are_passed : ClosuresArePassed call closure
   closures-are_passed settings old plan new run =
       made-passed settings plan.finish new plan.calls old run.outcome run.mid run.made run.finished
+
+  passed-failed : (old : F) (made : Call) (e : Error) (new : F) → IsPassedStep call old made (Err e) new
+      → IsPassed call old made (Err e) new
+  passed-failed old begins e new h = h
+  passed-failed old (matches number offset bytes) e new h = h
+  passed-failed old (context kind number offset bytes) e new h = h
+  passed-failed old breaks e new h = h
+  passed-failed old (binary_data offset) e new h = h
+  passed-failed old (finishes count binary) e new h = h
+
+  pub closures-fail_passed : ClosuresFailPassed call closure
+  closures-fail_passed settings old made e new failed = passed-failed (closure old) made e (closure new) failed
 
 module _ {F : Type 0} (call : F → SinkCall → Result Bool Error → F → Type 0) {X : Type 0} (part : Call → List X)
     (name : F → ℕ) (kept : F → List X) (by : AppendsPassed call part name kept) where

@@ -1,5 +1,5 @@
 -- What a sink that lends matches to a closure makes of a call, and of a search.
-use Rattle.std.specs.Prelude.{◌≡◌, ℕ, Bool, true, List, [], ◌∷◌, ◌++◌, map, Result, Ok}
+use Rattle.std.specs.Prelude.{◌≡◌, ℕ, Bool, true, List, [], ◌∷◌, ◌++◌, map, Result, Ok, Err}
 use Rattle.std.specs.List.{flat_map}
 use Rattle.std.specs.Borrow.{Bor}
 use Rattle.std.specs.declared.io.Error.{Error}
@@ -39,6 +39,13 @@ module _ {F : Type 0} (call : F → Bor MatchReport → Result Bool Error → F 
       (settings : Settings) (old : S) (plan : Plan) (new : S)
       → IsRun (LentSteps closure) settings old plan (Ok tt) new
       → AreTaken IsLentAt (closure old) (match_calls plan.calls) (closure new)
+
+  -- an error of a call is one that the closure returned, which was lent the call's match
+  abbrev pub ClosuresFailLent : {S : Type 0} → (S → F) → Type 0
+  ClosuresFailLent {S} closure =
+      (settings : Settings) (old : S) (made : Call) (e : Error) (new : S)
+      → LentSteps closure old settings made (Err e) new
+      → IsLent (closure old) made (Err e) (closure new)
 
   -- a call of the closure that returns goes on, appends a part for the match to what is kept, and
   -- leaves the name of the reference through which it is kept

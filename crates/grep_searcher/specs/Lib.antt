@@ -3,6 +3,7 @@ pub mod BoundedReads
 pub mod ClosureSinks
 pub mod CountSinks
 pub mod HitLines
+pub mod KeptReports
 pub mod LentMatches
 pub mod LineCounts
 pub mod MatchHandlers

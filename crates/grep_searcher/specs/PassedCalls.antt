@@ -1,5 +1,5 @@
 -- What a sink that passes each call to a closure makes of a call.
-use Rattle.std.specs.Prelude.{◌≡◌, ◌⊎◌, ℕ, Bool, true, false, List, [], ◌∷◌, ◌++◌, Result, Ok}
+use Rattle.std.specs.Prelude.{◌≡◌, ◌⊎◌, ℕ, Bool, true, false, List, [], ◌∷◌, ◌++◌, Result, Ok, Err}
 use Rattle.std.specs.List.{flat_map}
 use Rattle.std.specs.declared.io.Error.{Error}
 use Rattle.grep_definitions.specs.Plans.{Call, begins, breaks, binary_data, finishes}
@@ -61,6 +61,13 @@ module _ {F : Type 0} (call : F → SinkCall → Result Bool Error → F → Typ
       (settings : Settings) (old : S) (plan : Plan) (new : S)
       → IsRun (PassedSteps closure) settings old plan (Ok tt) new
       → ArePassed (closure old) plan.calls plan.finish (closure new)
+
+  -- an error of a call is one that the closure returned
+  abbrev pub ClosuresFailPassed : {S : Type 0} → (S → F) → Type 0
+  ClosuresFailPassed {S} closure =
+      (settings : Settings) (old : S) (made : Call) (e : Error) (new : S)
+      → PassedSteps closure old settings made (Err e) new
+      → IsPassed (closure old) made (Err e) (closure new)
 
   -- a call of the closure that returns goes on, unless it is the end, appends a part for what it is
   -- passed to what is kept, and leaves the name of the reference through which it is kept

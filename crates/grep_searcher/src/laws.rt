@@ -9,8 +9,9 @@ ghost use Rattle.grep_searcher.specs.BoundedReads.{ReadersFindLines};
 ghost use Rattle.grep_searcher.specs.CountSinks.{RunsCount, RunsCountAll};
 ghost use Rattle.grep_searcher.specs.HitLines.{HitsAreSelected, HitsAreMatched, HitsAreCounted};
 ghost use Rattle.grep_searcher.specs.HitLines.{PredicatesAreCounted};
+ghost use Rattle.grep_searcher.specs.KeptReports.{RunsKeep, RunsKeepUntil};
 ghost use Rattle.grep_searcher.specs.LentMatches.{ClosuresAppendMatches, ClosuresAreLent};
-ghost use Rattle.grep_searcher.specs.LentMatches.{ClosuresKeepMatches};
+ghost use Rattle.grep_searcher.specs.LentMatches.{ClosuresFailLent, ClosuresKeepMatches};
 ghost use Rattle.grep_searcher.specs.LineCounts.{RunsCountLines, SlicesCountLines};
 ghost use Rattle.grep_searcher.specs.LineCounts.{ReadersCountLines};
 ghost use Rattle.grep_searcher.specs.MatchHandlers.{RunsHandle, RunsFailAt, RunsFit};
@@ -18,7 +19,7 @@ ghost use Rattle.grep_searcher.specs.MatchHandlers.{RunsFindSelected, RunsFindAc
 ghost use Rattle.grep_searcher.specs.MatchHandlers.{RunsCollectLines, RunsCollectUntil};
 ghost use Rattle.grep_searcher.specs.MatchHandlers.{RunsHandFirst, RunsHandFirstLines};
 ghost use Rattle.grep_searcher.specs.PassedCalls.{ClosuresAppend, ClosuresArePassed};
-ghost use Rattle.grep_searcher.specs.PassedCalls.{ClosuresKeepCalls};
+ghost use Rattle.grep_searcher.specs.PassedCalls.{ClosuresFailPassed, ClosuresKeepCalls};
 ghost use Rattle.grep_searcher.specs.SearchFailures.{ReadersFail, SlicesFail};
 ghost use Rattle.grep_searcher.specs.Units.{FirstMatchIsFirstUnit, MatchesAreUnits};
 ghost use Rattle.grep_searcher.specs.Units.{MatchesAreWithinCount, UnitsAreCounted};
@@ -172,6 +173,14 @@ pub fn runs_collect_lines<A: Allocator + Copy>()
     matches_are_matched_lines();
 }
 
+/// A run of `Reports` that ended in `Ok` kept the reports of the plan, after those that it had kept.
+/// One that ended in an error, which is out of memory, kept those before the report at which it
+/// failed.
+pub fn runs_keep_reports<A: Allocator + Copy>()
+    ensures all { RunsKeep A }
+    ensures failed { RunsKeepUntil A }
+{}
+
 /// A run that ended in `Ok`, of a sink that calls a closure, called it at each match that is
 /// reported, in order, with its number and its text, up to the first at which it returned false.
 /// Pass the sink, since a closure's type has no name.
@@ -219,23 +228,26 @@ pub fn bytes_closures_keep_calls<F: FnMut(u64, &[u8]) -> Result<bool, io::Error>
 /// A run of `Matches` that ended in `Ok` lent its closure the matches that are reported, in order,
 /// up to the first at which it returned false. If each call that returns goes on and appends a part
 /// for the match to what is kept, through one reference, the run appends the parts of all these
-/// matches; or the number, the offset and the bytes of each. Pass the sink, since a closure's type
-/// has no name. `X` is what is appended.
+/// matches; or the number, the offset and the bytes of each. An error of a call is the closure's.
+/// Pass the sink, since a closure's type has no name. `X` is what is appended.
 pub fn matches_are_lent<F: FnMut(&SinkMatch<'_>) -> Result<bool, io::Error>, X>(_: &Matches<F>)
     ensures lent { ClosuresAreLent F.step (λ (s : Matches F). s.0) }
     ensures appended { ClosuresAppendMatches F.step X (λ (s : Matches F). s.0) }
     ensures kept { ClosuresKeepMatches F.step (λ (s : Matches F). s.0) }
+    ensures failed { ClosuresFailLent F.step (λ (s : Matches F). s.0) }
 {}
 
 /// A run of `Calls` that ended in `Ok` passed its closure the calls of the plan, in order, up to the
 /// first at which it returned false, and then the end. If each call of the closure that returns goes
 /// on, but for the end, and appends a part for what it is passed to what is kept, through one
 /// reference, the run appends the parts of all calls of the plan, and of the end; or these calls
-/// themselves. Pass the sink, since a closure's type has no name. `X` is what is appended.
+/// themselves. An error of a call is the closure's. Pass the sink, since a closure's type has no
+/// name. `X` is what is appended.
 pub fn calls_are_passed<F: FnMut(SinkCall<'_>) -> Result<bool, io::Error>, X>(_: &Calls<F>)
     ensures passed { ClosuresArePassed F.step (λ (s : Calls F). s.0) }
     ensures appended { ClosuresAppend F.step X (λ (s : Calls F). s.0) }
     ensures kept { ClosuresKeepCalls F.step (λ (s : Calls F). s.0) }
+    ensures failed { ClosuresFailPassed F.step (λ (s : Calls F). s.0) }
 {}
 
 /// Without binary detection, a search of a slice with a lawful matcher, if it ended in `Ok`, is a
@@ -280,8 +292,9 @@ where
 {}
 
 /// Under these conditions an error of a search of a slice is that of a step of the sink, or it is made
-/// of why the slice, which has to be decoded, wasn't to its end.
-pub fn slices_fail<A: Allocator + Copy, M: Matcher, S: Sink>()
+/// of why the slice, which has to be decoded, wasn't to its end. Pass the sink, since a closure's type
+/// has no name.
+pub fn slices_fail<A: Allocator + Copy, M: Matcher, S: Sink>(_: &S)
 where
     S::Error: SinkError<A>,
     ensures { (matcher : M) → SlicesFail S.step
@@ -290,7 +303,7 @@ where
 
 /// Under these conditions an error of a search of a reader is that of a step of the sink, or it is
 /// made of why the reader wasn't read to its end.
-pub fn readers_fail<A: Allocator + Copy, M: Matcher, R: Source, S: Sink>()
+pub fn readers_fail<A: Allocator + Copy, M: Matcher, R: Source, S: Sink>(_: &S)
 where
     S::Error: SinkError<A>,
     ensures { (matcher : M) → ReadersFail S.step

@@ -1,8 +1,7 @@
 //! Ready sinks. Some call a closure at each match, with its line number and its text or with the
-//! match itself, and one passes each call of a search to a closure. One counts the matches, and one
+//! match itself, and one passes each call of a search to a closure: it returns whether the search
+//! goes on, and its error ends the search. One counts the matches, one keeps each report, and one
 //! passes each match to a handler, with the handlers that callers need most.
-//!
-//! The closure returns whether the search goes on. Its error ends the search.
 ghost use Rattle.std.specs.Prelude.{◌≡◌, Some, None, MatchResult};
 ghost use Rattle.std.specs.IoError.{error_kind};
 ghost use Rattle.std.specs.declared.io.ErrorKind.TheVariants.{Other};
@@ -12,9 +11,11 @@ mod collect;
 mod count;
 mod first;
 mod found;
+mod kept_lines;
 mod kept_match;
 mod lent;
 mod on_match;
+mod reports;
 
 use crate::searcher::Searcher;
 use crate::sink::Sink;
@@ -24,9 +25,11 @@ pub use count::Count;
 pub use first::First;
 pub use found::Found;
 use grep_report::{SinkContext, SinkError, SinkFinish, SinkMatch};
+pub use kept_lines::{KeptLines, ReportKind};
 pub use kept_match::KeptMatch;
 pub use lent::Matches;
 pub use on_match::{MatchHandler, OnMatch};
+pub use reports::Reports;
 use std::alloc::Allocator;
 use std::{io, str};
 

@@ -1,5 +1,7 @@
 pub mod MatchedLines
+pub mod Blocks
 pub mod Expressions
+pub mod FirstAround
 pub mod JsonLines
 pub mod MarkedCalls
 pub mod NumberedTexts

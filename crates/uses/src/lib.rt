@@ -1,14 +1,17 @@
 //! Small callers of grep_searcher, each proved from its public contracts: copy the one that is
 //! closest to what you need.
 //!
-//! `count_matching_lines` counts, and so do `count_in_reader` and `count_in_path`; `has_match` stops
-//! at the first match of a path, `first_matches` keeps the first ones of a reader, and
+//! `count_matching_lines` counts, and so do `count_in_reader`, `count_in_path` and, across lines,
+//! `count_blocks`; `has_match` stops at the first match of a path, `first_matches` keeps the first
+//! ones of a reader and `first_with_context` those of a slice with the lines around them, and
 //! `matching_lines` joins the lines of all matches by a handler of its own. `numbered_lines`,
 //! `json_lines` and `in_context` write by closures, and `reporter` builds a searcher.
 //! `count_with_prefix` has a matcher of its own, and `count_pattern_lines` compiles a regular
 //! expression. `CALLING.md` says which laws they use.
 #![tactic(auto)]
 
+mod around;
+mod blocks;
 mod collect;
 mod count;
 mod expression;
@@ -19,6 +22,8 @@ mod path;
 mod prefix;
 mod report;
 
+pub use around::first_with_context;
+pub use blocks::count_blocks;
 pub use collect::matching_lines;
 pub use count::{count_in_reader, count_matching_lines};
 pub use expression::count_pattern_lines;

@@ -1,9 +1,9 @@
 //! A match that was kept.
 ghost use Rattle.std.specs.Prelude.{◌≡◌, IfOk};
-ghost use Rattle.grep_definitions.specs.SinkArguments.{match_call};
+ghost use Rattle.grep_definitions.specs.SinkArguments.{context_call, match_call};
 ghost use Rattle.grep_searcher.specs.MatchHandlers.{kept_of};
 
-use grep_report::SinkMatch;
+use grep_report::{SinkContext, SinkMatch};
 use std::alloc::{AllocError, Allocator, Global};
 use std::marker::Model;
 
@@ -37,6 +37,19 @@ impl<A: Allocator> KeptMatch<A> {
         Ok(KeptMatch {
             line_number: found.line_number(),
             absolute_byte_offset: found.absolute_byte_offset(),
+            bytes,
+        })
+    }
+
+    // A copy of a line that isn't a match. The only error is being out of memory for its bytes.
+    pub(crate) fn of_context(alloc: A, line: &SinkContext<'_>) -> Result<KeptMatch<A>, AllocError>
+        ensures { IfOk result (λ kept. kept ≡ kept_of (context_call line.now)) }
+    {
+        let mut bytes = Vec::new(alloc);
+        bytes.extend_from_slice(line.bytes())?;
+        Ok(KeptMatch {
+            line_number: line.line_number(),
+            absolute_byte_offset: line.absolute_byte_offset(),
             bytes,
         })
     }

@@ -1,4 +1,4 @@
-use Rattle.grep_searcher.proofs.PassedCallLemmas.{closures-append, closures-are_passed, closures-keep_passed}
+use Rattle.grep_searcher.proofs.PassedCallLemmas.{closures-append, closures-are_passed, closures-fail_passed, closures-keep_passed}
 use Rattle.grep_searcher.proofs.laws.calls_are_passed.Goals as goal
 
 pub returns-clause-passed : goal.returns-clause-passed
@@ -9,3 +9,6 @@ returns-clause-appended g c = closures-append (goal.F-step g) _ _
 
 pub returns-clause-kept : goal.returns-clause-kept
 returns-clause-kept g c = closures-keep_passed (goal.F-step g) _
+
+pub returns-clause-failed : goal.returns-clause-failed
+returns-clause-failed g c = closures-fail_passed (goal.F-step g) _

@@ -1,4 +1,5 @@
-use Rattle.grep_searcher.proofs.LentMatchLemmas.{closures-append_matches, closures-are_lent, closures-keep_matches}
+use Rattle.grep_searcher.proofs.LentMatchLemmas.{closures-append_matches, closures-are_lent, closures-fail_lent}
+use Rattle.grep_searcher.proofs.LentMatchLemmas.{closures-keep_matches}
 use Rattle.grep_searcher.proofs.laws.matches_are_lent.Goals as goal
 
 pub returns-clause-lent : goal.returns-clause-lent
@@ -9,3 +10,6 @@ returns-clause-appended g c = closures-append_matches (goal.F-step g) _ _
 
 pub returns-clause-kept : goal.returns-clause-kept
 returns-clause-kept g c = closures-keep_matches (goal.F-step g) _
+
+pub returns-clause-failed : goal.returns-clause-failed
+returns-clause-failed g c = closures-fail_lent (goal.F-step g) _

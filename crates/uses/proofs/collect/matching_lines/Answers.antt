@@ -1,16 +1,13 @@
-use Rattle.std.proofs.Common.{refl, ap, ◌∙◌, ◌++◌}
+use Rattle.std.proofs.Common.{refl, arith}
 use Rattle.grep_searcher.specs.Inputs.{searched_bytes}
 use Rattle.grep_searcher.specs.Plans.{reported_bytes}
-use Rattle.uses.specs.MatchedLines.{matched_bytes}
 use Rattle.uses.proofs.collect.matching_lines.Goals as goal
 
 pub returns-clause-lines : goal.returns-clause-lines
 returns-clause-lines g c = λ by.
     let settings = c.args.searcher.now.settings in
-    let meaning = (g.M.Matcher.facts c.args.matcher).meaning in
-    let bytes = searched_bytes settings c.args.bytes.now in
-    c.into_text.ensures ∙ c.into_handler.ensures
-    ∙ c.runs_append_matches.ensures.lines (λ text. text) reported_bytes (λ _ _. (refl, refl)) settings meaning bytes
-    by.by_line _ _ (c.searches_run.ensures c.args.matcher c.args.searcher.now c.args.bytes.now _ _ by.undetected by.lawful
-    c.in_ok-search_slice.ensures.searched)
-    ∙ ap (λ old. old ++ matched_bytes settings meaning bytes) (c.new-sink.ensures ∙ c.new.ensures.items)
+    let kept = c.runs_append_matches.ensures.lines (λ text. text) reported_bytes (λ _ _. (refl, refl)) settings
+    (g.M.Matcher.facts c.args.matcher).meaning (searched_bytes settings c.args.bytes.now) by.by_line _ _
+    (c.searches_run.ensures c.args.matcher c.args.searcher.now c.args.bytes.now _ _ by.undetected by.lawful
+    c.in_ok-search_slice.ensures.searched) in
+    grind (arith, kept, c.new-sink.ensures, c.new.ensures.items, c.into_text.ensures, c.into_handler.ensures)
