@@ -245,7 +245,8 @@ const COLOR: [&str; 3] = ["auto", "always", "never"];
 
 /// The command line of the program. An error is one of being out of memory.
 pub fn command<'a>(alloc: Global) -> Result<Command<'a>, Error> {
-    let mut command = Command::new(alloc, "linegrep")
+    let json = json(alloc)?;
+    let command = Command::new(alloc, "linegrep")
         .version("0.1.0")
         .about("Searches files, or standard input, for lines that match a pattern")
         .override_usage(
@@ -255,11 +256,22 @@ pub fn command<'a>(alloc: Global) -> Result<Command<'a>, Error> {
         .args_override_self(true)
         .arg(operands(alloc))?
         .arg(help(alloc))?
-        .arg(json(alloc)?)?
+        .arg(json)?
         .arg(color(alloc))?;
+    let command = add_switches(alloc, command)?;
+    Ok(add_valued(alloc, command)?)
+}
+
+fn add_switches<'a>(alloc: Global, command: Command<'a>) -> Result<Command<'a>, AllocError> {
+    let mut command = command;
     for switch in &SWITCHES {
         command = command.arg(switch.arg(alloc))?;
     }
+    Ok(command)
+}
+
+fn add_valued<'a>(alloc: Global, command: Command<'a>) -> Result<Command<'a>, AllocError> {
+    let mut command = command;
     for valued in &VALUED {
         command = command.arg(valued.arg(alloc))?;
     }

@@ -33,8 +33,8 @@ struct Glob {
 }
 
 impl Globs {
-    /// Reads the globs of `-g` from parsed arguments; an empty one is left out. A failure is that of
-    /// a glob that isn't well formed, or of being out of memory.
+    /// Reads the globs of `-g` from parsed arguments; an empty one is left out. A failure is that
+    /// of a glob that isn't well formed, or of being out of memory.
     pub fn read(alloc: Global, matches: &ArgMatches<'_>) -> Result<Globs, Failure> {
         let mut globs = Vec::new(alloc);
         for text in &texts(alloc, matches, "glob")? {

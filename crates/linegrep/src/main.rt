@@ -65,8 +65,15 @@ fn search_to<W: Output + Drop>(
     is_terminal: bool,
     writer: W,
 ) -> Result<ExitCode, Failure> {
-    let searcher = searcher(rt.alloc(), matches, is_terminal)?;
-    let printer = build_printer(rt, matches, is_terminal, writer);
+    let mut searcher = searcher(rt.alloc(), matches, is_terminal)?;
+    let mut printer = build_printer(rt, matches, is_terminal, writer);
     let mut input = Reading::new(rt.stdin());
-    search_all(rt, matches, operands, searcher, printer, &mut input)
+    search_all(
+        rt,
+        matches,
+        operands,
+        &mut searcher,
+        &mut printer,
+        &mut input,
+    )
 }

@@ -25,12 +25,12 @@ const STDIN: &str = "<stdin>";
 /// path, it searches the current folder under `-r`, and otherwise what `input` gives. The status is
 /// 0 if there is a match, 1 if there is none, and 2 if a file can't be read, of which standard error
 /// says why. If nothing is to be written, the first match ends it with 0.
-pub fn search_all<T, R: Source, W: Output + Drop>(
+pub fn search_all<T, R: Source, W: Output>(
     rt: &T,
     matches: &ArgMatches<'_>,
     operands: &Operands,
-    searcher: Searcher,
-    printer: Printer<W>,
+    searcher: &mut Searcher,
+    printer: &mut Printer<W>,
     input: &mut R,
 ) -> Result<ExitCode, Failure>
 where
@@ -41,33 +41,56 @@ where
 }
 
 // Searches for a compiled expression, which `N` names: no call of its matcher compares texts.
-fn search_named<N: Naming, T, R: Source, W: Output + Drop>(
+fn search_named<N: Naming, T, R: Source, W: Output>(
     rt: &T,
     matches: &ArgMatches<'_>,
     operands: &Operands,
     regex: &Regex,
-    searcher: Searcher,
-    printer: Printer<W>,
+    searcher: &mut Searcher,
+    printer: &mut Printer<W>,
     input: &mut R,
 ) -> Result<ExitCode, Failure>
 where
     T: Files + Clock + Eprint + AllocGlobal + Clone + Drop,
     requires { IsNamed N.options N.patterns regex.now }
 {
-    let alloc = rt.alloc();
-    let globs = Globs::read(alloc, matches)?;
-    let flags = Flags::new(rt, matches, &operands.paths);
+    let matcher = regex.named_matcher::<N>(rt.alloc())?;
+    search_matcher(
+        rt,
+        matches,
+        &operands.paths,
+        matcher,
+        searcher,
+        printer,
+        input,
+    )
+}
+
+// Searches with a matcher.
+fn search_matcher<T, M: FindAt + Drop, R: Source, W: Output>(
+    rt: &T,
+    matches: &ArgMatches<'_>,
+    paths: &[String],
+    matcher: M,
+    searcher: &mut Searcher,
+    printer: &mut Printer<W>,
+    input: &mut R,
+) -> Result<ExitCode, Failure>
+where
+    T: Files + Clock + Eprint + AllocGlobal + Clone + Drop,
+{
+    let globs = Globs::read(rt.alloc(), matches)?;
     let mut run = Run {
         rt,
         searcher,
-        matcher: regex.named_matcher::<N>(alloc)?,
+        matcher,
         printer,
-        globs: globs.matcher(alloc)?,
-        flags,
+        globs: globs.matcher(rt.alloc())?,
+        flags: Flags::new(rt, matches, paths),
         has_match: false,
         has_error: false,
     };
-    run.search_paths(&operands.paths, input)?;
+    run.search_paths(paths, input)?;
     run.finish()
 }
 
@@ -99,9 +122,9 @@ impl Flags {
 #[derive(Drop)]
 struct Run<'r, 'g, T, M, W> {
     rt: &'r T,
-    searcher: Searcher,
+    searcher: &'r mut Searcher,
     matcher: M,
-    printer: Printer<W>,
+    printer: &'r mut Printer<W>,
     globs: GlobsMatcher<'g>,
     flags: Flags,
     has_match: bool,
@@ -195,7 +218,7 @@ where
         };
         let searched = self
             .printer
-            .search(self.rt, &mut self.searcher, &self.matcher, haystack, path);
+            .search(self.rt, self.searcher, &self.matcher, haystack, path);
         self.keep(name, searched)
     }
 

@@ -44,8 +44,8 @@ impl<'r, T: Files + AllocGlobal + Clone + Drop> Walk<'r, T> {
         })
     }
 
-    /// The next that is found and that the globs choose, or `None` at the end. What can't be read is
-    /// left out, and the walk goes on. The only error is being out of memory.
+    /// The next that is found and that the globs choose, or `None` at the end. What can't be read
+    /// is left out, and the walk goes on. The only error is being out of memory.
     pub fn next(&mut self, globs: &mut GlobsMatcher<'_>) -> io::Result<Option<Found>> {
         for _ in 0..u64::MAX {
             match self.pending.pop() {
