@@ -49,7 +49,8 @@ module _ {M W F : Type 0} (facts : M → MatcherFacts F) (first_at : M → List 
 module _ {M W F : Type 0} (facts : M → MatcherFacts F) (first_at : M → List ℕ → ℕ → Option (ℕ × ℕ))
     (write_step : W → OutputCall → W → Type 0) (settings : Settings) where
   -- what a sink has written since a state of the writer, and what was reported to it
-  record HasPrinted (frame : JsonFrame) (start : JsonSink M W) (printed : JsonPrinted) (now : JsonSink M W) : Type 0 where
+  record HasPrinted (frame : JsonFrame) (start : JsonSink M W) (printed : JsonPrinted) (now : JsonSink M W)
+      : Type 0 where
     same : IsSameJson start now
     framed : json_frame facts first_at now settings ≡ frame
     written : WritesAll write_step start.printer.now.writer printed.text now.printer.now.writer
@@ -100,8 +101,8 @@ module _ {M W F : Type 0} (facts : M → MatcherFacts F) (first_at : M → List 
       → PrintsJsonPlan facts first_at write_step old settings plan new
   run-prints-json old plan new run =
       let frame = json_frame facts first_at old settings in
-      let end = run-keeps (PrintsJsonCall facts first_at write_step) settings (HasPrinted frame old) (λ printed call. true)
-      (json_printed_with frame) (printed-more frame old) (record { progress = old.progress; text = [] }) old plan new
+      let end = run-keeps (PrintsJsonCall facts first_at write_step) settings (HasPrinted frame old)
+      (λ printed call. true) (json_printed_with frame) (printed-more frame old) (record { progress = old.progress; text = [] }) old plan new
       (printed-none old) run in
       record { same = end.same; written = end.written; progress = end.progress; has_failed = end.has_failed }
 

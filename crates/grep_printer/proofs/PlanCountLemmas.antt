@@ -1,6 +1,6 @@
 -- What the counts of a printer come to after the calls of a plan, one after another.
-use Rattle.std.proofs.Common.{◌≡◌, ◌∙◌, ℕ, suc, ◌+◌, List, [], ◌∷◌, ◌++◌, Bool, true, false, Some, ap, arith, length, refl}
-use Rattle.std.proofs.Common.{sym}
+use Rattle.std.proofs.Common.{◌≡◌, ◌∙◌, ℕ, suc, ◌+◌, List, [], ◌∷◌, ◌++◌, Bool, true, false, Some, ap, arith, length}
+use Rattle.std.proofs.Common.{refl, sym}
 use Rattle.std.proofs.lemmas.Bool.{ne_eqb}
 use Rattle.std.proofs.lemmas.List.{length-append}
 use Rattle.std.proofs.lemmas.List.Elements.{All-head, All-tail, filter-append}
@@ -16,8 +16,8 @@ use Rattle.json.specs.Print.{print}
 use Rattle.json.specs.Tree.{json_tokens}
 use Rattle.grep_printer.proofs.SomeTextLemmas.{text-after, text-ended}
 use Rattle.grep_printer.specs.JsonMessages.{begin_json, json_line}
-use Rattle.grep_printer.specs.JsonTexts.{JsonFrame, JsonPrinted, is_opened, json_printed_with, json_text, new_json_progress}
-use Rattle.grep_printer.specs.JsonTexts.{opening_line, with_match, with_text}
+use Rattle.grep_printer.specs.JsonTexts.{JsonFrame, JsonPrinted, is_opened, json_printed_with, json_text}
+use Rattle.grep_printer.specs.JsonTexts.{new_json_progress, opening_line, with_match, with_text}
 use Rattle.grep_printer.specs.PlanCounts.{JsonCounts, SummariesCount, capped, is_inner, line_count_of}
 use Rattle.grep_printer.specs.PlanCounts.{submatch_count_of}
 use Rattle.grep_printer.specs.StandardTexts.{is_text}
@@ -153,7 +153,8 @@ module _ (frame : JsonFrame) where
   counted-call : (found lines parts : ℕ) (printed : JsonPrinted) (call : Call) → IsCounted found lines parts printed
       → IsCounted (found + length (found_in (call ∷ []))) (lines + sum_by (line_count_of frame) (found_in (call ∷ [])))
       (parts + sum_by (submatch_count_of frame) (found_in (call ∷ []))) (json_printed_with frame printed call)
-  counted-call found lines parts printed begins is = counted-as found lines parts (json_printed_with frame printed begins)
+  counted-call found lines parts printed begins is = counted-as found lines parts
+      (json_printed_with frame printed begins)
       (counted-other found lines parts printed begins refl is)
   counted-call found lines parts printed (matches number offset bytes) is =
       let call = matches number offset bytes in
@@ -167,7 +168,8 @@ module _ (frame : JsonFrame) where
   counted-call found lines parts printed (context kind number offset bytes) is = counted-as found lines parts
       (json_printed_with frame printed (context kind number offset bytes))
       (counted-other found lines parts printed (context kind number offset bytes) refl is)
-  counted-call found lines parts printed breaks is = counted-as found lines parts (json_printed_with frame printed breaks)
+  counted-call found lines parts printed breaks is = counted-as found lines parts
+      (json_printed_with frame printed breaks)
       (counted-other found lines parts printed breaks refl is)
   counted-call found lines parts printed (binary_data offset) is = counted-as found lines parts
       (json_printed_with frame printed (binary_data offset))
@@ -287,7 +289,8 @@ module _ (frame : SummaryFrame) (goes : counts_on frame.config.kind ≡ true) wh
       → All (λ call. is_inner call ≡ true) (calls_of calls)
       → found + length (found_in (calls_of calls)) ≡ all_found
       → parts + sum_by part_count_of (found_in (calls_of calls)) ≡ all_parts
-      → run_fold (λ summed call. sums_on frame.config.kind call) (summed_with frame) (summed_as found parts []) calls finish
+      → run_fold (λ summed call. sums_on frame.config.kind call) (summed_with frame) (summed_as found parts []) calls
+      finish
       ≡ summed_with frame (summed_as all_found all_parts []) (finishes finish.count finish.binary)
   summed-all finish all_found all_parts [] found parts inner one two =
       let first : found ≡ all_found = omega (arith, one) in
@@ -316,8 +319,8 @@ module _ (frame : SummaryFrame) (goes : counts_on frame.config.kind ≡ true) wh
 pub summaries-count : SummariesCount
 summaries-count frame plan goes inner =
     let found = match_calls plan.calls in
-    let all = summed-all frame goes plan.finish (length found) (sum_by (part_count_of frame goes) found) plan.calls 0 0 inner
-    (omega arith) (omega arith) in record {
+    let all = summed-all frame goes plan.finish (length found) (sum_by (part_count_of frame goes) found) plan.calls 0 0
+    inner (omega arith) (omega arith) in record {
       counts = ap (λ summed. summed.counts) all;
       text = ap (λ summed. summed.text) all;
     }

@@ -67,7 +67,8 @@ module _ {M W F : Type 0} (facts : M → MatcherFacts F) (first_at : M → List 
           framed = same-frame old new step.same ∙ before.framed;
           written = Writes-more write_step start.printer.now.writer old.printer.now.writer new.printer.now.writer
               printed.text (call_text frame printed.progress call) (Ok tt) before.written
-              (subst (λ text. WritesAll write_step old.printer.now.writer text new.printer.now.writer) here step.written);
+              (subst (λ text. WritesAll write_step old.printer.now.writer text new.printer.now.writer) here
+              step.written);
           progress = step.progress ∙ ap (λ p. progress_after p call) before.progress;
           has_written = step.has_written ∙ (ap (λ b. b || is_text (text_of facts first_at old settings call))
               before.has_written ∙ (ap (λ t. (start.printer.now.has_written || is_text printed.text) || is_text t) here
@@ -108,9 +109,11 @@ module _ {M W F : Type 0} (facts : M → MatcherFacts F) (first_at : M → List 
 
   -- a call that fails after others
   call-fails : (start : StandardSink M W) (e : SearchError Global) (new : StandardSink M W) (plan : Plan)
-      → FailsOnTheWay (PrintsCall facts first_at write_step) settings (HasPrinted (frame_of facts first_at start settings) start)
+      → FailsOnTheWay (PrintsCall facts first_at write_step) settings
+      (HasPrinted (frame_of facts first_at start settings) start)
       (λ printed call. goes_on (frame_of facts first_at start settings) printed.progress call)
-      (printed_with (frame_of facts first_at start settings)) (printed-more (frame_of facts first_at start settings) start)
+      (printed_with (frame_of facts first_at start settings))
+      (printed-more (frame_of facts first_at start settings) start)
       (λ made end. Begins made.text end.text)
       (printed_of (frame_of facts first_at start settings) start.progress plan) e new
       → IsSameSink start new × (FailsToWritePlan facts first_at write_step start settings plan e new
@@ -123,16 +126,16 @@ module _ {M W F : Type 0} (facts : M → MatcherFacts F) (first_at : M → List 
         elim way.failed.cause [
           | inl writing ↦ inl (record {
             failed = fails-in write_step start.printer.now.writer way.mid.printer.now.writer way.made.text
-                (call_text (frame_of facts first_at start settings) way.made.progress way.call) all has.written way.leads
-                new.printer.now.writer e writing.error writing.is_io
+                (call_text (frame_of facts first_at start settings) way.made.progress way.call) all has.written
+                way.leads new.printer.now.writer e writing.error writing.is_io
                 (subst (λ t. FailsToWrite write_step way.mid.printer.now.writer t writing.error new.printer.now.writer)
                 here writing.failed);
             has_failed = writing.has_failed;
           })
           | inr before ↦ inr (record {
             stopped = stops-in write_step start.printer.now.writer way.mid.printer.now.writer way.made.text
-                (call_text (frame_of facts first_at start settings) way.made.progress way.call) all has.written way.leads
-                new.printer.now.writer before.unwritten;
+                (call_text (frame_of facts first_at start settings) way.made.progress way.call) all has.written
+                way.leads new.printer.now.writer before.unwritten;
             has_written = before.has_written ∙ has.has_written;
             has_failed = before.has_failed ∙ has.has_failed;
             cause = elim before.cause [

@@ -1,5 +1,6 @@
 -- Messages of a printer of JSON, as they are read back.
-use Rattle.std.proofs.Common.{◌≡◌, ℕ, ◌<◌, ◌≤◌, ◌^◌, ◌/◌, ◌%◌, List, [], ◌∷◌, Bool, true, false, Option, None, Some, arith, refl}
+use Rattle.std.proofs.Common.{◌≡◌, ℕ, ◌<◌, ◌≤◌, ◌^◌, ◌/◌, ◌%◌, List, [], ◌∷◌, Bool, true, false, Option, None, Some, arith}
+use Rattle.std.proofs.Common.{refl}
 use Rattle.std.specs.Borrow.{Bor}
 use Rattle.std.specs.Option.{IfSome}
 use Rattle.std.specs.Prelude.{All, if◌then◌else◌}
@@ -15,8 +16,8 @@ use Rattle.json.specs.Tree.{HasNumbers, ItemsHaveNumbers, depth, items_depth, js
 use Rattle.grep_printer.specs.JsonLaws.{AreWords, IsLineOf, IsReport, IsWordRange, MessagesAreReadBack, Reported}
 use Rattle.grep_printer.specs.JsonLaws.{message_of}
 use Rattle.grep_printer.specs.JsonMessages.{base64_json, begin_json, bytes_json, end_json, json_line, optional_json}
-use Rattle.grep_printer.specs.JsonMessages.{path_json, report_json, stats_json, submatch_items, submatch_json, summary_json}
-use Rattle.grep_printer.specs.JsonMessages.{text_json, time_json}
+use Rattle.grep_printer.specs.JsonMessages.{path_json, report_json, stats_json, submatch_items, submatch_json}
+use Rattle.grep_printer.specs.JsonMessages.{summary_json, text_json, time_json}
 use Rattle.grep_printer.specs.declared.stats.Stats.{Stats}
 
 -- the numbers of a value are numbers, and it is no deeper than so

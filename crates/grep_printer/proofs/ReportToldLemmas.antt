@@ -1,6 +1,6 @@
 -- What the message of a report tells of it.
-use Rattle.std.proofs.Common.{◌≡◌, ◌∙◌, ℕ, ◌<◌, ◌^◌, List, [], ◌∷◌, Bool, true, false, Option, None, Some, ap, ap₂, arith}
-use Rattle.std.proofs.Common.{length, refl, sym}
+use Rattle.std.proofs.Common.{◌≡◌, ◌∙◌, ℕ, ◌<◌, ◌^◌, List, [], ◌∷◌, Bool, true, false, Option, None, Some, ap}
+use Rattle.std.proofs.Common.{ap₂, arith, length, refl, sym}
 use Rattle.std.proofs.lemmas.Fmt.{decimal_injective}
 use Rattle.std.proofs.lemmas.List.Elements.{All-head, All-tail}
 use Rattle.std.specs.Borrow.{Bor}
@@ -10,7 +10,8 @@ use Rattle.std.specs.Str.{is_utf8}
 use Rattle.base64.proofs.EngineFacts.{decode_of-encode_of}
 use Rattle.base64.specs.Engines.{standard}
 use Rattle.base64.specs.GeneralPurpose.{IsBytes, decode_of, encode_of}
-use Rattle.grep_printer.specs.JsonLaws.{IsReport, IsSameReport, IsWordRange, MessagesTell, Reported, message_of, path_text}
+use Rattle.grep_printer.specs.JsonLaws.{IsReport, IsSameReport, IsWordRange, MessagesTell, Reported, message_of}
+use Rattle.grep_printer.specs.JsonLaws.{path_text}
 use Rattle.grep_printer.specs.JsonMessages.{base64_json, bytes_json, optional_json, path_json, report_json}
 use Rattle.grep_printer.specs.JsonMessages.{submatch_items, submatch_json, text_json}
 

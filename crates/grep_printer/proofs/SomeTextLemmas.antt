@@ -20,7 +20,8 @@ pub text-more : (before : Bool) (first later : List ℕ)
     → ((before || is_text first) || is_text later) ≡ (before || is_text (first ++ later))
 text-more true first later = refl
 text-more false [] later = refl
-text-more false (x ∷ first) later = ap (λ b. b || is_text later) (text-some x first) ∙ sym (text-some x (first ++ later))
+text-more false (x ∷ first) later = ap (λ b. b || is_text later) (text-some x first)
+    ∙ sym (text-some x (first ++ later))
 
 pub text-none : (before : Bool) → before ≡ (before || is_text [])
 text-none true = refl

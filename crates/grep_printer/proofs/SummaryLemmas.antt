@@ -37,7 +37,8 @@ module _ {M W F : Type 0} (facts : M → MatcherFacts F) (first_at : M → List 
       let matcher = same.matcher in let path = same.path in let config = same.config in cc
 
   -- what a sink has written since a state of the writer, and what was reported to it
-  record HasSummed (frame : SummaryFrame) (start : SummarySink M W) (summed : Summed) (now : SummarySink M W) : Type 0 where
+  record HasSummed (frame : SummaryFrame) (start : SummarySink M W) (summed : Summed) (now : SummarySink M W)
+      : Type 0 where
     same : IsSameSummary start now
     framed : summary_frame facts first_at now settings ≡ frame
     written : WritesAll write_step start.printer.now.writer summed.text now.printer.now.writer
@@ -88,8 +89,8 @@ module _ {M W F : Type 0} (facts : M → MatcherFacts F) (first_at : M → List 
       → SumsUpPlan facts first_at write_step old settings plan new
   run-sums-up old plan new run =
       let frame = summary_frame facts first_at old settings in
-      let end = run-keeps (SumsUp facts first_at write_step) settings (HasSummed frame old) (λ summed call. sums_on frame.config.kind call)
-      (summed_with frame) (summed-more frame old) (record { counts = old.counts; text = [] }) old plan new
+      let end = run-keeps (SumsUp facts first_at write_step) settings (HasSummed frame old)
+      (λ summed call. sums_on frame.config.kind call) (summed_with frame) (summed-more frame old) (record { counts = old.counts; text = [] }) old plan new
       (summed-none old) run in
       record { same = end.same; written = end.written; counts = end.counts; has_failed = end.has_failed }
 

@@ -65,7 +65,8 @@ pub record IsSameReport (a b : Reported) : Type 0 where
 
 -- the lines of messages are read back as these messages
 pub record MessagesAreReadBack : Type 0 where
-  pub begin : (path : Option (Bor (List ℕ))) → IsLineOf (begin_json path) (json_line (begin_json path))
+  pub begin : (path : Option (Bor (List ℕ)))
+      → IsLineOf (begin_json path) (json_line (begin_json path))
   pub report : (report : Reported) → IsReport report
       → IsLineOf (message_of report) (json_line (message_of report))
   pub end : (path : Option (Bor (List ℕ))) (binary : Option ℕ) (stats : Stats)

@@ -19,8 +19,8 @@ module _ {W : Type 0} (write_step : W → OutputCall → W → Type 0) where
     pub begins : Begins part text
     pub written : WritesAll write_step old part new
 
-  -- an error came before all of the text was written: the writer failed, which is noted, or the error
-  -- has this other cause
+  -- an error came before all of the text was written: the writer failed, which is noted, or the
+  -- error has this other cause
   abbrev pub IsCutShort : W → Bool → List ℕ → SearchError Global → Type 0 → W → Bool → Type 0
   IsCutShort old had_failed text e Cause new has_failed =
       (FailsInText old text e new × (has_failed ≡ true))

@@ -47,8 +47,8 @@ pub fn messages_are_read_back()
     ensures tell { MessagesTell }
 {}
 
-/// What a `Json` counts in a search, and a `Summary` that counts all matches of one, in terms of all
-/// its calls: the sums over the matches, up to the greatest number of 64 bits.
+/// What a `Json` counts in a search, and a `Summary` that counts all matches of one, in terms of
+/// all its calls: the sums over the matches, up to the greatest number of 64 bits.
 pub fn matches_are_counted()
     ensures json { JsonCounts }
     ensures summary { SummariesCount }
