@@ -5,7 +5,7 @@ use Rattle.std.proofs.lemmas.Bool.Decides.{nat_tests}
 use Rattle.std.proofs.lemmas.List.{append-nil, length-append}
 use Rattle.std.specs.List.{list_any}
 use Rattle.std.specs.Prelude.{◌&&◌, ◌||◌, max, min, nat_le, nat_lt, if◌then◌else◌}
-use Rattle.grep_printer.proofs.PartLemmas.{ordered-from}
+use Rattle.grep_printer.proofs.FoundPartLemmas.{ordered-from}
 use Rattle.grep_printer.specs.ColorRuns.{after_run, run_text}
 use Rattle.grep_printer.specs.ColoredTexts.{is_matched, painted, painted_from, switch_text}
 use Rattle.grep_printer.specs.MatchedParts.{AreInOrder, parts_after}

@@ -1,7 +1,7 @@
 pub mod ColorLemmas
 pub mod JsonBytesLemmas
 pub mod JsonRunLemmas
-pub mod PartLemmas
+pub mod FoundPartLemmas
 pub mod PartTextLemmas
 pub mod PlanCountLemmas
 pub mod PrintedRunLemmas

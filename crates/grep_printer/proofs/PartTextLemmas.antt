@@ -12,7 +12,7 @@ use Rattle.grep_searcher.specs.Asking.{is_across}
 use Rattle.grep_searcher.specs.Lines.{lines, strip}
 use Rattle.grep_searcher.specs.Meanings.{Meaning}
 use Rattle.grep_searcher.specs.Settings.{Settings}
-use Rattle.grep_printer.proofs.PartLemmas.{ordered-from}
+use Rattle.grep_printer.proofs.FoundPartLemmas.{ordered-from}
 use Rattle.grep_printer.specs.MatchedParts.{AreInOrder, parts_after}
 use Rattle.grep_printer.specs.PartTexts.{across_text, clipped_text}
 use Rattle.grep_printer.specs.LineTexts.{next_number}

@@ -5,7 +5,7 @@ use Rattle.std.proofs.lemmas.Bool.Decides.{nat_tests}
 use Rattle.std.specs.Option.{option_and_then, option_map_or}
 use Rattle.std.specs.Prelude.{if◌then◌else◌, nat_le, nat_lt}
 use Rattle.grep_matcher.specs.FindResults.{IsFrom}
-use Rattle.grep_printer.proofs.PartLemmas.{after-later, from-found}
+use Rattle.grep_printer.proofs.FoundPartLemmas.{after-later, from-found}
 use Rattle.grep_printer.specs.MatchedParts.{AreSuccessive, below, found_from, is_passed}
 use Rattle.grep_printer.specs.MatchedParts.{next_part, parts_from, parts_in, position_after, with_part}
 

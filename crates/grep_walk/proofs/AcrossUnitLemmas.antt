@@ -18,7 +18,7 @@ use Rattle.grep_definitions.proofs.BoolLemmas.{and-both, clash}
 use Rattle.grep_walk.specs.declared.blocks.Blocks.{Blocks}
 use Rattle.grep_walk.specs.declared.walk.Walk.{Walk}
 use Rattle.grep_walk.specs.AcrossWalks.{IsAcross, IsComing, IsReady, is_done, is_joined, next_chosen}
-use Rattle.grep_walk.specs.Units.{AreLeft, IsUnit, is_hit}
+use Rattle.grep_walk.specs.TouchedUnits.{AreLeft, IsUnit, is_hit}
 use Rattle.grep_definitions.proofs.LineRangeLemmas.{starts-before, starts-from, starts-until, comes-before, comes-from}
 use Rattle.grep_definitions.proofs.LineRangeLemmas.{end-start}
 

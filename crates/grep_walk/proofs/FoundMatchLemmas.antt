@@ -14,7 +14,7 @@ use Rattle.grep_definitions.proofs.SuccessiveMatchLemmas.{matches_left-start, ma
 use Rattle.grep_definitions.proofs.SuccessiveMatchLemmas.{matches_left-end, position_past-last, match_from-found}
 use Rattle.grep_definitions.proofs.SuccessiveMatchLemmas.{match_from-missed}
 use Rattle.grep_walk.specs.declared.blocks.Blocks.{Blocks}
-use Rattle.grep_walk.specs.Units.{AreFound, IsFound, HasNoMore}
+use Rattle.grep_walk.specs.TouchedUnits.{AreFound, IsFound, HasNoMore}
 
 -- what is left of a limit after so many
 abbrev left_of : Option ℕ → ℕ → Option ℕ

@@ -24,7 +24,7 @@ use Rattle.grep_definitions.proofs.BlockLemmas.{block_end-part}
 use Rattle.grep_definitions.proofs.LineRangeLemmas.{comes-before, end-start, starts-before, starts-until}
 use Rattle.grep_definitions.proofs.TouchLemmas.{rises}
 use Rattle.grep_definitions.proofs.SuccessiveMatchLemmas.{position_after-start}
-use Rattle.grep_walk.specs.Units.{is_in, is_hit, IsPart, IsUnit, AreTouched}
+use Rattle.grep_walk.specs.TouchedUnits.{is_in, is_hit, IsPart, IsUnit, AreTouched}
 
 -- a position in a range is at its start or after it, and before its end
 in-range : (u : ℕ × ℕ) (s : ℕ) → u.0 ≤ s → s < u.1 → is_in (Some u) s ≡ true

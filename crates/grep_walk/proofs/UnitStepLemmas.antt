@@ -16,7 +16,7 @@ use Rattle.grep_definitions.proofs.BlockLemmas.{block_start-le}
 use Rattle.grep_definitions.proofs.LineStartLemmas.{line_start-within}
 use Rattle.grep_definitions.proofs.SuccessiveMatchLemmas.{matches_left-after, position_after-start}
 use Rattle.grep_walk.specs.declared.blocks.Blocks.{Blocks}
-use Rattle.grep_walk.specs.Units.{IsPart, IsUnit, AreFound, IsFound, HasNoMore, AreTouched, AreLeft, IsReached}
+use Rattle.grep_walk.specs.TouchedUnits.{IsPart, IsUnit, AreFound, IsFound, HasNoMore, AreTouched, AreLeft, IsReached}
 use Rattle.grep_walk.proofs.FoundMatchLemmas.{found-start}
 use Rattle.grep_walk.proofs.TouchedLemmas.{touched-none, touched-passed, touched-first, touched-inside, touched-part}
 use Rattle.grep_walk.proofs.TouchedLemmas.{touched-end, unit-of, unit-none, starts-there, part-apart}

@@ -13,7 +13,7 @@ use Rattle.grep_definitions.specs.Selections.{IsNear, no_line}
 use Rattle.grep_definitions.specs.Settings.{Settings}
 use Rattle.grep_walk.specs.declared.blocks.Blocks.{Blocks}
 use Rattle.grep_walk.specs.declared.walk.Walk.{Walk}
-use Rattle.grep_walk.specs.Units.{AreLeft, IsUnit, is_hit}
+use Rattle.grep_walk.specs.TouchedUnits.{AreLeft, IsUnit, is_hit}
 use Rattle.grep_walk.specs.Walks.{IsPlaced, line_end, after_line}
 
 -- whether as many lines were chosen under inversion as the limit has

@@ -1,7 +1,7 @@
 pub mod AcrossWalks
 pub mod LookAheads
 pub mod Origins
-pub mod Units
+pub mod TouchedUnits
 pub mod WalkFaults
 pub mod Walks
 pub mod Windows

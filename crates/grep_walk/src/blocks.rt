@@ -7,7 +7,7 @@ ghost use Rattle.grep_matcher.specs.Lines.{byte_of};
 ghost use Rattle.grep_definitions.specs.Asking.{IsAskedAfter, IsAskedAt, match_limit};
 ghost use Rattle.grep_definitions.specs.Reports.{is_below};
 ghost use Rattle.grep_definitions.specs.SelectedLines.{position_after};
-ghost use Rattle.grep_walk.specs.Units.{AreFound, AreLeft, IsFound, HasNoMore, IsPart, IsUnit};
+ghost use Rattle.grep_walk.specs.TouchedUnits.{AreFound, AreLeft, IsFound, HasNoMore, IsPart, IsUnit};
 
 use crate::config::Config;
 use grep_lines::locate;

@@ -1,5 +1,5 @@
 pub mod MatchedLines
-pub mod Blocks
+pub mod AcrossSettings
 pub mod Expressions
 pub mod FirstAround
 pub mod JsonLines

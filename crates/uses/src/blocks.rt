@@ -4,7 +4,7 @@ ghost use Rattle.grep_searcher.specs.Asking.{search_plan};
 ghost use Rattle.grep_searcher.specs.Inputs.{searched_bytes};
 ghost use Rattle.grep_searcher.specs.Literals.{literal_meaning};
 ghost use Rattle.grep_searcher.specs.SearchLaws.{match_calls};
-ghost use Rattle.uses.specs.Blocks.{across_lines};
+ghost use Rattle.uses.specs.AcrossSettings.{across_lines};
 
 use grep_searcher::laws::{runs_count_matches, searches_run};
 use grep_searcher::sinks::Count;

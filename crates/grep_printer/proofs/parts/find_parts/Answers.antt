@@ -1,6 +1,6 @@
 use Rattle.std.proofs.Common.{◌≡◌, ◌∙◌, Some, length, subst, sym}
 use Rattle.grep_matcher.specs.FindResults.{IsFrom}
-use Rattle.grep_printer.proofs.PartLemmas.{finding-more, finding-none}
+use Rattle.grep_printer.proofs.FoundPartLemmas.{finding-more, finding-none}
 use Rattle.grep_printer.specs.MatchedParts.{found_from}
 use Rattle.grep_printer.proofs.parts.find_parts.Goals as goal
 

@@ -1,5 +1,5 @@
 use Rattle.std.proofs.Common.{length, ◌+◌, ◌-◌}
-use Rattle.grep_printer.proofs.PartLemmas.{IsFinding}
+use Rattle.grep_printer.proofs.FoundPartLemmas.{IsFinding}
 use Rattle.grep_printer.proofs.parts.find_parts.Given as goal
 
 abbrev pub invariant-loop-found : goal.invariant-loop-found

@@ -1,7 +1,7 @@
 use Rattle.std.proofs.Common.{refl, arith}
 use Rattle.grep_searcher.specs.Inputs.{searched_bytes}
 use Rattle.grep_searcher.specs.Literals.{literal_meaning}
-use Rattle.uses.specs.Blocks.{across_lines}
+use Rattle.uses.specs.AcrossSettings.{across_lines}
 use Rattle.uses.proofs.blocks.count_blocks.Goals as goal
 
 pub returns : goal.returns

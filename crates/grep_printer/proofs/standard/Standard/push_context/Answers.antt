@@ -1,5 +1,5 @@
 use Rattle.std.proofs.Common.{◌^◌, arith, length, subst, sym}
-use Rattle.grep_printer.proofs.PartLemmas.{ordered-within}
+use Rattle.grep_printer.proofs.FoundPartLemmas.{ordered-within}
 use Rattle.grep_printer.specs.MatchedParts.{AreInOrder}
 use Rattle.grep_printer.proofs.standard.Standard.push_context.Goals as goal
 

@@ -1,6 +1,6 @@
 use Rattle.std.proofs.Common.{◌^◌, arith, length, subst, sym}
 use Rattle.grep_report.specs.SinkReports.{match_bytes}
-use Rattle.grep_printer.proofs.PartLemmas.{ordered-within}
+use Rattle.grep_printer.proofs.FoundPartLemmas.{ordered-within}
 use Rattle.grep_printer.specs.MatchedParts.{AreInOrder}
 use Rattle.grep_printer.proofs.standard.Standard.push_match.Goals as goal
 

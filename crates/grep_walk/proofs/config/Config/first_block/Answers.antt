@@ -1,7 +1,7 @@
 use Rattle.std.proofs.Common.{[], subst}
 use Rattle.std.proofs.lemmas.Result.{err_from_is_err_and}
 use Rattle.std.specs.Prelude.{IfSome, IfNone}
-use Rattle.grep_walk.specs.Units.{IsFound, HasNoMore}
+use Rattle.grep_walk.specs.TouchedUnits.{IsFound, HasNoMore}
 use Rattle.grep_walk.proofs.QuestionLemmas.{asked-first}
 use Rattle.grep_walk.proofs.UnitStepLemmas.{starts, none_found, left-start-none, left-start}
 use Rattle.grep_walk.proofs.config.Config.first_block.Goals as goal

@@ -1,5 +1,5 @@
 use Rattle.std.proofs.Common.{◌-◌, length}
-use Rattle.grep_walk.specs.Units.{IsReached}
+use Rattle.grep_walk.specs.TouchedUnits.{IsReached}
 use Rattle.grep_walk.proofs.config.Config.next_unit.Given as goal
 
 abbrev pub invariant-matches : goal.invariant-matches
