@@ -8,6 +8,7 @@ ghost use Rattle.grep_definitions.specs.LineSearch.{turns, byte_count};
 ghost use Rattle.grep_definitions.specs.Asking.{IsLawful};
 ghost use Rattle.grep_definitions.specs.ContentsSearches.{IsLineFault};
 ghost use Rattle.grep_definitions.specs.Plans.{Outcome, NeverFails};
+ghost use Rattle.grep_walk.specs.LookAheads.{AreQuestions};
 ghost use Rattle.grep_walk.specs.WalkFaults.{IsWalkFault};
 ghost use Rattle.grep_walk.specs.Walks.{Counted, IsOrdered, CountedFrom};
 ghost use Rattle.grep_walk.specs.Windows.{HasSearched, HasPassed};
@@ -19,7 +20,7 @@ use crate::calls::Calls;
 use crate::search::Search;
 use grep_matcher::Matcher;
 use grep_report::SinkError;
-use grep_walk::{NOTHING_AHEAD, WALK_START, Walk};
+use grep_walk::{NOTHING_AHEAD, Questions, WALK_START, Walk};
 use std::alloc::Allocator;
 
 impl<'c, A: Allocator + Copy, T> Search<'c, A, T> {
@@ -59,18 +60,21 @@ impl<'c, A: Allocator + Copy, T> Search<'c, A, T> {
         if self.config.reports_nothing() {
             return Ok(0);
         }
+        let questions = self.config.questions(matcher);
         let mut walk = WALK_START;
-        let _ = self.search_window::<M, C>(matcher, bytes, 0, &mut walk, sink)?;
+        let _ = self.search_window::<M, C>(matcher, questions, bytes, 0, &mut walk, sink)?;
         Ok(walk.offset)
     }
 
     // Walks over the lines of a window from `start` to the window's end, and returns whether the
     // search goes on after it; if not, the walk's offset is the byte count. A window shows some
-    // bytes of the input. The caller ensures that its lines are lines of the input, and that of the
-    // lines before `start` that weren't reported it has as many as are reported with a match.
+    // bytes of the input. The caller ensures that its lines are lines of the input, that of the
+    // lines before `start` that weren't reported it has as many as are reported with a match, and
+    // that these are the questions for this matcher.
     pub(crate) fn search_window<M: Matcher, C: Calls<T>>(
         &self,
         matcher: &M,
+        questions: Questions,
         window: &[u8],
         start: usize,
         walk: &mut Walk,
@@ -78,6 +82,7 @@ impl<'c, A: Allocator + Copy, T> Search<'c, A, T> {
     ) -> Result<bool, C::Error>
     where
         C::Error: SinkError<A>,
+        requires questions { AreQuestions self.now.config (M.facts matcher.now).meaning questions }
         requires inside { start ≤ length window.now }
         requires after { start ≤ walk.old.offset }
         requires fits { walk.old.offset + (length window.now - start) < 2 ^ 64 }
@@ -126,7 +131,10 @@ impl<'c, A: Allocator + Copy, T> Search<'c, A, T> {
         let mut start = start;
         let mut ahead = NOTHING_AHEAD;
         'lines: loop {
-            ahead = match self.config.look_ahead(matcher, window, start, walk, ahead) {
+            ahead = match self
+                .config
+                .look_ahead(matcher, questions, window, start, walk, ahead)
+            {
                 Ok(ahead) => ahead,
                 Err(error) => return Err(C::Error::error_message(self.alloc, error)),
             };

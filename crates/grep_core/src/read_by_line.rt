@@ -19,6 +19,7 @@ ghost use Rattle.grep_core.specs.BinaryCalls.{FailsAtBinary, PassesBinary};
 ghost use Rattle.grep_core.specs.Rolls.{IsReady, HasBegun, HasMovedOn, HasEnded, IsStreamCounted};
 ghost use Rattle.grep_core.specs.Rolls.{start_in};
 ghost use Rattle.grep_core.specs.SearchBuffers.{AreFitting, IsFitting, IsMadeOf, detection_of};
+ghost use Rattle.grep_walk.specs.LookAheads.{AreQuestions};
 ghost use Rattle.grep_walk.specs.WalkFaults.{IsWalkFault};
 ghost use Rattle.grep_walk.specs.Walks.{IsOrdered};
 ghost use Rattle.grep_core.specs.Configured.{IsConfigured};
@@ -35,7 +36,7 @@ use grep_line_buffer::{Detection, FillError, LineBuffer};
 use grep_lines::laws::{lines_append, lines_are_few, lines_are_numbered, lines_join};
 use grep_matcher::Matcher;
 use grep_report::{BinaryDetection, SinkError, SinkFinish};
-use grep_walk::{WALK_START, Walk};
+use grep_walk::{Questions, WALK_START, Walk};
 use std::alloc::Allocator;
 use std::io;
 
@@ -159,10 +160,10 @@ impl<'c, A: Allocator + Copy, T> Search<'c, A, T> {
     }
 
     // Searches the decoded bytes of a reader as a buffer shows them. Makes each call but `begin`
-    // and `finish`, and returns the byte count; `binary` is the offset of the first binary byte once
-    // it was reported. The caller ensures that the buffer is empty and detects what is set,
-    // that the decoder was started with the searcher's label, that `begin` returned true and nothing
-    // else was called, and that some line may be reported or a binary byte is looked for.
+    // and `finish`, and returns the byte count; `binary` is the offset of the first binary byte
+    // once it was reported. The caller ensures that the buffer is empty and detects what is set,
+    // that the decoder was started with the searcher's label, that `begin` returned true and
+    // nothing else was called, and that some line may be reported or a binary byte is looked for.
     fn read_by_line<M: Matcher, R: Source, C: Calls<T>>(
         &self,
         matcher: &M,
@@ -228,6 +229,7 @@ impl<'c, A: Allocator + Copy, T> Search<'c, A, T> {
         lines_append();
         lines_are_numbered();
         lines_are_few();
+        let questions = self.config.questions(matcher);
         let mut walk = WALK_START;
         'fills: loop {
             if let Err(error) = lines.fill(decoder, reader) {
@@ -239,7 +241,7 @@ impl<'c, A: Allocator + Copy, T> Search<'c, A, T> {
             if self.config.reports_nothing() {
                 return Ok(walk.offset);
             }
-            if !self.search_shown::<M, C>(matcher, lines, &mut walk, sink)? {
+            if !self.search_shown::<M, C>(matcher, questions, lines, &mut walk, sink)? {
                 return Ok(walk.offset);
             }
         }
@@ -276,16 +278,19 @@ impl<'c, A: Allocator + Copy, T> Search<'c, A, T> {
     }
 
     // Searches what a buffer shows from where a walk is, and moves past the lines that aren't kept.
-    // Returns whether more lines may come; if not, the walk's offset is the byte count.
+    // Returns whether more lines may come; if not, the walk's offset is the byte count. The caller
+    // ensures that these are the questions for this matcher.
     fn search_shown<M: Matcher, C: Calls<T>>(
         &self,
         matcher: &M,
+        questions: Questions,
         lines: &mut LineBuffer<A>,
         walk: &mut Walk,
         sink: &mut C::Sink,
     ) -> Result<bool, C::Error>
     where
         C::Error: SinkError<A>,
+        requires questions { AreQuestions self.now.config (M.facts matcher.now).meaning questions }
         requires low { lines.old.offset ≤ walk.old.offset }
         requires inside { walk.old.offset ≤ lines.old.offset + length lines.old.shown }
         requires ordered { IsOrdered walk.old }
@@ -337,7 +342,7 @@ impl<'c, A: Allocator + Copy, T> Search<'c, A, T> {
         if start == window.len() {
             return Ok(false);
         }
-        if !self.search_window::<M, C>(matcher, window, start, walk, sink)? {
+        if !self.search_window::<M, C>(matcher, questions, window, start, walk, sink)? {
             return Ok(false);
         }
         if !self.config.is_terminated(window) {

@@ -1,15 +1,17 @@
 -- What a walk knows of the lines from its line on, and which of them it may skip. No contract of
 -- grep_searcher cites these definitions.
-use Rattle.std.specs.Prelude.{◌≡◌, ℕ, ◌<◌, ◌≤◌, Bool, true, false, not, ◌&&◌, ◌==◌, if◌then◌else◌}
-use Rattle.std.specs.Prelude.{nat_lt, List, length, Option, Some, None, slice_range}
+use Rattle.std.specs.Prelude.{◌≡◌, ℕ, ◌<◌, ◌≤◌, Bool, true, false, not, ◌&&◌, ◌||◌, ◌==◌}
+use Rattle.std.specs.Prelude.{if◌then◌else◌, nat_lt, List, length, Option, Some, None, slice_range}
 use Rattle.grep_lines.specs.Positions.{IsLine, IsLineStart}
 use Rattle.grep_matcher.specs.Meanings.{Meaning}
 use Rattle.grep_matcher.specs.Lines.{byte_of}
 use Rattle.grep_definitions.specs.Reports.{is_at}
 use Rattle.grep_definitions.specs.LineTurns.{matches_line}
-use Rattle.grep_definitions.specs.Asking.{AsksAhead}
+use Rattle.grep_definitions.specs.Asking.{AsksAhead, is_declared}
 use Rattle.grep_definitions.specs.Settings.{Settings}
 use Rattle.grep_walk.specs.declared.look_ahead.Ahead.{Ahead}
+use Rattle.grep_walk.specs.declared.look_ahead.Questions.{Questions}
+use Rattle.grep_walk.specs.declared.look_ahead.Questions.TheVariants.{ManyLines, OneLine}
 use Rattle.grep_walk.specs.declared.walk.Walk.{Walk}
 
 -- whether the line that begins at a position matches, if that is known
@@ -42,6 +44,18 @@ pub record IsKnown (settings : Settings) (meaning : Meaning) (window : List ℕ)
   pub hit : (i p q : ℕ) → IsLine (byte_of settings.line_terminator) window i p q
       → ahead.candidate ≤ p → p < ahead.match_end
       → matches_line settings meaning (slice_range window p q) ≡ true
+
+-- whether the matcher says that no match contains the line terminator
+abbrev pub excludes_terminator : Settings → Meaning → Bool
+excludes_terminator settings meaning =
+    is_declared meaning.terminator settings.line_terminator
+    || meaning.absent (byte_of settings.line_terminator)
+
+-- a search by line may ask about this: about many lines at once just if the settings and the
+-- matcher allow it
+abbrev pub AreQuestions : Settings → Meaning → Questions → Type 0
+AreQuestions settings meaning OneLine = AsksAhead settings meaning → ⊥
+AreQuestions settings meaning ManyLines = AsksAhead settings meaning
 
 -- a walk may ask about many lines at once
 pub record MayAskAhead (settings : Settings) (meaning : Meaning) (w : Walk) : Type 0 where

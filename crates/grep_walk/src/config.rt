@@ -3,6 +3,7 @@ ghost use Rattle.std.specs.Prelude.{◌≡◌};
 ghost use Rattle.grep_definitions.specs.SliceSearches.{is_searched_unchanged};
 ghost use Rattle.grep_definitions.specs.Asking.{is_across, refusal_of};
 ghost use Rattle.grep_definitions.specs.Inputs.{reads_lines};
+ghost use Rattle.grep_walk.specs.LookAheads.{excludes_terminator};
 
 use grep_decode::{Label, label_of_mark};
 use grep_matcher::{LineTerminator, Matcher};
@@ -107,12 +108,19 @@ impl Config {
     pub fn is_across<M: Matcher>(&self, matcher: &M) -> bool
         ensures { result ≡ is_across self.now (M.facts matcher.now).meaning }
     {
-        if !self.multi_line || matcher.line_terminator() == Some(self.line_terminator) {
-            return false;
+        self.multi_line && !self.excludes_terminator(matcher)
+    }
+
+    // Whether the matcher says that no match contains the line terminator.
+    pub(crate) fn excludes_terminator<M: Matcher>(&self, matcher: &M) -> bool
+        ensures { result ≡ excludes_terminator self.now (M.facts matcher.now).meaning }
+    {
+        if matcher.line_terminator() == Some(self.line_terminator) {
+            return true;
         }
         match matcher.non_matching_bytes() {
-            Some(absent) => !absent.contains(self.line_terminator.as_byte()),
-            None => true,
+            Some(absent) => absent.contains(self.line_terminator.as_byte()),
+            None => false,
         }
     }
 

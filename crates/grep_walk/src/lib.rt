@@ -16,5 +16,5 @@ mod walk;
 
 pub use blocks::Blocks;
 pub use config::Config;
-pub use look_ahead::{Ahead, NOTHING_AHEAD};
+pub use look_ahead::{Ahead, NOTHING_AHEAD, Questions};
 pub use walk::{Verdict, WALK_START, Walk};

@@ -7,14 +7,23 @@ ghost use Rattle.grep_matcher.specs.Lines.{lines, byte_of};
 ghost use Rattle.grep_matcher.specs.Lawful.{IsInside, IsLawfulResult};
 ghost use Rattle.grep_matcher.specs.Meanings.{Meaning};
 ghost use Rattle.grep_definitions.specs.Asking.{IsLawful};
-ghost use Rattle.grep_walk.specs.LookAheads.{known_at, IsBounded, IsExact, IsKnown, MayAskAhead};
-ghost use Rattle.grep_walk.specs.LookAheads.{can_skip, skips};
+ghost use Rattle.grep_walk.specs.LookAheads.{known_at, AreQuestions, IsBounded, IsExact, IsKnown};
+ghost use Rattle.grep_walk.specs.LookAheads.{can_skip, skips, MayAskAhead};
 ghost use Rattle.grep_walk.specs.Walks.{skip_unmatched, IsOrdered};
 
 use crate::config::Config;
 use crate::walk::Walk;
 use grep_lines::{LineStep, line_of};
 use grep_matcher::{LineMatchKind, Matcher};
+
+/// What a search by line may ask a matcher about.
+#[derive(Clone, Copy)]
+pub enum Questions {
+    /// Each line alone.
+    OneLine,
+    /// Many lines at once, too.
+    ManyLines,
+}
 
 /// What is known of the lines of a window from a walk's line on, by positions in the window.
 #[derive(Clone, Copy)]
@@ -65,17 +74,31 @@ impl Ahead {
 }
 
 impl Config {
+    /// What a search by line may ask this matcher about.
+    pub fn questions<M: Matcher>(&self, matcher: &M) -> Questions
+        ensures { AreQuestions self.now (M.facts matcher.now).meaning result }
+    {
+        if !self.passthru && self.excludes_terminator(matcher) {
+            Questions::ManyLines
+        } else {
+            Questions::OneLine
+        }
+    }
+
     /// Learns more if nothing is known of the line at `start`, and the matcher may be asked about
-    /// many lines at once. The caller ensures that a line of the window begins there. What is
-    /// learnt is true of a matcher that is lawful for the terminator. The error is the matcher's.
+    /// many lines at once. The caller ensures that a line of the window begins there, and that
+    /// these are the questions for this matcher. What is learnt is true of a matcher that is lawful
+    /// for the terminator. The error is the matcher's.
     pub fn look_ahead<M: Matcher>(
         &self,
         matcher: &M,
+        questions: Questions,
         window: &[u8],
         start: usize,
         walk: &Walk,
         ahead: Ahead,
     ) -> Result<Ahead, M::Error>
+        requires questions { AreQuestions self.now (M.facts matcher.now).meaning questions }
         requires inside { start ≤ length window.now }
         requires bounded { IsBounded window.now ahead }
         ensures bounded { IfOk result (IsBounded window.now) }
@@ -90,7 +113,7 @@ impl Config {
             (λ e. MayAskAhead self.now (M.facts matcher.now).meaning walk.now) }
         ensures fault { IfErr result ((M.facts matcher.now).fails (drop start window.now)) }
     {
-        if start < ahead.match_end || start == window.len() || !self.asks_ahead(matcher, walk) {
+        if start < ahead.match_end || start == window.len() || !self.asks_ahead(questions, walk) {
             return Ok(ahead);
         }
         match matcher.find_candidate_line(&window[start..]) {
@@ -99,20 +122,14 @@ impl Config {
         }
     }
 
-    // Whether a walk may ask a matcher about many lines at once.
-    fn asks_ahead<M: Matcher>(&self, matcher: &M, walk: &Walk) -> bool
-        ensures { result ≡ true → MayAskAhead self.now (M.facts matcher.now).meaning walk.now }
+    // Whether a walk may ask about many lines at once.
+    fn asks_ahead(&self, questions: Questions, walk: &Walk) -> bool
+        ensures { result ≡ true → (meaning : Meaning) → AreQuestions self.now meaning questions
+            → MayAskAhead self.now meaning walk.now }
     {
-        if self.passthru || self.is_full(walk) || self.stop_on_nonmatch && walk.match_count > 0 {
-            return false;
-        }
-        match matcher.line_terminator() {
-            Some(terminator) => terminator == self.line_terminator,
-            None => match matcher.non_matching_bytes() {
-                Some(absent) => absent.contains(self.line_terminator.as_byte()),
-                None => false,
-            },
-        }
+        matches!(questions, Questions::ManyLines)
+            && !self.is_full(walk)
+            && !(self.stop_on_nonmatch && walk.match_count > 0)
     }
 
     // What a matcher's result for the lines from `start` on says of them.
