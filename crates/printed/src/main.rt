@@ -1,11 +1,10 @@
-//! Writes what the printers make of some searches, each after a line with the options that ripgrep
-//! has for it.
+//! Makes a search for each line of standard input, which has ripgrep's options for it, and writes
+//! the line and what a printer makes of the search.
 #![tactic(auto)]
 
 mod files;
-mod lines;
-mod messages;
-mod summaries;
+mod row;
+mod searches;
 
 use grep_searcher::SearchError;
 use std::io;
@@ -23,19 +22,10 @@ fn main(rt: HostRuntime) -> ExitCode {
 
 // Writes what all searches come to.
 fn write_all(rt: &HostRuntime) -> Result<(), SearchError> {
-    lines::write_fields(rt)?;
-    lines::write_parts(rt)?;
-    lines::write_limited(rt)?;
-    lines::write_across(rt)?;
-    lines::write_colors(rt)?;
-    lines::write_colored_parts(rt)?;
-    summaries::write_counts(rt)?;
-    summaries::write_paths(rt)?;
-    messages::write_messages(rt)?;
+    let lines = io::read_to_string(rt.alloc(), rt.stdin())?;
+    for line in lines.as_str().lines() {
+        println!(rt; "== {line}")?;
+        searches::write_search(rt, line)?;
+    }
     Ok(())
-}
-
-// Writes the options of a search.
-pub(crate) fn write_title<T: Print>(rt: &T, title: &str) -> io::Result<()> {
-    println!(rt; "== {title}")
 }
