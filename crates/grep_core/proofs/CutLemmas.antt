@@ -31,16 +31,13 @@ use Rattle.grep_core.specs.BinaryCalls.{FailsAtBinary, PassesBinary, Noted}
 use Rattle.grep_core.specs.Rolls.{HasEnded, HasMovedOn, HasSeen, HasPassedByte, IsCountedFor, IsBetween, IsReadingOn}
 use Rattle.grep_core.specs.Rolls.{IsReady, IsRolling, IsStreamCounted, IsStartAt, start_in, not_passed, was_passed}
 use Rattle.grep_core.specs.SearchBuffers.{detection_of}
-use Rattle.grep_core.proofs.HeldLemmas as holding
-use Rattle.grep_core.proofs.HeldLemmas.{HasFilled, IsHeld, IsStream}
-use Rattle.grep_core.proofs.NotedLemmas.{goes-false, goes-true, noted-passed, uncut-passed}
-use Rattle.grep_core.proofs.QuitPlanLemmas as quitting
 use Rattle.grep_core.proofs.ReadingLemmas as reading
-use Rattle.grep_core.proofs.RollLemmas as rolls
-use Rattle.grep_core.proofs.RollingLemmas as rolling
-use Rattle.grep_core.proofs.StreamBeginLemmas.{binary-nil, front-none}
+use Rattle.grep_core.proofs.ReadingLemmas.{HasFilled, IsHeld, IsStream}
+use Rattle.grep_core.proofs.StreamSearchLemmas.{goes-false, goes-true, noted-passed, uncut-passed}
+use Rattle.grep_core.proofs.StreamSearchLemmas as quitting
+use Rattle.grep_core.proofs.RollingLemmas as rolls
+use Rattle.grep_core.proofs.StreamSearchLemmas.{binary-nil, front-none}
 use Rattle.grep_core.proofs.StreamViewLemmas as views
-use Rattle.grep_core.proofs.PassedByteLemmas as passed
 use Rattle.grep_core.proofs.UnreadLemmas.{IsShort}
 use Rattle.grep_walk.specs.WalkFaults.{IsWalkFault}
 use Rattle.grep_definitions.proofs.FrontLemmas.{closed-append, turns-within}
@@ -96,7 +93,7 @@ module _ {R : Type 0} {remaining : R → Option (List ℕ)} {read_step : R → R
     seen = so_far.gone ++ old.shown
 
     abbrev held-then : IsHeld remaining read_step k so_far.gone so_far.given old old decoder d reader r
-    held-then = rolling.held-then ends_at so_far
+    held-then = rolls.held-then ends_at so_far
 
     seen-length : length seen ≡ w.offset
     seen-length = omega (arith, so_far.between.at, length-append so_far.gone old.shown)
@@ -120,7 +117,7 @@ module _ {R : Type 0} {remaining : R → Option (List ℕ)} {read_step : R → R
     -- if none was found
     front-seen : (bytes later : List ℕ) → bytes ≡ so_far.given ++ later → IsFront k (view_of k bytes) seen
     front-seen bytes later is =
-        let back = holding.fronts-there held-then later in
+        let back = reading.fronts-there held-then later in
         (rolls.goes-on stream.join stream.append so_far.between _
         (ap (view_of k) is ∙ (back.1 ∙ (ap (λ xs. xs ++ back.0) (sym (append_assoc so_far.gone old.shown old.rest))
         ∙ append_assoc seen old.rest back.0)))).front
@@ -132,11 +129,11 @@ module _ {R : Type 0} {remaining : R → Option (List ℕ)} {read_step : R → R
         ∙ views.clear-front k.binary_detection (byte_of k.line_terminator) so_far.given later (length seen)
         (omega (
           arith,
-          holding.length-there held-then so_far.uncut,
+          reading.length-there held-then so_far.uncut,
           length-append so_far.gone old.shown,
           length-append old.shown old.rest,
         ))
-        (sym (holding.found-there held-then) ∙ unfound)
+        (sym (reading.found-there held-then) ∙ unfound)
 
     -- what was seen when the input wasn't searched to its end
     pub cut-short : {F : Type 0} {errors : ErrorMakers F E} (facts : MatcherFacts F)
@@ -165,7 +162,7 @@ module _ {R : Type 0} {remaining : R → Option (List ℕ)} {read_step : R → R
           error = io;
           cause = short.cause;
           made = made;
-          calls = λ is. passed.seen-made stream.by_line on.passed input reported-so_far;
+          calls = λ is. quitting.seen-made stream.by_line on.passed input reported-so_far;
           none = λ is. absurd (false≢true (sym is));
         }
 
@@ -180,17 +177,17 @@ module _ {R : Type 0} {remaining : R → Option (List ℕ)} {read_step : R → R
     raw = on.rolling.given ++ fill.fills.given
 
     held-now : IsHeld remaining read_step k on.rolling.gone raw old new decoder d' reader r'
-    held-now = rolling.held-now stream on.rolling fill
+    held-now = rolls.held-now stream on.rolling fill
 
     -- it found the first binary byte
     module _ (unknown : sink.binary ≡ None) (offset : ℕ) (is : new.binary ≡ Some offset) where
       -- which is after all that was held
       past : length on.rolling.gone + length (held old) ≤ offset
-      past = holding.found-past _ (rolling.held-then fill.fitting.terminator on.rolling) held-now (sym known ∙ unknown)
+      past = reading.found-past _ (rolls.held-then fill.fitting.terminator on.rolling) held-now (sym known ∙ unknown)
           _ is
 
       found-is : found_in (detection_of k.binary_detection) (byte_of k.line_terminator) raw ≡ Some offset
-      found-is = sym (holding.found-there held-now) ∙ is
+      found-is = sym (reading.found-there held-now) ∙ is
 
       made-so_far : AreMade step k first (turns k meaning seen-then) all_true sink.sink
       made-so_far = plain-so_far on fill.fitting.terminator known unknown
@@ -210,7 +207,7 @@ module _ {R : Type 0} {remaining : R → Option (List ℕ)} {read_step : R → R
         where
           length-is : length on.rolling.gone + length (held new)
               ≡ length (detected (detection_of k.binary_detection) (byte_of k.line_terminator) raw)
-          length-is = sym (length-append on.rolling.gone (held new)) ∙ ap length (holding.holds-is held-now)
+          length-is = sym (length-append on.rolling.gone (held new)) ∙ ap length (reading.holds-is held-now)
 
       -- and so is all that was given, also what came after the byte
       raw-fits : length raw ≤ length on.rolling.gone + new.size
@@ -227,16 +224,16 @@ module _ {R : Type 0} {remaining : R → Option (List ℕ)} {read_step : R → R
           (cases_lt 0 (length fill.fills.given))
         where
           held-before : length on.rolling.given ≡ length on.rolling.gone + length (held old)
-          held-before = holding.length-there (rolling.held-then fill.fitting.terminator on.rolling) on.rolling.uncut
+          held-before = reading.length-there (rolls.held-then fill.fitting.terminator on.rolling) on.rolling.uncut
 
       -- of each input that begins with what was given
       cut-there : (later : List ℕ) → IsCutAt k meaning (raw ++ later) seen-then offset
       cut-there later =
-          let text = holding.fronts-there held-now later in
+          let text = reading.fronts-there held-now later in
           let more : List ℕ = detected old.detection old.terminator fill.fills.given in
           record {
             front = rolls.goes-on stream.join stream.append on.rolling.between _
-                (holding.split-text _ _ _ more _
+                (reading.split-text _ _ _ more _
                 (text.1 ∙ ap (λ xs. (on.rolling.gone ++ xs) ++ text.0) fill.fills.appended));
             first = views.first-kept k.binary_detection (byte_of k.line_terminator) raw later _ found-is;
             after = omega (
@@ -254,7 +251,7 @@ module _ {R : Type 0} {remaining : R → Option (List ℕ)} {read_step : R → R
           }
 
       abbrev reads-now : Decodes remaining read_step (started decoder.capacity k.encoding k.bom_sniffing) reader raw d' r'
-      reads-now = holding.reads stream held-now
+      reads-now = reading.reads stream held-now
 
       cut-input : (bytes : List ℕ) → IsInput k d'.has_ended reads-now.pieces bytes
           → IsCutAt k meaning bytes seen-then offset
@@ -504,8 +501,8 @@ module _ {R : Type 0} {remaining : R → Option (List ℕ)} {read_step : R → R
       counted-shown {w'} {last} ended =
           subst (λ b. IsStreamCounted step k meaning remaining read_step reader first
           (record { count = w'.offset; binary = b }) r' last) (sym there.known)
-          (passed.counted-planned stream.by_line (passed-further ended.low there.passed)
-          (rolling.counted-filled stream there.rolling fill there.uncut busy ended))
+          (quitting.counted-planned stream.by_line (passed-further ended.low there.passed)
+          (rolls.counted-filled stream there.rolling fill there.uncut busy ended))
 
       -- or it ended in an error
       pub fault-shown : {F : Type 0} {errors : ErrorMakers F E} (facts : MatcherFacts F) {has_buffers : Bool} {e : E}
@@ -518,8 +515,8 @@ module _ {R : Type 0} {remaining : R → Option (List ℕ)} {read_step : R → R
           → IsReaderSearch remaining read_step step errors (record facts { meaning = meaning })
           (record { settings = k; has_buffers = has_buffers }) on_stream reader first (Err e) r' last
       fault-shown facts fails =
-          passed.failed-planned _ stream.by_line there.passed
-          (rolling.faulted-filled stream there.rolling fill there.uncut busy fails)
+          quitting.failed-planned _ stream.by_line there.passed
+          (rolls.faulted-filled stream there.rolling fill there.uncut busy fails)
 
       -- or it reads on
       pub reads-on : {moved : BufferState} {w' : Walk} {now' : S}
@@ -530,7 +527,7 @@ module _ {R : Type 0} {remaining : R → Option (List ℕ)} {read_step : R → R
           (record { sink = now'; binary = sink.binary })
       reads-on {w'} moved low consumed = record {
         start = there.start;
-        rolling = rolling.rolling-next stream there.rolling fill there.uncut busy moved (consumed there.rolling.gone);
+        rolling = rolls.rolling-next stream there.rolling fill there.uncut busy moved (consumed there.rolling.gone);
         passed = subst (IsStartAt step k meaning (there.rolling.given ++ fill.fills.given) w'.offset first there.start)
             (sym there.known) (passed-further low there.passed);
       }
@@ -546,14 +543,14 @@ module _ {R : Type 0} {remaining : R → Option (List ℕ)} {read_step : R → R
           ap length unread.none,
           length-append there.rolling.gone old.shown,
         ) in
-        let held_now = rolling.held-now stream there.rolling fill in
-        let reads = holding.reads stream held_now in
+        let held_now = rolls.held-now stream there.rolling fill in
+        let reads = reading.reads stream held_now in
         let over : (bytes : List ℕ) → IsCountedFor step k meaning there.start bytes w.offset all_true sink.sink =
         λ bytes. subst (λ n. IsCountedFor step k meaning there.start bytes n all_true sink.sink) (sym zero)
         (walks.counted-idle k meaning bytes step there.start sink.sink idle unread.begun) in
         subst (λ b. IsStreamCounted step k meaning remaining read_step reader first
         (record { count = w.offset; binary = b }) r' sink.sink) (sym there.known)
-        (passed.counted-planned stream.by_line there.passed (record {
+        (quitting.counted-planned stream.by_line there.passed (record {
           input = record {
             taken = reading.taken k reads;
             seen = [];
@@ -577,7 +574,7 @@ module _ {R : Type 0} {remaining : R → Option (List ℕ)} {read_step : R → R
                 few,
                 rolls.limit-within fill limit is,
                 fill.room,
-                holding.length-there held_now there.uncut,
+                reading.length-there held_now there.uncut,
                 ap length unread.none,
                 length-append there.rolling.gone old.shown,
               );

@@ -1,45 +1,41 @@
--- What a decoder gave, against the bytes that are searched.
-use Rattle.std.proofs.Common.{◌≡◌, ◌≢◌, ◌⊎◌, ℕ, ◌+◌, ◌<◌, ◌≤◌, Bool, true, false, List, [], ◌++◌, length, Option, Some, None}
-use Rattle.std.proofs.Common.{inl, inr, ⊎_elim, refl, sym, subst, ◌∙◌, ap, arith, append-nil}
-use Rattle.std.proofs.lemmas.Bool.{false≢true}
-use Rattle.std.specs.List.{concat}
-use Rattle.std.proofs.Math.Bool.{and-false}
-use Rattle.std.specs.Prelude.{All}
+-- What a decoder gave and what a line buffer holds of it, against the bytes that are searched.
+use Rattle.grep_core.proofs.StreamViewLemmas.{before-held, view-held, view-length, view-none}
+use Rattle.grep_core.specs.HeldViews.{HoldsGiven}
+use Rattle.grep_core.specs.SearchBuffers.{IsFitting, detection_of}
+use Rattle.grep_decode.proofs.DecoderLemmas.{looks-unsettled, mode-settled, unread-none, waits-few}
+use Rattle.grep_decode.specs.Decoded.{by_label, decoded, found_mark}
+use Rattle.grep_decode.specs.DecoderStates.{DecoderState, Decodes, HasReadNothing, IsDone, IsSettled, LooksForMark}
+use Rattle.grep_decode.specs.DecoderStates.{decode_by, mode_of, IsWaiting, started, still_to_give, unread}
+use Rattle.grep_decode.specs.Source.{ReadResult}
 use Rattle.grep_decode.specs.declared.label.Label.{Label}
 use Rattle.grep_decode.specs.declared.label.Label.TheVariants.{Utf8, Utf16Le, Utf16Be}
-use Rattle.grep_decode.specs.declared.mode.Mode.{Mode}
-use Rattle.grep_decode.specs.declared.mode.Mode.TheVariants.{Fresh, Passing, Decoding}
-use Rattle.grep_decode.specs.Decoded.{by_label, decoded, found_mark}
-use Rattle.grep_decode.specs.DecoderStates.{DecoderState, Decodes, HasReadNothing, IsDone, IsSettled}
-use Rattle.grep_decode.specs.DecoderStates.{LooksForMark, decode_by}
-use Rattle.grep_decode.specs.DecoderStates.{mode_after, mode_of, IsWaiting, started, still_to_give, unread}
-use Rattle.grep_decode.specs.Source.{ReadResult}
-use Rattle.grep_line_buffer.specs.BufferStates.{BufferState, empty_buffer, is_cut}
-use Rattle.grep_line_buffer.specs.Detections.{detected, found_in, is_quit}
-use Rattle.grep_line_buffer.specs.Fills.{HasWaitedForLine}
-use Rattle.grep_matcher.specs.Lines.{byte_of}
+use Rattle.grep_decode.specs.declared.mode.Mode.TheVariants.{Passing}
+use Rattle.grep_definitions.specs.Asking.{is_across}
 use Rattle.grep_definitions.specs.BinaryBytes.{before_quit, view_of}
+use Rattle.grep_definitions.specs.DecodedInputs.{IsDecodedSoFar, passes_after, passes_unchanged}
 use Rattle.grep_definitions.specs.Inputs.{AreWaiting, IsInput, encoding_after, encoding_of, looks_for_mark}
 use Rattle.grep_definitions.specs.Inputs.{IsReadForLine, searched_bytes, Taken}
-use Rattle.grep_definitions.specs.DecodedInputs.{IsDecodedSoFar, passes_after, passes_unchanged}
 use Rattle.grep_definitions.specs.Settings.{Settings}
-use Rattle.grep_core.specs.SearchBuffers.{IsFitting, detection_of}
-use Rattle.grep_core.proofs.StreamViewLemmas.{before-held, view-held, view-length, view-none}
+use Rattle.grep_line_buffer.proofs.DetectionLemmas.{length-detected, uncut-none}
+use Rattle.grep_line_buffer.specs.BufferStates.{BufferState, empty_buffer, is_cut, held, IsFilled, IsSameBuffer}
+use Rattle.grep_line_buffer.specs.BufferStates.{IsWithin}
+use Rattle.grep_line_buffer.specs.Detections.{detected, found_in, is_quit}
+use Rattle.grep_line_buffer.specs.Fills.{HasWaitedForLine, Fills}
+use Rattle.grep_lines.specs.LineLaws.{LinesJoin, LinesAppend}
+use Rattle.grep_matcher.specs.Lines.{byte_of}
+use Rattle.grep_matcher.specs.Meanings.{Meaning}
+use Rattle.std.proofs.Common.{◌≡◌, ◌≢◌, ◌⊎◌, ℕ, ◌+◌, ◌<◌, ◌≤◌, true, false, List, [], ◌++◌, length, Option}
+use Rattle.std.proofs.Common.{Some, None, inl, inr, ⊎_elim, refl, sym, subst, ◌∙◌, ap, arith, append-nil}
+use Rattle.std.proofs.Common.{append_assoc, length-append}
+use Rattle.std.proofs.Math.Bool.{and-false}
+use Rattle.std.proofs.lemmas.Bool.{false≢true}
+use Rattle.std.specs.List.{concat}
+use Rattle.std.specs.Prelude.{All}
+use Rattle.grep_core.proofs.StreamViewLemmas as views
 
 -- the law of a decoder that is done
 abbrev pub DoneGivesNothing : Type 0
 DoneGivesNothing = (d : DecoderState) (more : List ℕ) → IsDone d → still_to_give d more ≡ []
-
--- nothing is to come after the end
-unread-nothing : (ended : Bool) → unread ended [] ≡ []
-unread-nothing true = refl
-unread-nothing false = refl
-
--- a settled mode stays, whatever comes
-mode-stays : (mode : Mode) (input : List ℕ) → IsSettled mode → mode_after mode input ≡ mode
-mode-stays (Fresh label sniff) input settled = absurd settled
-mode-stays Passing input settled = refl
-mode-stays (Decoding label) input settled = refl
 
 -- without a label and a mark the bytes pass, and after the mark of UTF-8
 mode-passing : (label mark : Option Label) → passes_after mark label ≡ true → mode_of mark label ≡ Passing
@@ -65,18 +61,6 @@ mode-waits label (Some Utf16Le) held waits = waits
 mode-waits label (Some Utf16Be) held waits = waits
 mode-waits None None held waits = waits
 mode-waits (Some label) None held waits = waits
-
--- what waits in a mode that isn't settled are few bytes in which a mark is looked for
-waits-few : (mode : Mode) (held : List ℕ) → IsWaiting mode held → IsSettled mode ⊎ LooksForMark mode × (length held ≤ 2)
-waits-few (Fresh label sniff) held waits = inr (waits.0, omega (arith, waits.1))
-waits-few Passing held waits = inl tt
-waits-few (Decoding label) held waits = inl tt
-
--- a decoder that looks for a mark hasn't settled
-looks-unsettled : (mode : Mode) → LooksForMark mode → IsSettled mode → ⊥
-looks-unsettled (Fresh label sniff) looks settled = settled
-looks-unsettled Passing looks settled = looks
-looks-unsettled (Decoding label) looks settled = looks
 
 module _ {R : Type 0} {remaining : R → Option (List ℕ)} {step : R → ReadResult → R → Type 0} (settings : Settings)
     {capacity : ℕ} {reader reader' : R} {given : List ℕ} {d : DecoderState}
@@ -129,7 +113,7 @@ module _ {R : Type 0} {remaining : R → Option (List ℕ)} {step : R → ReadRe
 
     mode-is : IsSettled d.mode → d.mode ≡ mode_of mark settings.encoding
     mode-is settled =
-        sym (mode-stays _ _ settled) ∙ (sym (reads.settles [] (λ _. refl))
+        sym (mode-settled _ _ settled) ∙ (sym (reads.settles [] (λ _. refl))
         ∙ ap (λ xs. mode_of (found_mark settings.encoding settings.bom_sniffing xs) settings.encoding)
         (append-nil (concat reads.pieces)))
 
@@ -150,7 +134,7 @@ module _ {R : Type 0} {remaining : R → Option (List ℕ)} {step : R → ReadRe
           let left : still_to_give d [] ≡ [] =
           ap (λ xs. xs ++ decode_by d.mode (d.held ++ unread d.has_ended [])) ready
           ∙ (ap (λ m. decode_by m (d.held ++ unread d.has_ended [])) passes
-          ∙ (ap (λ xs. xs ++ unread d.has_ended []) (held passes) ∙ unread-nothing _)) in
+          ∙ (ap (λ xs. xs ++ unread d.has_ended []) (held passes) ∙ unread-none _)) in
           sym (decoded-is ∙ (ap (λ xs. given ++ xs) left ∙ append-nil given))
 
     -- a decoder that looks for a mark has given nothing, and holds all that was taken
@@ -277,3 +261,144 @@ module _ {R : Type 0} {remaining : R → Option (List ℕ)} {step : R → ReadRe
       (ap is_cut same.0 ∙ (ap is_cut empty ∙ and-false (is_quit (detection_of k.binary_detection))))
       (subst HasReadNothing (sym (same.1 ∙ begun))
       (record { fresh = λ settled. settled; held = refl; unended = refl }))))))
+
+-- the bytes that were held and given come after those that were shown
+pub split-text : (gone shown rest given later : List ℕ) {bytes : List ℕ}
+    → bytes ≡ (gone ++ ((shown ++ rest) ++ given)) ++ later
+    → bytes ≡ (gone ++ shown) ++ ((rest ++ given) ++ later)
+split-text gone shown rest given later is =
+    is ∙ (ap (λ xs. (gone ++ xs) ++ later) (append_assoc shown rest given)
+    ∙ (ap (λ xs. xs ++ later) (sym (append_assoc gone shown (rest ++ given)))
+    ∙ append_assoc (gone ++ shown) (rest ++ given) later))
+
+abbrev t : Settings → ℕ
+t k = byte_of k.line_terminator
+
+module _ {R : Type 0} (remaining : R → Option (List ℕ)) (step : R → ReadResult → R → Type 0) where
+  -- the law of fills that follow one another
+  abbrev pub FillsContinue : Type 0
+  FillsContinue = (old new : BufferState) (d d1 d2 : DecoderState) (r r1 r2 : R) (gone given : List ℕ)
+      → Decodes remaining step d r given d1 r1
+      → gone ++ held old ≡ detected old.detection old.terminator given
+      → old.offset ≡ length gone → old.binary ≡ found_in old.detection old.terminator given
+      → is_cut old ≡ false → (fill : Fills remaining step old d1 r1 new d2 r2)
+      → Decodes remaining step d r (given ++ fill.given) d2 r2
+      × (gone ++ held new ≡ detected old.detection old.terminator (given ++ fill.given))
+      × (new.binary ≡ found_in old.detection old.terminator (given ++ fill.given))
+
+  -- a search of a stream by line, read by a decoder that was started for it, and the laws
+  pub record IsStream (k : Settings) (meaning : Meaning) (decoder : DecoderState) : Type 0 where
+    pub by_line : is_across k meaning ≡ false
+    pub built : k.passthru ≡ true → k.before_context ≡ 0
+    pub begun : decoder ≡ started decoder.capacity k.encoding k.bom_sniffing
+    pub join : LinesJoin
+    pub append : LinesAppend
+    pub none : DoneGivesNothing
+    pub continues : FillsContinue
+
+  -- what was given is what is gone and what a buffer holds, which is like one of the search
+  pub record IsHeld (k : Settings) (gone given : List ℕ) (like buffer : BufferState) (decoder d : DecoderState)
+      (reader r : R) : Type 0 where
+    pub holds : HoldsGiven remaining step gone like.detection like.terminator buffer decoder reader given d r
+    pub detects : like.detection ≡ detection_of k.binary_detection
+    pub ends_at : like.terminator ≡ byte_of k.line_terminator
+    pub same : IsSameBuffer like buffer
+
+  -- a fill of a buffer succeeded
+  pub record HasFilled (k : Settings) (old : BufferState) (d : DecoderState) (r : R) (new : BufferState)
+      (d' : DecoderState) (r' : R) : Type 0 where
+    pub fills : Fills remaining step old d r new d' r'
+    pub fitting : IsFitting k.heap_limit (byte_of k.line_terminator) old
+    pub same : IsSameBuffer old new
+    pub filled : IsFilled old new
+    pub room : length (held new) ≤ new.size
+    pub tight : is_cut new ≡ true → length (held new) < new.size
+    pub within : IsWithin new.limit new.size
+    pub done : (old.has_ended ≡ true → is_cut old ≡ false → IsDone d) → new.has_ended ≡ true → is_cut new ≡ false
+        → IsDone d'
+    pub settled : old.has_ended ≡ false → is_cut old ≡ false → IsSettled d'.mode
+    pub passing : old.has_ended ≡ false → is_cut old ≡ false → d'.mode ≡ Passing
+        → (length d'.ready ≤ 3) × (d'.held ≡ [])
+
+module _ {R : Type 0} {remaining : R → Option (List ℕ)} {step : R → ReadResult → R → Type 0} where
+  -- what a buffer holds after a fill
+  pub held-next : {old new : BufferState} {decoder d d' : DecoderState} {reader r r' : R} {gone given : List ℕ}
+      → FillsContinue remaining step → old.offset ≡ length gone → is_cut old ≡ false
+      → HoldsGiven remaining step gone old.detection old.terminator old decoder reader given d r
+      → (fills : Fills remaining step old d r new d' r')
+      → HoldsGiven remaining step gone old.detection old.terminator new decoder reader (given ++ fills.given) d' r'
+  held-next continues at uncut holds fills =
+      let next = continues _ _ _ _ _ _ _ _ _ _ holds.decodes holds.whole at holds.found uncut fills in
+      record { whole = next.1; found = next.2; decodes = next.0 }
+
+  -- the bytes that were given, read by the decoder of the search
+  abbrev pub reads : {k : Settings} {meaning : Meaning} {decoder d : DecoderState} {reader r : R} {gone given : List ℕ}
+      {like buffer : BufferState} → IsStream remaining step k meaning decoder
+      → IsHeld remaining step k gone given like buffer decoder d reader r
+      → Decodes remaining step (started decoder.capacity k.encoding k.bom_sniffing) reader given d r
+  reads {decoder} {d} {reader} {r} {given} stream is =
+      subst (λ x. Decodes remaining step x reader given d r) stream.begun is.holds.decodes
+
+  -- what the view of an input is, by what a buffer holds of it
+  module _ {k : Settings} {gone given : List ℕ} {old new : BufferState} {decoder d : DecoderState} {reader r : R}
+      (is : IsHeld remaining step k gone given old new decoder d reader r) where
+    pub holds-is : gone ++ held new ≡ detected (detection_of k.binary_detection) (t k) given
+    holds-is = is.holds.whole ∙ (ap (λ d. detected d old.terminator given) is.detects
+        ∙ ap (λ c. detected (detection_of k.binary_detection) c given) is.ends_at)
+
+    pub found-there : new.binary ≡ found_in (detection_of k.binary_detection) (t k) given
+    found-there = is.holds.found ∙ (ap (λ d. found_in d old.terminator given) is.detects
+        ∙ ap (λ c. found_in (detection_of k.binary_detection) c given) is.ends_at)
+
+    -- the view of every input begins with what is gone and what is held
+    pub fronts-there : (later : List ℕ) → (back : List ℕ) × (view_of k (given ++ later) ≡ (gone ++ held new) ++ back)
+    fronts-there later =
+        let front = views.view-front _ (t k) given later in
+        (front.0, front.1 ∙ ap (λ xs. xs ++ front.0) (sym holds-is))
+
+    -- also of what comes before a byte that ends the search
+    pub before-there : (later : List ℕ)
+        → (back : List ℕ) × (before_quit k.binary_detection (view_of k (given ++ later)) ≡ (gone ++ held new) ++ back)
+    before-there later =
+        let front = views.before-front _ (t k) given later in
+        (front.0, front.1 ∙ ap (λ xs. xs ++ front.0) (sym holds-is))
+
+    -- which is none of the bytes that are gone or held
+    pub unquit-held : before_quit k.binary_detection (gone ++ held new) ≡ gone ++ held new
+    unquit-held = ap (before_quit k.binary_detection) holds-is
+        ∙ (views.before-held _ (t k) given ∙ sym holds-is)
+
+    module _ (uncut : is_cut new ≡ false) where
+      pub view-there : view_of k given ≡ gone ++ held new
+      view-there = sym (holds-is ∙ views.view-held _ (t k) given
+          (λ quits. sym found-there
+          ∙ uncut-none _ _ uncut (ap is_quit (is.same.detection ∙ is.detects) ∙ quits)))
+
+      pub shows-there : (later : List ℕ) → view_of k (given ++ later) ≡ (gone ++ held new) ++ view_of k later
+      shows-there later = views.view-append _ (t k) given later
+          ∙ ap (λ xs. xs ++ view_of k later) view-there
+
+      -- as much is gone and held as was given
+      pub length-there : length given ≡ length gone + length (held new)
+      length-there = omega (
+        arith,
+        ap length view-there,
+        views.view-length k.binary_detection (t k) given,
+        length-append gone (held new),
+      )
+
+  -- a byte that wasn't found before is after all that was held then
+  pub found-past : {k : Settings} {gone given : List ℕ} (more : List ℕ) {old new : BufferState} {decoder d d' : DecoderState}
+      {reader r r' : R} → IsHeld remaining step k gone given old old decoder d reader r
+      → IsHeld remaining step k gone (given ++ more) old new decoder d' reader r' → old.binary ≡ None
+      → (o : ℕ) → new.binary ≡ Some o → length gone + length (held old) ≤ o
+  found-past {k} {gone} {given} more {old} before after none o is =
+      let absent = sym (found-there before) ∙ none in
+      omega (
+        arith,
+        views.found-after _ (t k) given more o absent
+            (sym (found-there after) ∙ is),
+        length-detected _ (t k) given absent,
+        ap length (holds-is before),
+        length-append gone (held old),
+      )

@@ -1,6 +1,6 @@
 -- What detection makes of an input that is searched as it is read, against what a line buffer makes of its parts.
 use Rattle.std.proofs.Common.{◌≡◌, ℕ, ◌+◌, ◌<◌, ◌≤◌, ◌==◌, Bool, true, false, List, [], ◌++◌, length, take, drop, map}
-use Rattle.std.proofs.Common.{Option, Some, None}
+use Rattle.std.proofs.Common.{Some, None}
 use Rattle.std.proofs.Common.{◌⊎◌, inl, inr, refl, sym, ◌∙◌, ap, arith, append-nil, append_assoc, length-append, ⊎_elim}
 use Rattle.std.proofs.lemmas.List.{take_all, length-map, length-take-le, map-append, take-append-le, take-append-drop}
 use Rattle.std.specs.List.{position, position_or_len}
@@ -10,7 +10,7 @@ use Rattle.grep_line_buffer.specs.declared.detection.Detection.TheVariants.{Quit
 use Rattle.grep_line_buffer.specs.Detections.{detected, found_in, first_of, is_quit}
 use Rattle.grep_line_buffer.proofs.DetectionLemmas.{all-before, found-append, passes-or-not, position-at}
 use Rattle.grep_line_buffer.proofs.DetectionLemmas.{position-missing}
-use Rattle.grep_line_buffer.proofs.DetectionLemmas.{detected-append, detected-cut, first-same}
+use Rattle.grep_line_buffer.proofs.DetectionLemmas.{detected-append, detected-cut, first-none, first-same, some-below}
 use Rattle.grep_report.specs.declared.binary_detection.BinaryDetection.{BinaryDetection}
 use Rattle.grep_report.specs.declared.binary_detection.BinaryDetection.TheVariants.{None as no_detection, Quit, Convert}
 use Rattle.grep_definitions.specs.BinaryBytes.{before_quit, binary_position, stream_view}
@@ -136,10 +136,6 @@ first-kept d t xs ys offset is =
     sym (found-is d t _) ∙ (found-append _ t xs ys
     ∙ ap (λ o. first_of o (option_map (λ i. length xs + i) (found_in (detection_of d) t ys))) is)
 
-pub first-none : (first other : Option ℕ) → first_of first other ≡ None → first ≡ None
-first-none None other none = refl
-first-none (Some n) other none = absurd (cc)
-
 -- none is among the first bytes of an input, if none is in the front of it that has them
 pub clear-front : (d : BinaryDetection) (t : ℕ) (xs ys : List ℕ) (count : ℕ) → count ≤ length xs
     → found_in (detection_of d) t xs ≡ None → binary_position d t (take count (xs ++ ys)) ≡ None
@@ -150,10 +146,6 @@ clear-front d t xs ys count within none =
     (option_map (λ i. length (take count xs) + i) (found_in (detection_of d) t (drop count xs)))
     (sym (found-append (detection_of d) t (take count xs) (drop count xs))
     ∙ (ap (found_in (detection_of d) t) (take-append-drop count xs) ∙ none)))
-
-some-below : (n : ℕ) (other : Option ℕ) (offset : ℕ) → option_map (λ i. n + i) other ≡ Some offset → n ≤ offset
-some-below n None offset is = absurd (cc)
-some-below n (Some i) offset is = let same : n + i ≡ offset = cc in omega (arith, same)
 
 -- what wasn't among the first bytes is after them
 pub found-after : (d : BinaryDetection) (t : ℕ) (xs ys : List ℕ) (offset : ℕ) → found_in (detection_of d) t xs ≡ None

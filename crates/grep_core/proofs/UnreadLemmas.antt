@@ -1,6 +1,6 @@
 -- Why a reader's input wasn't searched to its end: a fill of the line buffer failed.
 use Rattle.std.proofs.Common.{◌≡◌, ◌≢◌, ℕ, ◌+◌, ◌<◌, ◌≤◌, Bool, false, true, List, [], ◌++◌, length, Option, Some, None}
-use Rattle.std.proofs.Common.{Err, inl, inr, refl, sym, ◌∙◌, ap, subst, arith, ⊎_elim, append_assoc, length-append}
+use Rattle.std.proofs.Common.{Err, refl, sym, ◌∙◌, ap, subst, arith, ⊎_elim, append_assoc, length-append}
 use Rattle.std.proofs.lemmas.Bool.{cases_lt, false≢true}
 use Rattle.std.proofs.lemmas.List.{append_cancel_left}
 use Rattle.std.proofs.lemmas.List.Elements.{All-append}
@@ -27,10 +27,10 @@ use Rattle.grep_core.specs.Rolls.{IsRolling}
 use Rattle.grep_core.specs.SearchBuffers.{IsFitting, IsMadeOf, least_size}
 use Rattle.grep_definitions.proofs.FrontLemmas.{crowded}
 use Rattle.grep_walk.specs.Origins.{Origin}
-use Rattle.grep_core.proofs.HeldLemmas as holding
-use Rattle.grep_core.proofs.HeldLemmas.{IsHeld, IsStream}
+use Rattle.grep_line_buffer.proofs.BufferStateLemmas.{grown}
 use Rattle.grep_core.proofs.ReadingLemmas as reading
-use Rattle.grep_core.proofs.RollLemmas as rolls
+use Rattle.grep_core.proofs.ReadingLemmas.{IsHeld, IsStream}
+use Rattle.grep_core.proofs.RollingLemmas as rolls
 use Rattle.grep_core.proofs.StreamViewLemmas as views
 
 -- a limit that isn't 0 is above it
@@ -48,11 +48,6 @@ may-grow (Some most) size least within below = ⊎_elim
     (λ above. (above, omega (arith, least, above)))
     (λ low. let same : most ≡ size = omega (arith, low, least, within) in absurd (below (ap Some same)))
     (cases_lt 65536 most)
-
--- a fill leaves a buffer at least as large
-pub grown : {least : ℕ} (old new : BufferState) → GrowsIfFull old new → least ≤ old.size → least ≤ new.size
-grown old new (inl same) low = omega (arith, same, low)
-grown old new (inr (more, full, few)) low = omega (arith, more, low)
 
 module _ {R : Type 0} (remaining : R → Option (List ℕ)) (read_step : R → ReadResult → R → Type 0) where
   -- why an input wasn't searched to its end, and what was taken then
@@ -106,14 +101,14 @@ module _ {R : Type 0} {remaining : R → Option (List ℕ)} {read_step : R → R
 
     held-now : IsHeld remaining read_step k so_far.gone raw old new decoder d' reader mid
     held-now = record {
-      holds = holding.held-next stream.continues so_far.between.offset so_far.uncut so_far.holds fills;
+      holds = reading.held-next stream.continues so_far.between.offset so_far.uncut so_far.holds fills;
       detects = so_far.detects;
       ends_at = fill.fitting.terminator;
       same = fill.same;
     }
 
     abbrev reads-now : Decodes remaining read_step (started decoder.capacity k.encoding k.bom_sniffing) reader raw d' mid
-    reads-now = holding.reads stream held-now
+    reads-now = reading.reads stream held-now
 
     -- what is gone and held is what was seen, and the bytes after it
     seen-is : so_far.gone ++ held new ≡ seen ++ (old.rest ++ given)
@@ -188,10 +183,10 @@ module _ {R : Type 0} {remaining : R → Option (List ℕ)} {read_step : R → R
     stops = (
       stream.by_line,
       views.before-kept _ seen _
-          (ap (before_quit k.binary_detection) (sym seen-is) ∙ (holding.unquit-held held-now ∙ seen-is)),
+          (ap (before_quit k.binary_detection) (sym seen-is) ∙ (reading.unquit-held held-now ∙ seen-is)),
       λ bytes input.
           let text = reading.front-is k reads-now stream.none (view_of k) _
-          (holding.fronts-there held-now) bytes input in
+          (reading.fronts-there held-now) bytes input in
           rolls.goes-on stream.join stream.append so_far.between _
           (text-is _ text.1),
     )
@@ -208,8 +203,8 @@ module _ {R : Type 0} {remaining : R → Option (List ℕ)} {read_step : R → R
         → read_step mid (Err e) r' → d'.ready ≡ [] → IsWaiting d'.mode d'.held → IsShortTo r' e
     short-read uncut no_line room unended failed ready waits =
         let decoded = reading.decoded-so_far k reads-now stream.none unended ready waits in
-        let shows = holding.view-there held-now uncut in
-        let unquit = holding.unquit-held held-now in
+        let shows = reading.view-there held-now uncut in
+        let unquit = reading.unquit-held held-now in
         record {
           mid = mid;
           taken = reading.taken k reads-now;
@@ -240,7 +235,7 @@ module _ {R : Type 0} {remaining : R → Option (List ℕ)} {read_step : R → R
     begins = begins-to fill fills;
     cause = of_lines (stops fill fills) refl (λ bytes input.
         let before = reading.front-is k (reads-now fill fills) stream.none (λ xs. before_quit k.binary_detection (view_of k xs))
-        _ (holding.before-there (held-now fill fills)) bytes input in
+        _ (reading.before-there (held-now fill fills)) bytes input in
         cuts-short fill fills error made fill.fails other _ before.1);
   }
 

@@ -45,7 +45,7 @@ decode-nothing (Decoding Utf8) = refl
 decode-nothing (Decoding Utf16Le) = refl
 decode-nothing (Decoding Utf16Be) = refl
 
-unread-none : (ended : Bool) → unread ended [] ≡ []
+pub unread-none : (ended : Bool) → unread ended [] ≡ []
 unread-none true = refl
 unread-none false = refl
 
@@ -57,10 +57,16 @@ pub done-gives : (d : DecoderState) (rest : List ℕ) → IsDone d → still_to_
 done-gives d rest done = rw (done.ended, done.ready, done.held) (decode-nothing d.mode)
 
 -- a decoder that looks for a mark hasn't settled
-looks-unsettled : (mode : Mode) → LooksForMark mode → IsSettled mode → ⊥
+pub looks-unsettled : (mode : Mode) → LooksForMark mode → IsSettled mode → ⊥
 looks-unsettled (Fresh label sniff) looks settled = settled
 looks-unsettled Passing looks settled = looks
 looks-unsettled (Decoding label) looks settled = looks
+
+-- what waits in a mode that isn't settled are few bytes in which a mark is looked for
+pub waits-few : (mode : Mode) (held : List ℕ) → IsWaiting mode held → IsSettled mode ⊎ LooksForMark mode × (length held ≤ 2)
+waits-few (Fresh label sniff) held waits = inr (waits.0, omega (arith, waits.1))
+waits-few Passing held waits = inl tt
+waits-few (Decoding label) held waits = inl tt
 
 decoding-passes : (label : Label) → Decoding label ≡ Passing → ⊥
 decoding-passes label same = cc

@@ -1,9 +1,11 @@
--- What a line buffer shows, by the positions of its bytes.
+-- What a line buffer shows, by the positions of its bytes, and after a fill.
 use Rattle.std.proofs.Common.{◌≡◌, ℕ, ◌+◌, ◌-◌, ◌<◌, ◌≤◌, Bool, List, ◌++◌, length, drop, Option, slice_index, sym, ap}
-use Rattle.std.proofs.Common.{subst, ◌∙◌, arith}
+use Rattle.std.proofs.Common.{subst, ◌∙◌, arith, ◌⊎◌, inl, inr, refl, false, length-append}
+use Rattle.std.proofs.lemmas.Bool.{false≢true}
 use Rattle.grep_line_buffer.specs.declared.detection.Detection.{Detection}
 use Rattle.std.specs.Prelude.{slice_range}
-use Rattle.grep_line_buffer.specs.BufferStates.{BufferState, Lacks, EndsWith}
+use Rattle.grep_line_buffer.specs.BufferStates.{BufferState, EndsAtEnd, EndsAtLine, EndsWith, GrowsIfFull, IsFilled}
+use Rattle.grep_line_buffer.specs.BufferStates.{IsSameBuffer, Lacks, held, is_cut}
 use Rattle.grep_line_buffer.proofs.SliceLemmas.{drop-slice, slice-join, length-slice, slice_index-slice}
 
 -- two windows that differ in what is shown, in what follows it, and in sizes
@@ -89,3 +91,34 @@ module _ (start line_end end count found t : ℕ) (bytes : List ℕ) (low : star
   pub Lacks-rest : found ≤ count → Lacks t (drop found last_read) → Lacks t (slice_range bytes ((end - count) + found) end)
   Lacks-rest part none =
       let P : List ℕ → Type 0 = Lacks t in subst P (drop-slice bytes (end - count) end found (omega arith)) none
+
+-- a buffer is like itself
+pub same-buffer : {buffer : BufferState} → IsSameBuffer buffer buffer
+same-buffer = record { offset = refl; limit = refl; terminator = refl; detection = refl }
+
+-- a fill leaves a buffer at least as large
+pub grown : {least : ℕ} (old new : BufferState) → GrowsIfFull old new → least ≤ old.size → least ≤ new.size
+grown old new (inl same) low = omega (arith, same, low)
+grown old new (inr (more, full, few)) low = omega (arith, more, low)
+
+-- a fill that no byte cut shows whole lines, or all that is left
+abbrev pub IsUncut : BufferState → BufferState → Type 0
+IsUncut old new = EndsAtLine old new ⊎ EndsAtEnd old new
+
+pub uncut-filled : {old new : BufferState} → is_cut new ≡ false → IsFilled old new → IsUncut old new
+uncut-filled uncut (inl line) = inl line
+uncut-filled uncut (inr (inl end)) = inr end
+uncut-filled uncut (inr (inr byte)) = absurd (false≢true (sym uncut ∙ byte.cut))
+
+-- a fill shows at least what was shown
+pub long-shown : {old new : BufferState} (given : List ℕ) → held new ≡ held old ++ given → IsUncut old new
+    → length old.shown ≤ length new.shown
+long-shown {old} given whole (inl line) = omega (arith, line.came, length-append old.shown old.rest)
+long-shown {old} {new} given whole (inr end) = omega (
+  arith,
+  ap length whole,
+  ap length end.all,
+  length-append new.shown new.rest,
+  length-append (held old) given,
+  length-append old.shown old.rest,
+)

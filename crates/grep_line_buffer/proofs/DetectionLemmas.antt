@@ -189,3 +189,11 @@ found-next detection t base rest raw given old now made was len is =
     by None (Some m) same later = refl
     by None None same None = refl
     by None None same (Some i) = ap Some (omega (arith, len same))
+
+pub first-none : (first other : Option ℕ) → first_of first other ≡ None → first ≡ None
+first-none None other none = refl
+first-none (Some n) other none = absurd (cc)
+
+pub some-below : (n : ℕ) (other : Option ℕ) (offset : ℕ) → option_map (λ i. n + i) other ≡ Some offset → n ≤ offset
+some-below n None offset is = absurd (cc)
+some-below n (Some i) offset is = let same : n + i ≡ offset = cc in omega (arith, same)

@@ -3,7 +3,6 @@ use Rattle.std.proofs.lemmas.Result.{err_from_is_err_and}
 use Rattle.grep_definitions.specs.Plans.{stopped, counted}
 use Rattle.grep_walk.proofs.AcrossEndLemmas as ends
 use Rattle.grep_definitions.proofs.CallOrderLemmas as order
-use Rattle.grep_report.specs.ErrorMakers.{makers_of}
 use Rattle.grep_core.proofs.search.Search.match_across.Goals as goal
 
 pub returns-in_err-begin-clause-fault : goal.returns-in_err-begin-clause-fault

@@ -1,9 +1,8 @@
 use Rattle.std.proofs.Common.{arith, ◌∙◌, sym, false, true, inl, refl}
 use Rattle.std.proofs.lemmas.Bool.{false≢true}
-use Rattle.grep_definitions.specs.BinaryBytes.{is_detecting}
 use Rattle.std.proofs.lemmas.Result.{err_from_is_err_and}
-use Rattle.grep_core.proofs.StreamBeginLemmas as streams
-use Rattle.grep_core.proofs.StreamBeginLemmas.{idle-unread}
+use Rattle.grep_core.proofs.StreamSearchLemmas as streams
+use Rattle.grep_core.proofs.StreamSearchLemmas.{idle-unread}
 use Rattle.grep_definitions.proofs.CallOrderLemmas as order
 use Rattle.grep_core.proofs.search.Search.match_source.Goals as goal
 

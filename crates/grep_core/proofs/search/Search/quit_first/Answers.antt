@@ -1,7 +1,7 @@
 use Rattle.std.proofs.Common.{refl, inl, inr, Err, sym, subst}
 use Rattle.std.proofs.lemmas.Result.{err_from_is_err_and}
 use Rattle.grep_definitions.specs.Plans.{begins, binary_data, stopped, failed, counted}
-use Rattle.grep_core.proofs.UntilLemmas.{first-quit}
+use Rattle.grep_core.proofs.QuittingLemmas.{first-quit}
 use Rattle.grep_core.proofs.search.Search.quit_first.Goals as goal
 
 pub returns-in_err-begin-clause-quits : goal.returns-in_err-begin-clause-quits

@@ -4,9 +4,9 @@ use Rattle.std.proofs.lemmas.Bool.{false≢true}
 use Rattle.std.proofs.lemmas.Result.{err_from_is_err_and}
 use Rattle.grep_matcher.specs.Meanings.{Meaning}
 use Rattle.grep_core.proofs.CutLemmas as cuts
-use Rattle.grep_core.proofs.HeldLemmas.{HasFilled, IsStream}
+use Rattle.grep_core.proofs.ReadingLemmas.{HasFilled, IsStream}
 use Rattle.grep_core.proofs.RollingLemmas as rolling
-use Rattle.grep_core.proofs.NotedLemmas as noting
+use Rattle.grep_core.proofs.StreamSearchLemmas as noting
 use Rattle.grep_core.proofs.ReadingLemmas as reading
 use Rattle.grep_core.proofs.UnreadLemmas.{IsShort, short-filled}
 use Rattle.grep_core.specs.BinaryCalls.{Noted, PassesBinary}

@@ -1,4 +1,4 @@
-use Rattle.std.proofs.Common.{rules, ◌≡◌, ◌==◌, arith, sym, subst, refl, true, false, [], ◌-◌, drop, length-take}
+use Rattle.std.proofs.Common.{rules, ◌≡◌, arith, sym, subst, refl, true, false, [], ◌-◌, drop, length-take}
 use Rattle.std.proofs.Common.{length-drop}
 use Rattle.std.proofs.lemmas.Result.{err_from_is_err_and}
 use Rattle.grep_matcher.specs.Lines.{byte_of}

@@ -4,7 +4,7 @@ use Rattle.grep_report.specs.ErrorMakers.{ErrorMakers}
 use Rattle.grep_matcher.specs.Meanings.{MatcherFacts}
 use Rattle.grep_core.specs.InputSearches.{IsBytesSearched}
 use Rattle.grep_walk.proofs.FinishLemmas.{searched-finish}
-use Rattle.grep_core.proofs.LookLemmas.{look-detects, look-plain, searched-at, slice-search}
+use Rattle.grep_core.proofs.InputSearchLemmas.{look-detects, look-plain, searched-at, slice-search}
 use Rattle.grep_core.proofs.search.Search.search_bytes.Given.{Over}
 use Rattle.grep_definitions.proofs.CallOrderLemmas as order
 use Rattle.grep_report.specs.ErrorMakers.{makers_of}

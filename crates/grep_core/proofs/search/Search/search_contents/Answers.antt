@@ -4,12 +4,11 @@ use Rattle.std.proofs.lemmas.Result.{err_from_is_err_and}
 use Rattle.std.specs.Prelude.{vec_capacity}
 use Rattle.grep_line_buffer.specs.Contents.{FailsAfter, IsBelow, ContentsFail}
 use Rattle.grep_line_buffer.specs.Fills.{IfRead}
-use Rattle.grep_definitions.specs.BinaryBytes.{view_of}
 use Rattle.grep_definitions.specs.ReaderRuns.{IsUnreadIn}
 use Rattle.grep_report.specs.ErrorMakers.{ErrorMakers}
 use Rattle.grep_matcher.specs.Meanings.{MatcherFacts}
-use Rattle.grep_core.proofs.ContentsSearchLemmas as whole
-use Rattle.grep_core.proofs.LookLemmas.{look-detects, look-plain, look-quit}
+use Rattle.grep_core.proofs.InputSearchLemmas as whole
+use Rattle.grep_core.proofs.InputSearchLemmas.{look-detects, look-plain, look-quit}
 use Rattle.grep_core.proofs.search.Search.search_contents.Given.{Over}
 use Rattle.grep_definitions.specs.Searches.{read_in_order}
 use Rattle.grep_definitions.proofs.CallOrderLemmas as order

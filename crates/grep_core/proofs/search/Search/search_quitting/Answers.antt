@@ -5,7 +5,7 @@ use Rattle.grep_report.specs.ErrorMakers.{ErrorMakers}
 use Rattle.grep_matcher.specs.Meanings.{MatcherFacts}
 use Rattle.grep_definitions.specs.ContentsSearches.{IsFaultIn}
 use Rattle.grep_definitions.specs.SearchTurns.{calls_if}
-use Rattle.grep_core.proofs.UntilLemmas.{fault-until, until-finished}
+use Rattle.grep_core.proofs.QuittingLemmas.{fault-until, until-finished}
 use Rattle.grep_core.proofs.search.Search.search_quitting.Given.{Over}
 use Rattle.grep_core.specs.QuittingSinks.{Quits, count_to}
 use Rattle.grep_core.proofs.OrderLemmas as passed

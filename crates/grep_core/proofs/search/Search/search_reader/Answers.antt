@@ -5,8 +5,8 @@ use Rattle.grep_matcher.specs.Meanings.{MatcherFacts}
 use Rattle.grep_definitions.specs.Settings.{SearcherState, Settings}
 use Rattle.grep_definitions.proofs.PlannedUnreadLemmas.{unread-planned}
 use Rattle.grep_core.proofs.ResultLemmas.{if_err-each}
-use Rattle.grep_core.proofs.ReaderModeLemmas.{read-across, read-by_line}
-use Rattle.grep_core.proofs.StreamFinishLemmas.{stream-finished}
+use Rattle.grep_core.proofs.InputSearchLemmas.{read-across, read-by_line}
+use Rattle.grep_core.proofs.StreamSearchLemmas.{stream-finished}
 use Rattle.grep_definitions.proofs.CallOrderLemmas.{order-finished}
 use Rattle.grep_core.proofs.search.Search.search_reader.Given.{Over}
 use Rattle.grep_report.specs.ErrorMakers.{makers_of}

@@ -2,7 +2,7 @@ use Rattle.std.proofs.Common.{rules, ◌≡◌, ◌∙◌, ◌-◌, ap, sym, sub
 use Rattle.std.proofs.lemmas.Result.{err_from_is_err_and}
 use Rattle.grep_definitions.specs.Inputs.{IsClosed}
 use Rattle.grep_matcher.specs.Lines.{byte_of}
-use Rattle.grep_core.proofs.RollLemmas as rolls
+use Rattle.grep_core.proofs.RollingLemmas as rolls
 use Rattle.grep_definitions.specs.Plans.{all_true}
 use Rattle.grep_definitions.proofs.CallOrderLemmas.{called-none}
 use Rattle.grep_core.proofs.search.Search.search_shown.Given.{Over}

@@ -3,7 +3,7 @@ use Rattle.grep_report.specs.ErrorMakers.{ErrorMakers}
 use Rattle.grep_matcher.specs.Meanings.{MatcherFacts}
 use Rattle.grep_definitions.specs.SearchTurns.{calls_if}
 use Rattle.grep_core.specs.InputSearches.{IsSearchedUntil}
-use Rattle.grep_core.proofs.UntilLemmas.{first-found, quit-searched}
+use Rattle.grep_core.proofs.QuittingLemmas.{first-found, quit-searched}
 use Rattle.grep_core.proofs.search.Search.search_until.Given.{Over}
 use Rattle.grep_definitions.specs.Searches.{IsInOrder}
 use Rattle.grep_core.proofs.OrderLemmas.{quit-in-order}

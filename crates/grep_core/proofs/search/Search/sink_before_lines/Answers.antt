@@ -1,10 +1,9 @@
 use Rattle.std.proofs.Common.{rules, arith, ◌≡◌, ◌-◌, subst, drop, length-take, length-drop, true, false}
 use Rattle.std.proofs.lemmas.Result.{err_from_is_err_and}
-use Rattle.grep_definitions.specs.LineTurns.{number_of, pending_turns}
+use Rattle.grep_definitions.specs.LineTurns.{pending_turns}
 use Rattle.grep_definitions.specs.Plans.{AreMade, all_true, stopped, failed, counted}
 use Rattle.grep_walk.proofs.BeforeContextLemmas as before
 use Rattle.grep_walk.proofs.WindowLemmas as windows
-use Rattle.std.specs.Prelude.{slice_range}
 use Rattle.grep_definitions.proofs.CallOrderLemmas.{called-before, called-then}
 use Rattle.grep_core.proofs.search.Search.sink_before_lines.Goals as goal
 
