@@ -1,6 +1,6 @@
 -- A search of a stream between two fills, after `binary_data` or without it.
-use Rattle.grep_definitions.specs.Plans.{planned, AreMade, Planned, begins, binary_data, Steps, all_true, Outcome}
-use Rattle.grep_definitions.specs.Plans.{failed}
+use Rattle.grep_definitions.specs.Plans.{planned, AreMade, Planned, begins, binary_data, Steps}
+use Rattle.grep_definitions.specs.Plans.{all_true, Outcome, failed, joined_from, Settings}
 use Rattle.std.proofs.Common.{◌≡◌, ℕ, ◌+◌, ◌<◌, ◌≤◌, Bool, true, false, List, [], ◌++◌, ◌∷◌, length, take, drop, Option}
 use Rattle.std.proofs.Common.{Some, None, Ok, Err, inl, inr, refl, sym, ◌∙◌, ap, subst, arith, append_assoc}
 use Rattle.std.proofs.Common.{length-append, is_some, append-nil, ⊎_elim}
@@ -13,16 +13,14 @@ use Rattle.grep_line_buffer.specs.BufferStates.{BufferState, held, is_cut}
 use Rattle.grep_line_buffer.specs.Detections.{detected, found_in, is_quit}
 use Rattle.grep_matcher.specs.Lines.{lines, byte_of}
 use Rattle.grep_matcher.specs.Meanings.{Meaning, MatcherFacts}
-use Rattle.grep_definitions.specs.BinaryBytes.{binary_of, on_stream, view_of, quits}
-use Rattle.grep_definitions.specs.Reports.{joined_from}
-use Rattle.grep_definitions.specs.BinaryBytes
-use Rattle.grep_definitions.specs.Searches.{IsCutAt, IsCutSearch, IsReaderSearch}
-use Rattle.grep_definitions.specs.Inputs.{IsInput, IsClosed, IsFront, reports_nothing}
+use Rattle.grep_definitions.specs.Searches.{binary_of, on_stream, view_of, quits, IsCutAt}
+use Rattle.grep_definitions.specs.Searches.{IsCutSearch, IsReaderSearch, IsInput, IsClosed, IsFront}
+use Rattle.grep_definitions.specs.Searches.{reports_nothing}
+use Rattle.grep_definitions.specs.Searches
 use Rattle.grep_definitions.specs.LineSearch
 use Rattle.grep_definitions.specs.LineWalks.{IsNear, IsOpen}
 use Rattle.grep_definitions.specs.LineSearch.{turns, turns_before}
 use Rattle.grep_report.specs.ErrorMakers.{ErrorMakers}
-use Rattle.grep_definitions.specs.Settings.{Settings}
 use Rattle.grep_definitions.proofs.FirstTurnLemmas.{turns-seen}
 use Rattle.grep_definitions.proofs.LimitLemmas.{turn_above, turn_all}
 use Rattle.grep_definitions.proofs.SearchLawLemmas.{turn_count-le}
@@ -275,7 +273,7 @@ module _ {R : Type 0} {remaining : R → Option (List ℕ)} {read_step : R → R
 
       -- or the search ends there
       module _ (outcome : Outcome E) (last : S)
-          (called : AreMade step k sink.sink (BinaryBytes.planned_binary (quitting.point step stream first
+          (called : AreMade step k sink.sink (Searches.planned_binary (quitting.point step stream first
           (reading.taken k reads-now) seen-then offset cut-input sink.sink made-so_far) ∷ []) outcome last)
           (ends : outcome ≡ all_true → quits k.binary_detection ≡ true) where
         cut-failed : {F : Type 0} {errors : ErrorMakers F E} (facts : MatcherFacts F) {has_buffers : Bool} {e : E}

@@ -8,21 +8,20 @@ use Rattle.grep_definitions.proofs.LineLengthLemmas.{lines-within}
 use Rattle.grep_definitions.proofs.PlanLemmas.{plans-turns}
 use Rattle.grep_definitions.proofs.PlannedReaderLemmas.{contents-planned, plain-planned}
 use Rattle.grep_definitions.proofs.PlannedSliceLemmas.{plain-fault, quit-fault, until-planned}
-use Rattle.grep_definitions.specs.Asking.{search_plan, is_across, selection_in}
-use Rattle.grep_definitions.specs.BinaryBytes.{in_contents, is_detecting, look_at, nowhere, on_stream}
-use Rattle.grep_definitions.specs.BinaryBytes.{binary_position, stream_view, view_of, BinaryPoint, look_of}
+use Rattle.grep_definitions.specs.Plans.{search_plan, is_across, selection_in, IsRun, Steps}
+use Rattle.grep_definitions.specs.Plans.{Planned, Plan, Outcome, planned, begins, finishes, AreMade}
+use Rattle.grep_definitions.specs.Plans.{IsFinished, finish_result, counted, line_count, Settings}
+use Rattle.grep_definitions.specs.Plans.{SearcherState}
+use Rattle.grep_definitions.specs.Searches.{in_contents, is_detecting, look_at, nowhere, on_stream}
+use Rattle.grep_definitions.specs.Searches.{binary_position, stream_view, view_of, BinaryPoint}
+use Rattle.grep_definitions.specs.Searches.{look_of, IsFront, IsInput, IsTooLong, CutsContents}
+use Rattle.grep_definitions.specs.Searches.{IsBelowLimit, of_full, of_no_memory, IsPoint}
+use Rattle.grep_definitions.specs.Searches.{IsSearchOf, ran, Points, IsReaderSearch, IsCutSearch}
+use Rattle.grep_definitions.specs.Searches.{IsRead, asked}
 use Rattle.grep_definitions.specs.ContentsSearches.{IsFaultIn, IsQuitFault, IsRunUntil, of_sink}
-use Rattle.grep_definitions.specs.Inputs.{IsFront, IsInput, IsTooLong, CutsContents, IsBelowLimit, of_full}
-use Rattle.grep_definitions.specs.Inputs.{of_no_memory}
-use Rattle.grep_definitions.specs.Plans.{IsRun, Steps, Planned, Plan, Outcome, planned, begins, finishes, AreMade}
-use Rattle.grep_definitions.specs.Plans.{IsFinished, finish_result, counted}
 use Rattle.grep_definitions.specs.ReaderRuns.{IsPlainlySearched, IsContentsSearched, IsUnreadIn, IsReaderFaultIn}
 use Rattle.grep_definitions.specs.ReaderRuns.{of_contents, of_failed_read, of_reading, of_search}
-use Rattle.grep_definitions.specs.Reports.{line_count}
 use Rattle.grep_definitions.specs.SearchTurns.{calls_if, search_turns, search_byte_count, SearchCalls, calls_across}
-use Rattle.grep_definitions.specs.Searches.{IsPoint, IsSearchOf, ran, Points, IsReaderSearch, IsCutSearch, IsRead}
-use Rattle.grep_definitions.specs.Searches.{asked}
-use Rattle.grep_definitions.specs.Settings.{Settings, SearcherState}
 use Rattle.grep_definitions.specs.SinkRuns.{plan_of}
 use Rattle.grep_definitions.specs.SliceSearches.{IsSliceSearch}
 use Rattle.grep_line_buffer.specs.Contents.{IsBelow, ContentsFail, FailsAfter}

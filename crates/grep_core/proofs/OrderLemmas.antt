@@ -10,14 +10,15 @@ use Rattle.std.proofs.lemmas.List.Elements.{All-nil, All-cons}
 use Rattle.std.specs.declared.io.Error.{Error}
 use Rattle.grep_decode.specs.DecoderStates.{Calls, DecoderState, Decodes}
 use Rattle.grep_decode.specs.Source.{ReadResult}
-use Rattle.grep_definitions.specs.BinaryBytes.{is_detecting, planned_binary}
+use Rattle.grep_definitions.specs.Searches.{is_detecting, planned_binary, IsReadingError, IsInOrder}
+use Rattle.grep_definitions.specs.Searches.{ran_in_order, comes_between}
 use Rattle.grep_definitions.specs.CallOrder.{HasCalled, HasCalledTo}
-use Rattle.grep_definitions.specs.Inputs.{HasFailedRead, IsReadingError}
+use Rattle.grep_definitions.specs.ReaderRuns.{HasFailedRead}
 use Rattle.grep_report.specs.ErrorMakers.{ErrorMakers}
 use Rattle.grep_matcher.specs.Meanings.{MatcherFacts}
-use Rattle.grep_definitions.specs.Settings.{Settings}
-use Rattle.grep_definitions.specs.Plans.{Call, begins, matches, context, breaks, binary_data, finishes, Steps, all_true}
-use Rattle.grep_definitions.specs.Plans.{stopped, failed, IsRun, Planned, counted, planned, is_binary_data}
+use Rattle.grep_definitions.specs.Plans.{Settings, Call, begins, matches, context, breaks}
+use Rattle.grep_definitions.specs.Plans.{binary_data, finishes, Steps, all_true, stopped, failed}
+use Rattle.grep_definitions.specs.Plans.{IsRun, Planned, counted, planned, is_binary_data}
 use Rattle.grep_definitions.specs.SinkRuns.{outcome_of}
 use Rattle.grep_definitions.proofs.CallOrderLemmas as order
 use Rattle.grep_core.specs.declared.quitting.Quitting.{Quitting}
@@ -31,7 +32,6 @@ use Rattle.grep_report.specs.declared.binary_detection.BinaryDetection.TheVarian
 use Rattle.grep_line_buffer.specs.declared.fill_error.FillError.{FillError}
 use Rattle.grep_line_buffer.specs.declared.fill_error.FillError.TheVariants.{Read, HeapLimit, Offset, Memory}
 use Rattle.grep_core.specs.QuittingSinks.{IsLookedAt, IsMadeAfter, Quits, count_to, ended, watch_of, first_quit}
-use Rattle.grep_definitions.specs.Searches.{IsInOrder, ran_in_order, comes_between}
 
 -- a buffer that looks for no byte finds none
 pub undetected : (d : BinaryDetection) {detection : Detection} {binary : Option ℕ} (f : ℕ → ℕ) (t : ℕ) (given : List ℕ)

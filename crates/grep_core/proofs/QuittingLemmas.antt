@@ -6,17 +6,18 @@ use Rattle.grep_core.specs.QuittingSinks.{first_quit}
 use Rattle.grep_core.specs.declared.quitting.Quitting.{Quitting}
 use Rattle.grep_definitions.proofs.BreakLemmas.{AreBreaksPaired}
 use Rattle.grep_definitions.proofs.SinkRunLemmas.{AreMade-append, AreMade-ended}
-use Rattle.grep_definitions.specs.BinaryBytes.{position_of, call_at, holds_byte, offset_at, plan_with, point_at}
-use Rattle.grep_definitions.specs.BinaryBytes.{point_unless, planned_binary, with_offset, first_look}
+use Rattle.grep_definitions.specs.Searches.{position_of, call_at, offset_at, plan_with, point_at}
+use Rattle.grep_definitions.specs.Searches.{point_unless, planned_binary, with_offset}
+use Rattle.grep_definitions.specs.BinaryLaws.{holds_byte, first_look}
 use Rattle.grep_definitions.specs.ContentsSearches.{IsFaultIn, IsQuitFault, IsRunUntil, of_sink, of_matcher}
 use Rattle.grep_definitions.specs.ContentsSearches.{of_quit_sink, of_quit_matcher}
-use Rattle.grep_definitions.specs.Plans.{Call, Planned, begins, matches, context, breaks, binary_data, finishes}
-use Rattle.grep_definitions.specs.Plans.{is_break, reported_bytes, reported_from, Steps, Outcome, all_true, stopped}
-use Rattle.grep_definitions.specs.Plans.{failed, AreMade, IsFinished, IsRun, finish_result, Finish, counted, planned}
-use Rattle.grep_definitions.specs.Reports.{Kind, matched, in_context, joined_from}
+use Rattle.grep_definitions.specs.Plans.{Call, Planned, begins, matches, context, breaks}
+use Rattle.grep_definitions.specs.Plans.{binary_data, finishes, is_break, reported_bytes}
+use Rattle.grep_definitions.specs.Plans.{reported_from, Steps, Outcome, all_true, stopped, failed}
+use Rattle.grep_definitions.specs.Plans.{AreMade, IsFinished, IsRun, finish_result, Finish, counted}
+use Rattle.grep_definitions.specs.Plans.{planned, Kind, matched, in_context, joined_from, Settings}
 use Rattle.grep_definitions.specs.SearchLaws.{is_report}
 use Rattle.grep_definitions.specs.SearchTurns.{calls_if}
-use Rattle.grep_definitions.specs.Settings.{Settings}
 use Rattle.grep_definitions.specs.SinkRuns.{plan_of}
 use Rattle.grep_lines.proofs.ReplaceLemmas.{position-found}
 use Rattle.grep_matcher.specs.Meanings.{Meaning, MatcherFacts}

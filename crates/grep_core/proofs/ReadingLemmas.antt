@@ -10,12 +10,11 @@ use Rattle.grep_decode.specs.Source.{ReadResult}
 use Rattle.grep_decode.specs.declared.label.Label.{Label}
 use Rattle.grep_decode.specs.declared.label.Label.TheVariants.{Utf8, Utf16Le, Utf16Be}
 use Rattle.grep_decode.specs.declared.mode.Mode.TheVariants.{Passing}
-use Rattle.grep_definitions.specs.Asking.{is_across}
-use Rattle.grep_definitions.specs.BinaryBytes.{before_quit, view_of}
+use Rattle.grep_definitions.specs.Plans.{is_across, Settings}
+use Rattle.grep_definitions.specs.Searches.{before_quit, view_of, AreWaiting, IsInput}
+use Rattle.grep_definitions.specs.Searches.{encoding_after, encoding_of, looks_for_mark}
+use Rattle.grep_definitions.specs.Searches.{IsReadForLine, searched_bytes, Taken}
 use Rattle.grep_definitions.specs.DecodedInputs.{IsDecodedSoFar, passes_after, passes_unchanged}
-use Rattle.grep_definitions.specs.Inputs.{AreWaiting, IsInput, encoding_after, encoding_of, looks_for_mark}
-use Rattle.grep_definitions.specs.Inputs.{IsReadForLine, searched_bytes, Taken}
-use Rattle.grep_definitions.specs.Settings.{Settings}
 use Rattle.grep_line_buffer.proofs.DetectionLemmas.{length-detected, uncut-none}
 use Rattle.grep_line_buffer.specs.BufferStates.{BufferState, empty_buffer, is_cut, held, IsFilled, IsSameBuffer}
 use Rattle.grep_line_buffer.specs.BufferStates.{IsWithin}

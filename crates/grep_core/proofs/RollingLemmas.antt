@@ -12,12 +12,11 @@ use Rattle.grep_definitions.proofs.FrontLemmas.{closed-append, closed-drop, coun
 use Rattle.grep_definitions.proofs.FrontLemmas.{start-there, turns-within}
 use Rattle.grep_definitions.proofs.LimitLemmas.{turn_above}
 use Rattle.grep_definitions.proofs.LineRangeLemmas.{end-start, start-same}
-use Rattle.grep_definitions.specs.BinaryBytes.{is_detecting, binary_of, view_of}
-use Rattle.grep_definitions.specs.Inputs.{GoesOnAfter, IsClosed, IsTooLong, reports_nothing, IsInput, IsFront}
-use Rattle.grep_definitions.specs.Inputs.{reads_lines}
+use Rattle.grep_definitions.specs.Searches.{is_detecting, binary_of, view_of, GoesOnAfter, IsClosed}
+use Rattle.grep_definitions.specs.Searches.{IsTooLong, reports_nothing, IsInput, IsFront}
+use Rattle.grep_definitions.specs.Searches.{reads_lines}
 use Rattle.grep_definitions.specs.LineWalks.{IsOpen}
-use Rattle.grep_definitions.specs.Plans.{Steps, Outcome, all_true, begins}
-use Rattle.grep_definitions.specs.Settings.{Settings}
+use Rattle.grep_definitions.specs.Plans.{Steps, Outcome, all_true, begins, Settings}
 use Rattle.grep_line_buffer.proofs.BufferStateLemmas.{IsUncut, long-shown, uncut-filled, grown, same-buffer}
 use Rattle.grep_line_buffer.specs.BufferStates.{BufferState, held, is_cut, IsWithin}
 use Rattle.grep_line_buffer.specs.BufferStates.{Lacks, empty_buffer, GrowsIfFull, IsSameBuffer}

@@ -13,20 +13,21 @@ use Rattle.grep_definitions.proofs.PlannedReaderLemmas.{passes-unchanged}
 use Rattle.grep_definitions.proofs.PlannedStreamLemmas.{stream-point, binary-made}
 use Rattle.grep_definitions.proofs.SearchModeLemmas.{plan-by_line}
 use Rattle.grep_definitions.proofs.SinkRunLemmas.{all-by, AreMade-append, outcome_by, made-binary, by-none, by-some}
-use Rattle.grep_definitions.specs.Asking.{IsAskedWith, IsQuestionIn, search_plan, is_across, selection_in}
-use Rattle.grep_definitions.specs.BinaryBytes.{quits, on_stream, binary_of, view_of, BinaryPoint, plan_with}
-use Rattle.grep_definitions.specs.BinaryBytes.{calls_with, planned_binary, with_offset, after_binary, binary_position}
-use Rattle.grep_definitions.specs.BinaryBytes.{position_of}
-use Rattle.grep_definitions.specs.DecodedInputs.{passes_unchanged}
-use Rattle.grep_definitions.specs.Inputs.{IsInput, searched_bytes, Taken, IsFront, reports_nothing}
-use Rattle.grep_definitions.specs.LineSearch.{byte_count, turns}
-use Rattle.grep_definitions.specs.Plans.{Steps, Planned, Plan, AreMade, Outcome, all_true, stopped, failed, counted}
-use Rattle.grep_definitions.specs.Plans.{Finish, IsRun, begins, finish_after, finishes, finish_result, IsFinished}
-use Rattle.grep_definitions.specs.Questions.{IsAskedByLine}
-use Rattle.grep_definitions.specs.Reports.{through, start, line_count}
-use Rattle.grep_definitions.specs.Searches.{IsPoint, IsCutAt, IsReaderSearch, IsSearchOf, Points, ran, asked}
+use Rattle.grep_definitions.specs.Plans.{IsAskedWith, IsQuestionIn, search_plan, is_across}
+use Rattle.grep_definitions.specs.Plans.{selection_in, Steps, Planned, Plan, AreMade, Outcome}
+use Rattle.grep_definitions.specs.Plans.{all_true, stopped, failed, counted, Finish, IsRun, begins}
+use Rattle.grep_definitions.specs.Plans.{finish_after, finishes, finish_result, IsFinished, start}
+use Rattle.grep_definitions.specs.Plans.{line_count, Settings, SearcherState}
+use Rattle.grep_definitions.specs.Searches.{quits, on_stream, binary_of, view_of, BinaryPoint}
+use Rattle.grep_definitions.specs.Searches.{plan_with, calls_with, planned_binary, with_offset}
+use Rattle.grep_definitions.specs.Searches.{binary_position, position_of, IsInput, searched_bytes}
+use Rattle.grep_definitions.specs.Searches.{Taken, IsFront, reports_nothing, IsPoint, IsCutAt}
+use Rattle.grep_definitions.specs.Searches.{IsReaderSearch, IsSearchOf, Points, ran, asked}
 use Rattle.grep_definitions.specs.Searches.{IsStreamPoint, IsRead}
-use Rattle.grep_definitions.specs.Settings.{Settings, SearcherState}
+use Rattle.grep_definitions.specs.SinkRuns.{after_binary}
+use Rattle.grep_definitions.specs.DecodedInputs.{passes_unchanged}
+use Rattle.grep_definitions.specs.LineSearch.{byte_count, turns, through}
+use Rattle.grep_definitions.specs.Questions.{IsAskedByLine}
 use Rattle.grep_line_buffer.proofs.DetectionLemmas.{first-none}
 use Rattle.grep_line_buffer.specs.BufferStates.{BufferState, is_cut}
 use Rattle.grep_line_buffer.specs.Detections.{first_of, is_quit}

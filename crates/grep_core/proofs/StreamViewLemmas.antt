@@ -13,7 +13,7 @@ use Rattle.grep_line_buffer.proofs.DetectionLemmas.{position-missing}
 use Rattle.grep_line_buffer.proofs.DetectionLemmas.{detected-append, detected-cut, first-none, first-same, some-below}
 use Rattle.grep_report.specs.declared.binary_detection.BinaryDetection.{BinaryDetection}
 use Rattle.grep_report.specs.declared.binary_detection.BinaryDetection.TheVariants.{None as no_detection, Quit, Convert}
-use Rattle.grep_definitions.specs.BinaryBytes.{before_quit, binary_position, stream_view}
+use Rattle.grep_definitions.specs.Searches.{before_quit, binary_position, stream_view}
 use Rattle.grep_core.specs.SearchBuffers.{detection_of}
 
 -- where the first binary byte of an input is

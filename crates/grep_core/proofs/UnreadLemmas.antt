@@ -16,12 +16,10 @@ use Rattle.grep_line_buffer.specs.Detections.{detected}
 use Rattle.grep_line_buffer.specs.Fills.{FailsToFill, FillFails, Fills, IfRead, UnlessRead}
 use Rattle.grep_matcher.specs.Meanings.{Meaning}
 use Rattle.grep_matcher.specs.Lines.{byte_of}
-use Rattle.grep_definitions.specs.Reports.{is_at}
-use Rattle.grep_definitions.specs.BinaryBytes.{before_quit, view_of}
-use Rattle.grep_definitions.specs.Inputs.{CutsShort, IsCrowded, IsCut, IsInput, StopsInLines, Taken, of_limit, of_lines}
-use Rattle.grep_definitions.specs.Inputs.{of_memory, of_offset, of_reader}
-use Rattle.grep_definitions.specs.Settings.{Settings, SearcherState}
-use Rattle.grep_definitions.specs.Plans.{Steps}
+use Rattle.grep_definitions.specs.Plans.{is_at, Settings, SearcherState, Steps}
+use Rattle.grep_definitions.specs.Searches.{before_quit, view_of, CutsShort, IsCrowded, IsCut}
+use Rattle.grep_definitions.specs.Searches.{IsInput, StopsInLines, Taken, of_limit, of_lines}
+use Rattle.grep_definitions.specs.Searches.{of_memory, of_offset, of_reader}
 use Rattle.grep_walk.specs.declared.walk.Walk.{Walk}
 use Rattle.grep_core.specs.Rolls.{IsRolling}
 use Rattle.grep_core.specs.SearchBuffers.{IsFitting, IsMadeOf, least_size}

@@ -3,8 +3,7 @@
 use Rattle.std.specs.Prelude.{◌≡◌, ◌⊎◌, ◌&&◌, Bool, true, ℕ, Option, None, Some}
 use Rattle.std.specs.Prelude.{is_none, is_some, Ok, Err}
 use Rattle.grep_report.specs.BinaryDetections.{quit_byte_of}
-use Rattle.grep_definitions.specs.Settings.{Settings}
-use Rattle.grep_definitions.specs.Plans.{binary_data, Steps}
+use Rattle.grep_definitions.specs.Plans.{Settings, binary_data, Steps}
 
 -- a sink's state, and the offset of the first binary byte if it was reported
 pub record Noted (S : Type 0) : Type 0 where

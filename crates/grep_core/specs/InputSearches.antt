@@ -2,14 +2,13 @@
 -- what a search of bytes promises; the contracts of private functions cite the others.
 use Rattle.std.specs.Prelude.{ℕ, List, Option, Result, Ok, Err}
 use Rattle.grep_decode.specs.Source.{ReadResult}
-use Rattle.grep_definitions.specs.BinaryBytes.{Look, nowhere, in_contents, on_stream}
+use Rattle.grep_definitions.specs.Searches.{Look, nowhere, in_contents, on_stream}
 use Rattle.grep_definitions.specs.ReaderRuns.{IsContentsSearched, IsReaderFaultIn, IsReaderRunIn}
 use Rattle.grep_definitions.specs.SearchTurns.{SearchCalls, calls_across, search_calls}
-use Rattle.grep_definitions.specs.Settings.{Settings, SearcherState}
+use Rattle.grep_definitions.specs.Plans.{Settings, SearcherState, Steps}
 use Rattle.grep_report.specs.ErrorMakers.{ErrorMakers}
 use Rattle.grep_matcher.specs.Meanings.{MatcherFacts}
 use Rattle.grep_definitions.specs.ContentsSearches.{IsQuitFault, IsRunUntil, IsSearchedAlong}
-use Rattle.grep_definitions.specs.Plans.{Steps}
 
 module _ {S E F : Type 0} (step : Steps S E) (errors : ErrorMakers F E)
     (matcher : MatcherFacts F) where

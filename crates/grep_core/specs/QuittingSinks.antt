@@ -3,10 +3,9 @@
 -- does.
 use Rattle.std.specs.Prelude.{◌≡◌, ◌⊎◌, ℕ, ◌+◌, Bool, true, false, Option, None, Some, Result, Ok}
 use Rattle.std.specs.Prelude.{Err, [], ◌∷◌}
-use Rattle.grep_definitions.specs.BinaryBytes.{position_of, planned_binary, with_offset}
-use Rattle.grep_definitions.specs.Settings.{Settings}
-use Rattle.grep_definitions.specs.Plans.{Call, begins, matches, context, breaks, binary_data}
-use Rattle.grep_definitions.specs.Plans.{finishes, Steps, Plan, counted, planned}
+use Rattle.grep_definitions.specs.Searches.{position_of, planned_binary, with_offset}
+use Rattle.grep_definitions.specs.Plans.{Settings, Call, begins, matches, context, breaks}
+use Rattle.grep_definitions.specs.Plans.{binary_data, finishes, Steps, Plan, counted, planned}
 use Rattle.grep_core.specs.declared.quitting.Quitting.{Quitting}
 
 -- the sink, whether a break is held back until the report after it is looked at, and the offset of

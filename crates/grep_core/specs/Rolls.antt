@@ -9,18 +9,16 @@ use Rattle.grep_line_buffer.specs.BufferStates.{BufferState, is_cut, Lacks}
 use Rattle.grep_core.specs.HeldViews.{HoldsGiven}
 use Rattle.grep_matcher.specs.Lines.{byte_of, lines}
 use Rattle.grep_matcher.specs.Meanings.{Meaning, MatcherFacts}
-use Rattle.grep_definitions.specs.Asking.{search_plan}
-use Rattle.grep_definitions.specs.BinaryBytes.{binary_of, is_detecting, on_stream, view_of}
-use Rattle.grep_definitions.specs.BinaryBytes.{BinaryPoint, plan_with, quits}
-use Rattle.grep_definitions.specs.Searches.{IsCutAt, IsPoint}
-use Rattle.grep_definitions.specs.Inputs.{IsInput, IsClosed, IsFront, IsTooLong, Taken}
-use Rattle.grep_definitions.specs.Inputs.{IsReadForLine, reports_nothing, reads_lines}
+use Rattle.grep_definitions.specs.Plans.{search_plan, AreMade, Finish, Plan, begins, binary_data}
+use Rattle.grep_definitions.specs.Plans.{Steps, Outcome, all_true, stopped, failed, planned}
+use Rattle.grep_definitions.specs.Plans.{Settings}
+use Rattle.grep_definitions.specs.Searches.{binary_of, is_detecting, on_stream, view_of}
+use Rattle.grep_definitions.specs.Searches.{BinaryPoint, plan_with, quits, IsCutAt, IsPoint}
+use Rattle.grep_definitions.specs.Searches.{IsInput, IsClosed, IsFront, IsTooLong, Taken}
+use Rattle.grep_definitions.specs.Searches.{IsReadForLine, reports_nothing, reads_lines}
 use Rattle.grep_definitions.specs.DecodedInputs.{passes_unchanged}
 use Rattle.grep_definitions.specs.LineSearch.{turns, turn_count, byte_count}
-use Rattle.grep_definitions.specs.Plans.{AreMade, Finish, Plan, begins, binary_data, Steps, Outcome}
-use Rattle.grep_definitions.specs.Plans.{all_true, stopped, failed, planned}
 use Rattle.grep_report.specs.ErrorMakers.{ErrorMakers}
-use Rattle.grep_definitions.specs.Settings.{Settings}
 use Rattle.grep_core.specs.BinaryCalls.{Noted}
 use Rattle.grep_walk.specs.declared.walk.Walk.{Walk}
 use Rattle.grep_walk.specs.WalkFaults.{IsWalkFault}

@@ -2,9 +2,9 @@
 ghost use Rattle.std.specs.Prelude.{◌≡◌, ◌+◌, ◌<◌, ◌^◌, Bool, Result, length, is_some};
 ghost use Rattle.grep_matcher.specs.Lines.{byte_of};
 ghost use Rattle.grep_core.specs.Configured.{IsConfigured};
-ghost use Rattle.grep_definitions.specs.Settings.{Settings};
+ghost use Rattle.grep_definitions.specs.Plans.{Settings, Call, begins, breaks, binary_data};
+ghost use Rattle.grep_definitions.specs.Plans.{finish_result};
 ghost use Rattle.grep_report.specs.SinkReports.{match_bytes};
-ghost use Rattle.grep_definitions.specs.Plans.{Call, begins, breaks, binary_data, finish_result};
 ghost use Rattle.grep_definitions.specs.SinkArguments.{match_call, context_call, finish_call};
 
 use crate::search::Search;

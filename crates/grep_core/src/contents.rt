@@ -3,13 +3,11 @@ ghost use Rattle.std.specs.Prelude.{◌≡◌, ℕ, Bool, List, Option, true, fa
 ghost use Rattle.std.specs.declared.io.Error.{Error};
 ghost use Rattle.grep_matcher.specs.Meanings.{IsInfallible};
 ghost use Rattle.grep_decode.specs.DecoderStates.{started};
-ghost use Rattle.grep_definitions.specs.BinaryBytes.{look_at, view_of};
-ghost use Rattle.grep_definitions.specs.Inputs.{IsReadingError};
+ghost use Rattle.grep_definitions.specs.Searches.{look_at, view_of, IsReadingError, IsInOrder};
 ghost use Rattle.grep_definitions.specs.ReaderRuns.{IsUnreadIn};
 ghost use Rattle.grep_definitions.specs.Plans.{NeverFails};
 ghost use Rattle.grep_core.specs.InputSearches.{IsAcrossSearched};
 ghost use Rattle.grep_core.specs.Configured.{IsConfigured};
-ghost use Rattle.grep_definitions.specs.Searches.{IsInOrder};
 ghost use Rattle.grep_report.specs.ErrorMakers.{makers_of};
 
 use crate::calls::Calls;

@@ -4,7 +4,7 @@ ghost use Rattle.std.specs.Prelude.{Result, length};
 ghost use Rattle.std.specs.Option.{option_map};
 ghost use Rattle.grep_core.specs.Configured.{IsConfigured};
 ghost use Rattle.grep_core.specs.QuittingSinks.{ended};
-ghost use Rattle.grep_definitions.specs.BinaryBytes.{position_of};
+ghost use Rattle.grep_definitions.specs.Searches.{position_of};
 ghost use Rattle.grep_definitions.specs.Plans.{binary_data, breaks};
 
 use crate::calls::Calls;

@@ -7,10 +7,9 @@ ghost use Rattle.grep_report.specs.BinaryDetections.{quit_byte_of};
 ghost use Rattle.grep_definitions.specs.CallOrder.{BeginsInOrder};
 ghost use Rattle.grep_definitions.specs.Searches.{IsInOrder};
 ghost use Rattle.grep_definitions.specs.SliceSearches.{IsSliceSearch};
-ghost use Rattle.grep_definitions.specs.Asking.{IsLawful};
+ghost use Rattle.grep_definitions.specs.Plans.{IsLawful, NeverFails, Outcome};
 ghost use Rattle.grep_definitions.specs.SearchTurns.{calls_if};
 ghost use Rattle.grep_definitions.specs.ContentsSearches.{IsFaultIn};
-ghost use Rattle.grep_definitions.specs.Plans.{NeverFails, Outcome};
 ghost use Rattle.grep_walk.specs.Walks.{Counted};
 ghost use Rattle.grep_report.specs.ErrorMakers.{makers_of};
 

@@ -1,13 +1,12 @@
 //! The search of whole contents that ends at a binary byte.
 ghost use Rattle.std.specs.Prelude.{◌≡◌, true, false, None, IsOk, take};
 ghost use Rattle.grep_matcher.specs.Meanings.{IsInfallible};
-ghost use Rattle.grep_definitions.specs.BinaryBytes.{is_detecting, position_of, first_look};
-ghost use Rattle.grep_definitions.specs.Asking.{IsLawful};
+ghost use Rattle.grep_definitions.specs.Searches.{is_detecting, position_of, IsInOrder};
+ghost use Rattle.grep_definitions.specs.BinaryLaws.{first_look};
+ghost use Rattle.grep_definitions.specs.Plans.{IsLawful, NeverFails, IsRun};
 ghost use Rattle.grep_definitions.specs.SearchTurns.{calls_if};
-ghost use Rattle.grep_definitions.specs.Plans.{NeverFails, IsRun};
 ghost use Rattle.grep_core.specs.InputSearches.{IsSearchedUntil};
 ghost use Rattle.grep_core.specs.Configured.{IsConfigured};
-ghost use Rattle.grep_definitions.specs.Searches.{IsInOrder};
 ghost use Rattle.grep_core.specs.QuittingSinks.{first_quit};
 ghost use Rattle.grep_report.specs.ErrorMakers.{makers_of};
 

@@ -18,7 +18,8 @@ use Rattle.grep_decode.specs.declared.mode.Mode.{Mode}
 use Rattle.grep_decode.specs.declared.mode.Mode.TheVariants.{Fresh, Passing, Decoding}
 use Rattle.grep_decode.specs.Decoded.{decoded, found_mark, units_of, has_odd_byte, scalars_of, utf16_text}
 use Rattle.grep_decode.specs.UndecodedBytes.{UndecodedBytes, Grows, holding}
-use Rattle.grep_decode.specs.Source.{ReadResult, Pulls, FailsWith}
+use Rattle.grep_decode.specs.Source.{ReadResult, Pulls}
+use Rattle.grep_decode.specs.Reading.{FailsWith}
 use Rattle.grep_decode.specs.DecoderStates.{DecoderState, Calls, Decodes, FailsToDecode, FitsMode, IsDecoded, IsDone}
 use Rattle.grep_decode.specs.DecoderStates.{IsSettled, LooksForMark, TakesAtMost, decode_by, mode_after, still_to_give}
 use Rattle.grep_decode.specs.DecoderStates.{HasWaited, IsWaiting, next_mode, started, unread, yet}

@@ -8,7 +8,7 @@ use Rattle.std.proofs.lemmas.List.{get_or_append_left, drop-append-le, drop-drop
 use Rattle.std.proofs.lemmas.List.{take_rest}
 use Rattle.std.proofs.lemmas.List.{take-append-drop}
 use Rattle.std.proofs.lemmas.Str.{IsUtf8-append, encodes-append, utf8_valid_len-IsValidUpTo}
-use Rattle.grep_decode.specs.Decoded.{IsUnfinishedUtf8}
+use Rattle.grep_decode.specs.Utf8.{IsUnfinishedUtf8}
 use Rattle.std.specs.Str.{IsValidUpTo}
 use Rattle.std.specs.Str.Lossy.{utf8_error_len, utf8_lossy, utf8_valid_len, replacement_bytes}
 use Rattle.bstr.specs.Utf8.{Decoded, decoded, bad, second, continues, or_replacement, lossy_chars}

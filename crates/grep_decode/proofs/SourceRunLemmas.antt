@@ -4,7 +4,8 @@ use Rattle.std.proofs.Common.{append-nil}
 use Rattle.std.proofs.lemmas.Bool.{false≢true}
 use Rattle.std.specs.List.{concat}
 use Rattle.std.specs.declared.io.Error.{Error}
-use Rattle.grep_decode.specs.Source.{ReadResult, Pulls, FailsWith}
+use Rattle.grep_decode.specs.Source.{ReadResult, Pulls}
+use Rattle.grep_decode.specs.Reading.{FailsWith}
 use Rattle.grep_decode.specs.DecoderStates.{Calls}
 
 module _ {S : Type 0} (step : S → ReadResult → S → Type 0) where

@@ -4,7 +4,8 @@ use Rattle.std.proofs.Common.{arith}
 use Rattle.std.proofs.lemmas.Bool.Decides.{nat_tests}
 use Rattle.std.proofs.lemmas.Bool.{cases_Bool, false≢true}
 use Rattle.std.specs.Char.Utf16.{is_low_surrogate, is_high_surrogate, surrogate_pair_char}
-use Rattle.grep_decode.specs.Decoded.{replacement, is_surrogate, alone, scalars_of}
+use Rattle.grep_decode.specs.Spellings.{replacement, is_surrogate}
+use Rattle.grep_decode.specs.Decoded.{alone, scalars_of}
 use Rattle.grep_decode.specs.Spellings.{Spells, at_end, at_odd, plain, pair, low, high, waiting}
 use Rattle.grep_decode.proofs.Utf16Lemmas.{scalars_of-alone, scalars_of-high, scalars_of-pair}
 

@@ -5,7 +5,8 @@ use Rattle.std.proofs.Common.{encode_utf8, encode_utf8_all, refl, sym, ap, inl, 
 use Rattle.std.proofs.lemmas.Bool.Decides.{nat_tests}
 use Rattle.std.specs.Char.Utf16.{is_low_surrogate, is_high_surrogate, surrogate_pair_char}
 use Rattle.grep_decode.specs.declared.byte_order.ByteOrder.{ByteOrder}
-use Rattle.grep_decode.specs.Decoded.{IsUnfinishedUtf16, odd_scalars, replacement, unit_of, units_of, has_odd_byte}
+use Rattle.grep_decode.specs.Decoded.{IsUnfinishedUtf16, odd_scalars, unit_of, units_of, has_odd_byte}
+use Rattle.grep_decode.specs.Spellings.{replacement}
 use Rattle.grep_decode.specs.Decoded.{alone, scalars_of, utf16_text}
 
 -- a unit that begins no pair

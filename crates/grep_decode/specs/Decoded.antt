@@ -10,12 +10,6 @@ use Rattle.grep_decode.specs.declared.byte_order.ByteOrder.TheVariants.{Little, 
 use Rattle.grep_decode.specs.declared.label.Label.{Label}
 use Rattle.grep_decode.specs.declared.label.Label.TheVariants.{Utf8, Utf16Le, Utf16Be}
 
--- ---- UTF-16
-
--- U+FFFD
-abbrev pub replacement : ℕ
-replacement = 0xFFFD
-
 -- the 16-bit unit of two bytes
 abbrev pub unit_of : ByteOrder → ℕ → ℕ → ℕ
 unit_of Little first second = second * 256 + first
@@ -32,23 +26,19 @@ has_odd_byte [] = false
 has_odd_byte (first ∷ []) = true
 has_odd_byte (first ∷ second ∷ bytes) = has_odd_byte bytes
 
--- half of a pair
-abbrev pub is_surrogate : ℕ → Bool
-is_surrogate unit = is_high_surrogate unit || is_low_surrogate unit
-
--- the scalar value of a unit that is in no pair
+-- the scalar value of a unit that is in no pair: that of half a pair is U+FFFD
 abbrev pub alone : ℕ → ℕ
-alone unit = if is_surrogate unit then replacement else unit
+alone unit = if is_high_surrogate unit || is_low_surrogate unit then 0xFFFD else unit
 
 -- the scalar value of an odd byte, if there is one
 abbrev pub odd_scalars : Bool → List ℕ
-odd_scalars odd = if odd then replacement ∷ [] else []
+odd_scalars odd = if odd then 0xFFFD ∷ [] else []
 
 -- the scalar values that these units spell, with an odd byte after them or none
 unfoldable pub scalars_of : Bool → List ℕ → List ℕ
 scalars_of odd [] = odd_scalars odd
 scalars_of odd (unit ∷ []) =
-    if is_high_surrogate unit then replacement ∷ [] else alone unit ∷ odd_scalars odd
+    if is_high_surrogate unit then 0xFFFD ∷ [] else alone unit ∷ odd_scalars odd
 scalars_of odd (unit ∷ next ∷ units) =
     if is_high_surrogate unit && is_low_surrogate next
     then surrogate_pair_char unit next ∷ scalars_of odd units
@@ -57,8 +47,6 @@ scalars_of odd (unit ∷ next ∷ units) =
 -- bytes of UTF-16, spelled in UTF-8
 unfoldable pub utf16_text : ByteOrder → List ℕ → List ℕ
 utf16_text order bytes = encode_utf8_all (scalars_of (has_odd_byte bytes) (units_of order bytes))
-
--- ---- marks
 
 -- the mark of an encoding
 abbrev pub mark_of : Label → List ℕ
@@ -74,8 +62,6 @@ abbrev pub marked : List ℕ → Option Label
 marked input = if begins_with_mark Utf8 input then Some Utf8
     else (if begins_with_mark Utf16Le input then Some Utf16Le
     else (if begins_with_mark Utf16Be input then Some Utf16Be else None))
-
--- ---- the decoded bytes
 
 -- the text of an input in this encoding
 abbrev pub text_of : Label → List ℕ → List ℕ
@@ -110,19 +96,14 @@ decoded label sniff input = by_mark (found_mark label sniff input) label input
 abbrev pub is_unchanged : Option Label → Bool → List ℕ → Bool
 is_unchanged label sniff input = not (is_some label) && not (is_some (found_mark label sniff input))
 
--- ---- bytes that wait for more
-
--- no character begins these bytes, and what is wrong there is that they end
-abbrev pub IsUnfinishedUtf8 : List ℕ → Type 0
-IsUnfinishedUtf8 bytes = (utf8_valid_len bytes ≡ 0) × (utf8_error_len bytes ≡ None)
-
--- there is no whole unit, or only one, a leading surrogate; an odd byte may follow
+-- of UTF-16 no whole unit waits, or only one, a leading surrogate; an odd byte may follow
 abbrev pub IsUnfinishedUtf16 : ByteOrder → List ℕ → Type 0
 IsUnfinishedUtf16 order bytes = (units_of order bytes ≡ [])
     ⊎ ((unit : ℕ) × (units_of order bytes ≡ unit ∷ []) × (is_high_surrogate unit ≡ true))
 
--- there are no bytes, or they begin a character of this encoding that more bytes could complete
+-- there are no bytes, or they begin a character of this encoding that more bytes could complete. In
+-- UTF-8 no character begins them, and what is wrong there is that they end
 abbrev pub IsUnfinished : Label → List ℕ → Type 0
-IsUnfinished Utf8 bytes = IsUnfinishedUtf8 bytes
+IsUnfinished Utf8 bytes = (utf8_valid_len bytes ≡ 0) × (utf8_error_len bytes ≡ None)
 IsUnfinished Utf16Le bytes = IsUnfinishedUtf16 Little bytes
 IsUnfinished Utf16Be bytes = IsUnfinishedUtf16 Big bytes

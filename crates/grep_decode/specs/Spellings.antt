@@ -1,7 +1,14 @@
 -- What the units of UTF-16 spell.
-use Rattle.std.specs.Prelude.{◌≡◌, ℕ, Bool, true, false, List, [], ◌∷◌}
+use Rattle.std.specs.Prelude.{◌≡◌, ◌||◌, ℕ, Bool, true, false, List, [], ◌∷◌}
 use Rattle.std.specs.Char.Utf16.{is_low_surrogate, is_high_surrogate, surrogate_pair_char}
-use Rattle.grep_decode.specs.Decoded.{is_surrogate, replacement}
+
+-- U+FFFD
+abbrev pub replacement : ℕ
+replacement = 0xFFFD
+
+-- half of a pair
+abbrev pub is_surrogate : ℕ → Bool
+is_surrogate unit = is_high_surrogate unit || is_low_surrogate unit
 
 -- These units, with an odd byte after them or none, spell these scalar values.
 pub data Spells (odd : Bool) : List ℕ → List ℕ → Type 0 where

@@ -4,7 +4,7 @@ ghost use Rattle.std.specs.Prelude.{None, length, take, drop, min, IsTrue, IfOk,
 ghost use Rattle.std.specs.Prelude.{OnOk, OnErr, Err};
 ghost use Rattle.std.specs.Io.{ReadsAtMost};
 ghost use Rattle.std.specs.Io.KnownBytes.{Consumes, Keeps, IsAtEnd};
-ghost use Rattle.grep_decode.specs.Source.{FailsWith, read_result};
+ghost use Rattle.grep_decode.specs.Reading.{FailsWith, read_result};
 ghost use Rattle.grep_decode.specs.DecoderStates.{DecoderState, Decodes, FailsToDecode, FitsMode};
 ghost use Rattle.grep_decode.specs.DecoderStates.{HasNoMark, HasReadNothing, HasWaited, IsDone};
 ghost use Rattle.grep_decode.specs.DecoderStates.{IsSettled, IsWaiting, LooksForMark, TakesAtMost};

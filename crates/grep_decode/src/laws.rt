@@ -7,7 +7,7 @@ ghost use Rattle.grep_decode.specs.Spellings.{Spells};
 ghost use Rattle.grep_decode.specs.DecoderStates.{DecoderState, Decodes, FailsToDecode, IsDecoded};
 ghost use Rattle.grep_decode.specs.DecoderStates.{IsDone, started};
 ghost use Rattle.grep_decode.specs.DecoderStates.{still_to_give};
-ghost use Rattle.grep_decode.specs.Source.{FailsWith};
+ghost use Rattle.grep_decode.specs.Reading.{FailsWith};
 
 use crate::source::Source;
 

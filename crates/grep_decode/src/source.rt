@@ -5,7 +5,8 @@ ghost use Rattle.std.specs.Prelude.{MatchResult};
 ghost use Rattle.std.specs.Io.{ReadsAtMost};
 ghost use Rattle.std.specs.Io.KnownBytes.{ReadConsumes, Consumes, Keeps};
 ghost use Rattle.std.specs.declared.io.Error.{Error};
-ghost use Rattle.grep_decode.specs.Source.{ReadResult, read_result};
+ghost use Rattle.grep_decode.specs.Source.{ReadResult};
+ghost use Rattle.grep_decode.specs.Reading.{read_result};
 
 use std::io;
 use std::io::Read;

@@ -6,7 +6,7 @@ ghost use Rattle.std.specs.Io.KnownBytes.{Keeps};
 ghost use Rattle.grep_decode.specs.DecoderStates.{Decodes, FailsToDecode, IsDone, TakesAtMost};
 ghost use Rattle.grep_decode.specs.DecoderStates.{HasWaited, LooksForMark, still_to_give};
 ghost use Rattle.grep_decode.specs.Decoded.{IsUnfinished};
-ghost use Rattle.grep_decode.specs.Source.{read_result};
+ghost use Rattle.grep_decode.specs.Reading.{read_result};
 ghost use Rattle.grep_decode.specs.UndecodedBytes.{UndecodedBytes, Grows, holding};
 
 use crate::byte_order::ByteOrder;

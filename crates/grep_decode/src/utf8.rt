@@ -2,7 +2,7 @@
 ghost use Rattle.std.specs.Prelude.{◌≡◌, ◌⊎◌, ◌<◌, ◌≤◌, ◌+◌, ◌++◌, ℕ, List, [], length, take, drop};
 ghost use Rattle.std.specs.Prelude.{IsTrue, IsUtf8};
 ghost use Rattle.std.specs.Str.Lossy.{utf8_lossy};
-ghost use Rattle.grep_decode.specs.Decoded.{IsUnfinishedUtf8};
+ghost use Rattle.grep_decode.specs.Utf8.{IsUnfinishedUtf8};
 ghost use Rattle.grep_decode.specs.Utf8.{IsReplaced};
 
 use std::str;

@@ -10,10 +10,9 @@ use Rattle.grep_matcher.specs.Literals.{literal_meaning}
 use Rattle.grep_matcher.specs.FindResults.{plain}
 use Rattle.grep_matcher.specs.Meanings.{Meaning}
 use Rattle.grep_report.specs.declared.sink_context.SinkContextKind.TheVariants.{Before, After, Other}
-use Rattle.grep_definitions.specs.Asking.{is_across, search_plan, IsAskedWith}
+use Rattle.grep_definitions.specs.Plans.{is_across, search_plan, IsAskedWith, all_matches}
+use Rattle.grep_definitions.specs.Plans.{is_touched, touches, Settings}
 use Rattle.grep_definitions.specs.BuiltSettings.{default_settings}
-use Rattle.grep_definitions.specs.SelectedLines.{all_matches, is_touched, touches}
-use Rattle.grep_definitions.specs.Settings.{Settings}
 use Rattle.grep_definitions.proofs.WorkedExamples.{has_a, begun, match_call, context_call, break_call, plan_of}
 
 -- the settings that let a search run across lines

@@ -1,5 +1,7 @@
 -- What the calls across lines report.
-use Rattle.grep_definitions.specs.Plans.{planned, Planned, matches, context, breaks}
+use Rattle.grep_definitions.specs.Plans.{planned, Planned, matches, context, breaks, Settings}
+use Rattle.grep_definitions.specs.Plans.{count_below, is_below, Kind, matched, in_context}
+use Rattle.grep_definitions.specs.Plans.{all_matches, matches_up_to, touches, is_touched, is_free}
 use Rattle.std.proofs.Common.{◌≡◌, ℕ, ◌+◌, ◌-◌, ◌<◌, ◌≤◌, Bool, true, false, not, ◌&&◌, List, [], ◌∷◌, length, refl}
 use Rattle.std.proofs.Common.{sym, ap, ◌∙◌, arith, ◌⊎◌, ⊎_elim, inl, inr, Option, Some, None, if◌then◌else◌}
 use Rattle.std.proofs.Math.Bool.{and-false}
@@ -12,10 +14,7 @@ use Rattle.grep_matcher.specs.Meanings.{Meaning}
 use Rattle.grep_lines.specs.Blocks.{block_start, block_end}
 use Rattle.grep_lines.proofs.LawLemmas.{AreLines-lines}
 use Rattle.grep_report.specs.declared.sink_context.SinkContextKind.TheVariants.{After}
-use Rattle.grep_definitions.specs.Settings.{Settings}
-use Rattle.grep_definitions.specs.Reports.{count_below, is_below, Kind, matched, in_context}
 use Rattle.grep_definitions.specs.LineSearch.{line_count, line, number, start}
-use Rattle.grep_definitions.specs.SelectedLines.{all_matches, matches_up_to, touches, is_touched, is_free}
 use Rattle.grep_definitions.specs.AcrossLines
 use Rattle.grep_definitions.specs.AcrossLines.{is_selected, continues_unit, turns_at}
 use Rattle.grep_definitions.specs.SearchLaws.{AreInOrder, report_calls}

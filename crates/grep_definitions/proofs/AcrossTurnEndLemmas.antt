@@ -1,5 +1,6 @@
 -- Where the turns of the calls across lines end, against where lines start.
-use Rattle.grep_definitions.specs.Plans.{planned, Planned, breaks}
+use Rattle.grep_definitions.specs.Plans.{planned, Planned, breaks, first_below, joined_from, Kind}
+use Rattle.grep_definitions.specs.Plans.{matched, in_context, Settings}
 use Rattle.std.proofs.Common.{◌≡◌, ◌⊎◌, ℕ, ◌+◌, ◌-◌, ◌<◌, ◌≤◌, Bool, true, false, ◌&&◌, List, [], ◌∷◌, ◌++◌, Option}
 use Rattle.std.proofs.Common.{Some, None, refl, sym, ◌∙◌, ap, subst, arith, ⊎_elim, inl, inr, append-nil, if◌then◌else◌}
 use Rattle.std.proofs.Math.Bool.{and-false}
@@ -13,8 +14,6 @@ use Rattle.grep_matcher.specs.Lines.{byte_of}
 use Rattle.grep_report.specs.declared.sink_context.SinkContextKind.TheVariants.{Before, After, Other}
 use Rattle.grep_definitions.specs.AcrossLines
 use Rattle.grep_definitions.specs.AcrossLines.{turn_end, turns_at, turns_through, unit_end}
-use Rattle.grep_definitions.specs.Reports.{first_below, joined_from, Kind, matched, in_context}
-use Rattle.grep_definitions.specs.Settings.{Settings}
 use Rattle.grep_definitions.proofs.AcrossWalkLemmas.{Near, front, front-through, n, S, starts, T}
 use Rattle.grep_definitions.proofs.BelowLemmas.{first_below-none, first_below-of, some_below-find, some_below-some}
 use Rattle.grep_definitions.proofs.BoolLemmas.{both_true, clash}
@@ -22,7 +21,7 @@ use Rattle.grep_definitions.proofs.LineStartLemmas.{line_start-ascends}
 use Rattle.grep_definitions.proofs.ListLemmas.{All-joined_from, filter-all, filter-none}
 use Rattle.grep_definitions.proofs.SearchLawLemmas.{kind-selected}
 use Rattle.grep_definitions.proofs.TurnEndLemmas.{ended-by, line_start-le}
-use Rattle.grep_definitions.specs.Reports.{through}
+use Rattle.grep_definitions.specs.LineSearch.{through}
 use Rattle.grep_definitions.proofs.UnitLemmas.{unit-lines}
 
 module _ (k : Settings) (meaning : Meaning) (bytes : List ℕ) where

@@ -1,6 +1,7 @@
 -- The calls of a search across lines, as a walk over units of selected lines and over the lines between them makes
 -- them.
-use Rattle.grep_definitions.specs.Plans.{planned, Planned, begins}
+use Rattle.grep_definitions.specs.Plans.{planned, Planned, begins, Settings, some_below}
+use Rattle.grep_definitions.specs.Plans.{joined_from, matched, in_context}
 use Rattle.std.proofs.Common.{◌≡◌, ℕ, suc, ◌+◌, ◌-◌, ◌<◌, ◌≤◌, Bool, true, false, not, ◌&&◌, ◌||◌, List, [], ◌∷◌, ◌++◌}
 use Rattle.std.proofs.Common.{refl, sym, ap, subst, ◌∙◌, arith, ⊎_elim, Some, None, if◌then◌else◌}
 use Rattle.std.proofs.Math.Bool.{and-false}
@@ -11,8 +12,6 @@ use Rattle.grep_matcher.specs.Meanings.{Meaning}
 use Rattle.grep_matcher.specs.Lines.{byte_of}
 use Rattle.grep_lines.proofs.LineStepLemmas.{lines-numbered}
 use Rattle.grep_report.specs.declared.sink_context.SinkContextKind.TheVariants.{Before, After, Other}
-use Rattle.grep_definitions.specs.Settings.{Settings}
-use Rattle.grep_definitions.specs.Reports.{some_below, joined_from, matched, in_context}
 use Rattle.grep_definitions.specs.LineSearch.{line_count, line, start, number}
 use Rattle.grep_definitions.specs.LineTurns.{before_turns, pending_turns, match_turns, context_turns, is_gap, number_of}
 use Rattle.grep_definitions.specs.Selections.{IsNear, no_line}

@@ -1,14 +1,14 @@
 -- What a search across lines under inversion reports, against a search by line that selects the same lines.
-use Rattle.grep_definitions.specs.SelectedLines
-use Rattle.grep_definitions.specs.Plans.{planned, begins, matches, context, breaks}
+use Rattle.grep_definitions.specs.Plans
+use Rattle.grep_definitions.specs.Plans.{planned, begins, matches, context, breaks, Settings}
+use Rattle.grep_definitions.specs.Plans.{some_below, first_below, joined_from, Kind, matched}
+use Rattle.grep_definitions.specs.Plans.{in_context}
 use Rattle.std.proofs.Common.{◌≡◌, ℕ, ◌+◌, ◌-◌, ◌<◌, Bool, true, false, not, ◌&&◌, List, [], ◌∷◌, refl, sym, ap, ap₂}
 use Rattle.std.proofs.Common.{◌∙◌, arith, Option, Some, None, if◌then◌else◌}
 use Rattle.std.specs.Prelude.{nat_lt, nat_le, is_some, slice_range}
 use Rattle.std.specs.Option.{option_map, unwrap_or}
 use Rattle.grep_matcher.specs.Meanings.{Meaning}
 use Rattle.grep_report.specs.declared.sink_context.SinkContextKind.TheVariants.{Before, After, Other}
-use Rattle.grep_definitions.specs.Settings.{Settings}
-use Rattle.grep_definitions.specs.Reports.{some_below, first_below, joined_from, Kind, matched, in_context}
 use Rattle.grep_definitions.specs.LineSearch
 use Rattle.grep_definitions.specs.AcrossLines
 use Rattle.grep_definitions.proofs.BelowLemmas.{joined_from-equal}
@@ -16,9 +16,9 @@ use Rattle.grep_definitions.proofs.FirstLineLemmas.{some_below-same, first_below
 use Rattle.grep_definitions.proofs.LineSliceLemmas.{line-report, slice-line}
 
 module _ (k : Settings) (meaning other : Meaning) (bytes : List ℕ) (inverted : k.invert_match ≡ true)
-    (same : (i : ℕ) → AcrossLines.is_selected k meaning bytes i ≡ SelectedLines.is_selected k other bytes i)
+    (same : (i : ℕ) → AcrossLines.is_selected k meaning bytes i ≡ Plans.is_selected k other bytes i)
     (whole : LineSearch.turn_count k other bytes ≡ LineSearch.line_count k other bytes)
-    (early : (i : ℕ) → SelectedLines.is_trailing k other bytes i ≡ false) where
+    (early : (i : ℕ) → Plans.is_trailing k other bytes i ≡ false) where
   abbrev n : ℕ
   n = LineSearch.line_count k meaning bytes
 
@@ -43,17 +43,17 @@ module _ (k : Settings) (meaning other : Meaning) (bytes : List ℕ) (inverted :
   follows : (i : ℕ) → AcrossLines.follows_selected k meaning bytes i ≡ LineSearch.follows_selected k other bytes i
   follows i =
       some_below-same (λ j. nat_le (i - j) k.after_context && selected j)
-      (λ j. nat_le (i - j) k.after_context && SelectedLines.is_selected k other bytes j) i
+      (λ j. nat_le (i - j) k.after_context && Plans.is_selected k other bytes j) i
       (λ j below. ap (λ b. nat_le (i - j) k.after_context && b) (same j))
 
   precedes : (i : ℕ) → AcrossLines.precedes_selected k meaning bytes i ≡ LineSearch.precedes_selected k other bytes i
   precedes i =
       some_below-same (λ j. nat_lt i j && nat_le (j - i) k.before_context && selected j)
-      (λ j. nat_lt i j && nat_le (j - i) k.before_context && SelectedLines.is_selected k other bytes j) n
+      (λ j. nat_lt i j && nat_le (j - i) k.before_context && Plans.is_selected k other bytes j) n
       (λ j below. ap (λ b. nat_lt i j && nat_le (j - i) k.before_context && b) (same j))
 
   kind : (i : ℕ) → AcrossLines.kind k meaning bytes i ≡ LineSearch.kind k other bytes i
-  kind i = rw (same i, follows i, precedes i) (ap (λ (b : Bool). if SelectedLines.is_selected k other bytes i then Some
+  kind i = rw (same i, follows i, precedes i) (ap (λ (b : Bool). if Plans.is_selected k other bytes i then Some
       matched
       else (if LineSearch.follows_selected k other bytes i then Some (if b then matched else in_context After)
       else (if LineSearch.precedes_selected k other bytes i then Some (in_context Before)
@@ -77,9 +77,9 @@ module _ (k : Settings) (meaning other : Meaning) (bytes : List ℕ) (inverted :
   through : (i : ℕ) → AcrossLines.lines_through_next k meaning bytes i ≡ LineSearch.lines_through_next k other bytes i
   through i =
       ap (λ found. unwrap_or (option_map (AcrossLines.unit_end k meaning bytes) found) (i + 1))
-      (first_below-same (λ j. nat_lt i j && selected j) (λ j. nat_lt i j && SelectedLines.is_selected k other bytes j) n
+      (first_below-same (λ j. nat_lt i j && selected j) (λ j. nat_lt i j && Plans.is_selected k other bytes j) n
       (λ j below. ap (λ b. nat_lt i j && b) (same j)))
-      ∙ go (first_below (λ j. nat_lt i j && SelectedLines.is_selected k other bytes j) n)
+      ∙ go (first_below (λ j. nat_lt i j && Plans.is_selected k other bytes j) n)
     where
       go : (found : Option ℕ) → unwrap_or (option_map (AcrossLines.unit_end k meaning bytes) found) (i + 1)
           ≡ unwrap_or (option_map (λ j. j + 1) found) (i + 1)

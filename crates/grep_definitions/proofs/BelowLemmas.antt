@@ -5,7 +5,8 @@ use Rattle.std.proofs.lemmas.Bool.{lt-ltb, le-ltb, ltb-true, eq-eqb, ne_eqb, cas
 use Rattle.std.proofs.Math.Bool.{or-false, or-true}
 use Rattle.std.specs.Prelude.{IfSome, List, [], ◌∷◌, ◌++◌}
 use Rattle.std.proofs.lemmas.List.{append-nil}
-use Rattle.grep_definitions.specs.Reports.{some_below, count_below, first_below, is_below, is_at, at_most, joined_from}
+use Rattle.grep_definitions.specs.Plans.{some_below, count_below, first_below, is_below, is_at}
+use Rattle.grep_definitions.specs.Plans.{at_most, joined_from}
 use Rattle.grep_definitions.proofs.BoolLemmas.{clash}
 
 pub some_below-none : (p : ℕ → Bool) (n : ℕ) → ((j : ℕ) → j < n → p j ≡ false) → some_below p n ≡ false

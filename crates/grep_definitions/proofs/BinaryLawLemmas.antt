@@ -10,14 +10,13 @@ use Rattle.std.specs.Option.{option_map}
 use Rattle.grep_matcher.specs.Meanings.{Meaning}
 use Rattle.grep_matcher.specs.Lines.{byte_of}
 use Rattle.grep_lines.specs.LineLaws.{LinesJoin}
-use Rattle.grep_definitions.specs.BinaryBytes.{binary_position, position_of, stream_view, BinaryPoint, call_at}
-use Rattle.grep_definitions.specs.BinaryBytes.{contents_point, first_look, point_at, point_unless, holds_byte}
-use Rattle.grep_definitions.specs.Reports.{calls_at, joined_from}
-use Rattle.grep_definitions.specs.LineSearch
-use Rattle.grep_definitions.specs.Settings.{Settings}
-use Rattle.grep_definitions.specs.Asking.{is_across, selection_in}
-use Rattle.grep_definitions.specs.BinaryLaws.{QuitReportsAreClear, CountedReportsAreClear, SeenLinesAreClear}
+use Rattle.grep_definitions.specs.Searches.{binary_position, position_of, stream_view, BinaryPoint}
+use Rattle.grep_definitions.specs.Searches.{call_at, contents_point, point_at, point_unless}
+use Rattle.grep_definitions.specs.BinaryLaws.{first_look, holds_byte, QuitReportsAreClear}
+use Rattle.grep_definitions.specs.BinaryLaws.{CountedReportsAreClear, SeenLinesAreClear}
+use Rattle.grep_definitions.specs.Plans.{calls_at, joined_from, Settings, is_across, selection_in}
 use Rattle.grep_definitions.specs.Plans.{Planned, begins, is_break, planned}
+use Rattle.grep_definitions.specs.LineSearch
 use Rattle.grep_definitions.proofs.LineReportLemmas.{reports-line}
 use Rattle.grep_definitions.proofs.LineStartLemmas.{line_start-within}
 use Rattle.grep_definitions.proofs.ListLemmas.{All-joined_from}

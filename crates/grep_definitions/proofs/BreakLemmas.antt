@@ -1,5 +1,6 @@
 -- A break is directly followed by a report, and their turns end alike.
-use Rattle.grep_definitions.specs.Plans.{planned, Planned, breaks, is_break}
+use Rattle.grep_definitions.specs.Plans.{planned, Planned, breaks, is_break, joined_from}
+use Rattle.grep_definitions.specs.Plans.{some_below, Kind, matched, in_context, Settings}
 use Rattle.std.proofs.Common.{◌≡◌, ℕ, zero, suc, ◌+◌, ◌-◌, Bool, true, false, not, ◌&&◌, List, [], ◌∷◌, ◌++◌, Option}
 use Rattle.std.proofs.Common.{Some, None, refl, ◌∙◌, ◌<◌, ◌≤◌, ap, arith, ⊎_elim, if◌then◌else◌}
 use Rattle.std.proofs.lemmas.Bool.{cases_Bool, lt-ltb, ltb-true}
@@ -7,9 +8,7 @@ use Rattle.std.specs.Prelude.{nat_le, nat_lt, filter, is_some}
 use Rattle.grep_matcher.specs.Meanings.{Meaning}
 use Rattle.grep_report.specs.declared.sink_context.SinkContextKind.TheVariants.{Before, After, Other}
 use Rattle.grep_definitions.specs.AcrossLines
-use Rattle.grep_definitions.specs.Reports.{joined_from, some_below, Kind, matched, in_context}
 use Rattle.grep_definitions.specs.LineSearch
-use Rattle.grep_definitions.specs.Settings.{Settings}
 use Rattle.grep_definitions.proofs.BoolLemmas.{clash, not_false}
 
 -- some calls begin with one that is no break, whose turn ends there

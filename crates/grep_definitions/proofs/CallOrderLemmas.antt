@@ -6,21 +6,21 @@ use Rattle.std.proofs.lemmas.List.Sums.{sum_by-append, sum_by-cons}
 use Rattle.grep_report.specs.declared.sink_context.SinkContextKind.TheVariants.{Before}
 use Rattle.std.specs.declared.io.Error.{Error}
 use Rattle.std.proofs.lemmas.List.Elements.{All-nil, All-cons, All-append, All-head, All-tail, All-map}
-use Rattle.grep_definitions.specs.BinaryBytes.{is_detecting}
+use Rattle.grep_definitions.specs.Searches.{is_detecting, AreInOrder, HasBegun, IsInOrder}
+use Rattle.grep_definitions.specs.Searches.{ran_in_order, asked_in_order, read_in_order}
+use Rattle.grep_definitions.specs.Searches.{comes_between}
 use Rattle.grep_definitions.specs.CallOrder.{AreInner, after_begin, EndsAt, HasCalled, HasBegunWith, HasCalledTo}
 use Rattle.grep_definitions.specs.CallOrder.{HasBegunTo, HasFailedIn, of_call, of_question, BeginsInOrder, EndsInOrder}
 use Rattle.grep_definitions.specs.CallOrder.{GoesOnInOrder, ReadsInOrder, binary_count}
 use Rattle.grep_report.specs.ErrorMakers.{ErrorMakers}
 use Rattle.grep_matcher.specs.Meanings.{MatcherFacts}
-use Rattle.grep_definitions.specs.Settings.{Settings}
-use Rattle.grep_definitions.specs.Plans.{Call, Planned, begins, breaks, context, finishes, matches, Steps, Outcome}
-use Rattle.grep_definitions.specs.Plans.{all_true, stopped, failed, finish_result, AreMade, IsFinished, Finish}
-use Rattle.grep_definitions.specs.Plans.{binary_data, counted, is_binary_data, planned}
+use Rattle.grep_definitions.specs.Plans.{Settings, Call, Planned, begins, breaks, context, finishes}
+use Rattle.grep_definitions.specs.Plans.{matches, Steps, Outcome, all_true, stopped, failed}
+use Rattle.grep_definitions.specs.Plans.{finish_result, AreMade, IsFinished, Finish, binary_data}
+use Rattle.grep_definitions.specs.Plans.{counted, is_binary_data, planned}
 use Rattle.grep_definitions.specs.LineTurns.{before_turns, broken_turns, is_gap, match_turns, number_of, one_turn}
 use Rattle.grep_definitions.specs.SinkRuns.{outcome_of, with_binary}
 use Rattle.grep_definitions.proofs.SinkRunLemmas.{AreMade-append, AreMade-one, made-binary, outcome_with}
-use Rattle.grep_definitions.specs.Searches.{AreInOrder, HasBegun, IsInOrder, ran_in_order, asked_in_order}
-use Rattle.grep_definitions.specs.Searches.{read_in_order, comes_between}
 
 -- a turn of a call between `begin` and `finish`
 abbrev pub IsInner : Settings → Planned → Type 0

@@ -7,10 +7,9 @@ use Rattle.std.specs.Prelude.{nat_lt, nat_le}
 use Rattle.grep_matcher.specs.Lines.{byte_of, lines}
 use Rattle.grep_matcher.specs.Meanings.{Meaning}
 use Rattle.grep_report.specs.declared.sink_context.SinkContextKind.TheVariants.{Before, After, Other}
-use Rattle.grep_definitions.specs.SelectedLines
-use Rattle.grep_definitions.specs.Settings.{Settings}
+use Rattle.grep_definitions.specs.Plans
+use Rattle.grep_definitions.specs.Plans.{Settings, some_below, matched, in_context}
 use Rattle.grep_definitions.proofs.LineSliceLemmas.{slice-line}
-use Rattle.grep_definitions.specs.Reports.{some_below, matched, in_context}
 use Rattle.grep_definitions.specs.LineSearch
 use Rattle.grep_definitions.specs.LineSearch.{turns_at}
 use Rattle.grep_definitions.specs.LineWalks.{IsNear}
@@ -34,10 +33,10 @@ module _ (k : Settings) (meaning : Meaning) (bytes : List ℕ) where
   n = length all_lines
 
   abbrev is_selected : ℕ → Bool
-  is_selected = SelectedLines.is_selected k meaning bytes
+  is_selected = Plans.is_selected k meaning bytes
 
   abbrev is_trailing : ℕ → Bool
-  is_trailing = SelectedLines.is_trailing k meaning bytes
+  is_trailing = Plans.is_trailing k meaning bytes
 
   abbrev is_reported : ℕ → Bool
   is_reported = LineSearch.is_reported k meaning bytes

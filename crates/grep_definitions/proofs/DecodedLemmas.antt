@@ -4,7 +4,7 @@ use Rattle.std.specs.Prelude.{is_some, if◌then◌else◌}
 use Rattle.grep_decode.specs.Decoded.{by_mark, decoded, found_mark, is_unchanged, mark_of, marked}
 use Rattle.grep_decode.specs.declared.label.Label.{Label}
 use Rattle.grep_decode.specs.declared.label.Label.TheVariants.{Utf8}
-use Rattle.grep_definitions.specs.Inputs.{searched_bytes, encoding_after, encoding_of}
+use Rattle.grep_definitions.specs.Searches.{searched_bytes, encoding_after, encoding_of}
 use Rattle.grep_definitions.specs.SliceSearches.{is_searched_unchanged}
 use Rattle.grep_definitions.specs.SearchLaws.{MarkedPasses, UnchangedIsInput, UnchangedPasses, UnsniffedIsUnchanged}
 use Rattle.grep_definitions.specs.SearchLaws.{UnmarkedIsUnchanged}

@@ -8,9 +8,8 @@ use Rattle.std.specs.List.{concat}
 use Rattle.grep_matcher.specs.Lines.{byte_of, lines}
 use Rattle.grep_matcher.specs.Meanings.{Meaning}
 use Rattle.grep_lines.specs.LineLaws.{LinesJoin, LinesAppend}
-use Rattle.grep_definitions.specs.SelectedLines
-use Rattle.grep_definitions.specs.Settings.{Settings}
-use Rattle.grep_definitions.specs.Reports.{some_below, count_below, first_below}
+use Rattle.grep_definitions.specs.Plans
+use Rattle.grep_definitions.specs.Plans.{Settings, some_below, count_below, first_below}
 use Rattle.grep_definitions.specs.LineSearch
 use Rattle.grep_definitions.proofs.LineStartLemmas.{line_start-within}
 
@@ -66,7 +65,7 @@ module _ (join : LinesJoin) (append : LinesAppend) (k : Settings) (meaning : Mea
       (take-append-le i (lines (byte_of k.line_terminator) front) (lines (byte_of k.line_terminator) back) inside)
 
   -- it hits in both or in neither
-  pub hits-same : (i : ℕ) → i < n → SelectedLines.hits k meaning whole i ≡ SelectedLines.hits k meaning front i
+  pub hits-same : (i : ℕ) → i < n → Plans.hits k meaning whole i ≡ Plans.hits k meaning front i
   hits-same i below =
       let here : nat_lt i n ≡ true = lt-ltb i n below in
       let inside : i < length (lines (byte_of k.line_terminator) whole) = omega (
@@ -81,33 +80,33 @@ module _ (join : LinesJoin) (append : LinesAppend) (k : Settings) (meaning : Mea
       rw (here, there, line-same i below) refl
 
   -- it is chosen in both or in neither
-  pub is_chosen-same : (i : ℕ) → i < n → SelectedLines.is_chosen k meaning whole i ≡ SelectedLines.is_chosen k meaning front i
+  pub is_chosen-same : (i : ℕ) → i < n → Plans.is_chosen k meaning whole i ≡ Plans.is_chosen k meaning front i
   is_chosen-same i below =
-      let before = count_below-same (SelectedLines.hits k meaning whole) (SelectedLines.hits k meaning front) i
+      let before = count_below-same (Plans.hits k meaning whole) (Plans.hits k meaning front) i
       (λ j less. hits-same j (omega arith)) in
       rw (hits-same i below, before) refl
 
   -- it is trailing in both or in neither
-  pub is_trailing-same : (i : ℕ) → i < n → SelectedLines.is_trailing k meaning whole i
-      ≡ SelectedLines.is_trailing k meaning front i
+  pub is_trailing-same : (i : ℕ) → i < n → Plans.is_trailing k meaning whole i
+      ≡ Plans.is_trailing k meaning front i
   is_trailing-same i below =
-      let before = count_below-same (SelectedLines.hits k meaning whole) (SelectedLines.hits k meaning front) i
+      let before = count_below-same (Plans.hits k meaning whole) (Plans.hits k meaning front) i
       (λ j less. hits-same j (omega arith)) in
       rw (hits-same i below, before) refl
 
   -- it ends the chosen lines in both or in neither
-  pub ends_chosen-same : (i : ℕ) → i < n → SelectedLines.ends_chosen k meaning whole i
-      ≡ SelectedLines.ends_chosen k meaning front i
+  pub ends_chosen-same : (i : ℕ) → i < n → Plans.ends_chosen k meaning whole i
+      ≡ Plans.ends_chosen k meaning front i
   ends_chosen-same i below =
-      let before = some_below-same (SelectedLines.is_chosen k meaning whole) (SelectedLines.is_chosen k meaning front) i
+      let before = some_below-same (Plans.is_chosen k meaning whole) (Plans.is_chosen k meaning front) i
       (λ j less. is_chosen-same j (omega arith)) in
       rw (is_chosen-same i below, before) refl
 
   -- it is selected in both or in neither
-  pub is_selected-same : (i : ℕ) → i < n → SelectedLines.is_selected k meaning whole i
-      ≡ SelectedLines.is_selected k meaning front i
+  pub is_selected-same : (i : ℕ) → i < n → Plans.is_selected k meaning whole i
+      ≡ Plans.is_selected k meaning front i
   is_selected-same i below =
-      let before = some_below-same (SelectedLines.ends_chosen k meaning whole) (SelectedLines.ends_chosen k meaning front) i
+      let before = some_below-same (Plans.ends_chosen k meaning whole) (Plans.ends_chosen k meaning front) i
       (λ j less. ends_chosen-same j (omega arith)) in
       rw (is_chosen-same i below, before) refl
 
@@ -115,8 +114,8 @@ module _ (join : LinesJoin) (append : LinesAppend) (k : Settings) (meaning : Mea
   pub follows-same : (i : ℕ) → i < n → LineSearch.follows_selected k meaning whole i
       ≡ LineSearch.follows_selected k meaning front i
   follows-same i below = some_below-same (λ j. nat_le (i - j) k.after_context
-      && SelectedLines.is_selected k meaning whole j)
-      (λ j. nat_le (i - j) k.after_context && SelectedLines.is_selected k meaning front j) i
+      && Plans.is_selected k meaning whole j)
+      (λ j. nat_le (i - j) k.after_context && Plans.is_selected k meaning front j) i
       (λ j less. ap (λ b. nat_le (i - j) k.after_context && b) (is_selected-same j (omega arith)))
 
   -- it has the same number
@@ -129,9 +128,9 @@ module _ (join : LinesJoin) (append : LinesAppend) (k : Settings) (meaning : Mea
       ap (λ bs. if k.line_number then Some (count_by (λ b. nat_eq b (byte_of k.line_terminator)) bs + 1) else None) cut
 
   -- it fills the limit in both or in neither
-  pub fills_limit-same : (i : ℕ) → i < n → SelectedLines.fills_limit k meaning whole i
-      ≡ SelectedLines.fills_limit k meaning front i
+  pub fills_limit-same : (i : ℕ) → i < n → LineSearch.fills_limit k meaning whole i
+      ≡ LineSearch.fills_limit k meaning front i
   fills_limit-same i below =
-      let before = count_below-same (SelectedLines.hits k meaning whole) (SelectedLines.hits k meaning front) i
+      let before = count_below-same (Plans.hits k meaning whole) (Plans.hits k meaning front) i
       (λ j less. hits-same j (omega arith)) in
       rw (is_chosen-same i below, before) refl

@@ -1,6 +1,8 @@
 -- The calls of the first lines begin the calls of all.
-use Rattle.grep_definitions.specs.SelectedLines
+use Rattle.grep_definitions.specs.Plans
 use Rattle.grep_definitions.specs.Plans.{planned, Call, Planned, begins, breaks, matches, context}
+use Rattle.grep_definitions.specs.Plans.{Settings, some_below, first_below, at_most, joined_from}
+use Rattle.grep_definitions.specs.Plans.{Kind, matched, in_context}
 use Rattle.std.proofs.Common.{◌≡◌, ℕ, zero, suc, ◌+◌, ◌-◌, ◌<◌, ◌≤◌, min, Bool, true, false, ◌&&◌, not, List, [], ◌∷◌}
 use Rattle.std.proofs.Common.{◌++◌, length, refl, sym, ap, subst, ◌∙◌, arith, inl, inr, ◌⊎◌, ⊎_elim, Option, Some, None}
 use Rattle.std.proofs.Common.{is_some, length-append, append-nil, if◌then◌else◌}
@@ -12,9 +14,7 @@ use Rattle.grep_matcher.specs.Lines.{byte_of, lines}
 use Rattle.grep_matcher.specs.Meanings.{Meaning}
 use Rattle.grep_lines.specs.LineLaws.{LinesJoin, LinesAppend}
 use Rattle.grep_report.specs.declared.sink_context.SinkContextKind.TheVariants.{Before, After, Other}
-use Rattle.grep_definitions.specs.Settings.{Settings}
 use Rattle.grep_definitions.proofs.LineSliceLemmas.{line-report}
-use Rattle.grep_definitions.specs.Reports.{some_below, first_below, at_most, joined_from, Kind, matched, in_context}
 use Rattle.grep_definitions.specs.LineSearch
 use Rattle.grep_definitions.specs.LineSearch.{can_break}
 use Rattle.grep_definitions.proofs.BelowLemmas.{some_below-find, first_below-nowhere, some_below-some, first_below-of}
@@ -57,26 +57,26 @@ module _ (join : LinesJoin) (append : LinesAppend) (k : Settings) (meaning : Mea
 
   -- whether a line of the front is selected
   abbrev selected : ℕ → Bool
-  selected i = SelectedLines.is_selected k meaning front i
+  selected i = Plans.is_selected k meaning front i
 
   -- the whole selects the same lines there
-  same_selected : (i : ℕ) → i < n → SelectedLines.is_selected k meaning whole i ≡ selected i
+  same_selected : (i : ℕ) → i < n → Plans.is_selected k meaning whole i ≡ selected i
   same_selected i below = prefix.is_selected-same join append k meaning front back closed i below
 
   -- a selected line that has line i in the reach before it
   abbrev near_before : List ℕ → ℕ → ℕ → Bool
-  near_before bytes i j = nat_lt i j && nat_le (j - i) k.before_context && SelectedLines.is_selected k meaning bytes j
+  near_before bytes i j = nat_lt i j && nat_le (j - i) k.before_context && Plans.is_selected k meaning bytes j
 
   -- what that says of the two lines
   pub record IsNearMatch (bytes : List ℕ) (i j : ℕ) : Type 0 where
     pub beyond : i < j
     pub within : j - i ≤ k.before_context
-    pub chosen : SelectedLines.is_selected k meaning bytes j ≡ true
+    pub chosen : Plans.is_selected k meaning bytes j ≡ true
 
   -- what the test says
   near-from : (bytes : List ℕ) (i j : ℕ) → near_before bytes i j ≡ true → IsNearMatch bytes i j
   near-from bytes i j is =
-      let both = both_true (nat_lt i j && nat_le (j - i) k.before_context) (SelectedLines.is_selected k meaning bytes j)
+      let both = both_true (nat_lt i j && nat_le (j - i) k.before_context) (Plans.is_selected k meaning bytes j)
       is in
       let near = both_true (nat_lt i j) (nat_le (j - i) k.before_context) both.0 in
       record {
@@ -88,7 +88,7 @@ module _ (join : LinesJoin) (append : LinesAppend) (k : Settings) (meaning : Mea
   -- the test, if that holds
   near-to : (bytes : List ℕ) (i j : ℕ) → IsNearMatch bytes i j → near_before bytes i j ≡ true
   near-to bytes i j h = and-both (nat_lt i j && nat_le (j - i) k.before_context)
-      (SelectedLines.is_selected k meaning bytes j)
+      (Plans.is_selected k meaning bytes j)
       (and-both (nat_lt i j) (nat_le (j - i) k.before_context) (lt-ltb i j h.beyond)
       (le-leb (j - i) k.before_context h.within)) h.chosen
 
@@ -116,13 +116,13 @@ module _ (join : LinesJoin) (append : LinesAppend) (k : Settings) (meaning : Mea
       (LineSearch.precedes_selected k meaning front i)
       (LineSearch.precedes_selected k meaning whole i) refl refl refl refl
     where
-      s : SelectedLines.is_selected k meaning whole i ≡ selected i
+      s : Plans.is_selected k meaning whole i ≡ selected i
       s = same_selected i below
 
       f : LineSearch.follows_selected k meaning whole i ≡ LineSearch.follows_selected k meaning front i
       f = prefix.follows-same join append k meaning front back closed i below
 
-      t : SelectedLines.is_trailing k meaning whole i ≡ SelectedLines.is_trailing k meaning front i
+      t : Plans.is_trailing k meaning whole i ≡ Plans.is_trailing k meaning front i
       t = prefix.is_trailing-same join append k meaning front back closed i below
 
       go : (a b c d : Bool) → selected i ≡ a → LineSearch.follows_selected k meaning front i ≡ b
@@ -224,7 +224,7 @@ module _ (join : LinesJoin) (append : LinesAppend) (k : Settings) (meaning : Mea
 
   -- a selected line after line i
   abbrev later_in : List ℕ → ℕ → ℕ → Bool
-  later_in bytes i j = nat_lt i j && SelectedLines.is_selected k meaning bytes j
+  later_in bytes i j = nat_lt i j && Plans.is_selected k meaning bytes j
 
   -- a line before a match in the front has the same next match in the whole
   next-same : (i : ℕ) → LineSearch.precedes_selected k meaning front i ≡ true → first_below (later_in whole i) all
@@ -235,7 +235,7 @@ module _ (join : LinesJoin) (append : LinesAppend) (k : Settings) (meaning : Mea
       let same : (j : ℕ) → j < n → later_in whole i j ≡ later_in front i j = λ j below. ap (λ b. nat_lt i j && b)
       (same_selected j below) in
       let there = some_below-some (later_in whole i) n found.0 found.1
-      (and-both (nat_lt i found.0) (SelectedLines.is_selected k meaning whole found.0) (lt-ltb i found.0 near.beyond)
+      (and-both (nat_lt i found.0) (Plans.is_selected k meaning whole found.0) (lt-ltb i found.0 near.beyond)
       (same_selected found.0 found.1 ∙ near.chosen)) in
       ap (first_below (later_in whole i)) more_lines ∙ first_below-far (later_in whole i) n _ there
       ∙ first_below-same (later_in whole i) (later_in front i) n same
@@ -268,7 +268,7 @@ module _ (join : LinesJoin) (append : LinesAppend) (k : Settings) (meaning : Mea
           → LineSearch.precedes_selected k meaning front i ≡ c → k.passthru ≡ d
           → LineSearch.precedes_selected k meaning front i ≡ true
       go true b c d p q r t = absurd (let at = rw p at is in cc)
-      go false true c d p q r t = absurd (unlike (SelectedLines.is_trailing k meaning front i) (rw (p, q) at is))
+      go false true c d p q r t = absurd (unlike (Plans.is_trailing k meaning front i) (rw (p, q) at is))
       go false false true d p q r t = r
       go false false false true p q r t = absurd (let at = rw (p, q, r, t) at is in cc)
       go false false false false p q r t = absurd (let at = rw (p, q, r, t) at is in cc)
@@ -371,8 +371,8 @@ module _ (join : LinesJoin) (append : LinesAppend) (k : Settings) (meaning : Mea
       go : (b : Bool) → k.stop_on_nonmatch ≡ b
           → Bounds (LineSearch.turns_by_stop k meaning whole) (LineSearch.turns_by_stop k meaning front)
       go false is = inl (rw is refl)
-      go true is = rw is (first-bounds suc (λ u. omega arith) (SelectedLines.ends_chosen k meaning whole)
-          (SelectedLines.ends_chosen k meaning front) (λ j below. prefix.ends_chosen-same join append k meaning front back
+      go true is = rw is (first-bounds suc (λ u. omega arith) (Plans.ends_chosen k meaning whole)
+          (Plans.ends_chosen k meaning front) (λ j below. prefix.ends_chosen-same join append k meaning front back
           closed j below))
 
   -- so is the bound by the limit
@@ -381,8 +381,8 @@ module _ (join : LinesJoin) (append : LinesAppend) (k : Settings) (meaning : Mea
   limit-bounds None = inl refl
   limit-bounds (Some zero) = inl refl
   limit-bounds (Some (suc l)) = first-bounds (λ m. suc (m + k.after_context)) (λ u. omega arith)
-      (SelectedLines.fills_limit k meaning whole)
-      (SelectedLines.fills_limit k meaning front) (λ j below. prefix.fills_limit-same join append k meaning front back
+      (LineSearch.fills_limit k meaning whole)
+      (LineSearch.fills_limit k meaning front) (λ j below. prefix.fills_limit-same join append k meaning front back
       closed j below)
 
   -- so is that bound if passthru lifts it
@@ -582,11 +582,11 @@ module _ (join : LinesJoin) (append : LinesAppend) (k : Settings) (meaning : Mea
                 let found = some_below-find (near_before whole i) all late.precedes in
                 let match = near-from whole i found.0 found.2 in
                 absurd (clash (some_below-some (later_in whole i) all found.0 found.1
-                (and-both (nat_lt i found.0) (SelectedLines.is_selected k meaning whole found.0)
+                (and-both (nat_lt i found.0) (Plans.is_selected k meaning whole found.0)
                 (lt-ltb i found.0 match.beyond) match.chosen)) (first_below-none (later_in whole i) all is))
             go (Some q) is =
                 let found = first_below-of (later_in whole i) all q is in
-                let both = both_true (nat_lt i q) (SelectedLines.is_selected k meaning whole q) found.1 in
+                let both = both_true (nat_lt i q) (Plans.is_selected k meaning whole q) found.1 in
                 let beyond = ltb-true i q both.0 in
                 let far : n ≤ q = ⊎_elim
                 (λ less. absurd (clash (sym (same_selected q less) ∙ both.1)

@@ -15,8 +15,8 @@ use Rattle.grep_matcher.specs.Meanings.{Meaning}
 use Rattle.grep_lines.proofs.LawLemmas.{AreLines-lines}
 use Rattle.grep_lines.proofs.LineLemmas.{lines-append}
 use Rattle.grep_lines.specs.Positions.{IsLineStart}
-use Rattle.grep_definitions.specs.Inputs.{IsClosed, IsCrowded, IsTooLong}
-use Rattle.grep_definitions.specs.Settings.{Settings}
+use Rattle.grep_definitions.specs.Searches.{IsClosed, IsCrowded, IsTooLong}
+use Rattle.grep_definitions.specs.Plans.{Settings}
 use Rattle.grep_definitions.proofs.LineLengthLemmas.{lines-within, lines-end, first-long, first-open}
 use Rattle.grep_definitions.proofs.SearchLawLemmas as laws
 use Rattle.grep_definitions.proofs.LineRangeLemmas.{comes-from}

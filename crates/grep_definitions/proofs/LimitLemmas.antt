@@ -7,9 +7,9 @@ use Rattle.std.specs.Prelude.{nat_lt, IfSome}
 use Rattle.std.specs.Option.{option_map}
 use Rattle.grep_matcher.specs.Lines.{byte_of, lines}
 use Rattle.grep_matcher.specs.Meanings.{Meaning}
-use Rattle.grep_definitions.specs.SelectedLines
-use Rattle.grep_definitions.specs.Settings.{Settings}
-use Rattle.grep_definitions.specs.Reports.{some_below, count_below, first_below, is_below, is_at, at_most}
+use Rattle.grep_definitions.specs.Plans
+use Rattle.grep_definitions.specs.Plans.{Settings, some_below, count_below, first_below, is_below}
+use Rattle.grep_definitions.specs.Plans.{is_at, at_most}
 use Rattle.grep_definitions.specs.LineSearch
 use Rattle.grep_definitions.specs.LineWalks.{IsOpen}
 use Rattle.grep_definitions.proofs.BelowLemmas.{some_below-some, first_below-here, first_below-of, first_below-more}
@@ -22,16 +22,16 @@ module _ (k : Settings) (meaning : Meaning) (bytes : List ℕ) where
   n = length (lines (byte_of k.line_terminator) bytes)
 
   abbrev hits : ℕ → Bool
-  hits = SelectedLines.hits k meaning bytes
+  hits = Plans.hits k meaning bytes
 
   abbrev is_chosen : ℕ → Bool
-  is_chosen = SelectedLines.is_chosen k meaning bytes
+  is_chosen = Plans.is_chosen k meaning bytes
 
   abbrev ends : ℕ → Bool
-  ends = SelectedLines.ends_chosen k meaning bytes
+  ends = Plans.ends_chosen k meaning bytes
 
   abbrev fills : ℕ → Bool
-  fills = SelectedLines.fills_limit k meaning bytes
+  fills = LineSearch.fills_limit k meaning bytes
 
   abbrev by_stop : Option ℕ
   by_stop = LineSearch.turns_by_stop k meaning bytes
@@ -45,10 +45,10 @@ module _ (k : Settings) (meaning : Meaning) (bytes : List ℕ) where
   -- no line from the i-th on has a turn
   pub record IsDone (i : ℕ) : Type 0 where
     pub last : turned ≡ i
-    pub silent : (q : ℕ) → i ≤ q → q < n → SelectedLines.is_selected k meaning bytes q ≡ false
+    pub silent : (q : ℕ) → i ≤ q → q < n → Plans.is_selected k meaning bytes q ≡ false
 
   -- a line that isn't chosen isn't selected
-  selected-none : (q : ℕ) → is_chosen q ≡ false → SelectedLines.is_selected k meaning bytes q ≡ false
+  selected-none : (q : ℕ) → is_chosen q ≡ false → Plans.is_selected k meaning bytes q ≡ false
   selected-none q unchosen = ap (λ b. b && not (k.stop_on_nonmatch && some_below ends q)) unchosen
 
   pub IsOpen-none : (k.passthru ≡ false → is_at 0 k.max_matches ≡ true → ⊥) → IsOpen k meaning bytes 0 0 0
@@ -141,7 +141,7 @@ module _ (k : Settings) (meaning : Meaning) (bytes : List ℕ) where
       let s = at_most-over by_stop n (stop_bound opened) in
       ap (λ m. at_most by_limit m) s ∙ at_most-over by_limit n (limit_bound (omega arith) opened)
 
-  pub selected-is : {i left c : ℕ} → IsOpen k meaning bytes i left c → SelectedLines.is_selected k meaning bytes i
+  pub selected-is : {i left c : ℕ} → IsOpen k meaning bytes i left c → Plans.is_selected k meaning bytes i
       ≡ is_chosen i
   selected-is {i} {left} {c} opened = go k.stop_on_nonmatch refl
     where

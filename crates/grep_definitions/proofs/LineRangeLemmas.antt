@@ -11,7 +11,7 @@ use Rattle.grep_lines.specs.Positions.{IsLine, IsLineStart}
 use Rattle.grep_matcher.specs.Lines.{lines, line_start}
 use Rattle.grep_definitions.proofs.LineStartLemmas.{line_start-ascends, line_start-last}
 use Rattle.grep_definitions.proofs.TurnEndLemmas.{line_start-le}
-use Rattle.grep_definitions.specs.Inputs.{IsClosed}
+use Rattle.grep_definitions.specs.Searches.{IsClosed}
 
 -- how many lines there are between the starts of two
 pub lines-between : (t : ℕ) (window : List ℕ) (p q i j : ℕ) → IsLineStart t window p i → IsLineStart t window q j

@@ -8,9 +8,8 @@ use Rattle.std.specs.List.{concat}
 use Rattle.grep_matcher.specs.Lines.{lines, byte_of}
 use Rattle.grep_matcher.specs.Meanings.{Meaning}
 use Rattle.grep_definitions.specs.LineSearch
-use Rattle.grep_definitions.specs.Plans.{matches, planned}
-use Rattle.grep_definitions.specs.Reports.{line, line_count, matched, number, start}
-use Rattle.grep_definitions.specs.Settings.{Settings}
+use Rattle.grep_definitions.specs.Plans.{matches, planned, line, line_count, matched, number, start}
+use Rattle.grep_definitions.specs.Plans.{Settings}
 use Rattle.grep_lines.proofs.LineStepLemmas.{IsStep-line, lines-numbered}
 use Rattle.grep_definitions.specs.LineTurns.{number_of}
 

@@ -2,7 +2,7 @@
 use Rattle.std.proofs.Common.{◌≡◌, ℕ, zero, suc, ◌+◌, ◌<◌, ◌≤◌, Bool, true, false, List, [], ◌∷◌, refl, ap, arith}
 use Rattle.std.proofs.lemmas.List.Elements.{All-nil, All-head, All-tail, All-append}
 use Rattle.std.specs.Prelude.{All, filter}
-use Rattle.grep_definitions.specs.Reports.{joined_from}
+use Rattle.grep_definitions.specs.Plans.{joined_from}
 
 -- if all elements pass, a filter keeps them, and if none does, it keeps none
 pub filter-all : {X : Type 0} (p : X → Bool) (xs : List X) → All (λ x. p x ≡ true) xs → filter p xs ≡ xs

@@ -1,7 +1,8 @@
 -- The matches that are reported, and the matched lines: those that are selected, or trailing after a selected one.
-use Rattle.grep_definitions.specs.SelectedLines
-use Rattle.grep_definitions.specs.Reports
-use Rattle.grep_definitions.specs.Plans.{planned, Call, Planned, breaks, matches}
+use Rattle.grep_definitions.specs.Plans
+use Rattle.grep_definitions.specs.Plans.{planned, Call, Planned, breaks, matches, Settings}
+use Rattle.grep_definitions.specs.Plans.{some_below, count_below, first_below, is_below, is_at}
+use Rattle.grep_definitions.specs.Plans.{joined_from, in_context}
 use Rattle.std.proofs.Math.Bool.{and-false}
 use Rattle.std.proofs.Common.{◌≡◌, ℕ, zero, suc, ◌+◌, ◌-◌, ◌<◌, ◌≤◌, Bool, true, false, not, ◌&&◌, ◌||◌, List, [], ◌∷◌}
 use Rattle.std.proofs.Common.{◌++◌, length, refl, sym, ◌∙◌, ap, arith, ⊎_elim, Option, Some, None, if◌then◌else◌}
@@ -15,11 +16,8 @@ use Rattle.grep_matcher.specs.Lines.{byte_of}
 use Rattle.grep_matcher.specs.Meanings.{Meaning}
 use Rattle.grep_lines.specs.LineLaws.{LinesAreNumbered}
 use Rattle.grep_report.specs.declared.sink_context.SinkContextKind.TheVariants.{Before, After, Other}
-use Rattle.grep_definitions.specs.Settings.{Settings}
 use Rattle.grep_definitions.proofs.LineSliceLemmas.{line-report}
 use Rattle.grep_definitions.specs.SearchLaws.{is_match, is_matched, match_calls, match_of, matched_lines}
-use Rattle.grep_definitions.specs.Reports.{some_below, count_below, first_below, is_below, is_at, joined_from}
-use Rattle.grep_definitions.specs.Reports.{in_context}
 use Rattle.grep_definitions.specs.LineSearch
 use Rattle.grep_definitions.proofs.BoolLemmas.{both_true, not_false}
 use Rattle.grep_definitions.proofs.BelowLemmas.{first_below-before, first_below-here, first_below-of, first_below-late}
@@ -108,20 +106,20 @@ module _ (numbered : LinesAreNumbered) (k : Settings) (meaning : Meaning) (bytes
   n = LineSearch.line_count k meaning bytes
 
   abbrev hits : ℕ → Bool
-  hits = SelectedLines.hits k meaning bytes
+  hits = Plans.hits k meaning bytes
 
   abbrev selected : ℕ → Bool
-  selected = SelectedLines.is_selected k meaning bytes
+  selected = Plans.is_selected k meaning bytes
 
   abbrev fills : ℕ → Bool
-  fills = SelectedLines.fills_limit k meaning bytes
+  fills = LineSearch.fills_limit k meaning bytes
 
   abbrev ends : ℕ → Bool
-  ends = SelectedLines.ends_chosen k meaning bytes
+  ends = Plans.ends_chosen k meaning bytes
 
   -- a selected line comes before each bound of the turns
   stop-bound : (i : ℕ) → selected i ≡ true → IfSome (LineSearch.turns_by_stop k meaning bytes) (λ b. i < b)
-  stop-bound i taken = go k.stop_on_nonmatch (both_true (SelectedLines.is_chosen k meaning bytes i) _ taken).1
+  stop-bound i taken = go k.stop_on_nonmatch (both_true (Plans.is_chosen k meaning bytes i) _ taken).1
     where
       inner : (found : Option ℕ) → first_below ends n ≡ found → some_below ends i ≡ false
           → IfSome (option_map suc found) (λ b. i < b)
@@ -134,7 +132,7 @@ module _ (numbered : LinesAreNumbered) (k : Settings) (meaning : Meaning) (bytes
       go false is = tt
       go true is = inner (first_below ends n) refl (not_false (some_below ends i) is)
 
-  limit-bound : (i : ℕ) → SelectedLines.is_chosen k meaning bytes i ≡ true
+  limit-bound : (i : ℕ) → Plans.is_chosen k meaning bytes i ≡ true
       → IfSome (if k.passthru then None else LineSearch.turns_by_limit k meaning bytes k.max_matches) (λ b. i < b)
   limit-bound i taken = go k.passthru
     where
@@ -143,7 +141,7 @@ module _ (numbered : LinesAreNumbered) (k : Settings) (meaning : Meaning) (bytes
 
       late : (limit m : ℕ) → k.max_matches ≡ Some limit → fills m ≡ true → i ≤ m
       late limit m is full =
-          let parts = both_true (SelectedLines.is_chosen k meaning bytes m) _ full in
+          let parts = both_true (Plans.is_chosen k meaning bytes m) _ full in
           let at : is_at (count_below hits m + 1) (Some limit) ≡ true = rw is at parts.1 in
           let below : is_below (count_below hits i) (Some limit) ≡ true = rw is at room in
           let same = eqb-true _ _ at in
@@ -173,13 +171,13 @@ module _ (numbered : LinesAreNumbered) (k : Settings) (meaning : Meaning) (bytes
   -- it is one of the lines
   selected-inside : (i : ℕ) → selected i ≡ true → i < n
   selected-inside i taken =
-      let hit = both_true (hits i) _ (both_true (SelectedLines.is_chosen k meaning bytes i) _ taken).0 in
+      let hit = both_true (hits i) _ (both_true (Plans.is_chosen k meaning bytes i) _ taken).0 in
       ltb-true i n (both_true (nat_lt i n) _ hit.0).0
 
   -- so it has a turn
   pub selected-turned : (i : ℕ) → selected i ≡ true → i < LineSearch.turn_count k meaning bytes
   selected-turned i taken =
-      let chosen = both_true (SelectedLines.is_chosen k meaning bytes i) _ taken in
+      let chosen = both_true (Plans.is_chosen k meaning bytes i) _ taken in
       at_most-above (if k.passthru then None else LineSearch.turns_by_limit k meaning bytes k.max_matches) i _
       (limit-bound i chosen.0)
       (at_most-above (LineSearch.turns_by_stop k meaning bytes) i n (stop-bound i taken) (selected-inside i taken))
@@ -195,17 +193,17 @@ module _ (numbered : LinesAreNumbered) (k : Settings) (meaning : Meaning) (bytes
   match_calls-kind : (i : ℕ) → i < n
       → match_calls (LineSearch.report k meaning bytes i (LineSearch.kind k meaning bytes i)) ≡ match_at i
   match_calls-kind i inside =
-      go (selected i) (LineSearch.follows_selected k meaning bytes i) (SelectedLines.is_trailing k meaning bytes i)
+      go (selected i) (LineSearch.follows_selected k meaning bytes i) (Plans.is_trailing k meaning bytes i)
       (LineSearch.precedes_selected k meaning bytes i) k.passthru
     where
-      one : match_calls (LineSearch.report k meaning bytes i (Some Reports.matched)) ≡ match_of k bytes i ∷ []
+      one : match_calls (LineSearch.report k meaning bytes i (Some Plans.matched)) ≡ match_of k bytes i ∷ []
       one = ap match_calls (line-report k bytes meaning i) ∙ ap (λ number. matches number (LineSearch.start k meaning
           bytes i) (LineSearch.line k meaning bytes i) ∷ [])
           (rw (numbered (byte_of k.line_terminator) bytes i inside) refl)
 
       go : (a b t c d : Bool)
-          → match_calls (LineSearch.report k meaning bytes i (if a then Some Reports.matched
-          else (if b then Some (if t then Reports.matched else in_context After)
+          → match_calls (LineSearch.report k meaning bytes i (if a then Some Plans.matched
+          else (if b then Some (if t then Plans.matched else in_context After)
           else (if c then Some (in_context Before) else (if d then Some (in_context Other) else None)))))
           ≡ (if a || (b && t) then match_of k bytes i ∷ [] else [])
       go true b t c d = one

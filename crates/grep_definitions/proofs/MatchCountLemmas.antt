@@ -5,15 +5,14 @@ use Rattle.std.proofs.lemmas.List.{map-append, length-append}
 use Rattle.std.proofs.lemmas.List.Elements.{filter-append}
 use Rattle.std.specs.Prelude.{map}
 use Rattle.grep_matcher.specs.Meanings.{Meaning}
-use Rattle.grep_definitions.specs.Asking.{is_across, selection_in}
+use Rattle.grep_definitions.specs.Plans.{is_across, selection_in, Planned, breaks, planned, Kind}
+use Rattle.grep_definitions.specs.Plans.{matched, in_context, Selection, breaks_before, calls_at}
+use Rattle.grep_definitions.specs.Plans.{joined_from, kind, line_count, report, reports_plan}
+use Rattle.grep_definitions.specs.Plans.{reports_end, selected_lines, touched_lines, Settings}
 use Rattle.grep_definitions.specs.CountLaws.{NumbersChangeNoBytes, NumbersChangeNoCount}
-use Rattle.grep_definitions.specs.Plans.{Planned, breaks, planned}
-use Rattle.grep_definitions.specs.Inputs.{searched_bytes}
-use Rattle.grep_definitions.specs.Reports.{Kind, matched, in_context, Selection, breaks_before, calls_at, continues}
-use Rattle.grep_definitions.specs.Reports.{joined_from, kind, line_count, report, reports_plan}
+use Rattle.grep_definitions.specs.Searches.{searched_bytes}
+use Rattle.grep_definitions.specs.Selections.{continues}
 use Rattle.grep_definitions.specs.SearchLaws.{is_match, match_calls}
-use Rattle.grep_definitions.specs.SelectedLines.{reports_end, selected_lines, touched_lines}
-use Rattle.grep_definitions.specs.Settings.{Settings}
 
 -- how many of some calls report a match
 abbrev match_count : List Planned → ℕ

@@ -1,10 +1,9 @@
 -- The plan of a search by line and of one across lines.
 use Rattle.std.proofs.Common.{◌≡◌, ℕ, Bool, true, false, List, refl}
 use Rattle.grep_matcher.specs.Meanings.{Meaning}
-use Rattle.grep_definitions.specs.Asking.{is_across, search_plan, selection_in}
-use Rattle.grep_definitions.specs.Reports.{reports_plan}
+use Rattle.grep_definitions.specs.Plans.{is_across, search_plan, selection_in, reports_plan}
+use Rattle.grep_definitions.specs.Plans.{Settings}
 use Rattle.grep_definitions.specs.SearchTurns.{calls_if, search_turns, search_byte_count}
-use Rattle.grep_definitions.specs.Settings.{Settings}
 use Rattle.grep_definitions.specs.SinkRuns.{plan_of}
 
 module _ (k : Settings) (meaning : Meaning) (bytes : List ℕ) where

@@ -8,8 +8,7 @@ use Rattle.grep_definitions.specs.AcrossLaws
 use Rattle.grep_definitions.specs.BinaryLaws.{SeenLinesBegin}
 use Rattle.grep_definitions.specs.SearchLaws
 use Rattle.grep_definitions.specs.SearchLaws.{line_plan, is_match}
-use Rattle.grep_definitions.specs.SelectedLines.{reports_end}
-use Rattle.grep_definitions.specs.Plans.{Planned}
+use Rattle.grep_definitions.specs.Plans.{reports_end, Planned}
 use Rattle.grep_definitions.proofs.AcrossLemmas as across
 use Rattle.grep_definitions.proofs.AsByLineLemmas.{turns-same}
 use Rattle.grep_definitions.proofs.FirstTurnLemmas.{turns-begin}

@@ -8,26 +8,25 @@ use Rattle.grep_decode.specs.Source.{ReadResult}
 use Rattle.grep_matcher.specs.Meanings.{Meaning, MatcherFacts}
 use Rattle.grep_report.specs.declared.binary_detection.BinaryDetection.TheVariants.{Quit}
 use Rattle.grep_definitions.proofs.BoolLemmas.{clash}
-use Rattle.grep_definitions.specs.Asking.{search_plan, selection_in, is_across}
-use Rattle.grep_definitions.specs.BinaryBytes.{Look, nowhere, in_contents, view_of, before_quit, BinaryPoint}
-use Rattle.grep_definitions.specs.Searches.{IsPoint, Points, IsSearchOf, IsReaderSearch, IsCutSearch, IsRead, ran}
-use Rattle.grep_definitions.specs.Searches.{asked}
+use Rattle.grep_definitions.specs.Plans.{search_plan, selection_in, is_across, Steps, Planned, Plan}
+use Rattle.grep_definitions.specs.Plans.{Outcome, all_true, AreMade, IsFinished, IsRun, counted}
+use Rattle.grep_definitions.specs.Plans.{line_count, Settings, SearcherState}
+use Rattle.grep_definitions.specs.Searches.{Look, nowhere, in_contents, view_of, before_quit}
+use Rattle.grep_definitions.specs.Searches.{BinaryPoint, IsPoint, Points, IsSearchOf}
+use Rattle.grep_definitions.specs.Searches.{IsReaderSearch, IsCutSearch, IsRead, ran, asked}
+use Rattle.grep_definitions.specs.Searches.{IsInput, searched_bytes, IsFront, GoesOnAfter}
+use Rattle.grep_definitions.specs.Searches.{HasOpenLine, IsBelowLimit, CutsShort, IsComeSoFar}
+use Rattle.grep_definitions.specs.Searches.{encoding_of, encoding_after, Taken, IsCut}
 use Rattle.grep_definitions.specs.DecodedInputs.{IsDecodedSoFar, passes_after, passes_unchanged}
-use Rattle.grep_definitions.specs.Inputs.{IsInput, searched_bytes, IsFront, GoesOnAfter, HasOpenLine, IsBelowLimit}
-use Rattle.grep_definitions.specs.Inputs.{CutsShort, IsComeSoFar, encoding_of, encoding_after, Taken, IsCut}
 use Rattle.grep_decode.specs.Decoded.{found_mark}
 use Rattle.grep_decode.specs.declared.label.Label.{Label}
 use Rattle.grep_decode.specs.declared.label.Label.TheVariants.{Utf8, Utf16Le, Utf16Be}
 use Rattle.grep_report.specs.ErrorMakers.{ErrorMakers}
-use Rattle.grep_definitions.specs.Plans.{Steps, Planned, Plan, Outcome, all_true, AreMade, IsFinished}
-use Rattle.grep_definitions.specs.Plans.{IsRun, counted}
 use Rattle.grep_definitions.specs.ReaderRuns
-use Rattle.grep_definitions.specs.Inputs
-use Rattle.grep_definitions.specs.Reports.{line_count}
+use Rattle.grep_definitions.specs.Searches
 use Rattle.grep_definitions.specs.SearchTurns.{calls_across, calls_if, search_calls, search_turns, search_byte_count}
 use Rattle.grep_definitions.specs.SearchTurns.{search_turn_count}
 use Rattle.grep_definitions.specs.ContentsSearches
-use Rattle.grep_definitions.specs.Settings.{Settings, SearcherState}
 use Rattle.grep_definitions.proofs.PlanLemmas.{plans-turns}
 use Rattle.grep_definitions.proofs.PlannedSliceLemmas.{plain-fault, quit-fault, until-planned}
 
@@ -156,7 +155,7 @@ module _ {R : Type 0} (remaining : R → Option (List ℕ)) (read_step : R → R
         seen = [];
         begun = false;
         error = error;
-        cause = Inputs.of_contents (mode is) refl each;
+        cause = Searches.of_contents (mode is) refl each;
         made = made;
         calls = λ is. absurd (cc);
         none = λ is. same;
@@ -169,7 +168,7 @@ module _ {R : Type 0} (remaining : R → Option (List ℕ)) (read_step : R → R
         seen = [];
         begun = false;
         error = error;
-        cause = Inputs.of_failed_read (mode is) (unended, fails) came (so-far decoded) below;
+        cause = Searches.of_failed_read (mode is) (unended, fails) came (so-far decoded) below;
         made = made;
         calls = λ is. absurd (cc);
         none = λ is. same;
@@ -181,7 +180,7 @@ module _ {R : Type 0} (remaining : R → Option (List ℕ)) (read_step : R → R
         seen = [];
         begun = false;
         error = error;
-        cause = Inputs.of_buffers none kind refl;
+        cause = Searches.of_buffers none kind refl;
         made = made;
         calls = λ is. absurd (cc);
         none = λ is. same;
@@ -211,7 +210,7 @@ module _ {R : Type 0} (remaining : R → Option (List ℕ)) (read_step : R → R
         seen = seen;
         begun = true;
         error = error;
-        cause = Inputs.of_lines (sym same ∙ by_line, before, λ bytes input. as_read bytes (each bytes input).0) refl
+        cause = Searches.of_lines (sym same ∙ by_line, before, λ bytes input. as_read bytes (each bytes input).0) refl
             (λ bytes input. subst (λ (v : List ℕ → List ℕ). CutsShort k matcher.meaning
             (before_quit k.binary_detection (v bytes)) seen error)
             view (each bytes input).1);
@@ -233,7 +232,7 @@ module _ {R : Type 0} (remaining : R → Option (List ℕ)) (read_step : R → R
         seen = seen;
         begun = true;
         error = error;
-        cause = Inputs.of_reader (sym same ∙ by_line, before, λ bytes input. as_read bytes (each bytes input))
+        cause = Searches.of_reader (sym same ∙ by_line, before, λ bytes input. as_read bytes (each bytes input))
             (unended, fails) came (so-far decoded)
             (subst (λ (v : List ℕ → List ℕ). HasOpenLine k (v came) seen) view open_line);
         made = made;

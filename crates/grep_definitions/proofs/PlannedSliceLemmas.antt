@@ -3,15 +3,14 @@ use Rattle.std.proofs.Common.{◌≡◌, ℕ, Bool, true, false, List, None, ref
 use Rattle.std.specs.Prelude.{OnOk}
 use Rattle.grep_matcher.specs.Meanings.{Meaning, MatcherFacts}
 use Rattle.grep_report.specs.declared.binary_detection.BinaryDetection.TheVariants.{Quit}
-use Rattle.grep_definitions.specs.Asking.{IsAskedWith, IsQuestionIn, is_across, search_plan}
-use Rattle.grep_definitions.specs.BinaryBytes.{in_contents, contents_point, plan_with}
-use Rattle.grep_definitions.specs.Searches.{IsPoint, Points, IsSearchOf, ran, asked}
+use Rattle.grep_definitions.specs.Plans.{IsAskedWith, IsQuestionIn, is_across, search_plan, Steps}
+use Rattle.grep_definitions.specs.Plans.{Planned, Plan, Outcome, IsRun, start, Settings}
+use Rattle.grep_definitions.specs.Searches.{in_contents, contents_point, plan_with, IsPoint, Points}
+use Rattle.grep_definitions.specs.Searches.{IsSearchOf, ran, asked}
 use Rattle.grep_report.specs.ErrorMakers.{ErrorMakers}
-use Rattle.grep_definitions.specs.Plans.{Steps, Planned, Plan, Outcome, IsRun}
-use Rattle.grep_definitions.specs.Reports.{start, through}
+use Rattle.grep_definitions.specs.LineSearch.{through}
 use Rattle.grep_definitions.specs.SearchTurns.{calls_if, search_calls, search_turns, search_byte_count}
 use Rattle.grep_definitions.specs.ContentsSearches
-use Rattle.grep_definitions.specs.Settings.{Settings}
 use Rattle.grep_definitions.specs.SinkRuns.{plan_of}
 use Rattle.grep_definitions.proofs.PlanLemmas.{plans-turns}
 

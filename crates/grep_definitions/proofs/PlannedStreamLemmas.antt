@@ -4,11 +4,11 @@ use Rattle.std.proofs.Common.{take, drop, length-append}
 use Rattle.std.proofs.Math.Seq.{take-append_seam}
 use Rattle.grep_matcher.specs.Meanings.{Meaning}
 use Rattle.grep_report.specs.declared.binary_detection.BinaryDetection.{BinaryDetection}
-use Rattle.grep_definitions.specs.Asking.{search_plan}
-use Rattle.grep_definitions.specs.BinaryBytes.{BinaryPoint, quits, plan_with, planned_binary, after_binary}
+use Rattle.grep_definitions.specs.Plans.{search_plan, Steps, Planned, Plan, Outcome, all_true}
+use Rattle.grep_definitions.specs.Plans.{AreMade, Settings}
+use Rattle.grep_definitions.specs.Searches.{BinaryPoint, quits, plan_with, planned_binary}
 use Rattle.grep_definitions.specs.Searches.{IsStreamPoint, IsCutAt}
-use Rattle.grep_definitions.specs.Plans.{Steps, Planned, Plan, Outcome, all_true, AreMade}
-use Rattle.grep_definitions.specs.Settings.{Settings}
+use Rattle.grep_definitions.specs.SinkRuns.{after_binary}
 use Rattle.grep_definitions.proofs.BoolLemmas.{clash}
 use Rattle.grep_definitions.proofs.SinkRunLemmas.{AreMade-append, AreMade-ended}
 

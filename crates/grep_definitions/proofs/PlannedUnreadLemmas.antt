@@ -3,11 +3,10 @@ use Rattle.std.proofs.Common.{◌≡◌, ◌∙◌, ℕ, Bool, true, false, List
 use Rattle.std.specs.declared.io.Error.{Error}
 use Rattle.grep_decode.specs.Source.{ReadResult}
 use Rattle.grep_matcher.specs.Meanings.{Meaning}
-use Rattle.grep_definitions.specs.BinaryBytes.{view_of}
-use Rattle.grep_definitions.specs.Asking.{is_across}
+use Rattle.grep_definitions.specs.Searches.{view_of, IsUnread, of_lines, of_reader, of_contents}
+use Rattle.grep_definitions.specs.Searches.{of_failed_read, of_buffers}
+use Rattle.grep_definitions.specs.Plans.{is_across, SearcherState}
 use Rattle.grep_definitions.specs.ReaderRuns
-use Rattle.grep_definitions.specs.Inputs.{IsUnread, of_lines, of_reader, of_contents, of_failed_read, of_buffers}
-use Rattle.grep_definitions.specs.Settings.{SearcherState}
 use Rattle.grep_definitions.proofs.PlannedReaderLemmas.{consumes-none, so-far}
 
 module _ {R : Type 0} (remaining : R → Option (List ℕ)) (read_step : R → ReadResult → R → Type 0)

@@ -7,15 +7,13 @@ use Rattle.std.specs.declared.io.Error.{Error}
 use Rattle.grep_decode.specs.Source.{ReadResult, Pulls}
 use Rattle.grep_matcher.specs.Meanings.{Meaning, MatcherFacts}
 use Rattle.grep_report.specs.declared.config_error.ConfigError.{ConfigError}
-use Rattle.grep_definitions.specs.BinaryBytes.{Look, look_of}
+use Rattle.grep_definitions.specs.Searches.{Look, look_of, Points, IsSearchOf, HasReadLines}
+use Rattle.grep_definitions.specs.Searches.{IsReaderSearch, IsRead, IsUnlessRefusedBy}
+use Rattle.grep_definitions.specs.Searches.{IsReaderSearched, ran, asked, Reads, Taken, IsCut}
+use Rattle.grep_definitions.specs.Searches.{IsUnread, IsReadingError, of_lines, of_reader}
+use Rattle.grep_definitions.specs.Searches.{IsReadForLine, of_contents, of_failed_read, of_buffers}
 use Rattle.grep_report.specs.ErrorMakers.{ErrorMakers}
-use Rattle.grep_definitions.specs.Asking.{refusal_of}
-use Rattle.grep_definitions.specs.Searches.{Points, IsSearchOf, HasReadLines, IsReaderSearch, IsRead, IsUnlessRefusedBy}
-use Rattle.grep_definitions.specs.Searches.{IsReaderSearched, ran, asked}
-use Rattle.grep_definitions.specs.Plans.{Steps, Plan, Outcome}
-use Rattle.grep_definitions.specs.Inputs.{Reads, Taken, IsCut, IsUnread, IsReadingError, of_lines, of_reader}
-use Rattle.grep_definitions.specs.Inputs.{IsReadForLine, of_contents, of_failed_read, of_buffers}
-use Rattle.grep_definitions.specs.Settings.{Settings, SearcherState}
+use Rattle.grep_definitions.specs.Plans.{refusal_of, Steps, Plan, Outcome, Settings, SearcherState}
 
 -- how far a search has read is said of it
 search-reads : {S E F : Type 0} (step : Steps S E) (errors : ErrorMakers F E) (matcher : MatcherFacts F)

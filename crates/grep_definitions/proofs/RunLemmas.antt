@@ -5,7 +5,7 @@ use Rattle.std.proofs.lemmas.Bool.{lt-ltb, ltb-true, le-leb, leb-true, cases_Boo
 use Rattle.std.specs.Prelude.{nat_lt, nat_le}
 use Rattle.std.specs.Option.{unwrap_or}
 use Rattle.std.specs.List.Sorted.{IsStrictlyIncreasing}
-use Rattle.grep_definitions.specs.Reports.{first_below, joined_from}
+use Rattle.grep_definitions.specs.Plans.{first_below, joined_from}
 use Rattle.grep_definitions.proofs.BelowLemmas.{some_below-false, first_below-of, first_below-before, first_below-none}
 use Rattle.grep_definitions.proofs.BelowLemmas.{joined_from-add}
 use Rattle.grep_definitions.proofs.BoolLemmas.{both_true, and-both, not_false, clash}

@@ -1,7 +1,9 @@
 -- What the calls of a line, and of the lines together, tell.
-use Rattle.grep_definitions.specs.SelectedLines
-use Rattle.grep_definitions.specs.Plans.{planned, Call, Planned, matches, context, breaks, reported_bytes}
-use Rattle.grep_definitions.specs.Plans.{reported_from}
+use Rattle.grep_definitions.specs.Plans
+use Rattle.grep_definitions.specs.Plans.{planned, Call, Planned, matches, context, breaks}
+use Rattle.grep_definitions.specs.Plans.{reported_bytes, reported_from, Settings, count_below}
+use Rattle.grep_definitions.specs.Plans.{first_below, at_most, joined_from, Kind, matched}
+use Rattle.grep_definitions.specs.Plans.{in_context}
 use Rattle.std.proofs.Common.{◌≡◌, ℕ, zero, suc, ◌+◌, ◌-◌, ◌<◌, ◌≤◌, Bool, true, false, List, [], ◌∷◌, length}
 use Rattle.std.proofs.Common.{slice_index, refl, sym, ap, subst, ◌∙◌, arith, ◌⊎◌, inl, inr, ⊎_elim, Option, Some, None}
 use Rattle.std.proofs.Common.{if◌then◌else◌}
@@ -14,10 +16,8 @@ use Rattle.grep_matcher.specs.Lines.{byte_of}
 use Rattle.grep_matcher.specs.Meanings.{Meaning}
 use Rattle.grep_lines.specs.LineLaws.{LinesJoin}
 use Rattle.grep_report.specs.declared.sink_context.SinkContextKind.TheVariants.{Before, After, Other}
-use Rattle.grep_definitions.specs.Settings.{Settings}
 use Rattle.grep_definitions.proofs.LineSliceLemmas.{line-report, slice-line}
 use Rattle.grep_definitions.specs.SearchLaws.{AreInOrder, is_match, is_matched, report_calls}
-use Rattle.grep_definitions.specs.Reports.{count_below, first_below, at_most, joined_from, Kind, matched, in_context}
 use Rattle.grep_definitions.specs.LineSearch
 use Rattle.grep_definitions.specs.LineSearch.{turns_at}
 use Rattle.grep_definitions.proofs.BelowLemmas.{some_below-some, some_below-false, some_below-find, first_below-before}
@@ -132,13 +132,13 @@ module _ (k : Settings) (meaning : Meaning) (bytes : List ℕ) where
   start = LineSearch.start k meaning bytes
 
   abbrev chosen : ℕ → Bool
-  chosen = SelectedLines.is_chosen k meaning bytes
+  chosen = Plans.is_chosen k meaning bytes
 
   abbrev selected : ℕ → Bool
-  selected = SelectedLines.is_selected k meaning bytes
+  selected = Plans.is_selected k meaning bytes
 
   abbrev has_room : ℕ → Bool
-  has_room = SelectedLines.is_open_at k meaning bytes
+  has_room = Plans.is_open_at k meaning bytes
 
   abbrev T : ℕ → List Planned
   T = turns_at k meaning bytes
@@ -174,7 +174,7 @@ module _ (k : Settings) (meaning : Meaning) (bytes : List ℕ) where
       one same = omega arith
 
       some : (a : Bool) → is_some (if a then Some matched
-          else Some (if SelectedLines.is_trailing k meaning bytes i then matched else in_context After)) ≡ true
+          else Some (if Plans.is_trailing k meaning bytes i then matched else in_context After)) ≡ true
       some true = refl
       some false = refl
 
@@ -182,19 +182,19 @@ module _ (k : Settings) (meaning : Meaning) (bytes : List ℕ) where
   -- trailing
   pub turns_at-follows : (i j : ℕ) → i < LineSearch.turn_count k meaning bytes → selected i ≡ false → selected j ≡ true
       → j < i → i - j ≤ k.after_context → T i
-      ≡ planned (if SelectedLines.is_trailing k meaning bytes i then matches (LineSearch.number k meaning bytes i) (start
+      ≡ planned (if Plans.is_trailing k meaning bytes i then matches (LineSearch.number k meaning bytes i) (start
       i) (LineSearch.line k meaning bytes i) else context After (LineSearch.number k meaning bytes i) (start i)
       (LineSearch.line k meaning bytes i)) (start (i + 1)) ∷ []
-  turns_at-follows i j has misses hit less close = go (SelectedLines.is_trailing k meaning bytes i) refl
+  turns_at-follows i j has misses hit less close = go (Plans.is_trailing k meaning bytes i) refl
     where
       is_kind : LineSearch.kind k meaning bytes i ≡ Some
-          (if SelectedLines.is_trailing k meaning bytes i then matched else in_context After)
+          (if Plans.is_trailing k meaning bytes i then matched else in_context After)
       is_kind = let follows = follows-near i j hit less close in rw (misses, follows) refl
 
       shown : LineSearch.is_reported k meaning bytes (i - 1) ≡ true
       shown = shown-near (i - 1) j (omega arith) hit (omega arith) (omega arith)
 
-      go : (t : Bool) → SelectedLines.is_trailing k meaning bytes i ≡ t → T i
+      go : (t : Bool) → Plans.is_trailing k meaning bytes i ≡ t → T i
           ≡ planned (if t then matches (LineSearch.number k meaning bytes i) (start i) (LineSearch.line k meaning bytes
           i) else context After (LineSearch.number k meaning bytes i) (start i) (LineSearch.line k meaning bytes i))
           (start (i + 1)) ∷ []
@@ -238,7 +238,7 @@ module _ (k : Settings) (meaning : Meaning) (bytes : List ℕ) where
 
   -- whether a line is trailing in the context after a selected line
   abbrev late : ℕ → Bool
-  late i = LineSearch.follows_selected k meaning bytes i && SelectedLines.is_trailing k meaning bytes i
+  late i = LineSearch.follows_selected k meaning bytes i && Plans.is_trailing k meaning bytes i
 
   -- a report tells one match at most, and only where its line is a match
   matches-report : (i : ℕ) (kind : Option Kind) → LineSearch.kind k meaning bytes i ≡ kind
@@ -246,7 +246,7 @@ module _ (k : Settings) (meaning : Meaning) (bytes : List ℕ) where
   matches-report i None is = omega arith
   matches-report i (Some matched) is =
       let here = kind-matched (selected i) (LineSearch.follows_selected k meaning bytes i)
-      (SelectedLines.is_trailing k meaning bytes i)
+      (Plans.is_trailing k meaning bytes i)
       (LineSearch.precedes_selected k meaning bytes i) k.passthru is in
       rw here (omega arith)
   matches-report i (Some (in_context c)) is = omega arith
@@ -264,7 +264,7 @@ module _ (k : Settings) (meaning : Meaning) (bytes : List ℕ) where
       go false = matches-report i (LineSearch.kind k meaning bytes i) refl
 
   chosen-few : (limit m : ℕ) → k.max_matches ≡ Some limit → count_below chosen m ≤ limit
-  chosen-few limit m is = let few = count_below-limited (SelectedLines.hits k meaning bytes) limit m in rw is few
+  chosen-few limit m is = let few = count_below-limited (Plans.hits k meaning bytes) limit m in rw is few
 
   -- what a late line has: a selected line before it in reach, before which the limit had room, as it hasn't there
   record IsLate (i : ℕ) : Type 0 where
@@ -277,25 +277,25 @@ module _ (k : Settings) (meaning : Meaning) (bytes : List ℕ) where
 
   late-is : (i : ℕ) → late i ≡ true → IsLate i
   late-is i is =
-      let parts = both_true (LineSearch.follows_selected k meaning bytes i) (SelectedLines.is_trailing k meaning bytes i)
+      let parts = both_true (LineSearch.follows_selected k meaning bytes i) (Plans.is_trailing k meaning bytes i)
       is in
       let found = some_below-find (λ j. nat_le (i - j) k.after_context && selected j) i parts.0 in
       let near = both_true (nat_le (i - found.0) k.after_context) (selected found.0) found.2 in
       let chosen = (both_true (chosen found.0) _ near.1).0 in
-      let past = both_true (SelectedLines.hits k meaning bytes i) (not (has_room i)) parts.1 in
+      let past = both_true (Plans.hits k meaning bytes i) (not (has_room i)) parts.1 in
       record {
         line = found.0;
         before = found.1;
         near = leb-true (i - found.0) k.after_context near.0;
         chosen = chosen;
-        room = (both_true (SelectedLines.hits k meaning bytes found.0) (has_room found.0) chosen).1;
+        room = (both_true (Plans.hits k meaning bytes found.0) (has_room found.0) chosen).1;
         shut = not_false (has_room i) past.1;
       }
 
   -- the limit has no room after a line before which it has none
   shut-later : (i j : ℕ) → i ≤ j → has_room i ≡ false → has_room j ≡ false
   shut-later i j low shut =
-      is_below-le k.max_matches _ _ (count_below-le (SelectedLines.hits k meaning bytes) i j low) shut
+      is_below-le k.max_matches _ _ (count_below-le (Plans.hits k meaning bytes) i j low) shut
 
   -- there are at most as many late lines as lines in the context
   late-few : (m : ℕ) → count_below late m ≤ k.after_context

@@ -1,10 +1,9 @@
 -- The plan of a search in the mode that it runs in.
 use Rattle.std.proofs.Common.{◌≡◌, ℕ, false, List, ap}
 use Rattle.grep_matcher.specs.Meanings.{Meaning}
-use Rattle.grep_definitions.specs.Asking.{is_across, search_plan, selection_in}
-use Rattle.grep_definitions.specs.Reports.{reports_plan}
+use Rattle.grep_definitions.specs.Plans.{is_across, search_plan, selection_in, reports_plan}
+use Rattle.grep_definitions.specs.Plans.{Settings}
 use Rattle.grep_definitions.specs.SearchLaws.{line_plan}
-use Rattle.grep_definitions.specs.Settings.{Settings}
 
 module _ (k : Settings) (meaning : Meaning) (bytes : List ℕ) where
   pub plan-by_line : is_across k meaning ≡ false → search_plan k meaning bytes ≡ line_plan k meaning bytes

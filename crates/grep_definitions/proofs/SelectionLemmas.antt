@@ -7,8 +7,7 @@ use Rattle.std.proofs.lemmas.Bool.{ltb-false}
 use Rattle.std.proofs.lemmas.List.{append-nil}
 use Rattle.std.specs.Prelude.{nat_eq, nat_lt, nat_le}
 use Rattle.grep_report.specs.declared.sink_context.SinkContextKind.TheVariants.{Before, After, Other}
-use Rattle.grep_definitions.specs.Settings.{Settings}
-use Rattle.grep_definitions.specs.Reports.{some_below, first_below, matched, in_context}
+use Rattle.grep_definitions.specs.Plans.{Settings, some_below, first_below, matched, in_context}
 use Rattle.grep_definitions.specs.LineTurns.{is_gap}
 use Rattle.grep_definitions.specs.Selections
 use Rattle.grep_definitions.specs.Selections.{IsNear}

@@ -1,6 +1,8 @@
 -- Runs of sinks whose steps are functions, and what a search without binary detection comes to.
-use Rattle.grep_definitions.specs.Plans.{planned, Call, begins, matches, context, breaks, binary_data, finishes, Steps}
-use Rattle.grep_definitions.specs.Plans.{Finish, Planned, Plan, Outcome, AreMade, IsFinished, IsRun}
+use Rattle.grep_definitions.specs.Plans.{planned, Call, begins, matches, context, breaks}
+use Rattle.grep_definitions.specs.Plans.{binary_data, finishes, Steps, Finish, Planned, Plan}
+use Rattle.grep_definitions.specs.Plans.{Outcome, AreMade, IsFinished, IsRun, search_plan, IsLawful}
+use Rattle.grep_definitions.specs.Plans.{refusal_of, Settings, SearcherState}
 use Rattle.std.proofs.Common.{◌≡◌, ℕ, Bool, true, false, List, [], ◌∷◌, Option, Some, None, refl, sym, ◌∙◌, ap, subst}
 use Rattle.std.proofs.Common.{inl, inr, length, Result, Ok, Err}
 use Rattle.std.specs.Prelude.{◌⊎◌}
@@ -9,14 +11,12 @@ use Rattle.grep_decode.specs.Source.{ReadResult}
 use Rattle.grep_matcher.specs.Meanings.{IsInfallible, MatcherFacts}
 use Rattle.grep_report.specs.declared.binary_detection.BinaryDetection.TheVariants.{None as no_detection}
 use Rattle.grep_report.specs.declared.config_error.ConfigError.{ConfigError}
-use Rattle.grep_definitions.specs.Asking.{search_plan, IsLawful, refusal_of}
-use Rattle.grep_definitions.specs.BinaryBytes.{nowhere, look_of, BinaryPoint, plan_with}
-use Rattle.grep_definitions.specs.Searches.{IsPoint, IsSearchOf, IsRead, IsCutSearch, IsUnlessRefusedBy, ran, asked}
+use Rattle.grep_definitions.specs.Searches.{nowhere, look_of, BinaryPoint, plan_with, IsPoint}
+use Rattle.grep_definitions.specs.Searches.{IsSearchOf, IsRead, IsCutSearch, IsUnlessRefusedBy, ran}
+use Rattle.grep_definitions.specs.Searches.{asked, searched_bytes}
 use Rattle.grep_report.specs.ErrorMakers.{ErrorMakers}
 use Rattle.grep_definitions.specs.SliceSearches.{IsSliceSearch, IsSliceRead, IsSliceSearchedIf, is_searched_unchanged}
-use Rattle.grep_definitions.specs.Inputs.{searched_bytes}
 use Rattle.grep_definitions.specs.SearchLaws.{UnchangedIsInput, calls_of, is_match, match_calls}
-use Rattle.grep_definitions.specs.Settings.{Settings, SearcherState}
 use Rattle.grep_definitions.specs.SinkFolds.{fold_while, run_fold, AreTaken, IsTakenOk, IsTakenBy, StepsBy, RunsFold}
 use Rattle.grep_definitions.specs.SinkFolds.{RunsFoldAll, RunsFoldMatches, FailsAtStep, SearchesRun, ReaderSearchesRun}
 use Rattle.grep_definitions.specs.SinkFolds.{SearchesFail, ReaderSearchesFail, KnownReadersRun}

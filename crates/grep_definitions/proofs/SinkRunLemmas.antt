@@ -1,9 +1,8 @@
 -- Runs, put together.
 use Rattle.std.proofs.Common.{◌≡◌, ℕ, inl, inr, List, [], ◌∷◌, ◌++◌, Bool, true, false, refl, sym, ap, subst, map}
 use Rattle.std.specs.Prelude.{Option, None, Some, Result, Ok, Err}
-use Rattle.grep_definitions.specs.Settings.{Settings}
-use Rattle.grep_definitions.specs.Plans.{Call, Planned, breaks, Steps, Outcome, all_true, stopped, failed, AreMade}
-use Rattle.grep_definitions.specs.Plans.{planned, Finish}
+use Rattle.grep_definitions.specs.Plans.{Settings, Call, Planned, breaks, Steps, Outcome, all_true}
+use Rattle.grep_definitions.specs.Plans.{stopped, failed, AreMade, planned, Finish}
 use Rattle.grep_definitions.specs.LineTurns.{one_turn, break_turns, broken_turns}
 use Rattle.grep_definitions.specs.SinkRuns.{outcome_of, with_binary}
 

@@ -9,10 +9,9 @@ use Rattle.std.specs.Prelude.{nat_lt, nat_le, ◌&&◌, IfSome, All}
 use Rattle.std.specs.Option.{option_map}
 use Rattle.grep_matcher.specs.Meanings.{Meaning}
 use Rattle.grep_matcher.specs.FindResults.{IsWithin}
-use Rattle.grep_definitions.specs.SelectedLines.{position_after, position_past, if_within, match_from, matches_from}
-use Rattle.grep_definitions.specs.SelectedLines.{matches_up_to}
+use Rattle.grep_definitions.specs.Plans.{position_after, position_past, if_within, match_from}
+use Rattle.grep_definitions.specs.Plans.{matches_from, matches_up_to, is_below}
 use Rattle.grep_definitions.specs.SuccessiveMatches.{matches_left}
-use Rattle.grep_definitions.specs.Reports.{is_below}
 use Rattle.grep_definitions.proofs.BoolLemmas.{and-both, both_true, clash}
 
 -- after a match that doesn't end before it starts, the next is looked for at a later position

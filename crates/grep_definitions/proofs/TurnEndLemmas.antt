@@ -1,6 +1,7 @@
 -- Where the turns of calls end, against where lines start.
-use Rattle.grep_definitions.specs.SelectedLines
-use Rattle.grep_definitions.specs.Plans.{planned, Call, Planned, matches, context, breaks}
+use Rattle.grep_definitions.specs.Plans
+use Rattle.grep_definitions.specs.Plans.{planned, Call, Planned, matches, context, breaks, Settings}
+use Rattle.grep_definitions.specs.Plans.{first_below, joined_from, Kind, matched, in_context}
 use Rattle.std.proofs.Common.{◌≡◌, ℕ, zero, suc, ◌+◌, ◌-◌, ◌<◌, ◌≤◌, Bool, true, false, ◌&&◌, List, [], ◌∷◌, ◌++◌, refl, sym}
 use Rattle.std.proofs.Common.{ap, append-nil, ◌∙◌, arith, ⊎_elim, Option, Some, None, if◌then◌else◌}
 use Rattle.std.proofs.Math.Bool.{and-false}
@@ -10,10 +11,8 @@ use Rattle.std.specs.Prelude.{filter, nat_le, nat_lt, All, slice_index_or}
 use Rattle.grep_matcher.specs.Lines.{byte_of, lines, line_start}
 use Rattle.grep_matcher.specs.Meanings.{Meaning}
 use Rattle.grep_report.specs.declared.sink_context.SinkContextKind.TheVariants.{Before, After, Other}
-use Rattle.grep_definitions.specs.Settings.{Settings}
-use Rattle.grep_definitions.specs.Reports.{first_below, joined_from, Kind, matched, in_context}
 use Rattle.grep_definitions.specs.LineSearch
-use Rattle.grep_definitions.specs.LineSearch.{turns_at}
+use Rattle.grep_definitions.specs.LineSearch.{turns_at, through}
 use Rattle.grep_definitions.specs.LineTurns.{one_turn, broken_turns, pending_turns, match_turns, listed_turns}
 use Rattle.grep_definitions.specs.LineTurns.{listed_number, number_of, is_gap}
 use Rattle.grep_definitions.proofs.BelowLemmas.{some_below-some, some_below-find, first_below-of, first_below-none}
@@ -21,7 +20,6 @@ use Rattle.grep_definitions.proofs.LineStartLemmas.{line_start-next}
 use Rattle.grep_definitions.specs.LineWalks.{IsNear}
 use Rattle.grep_definitions.proofs.BoolLemmas.{both_true, clash}
 use Rattle.grep_definitions.proofs.ListLemmas.{All-joined_from, filter-all, filter-none}
-use Rattle.grep_definitions.specs.Reports.{through}
 
 -- a later line starts no earlier
 pub line_start-le : (t : ℕ) (bytes : List ℕ) (i j : ℕ) → i ≤ j → line_start t bytes i ≤ line_start t bytes j
@@ -97,14 +95,14 @@ module _ (k : Settings) (meaning : Meaning) (bytes : List ℕ) where
   turn_end-late q (Some (in_context Before)) = go (first_below later (LineSearch.line_count k meaning bytes)) refl
     where
       later : ℕ → Bool
-      later j = nat_lt q j && SelectedLines.is_selected k meaning bytes j
+      later j = nat_lt q j && Plans.is_selected k meaning bytes j
 
       go : (found : Option ℕ) → first_below later (LineSearch.line_count k meaning bytes) ≡ found
           → start (q + 1) ≤ start (LineSearch.lines_through_next k meaning bytes q)
       go None is = rw is (omega arith)
       go (Some j) is =
           let found = first_below-of later (LineSearch.line_count k meaning bytes) j is in
-          let above = ltb-true q j (both_true (nat_lt q j) (SelectedLines.is_selected k meaning bytes j) found.1).0 in
+          let above = ltb-true q j (both_true (nat_lt q j) (Plans.is_selected k meaning bytes j) found.1).0 in
           rw is (line_start-le (byte_of k.line_terminator) bytes (q + 1) (j + 1) (omega arith))
 
   -- if the turn of a line ends no earlier than some offset, each of its calls does so
@@ -156,10 +154,10 @@ module _ (k : Settings) (meaning : Meaning) (bytes : List ℕ) where
       n = LineSearch.line_count k meaning bytes
 
       later : ℕ → Bool
-      later q = nat_lt j q && SelectedLines.is_selected k meaning bytes q
+      later q = nat_lt j q && Plans.is_selected k meaning bytes q
 
       nearer : ℕ → Bool
-      nearer q = nat_lt j q && nat_le (q - j) k.before_context && SelectedLines.is_selected k meaning bytes q
+      nearer q = nat_lt j q && nat_le (q - j) k.before_context && Plans.is_selected k meaning bytes q
 
       missed : (q : ℕ) → q < i → later q ≡ false
       missed q less = ⊎_elim
@@ -170,7 +168,7 @@ module _ (k : Settings) (meaning : Meaning) (bytes : List ℕ) where
       nearer-later : (q : ℕ) → nearer q ≡ true → later q ≡ true
       nearer-later q is =
           let both = both_true (nat_lt j q && nat_le (q - j) k.before_context)
-          (SelectedLines.is_selected k meaning bytes q) is in
+          (Plans.is_selected k meaning bytes q) is in
           let above = (both_true (nat_lt j q) (nat_le (q - j) k.before_context) both.0).0 in
           let chosen = both.1 in
           rw (above, chosen) refl
@@ -186,7 +184,7 @@ module _ (k : Settings) (meaning : Meaning) (bytes : List ℕ) where
           let far : i ≤ q = ⊎_elim (λ less. absurd (clash passes (missed q less))) (λ le. le) (cases_lt q i) in
           rw is (line_start-le (byte_of k.line_terminator) bytes (i + 1) (q + 1) (omega arith))
 
-      out : (SelectedLines.is_selected k meaning bytes j ≡ false) × (LineSearch.follows_selected k meaning bytes j ≡ false)
+      out : (Plans.is_selected k meaning bytes j ≡ false) × (LineSearch.follows_selected k meaning bytes j ≡ false)
       out = near.passed j low high
 
       plain : k.passthru ≡ false

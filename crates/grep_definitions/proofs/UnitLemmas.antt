@@ -1,5 +1,6 @@
 -- The bytes that the match reports across lines have.
-use Rattle.grep_definitions.specs.Plans.{planned, Call, Planned, matches, context, breaks}
+use Rattle.grep_definitions.specs.Plans.{planned, Call, Planned, matches, context, breaks, Settings}
+use Rattle.grep_definitions.specs.Plans.{joined_from, Kind, matched, in_context}
 use Rattle.std.proofs.Common.{◌≡◌, ℕ, zero, suc, ◌+◌, ◌-◌, ◌<◌, ◌≤◌, Bool, true, false, not, ◌&&◌, List, [], ◌∷◌, ◌++◌}
 use Rattle.std.proofs.Common.{length, take, drop, refl, sym, ap, subst, ◌∙◌, arith, ⊎_elim, Option, Some, None}
 use Rattle.std.proofs.Common.{if◌then◌else◌}
@@ -15,9 +16,7 @@ use Rattle.grep_matcher.specs.Lines.{byte_of}
 use Rattle.grep_lines.proofs.LawLemmas.{AreLines-lines}
 use Rattle.grep_report.specs.declared.sink_context.SinkContextKind.{SinkContextKind}
 use Rattle.grep_report.specs.declared.sink_context.SinkContextKind.TheVariants.{Before, After, Other}
-use Rattle.grep_definitions.specs.Settings.{Settings}
 use Rattle.grep_definitions.proofs.LineSliceLemmas.{slice-line}
-use Rattle.grep_definitions.specs.Reports.{joined_from, Kind, matched, in_context}
 use Rattle.grep_definitions.specs.LineSearch.{line_count, line, start, number}
 use Rattle.grep_definitions.specs.AcrossLines
 use Rattle.grep_definitions.specs.AcrossLines.{is_selected, continues_unit, turns_at}

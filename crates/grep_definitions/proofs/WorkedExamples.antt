@@ -9,11 +9,10 @@ use Rattle.grep_matcher.specs.Lines.{lines}
 use Rattle.grep_matcher.specs.Meanings.{Meaning}
 use Rattle.grep_report.specs.declared.sink_context.SinkContextKind.{SinkContextKind}
 use Rattle.grep_report.specs.declared.sink_context.SinkContextKind.TheVariants.{Before, After, Other}
-use Rattle.grep_definitions.specs.Asking.{search_plan}
+use Rattle.grep_definitions.specs.Plans.{search_plan, begins, matches, context, breaks, finishes}
+use Rattle.grep_definitions.specs.Plans.{Finish, Planned, Plan, Steps, stopped, finish_result}
+use Rattle.grep_definitions.specs.Plans.{AreMade, IsFinished, IsRun, counted, planned, Settings}
 use Rattle.grep_definitions.specs.BuiltSettings.{default_settings}
-use Rattle.grep_definitions.specs.Plans.{begins, matches, context, breaks, finishes, Finish, Planned, Plan, Steps}
-use Rattle.grep_definitions.specs.Plans.{stopped, finish_result, AreMade, IsFinished, IsRun, counted, planned}
-use Rattle.grep_definitions.specs.Settings.{Settings}
 
 -- a matcher of one byte
 abbrev pub has : ℕ → Meaning

@@ -6,17 +6,13 @@ use Rattle.std.specs.List.Sorted.{IsStrictlyIncreasing}
 use Rattle.grep_matcher.specs.Lawful.{HoldsPosition}
 use Rattle.grep_matcher.specs.Meanings.{ExcludesTerminator, Meaning}
 use Rattle.grep_report.specs.declared.sink_context.SinkContextKind.TheVariants.{After}
-use Rattle.grep_definitions.specs.Asking.{is_across, search_plan}
-use Rattle.grep_definitions.specs.Plans.{Call, matches, context}
-use Rattle.grep_definitions.specs.Plans.{Plan, planned}
-use Rattle.grep_definitions.specs.Reports.{joined_from, line_count, line, number, start, calls_at}
-use Rattle.grep_definitions.specs.Reports.{reports_plan}
+use Rattle.grep_definitions.specs.Plans.{is_across, search_plan, Call, matches, context, Plan}
+use Rattle.grep_definitions.specs.Plans.{planned, joined_from, line_count, line, number, start}
+use Rattle.grep_definitions.specs.Plans.{calls_at, reports_plan, is_selected, is_trailing}
+use Rattle.grep_definitions.specs.Plans.{reports_end, is_touched_selected, touched_lines, touches}
+use Rattle.grep_definitions.specs.Plans.{matches_from, all_matches, Settings}
 use Rattle.grep_definitions.specs.SearchLaws.{AreInOrder, calls_of, is_match, line_plan}
 use Rattle.grep_definitions.specs.SearchLaws.{report_calls}
-use Rattle.grep_definitions.specs.SelectedLines.{is_selected, is_trailing, reports_end}
-use Rattle.grep_definitions.specs.SelectedLines.{is_touched_selected, touched_lines, touches}
-use Rattle.grep_definitions.specs.SelectedLines.{matches_from, all_matches}
-use Rattle.grep_definitions.specs.Settings.{Settings}
 
 -- the plan of a search across lines
 abbrev pub across_plan : Settings → Meaning → List ℕ → Plan

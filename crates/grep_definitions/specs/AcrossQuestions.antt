@@ -2,13 +2,10 @@
 -- found.
 use Rattle.std.specs.Prelude.{◌≡◌, ℕ, true, List}
 use Rattle.grep_matcher.specs.Meanings.{Meaning}
-use Rattle.grep_definitions.specs.SelectedLines.{is_free}
+use Rattle.grep_definitions.specs.Plans.{is_free, count_below, is_below, Settings, Planned}
+use Rattle.grep_definitions.specs.Plans.{IsAskedAt}
 use Rattle.grep_definitions.specs.AcrossLines.{turns_through}
-use Rattle.grep_definitions.specs.Reports.{count_below, is_below}
 use Rattle.grep_definitions.specs.LineSearch.{start}
-use Rattle.grep_definitions.specs.Settings.{Settings}
-use Rattle.grep_definitions.specs.Plans.{Planned}
-use Rattle.grep_definitions.specs.Asking.{IsAskedAt}
 
 module _ (settings : Settings) (meaning : Meaning) (bytes : List ℕ) where
   -- what a matcher is asked across lines, and the calls that were made before: just those whose

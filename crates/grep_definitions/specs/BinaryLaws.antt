@@ -1,15 +1,20 @@
 -- Laws of searches that end at a binary byte.
 use Rattle.std.specs.Prelude.{◌≡◌, ℕ, ◌≤◌, true, false, List, ◌++◌, All, length, take, None, Some}
+use Rattle.std.specs.Prelude.{Bool, is_some}
 use Rattle.grep_matcher.specs.Meanings.{Meaning}
 use Rattle.grep_report.specs.declared.binary_detection.BinaryDetection.TheVariants.{Quit}
-use Rattle.grep_definitions.specs.Asking.{search_plan}
-use Rattle.grep_definitions.specs.BinaryBytes.{binary_of, position_of, view_of, BinaryPoint}
-use Rattle.grep_definitions.specs.BinaryBytes.{contents_point, holds_byte}
-use Rattle.grep_definitions.specs.Searches.{IsCutAt}
-use Rattle.grep_definitions.specs.Plans.{Planned}
-use Rattle.grep_definitions.specs.Inputs.{IsFront}
+use Rattle.grep_definitions.specs.Plans.{search_plan, Planned, Settings, reported_bytes}
+use Rattle.grep_definitions.specs.Searches.{binary_of, position_of, view_of, BinaryPoint}
+use Rattle.grep_definitions.specs.Searches.{contents_point, IsCutAt, IsFront}
 use Rattle.grep_definitions.specs.SearchLaws.{line_plan}
-use Rattle.grep_definitions.specs.Settings.{Settings}
+
+-- how many bytes are looked at before the first line
+abbrev pub first_look : ℕ
+first_look = 65536
+
+-- whether a call reports bytes that hold the byte
+abbrev pub holds_byte : ℕ → Planned → Bool
+holds_byte b call = is_some (position_of b (reported_bytes call.call))
 
 -- no report before the point at which a search of contents ends holds the byte, and no report at
 -- all if there is no such point

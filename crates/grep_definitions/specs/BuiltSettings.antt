@@ -3,7 +3,7 @@ use Rattle.std.specs.Prelude.{true, false, None, if◌then◌else◌}
 use Rattle.grep_matcher.specs.declared.line_terminator.LineTerminator.TheVariants.{Byte}
 use Rattle.grep_report.specs.declared.binary_detection.BinaryDetection.TheVariants.{None as no_detection}
 use Rattle.grep_report.specs.declared.mmap_choice.MmapChoice.TheVariants.{Never}
-use Rattle.grep_definitions.specs.Settings.{Settings}
+use Rattle.grep_definitions.specs.Plans.{Settings}
 
 -- as they are if nothing is set
 abbrev pub default_settings : Settings

@@ -4,13 +4,11 @@
 use Rattle.std.specs.Prelude.{◌≡◌, ◌≤◌, ◌⊎◌, ℕ, Bool, true, false, List, ◌∷◌, All, count_by, Result}
 use Rattle.std.specs.Prelude.{Ok, Err}
 use Rattle.std.specs.declared.io.Error.{Error}
-use Rattle.grep_definitions.specs.BinaryBytes.{is_detecting}
+use Rattle.grep_definitions.specs.Searches.{is_detecting, comes_between}
 use Rattle.grep_report.specs.ErrorMakers.{ErrorMakers}
 use Rattle.grep_matcher.specs.Meanings.{MatcherFacts}
-use Rattle.grep_definitions.specs.Settings.{Settings}
-use Rattle.grep_definitions.specs.Plans.{Planned, begins, Steps, Outcome, all_true, stopped, failed}
-use Rattle.grep_definitions.specs.Plans.{AreMade, counted, is_binary_data, planned}
-use Rattle.grep_definitions.specs.Searches.{comes_between}
+use Rattle.grep_definitions.specs.Plans.{Settings, Planned, begins, Steps, Outcome, all_true}
+use Rattle.grep_definitions.specs.Plans.{stopped, failed, AreMade, counted, is_binary_data, planned}
 
 abbrev pub AreInner : Settings → List Planned → Type 0
 AreInner settings turns =

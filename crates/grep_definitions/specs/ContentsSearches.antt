@@ -1,12 +1,11 @@
 -- What a search does to its sink, and what it returns.
 use Rattle.std.specs.Prelude.{◌≡◌, ℕ, List, Option, Some, None, Result, Ok, Err}
-use Rattle.grep_definitions.specs.Settings.{Settings}
+use Rattle.grep_definitions.specs.Plans.{Settings, Planned, Steps, all_true, AreMade, IsRun}
 use Rattle.grep_report.specs.declared.binary_detection.BinaryDetection.TheVariants.{Quit}
-use Rattle.grep_definitions.specs.BinaryBytes.{contents_point, plan_with}
+use Rattle.grep_definitions.specs.Searches.{contents_point, plan_with}
 use Rattle.grep_definitions.specs.SearchTurns.{SearchCalls, calls_by_line, search_calls}
 use Rattle.grep_definitions.specs.SearchTurns.{search_turns, search_byte_count}
 use Rattle.grep_definitions.specs.SinkRuns.{plan_of}
-use Rattle.grep_definitions.specs.Plans.{Planned, Steps, all_true, AreMade, IsRun}
 use Rattle.grep_report.specs.ErrorMakers.{ErrorMakers}
 use Rattle.grep_matcher.specs.Meanings.{MatcherFacts}
 

@@ -1,10 +1,9 @@
 -- Laws of how many matches are reported.
 use Rattle.std.specs.Prelude.{◌≡◌, ℕ, Bool, List, length}
 use Rattle.grep_matcher.specs.Meanings.{Meaning}
-use Rattle.grep_definitions.specs.Asking.{search_plan}
-use Rattle.grep_definitions.specs.Inputs.{searched_bytes}
+use Rattle.grep_definitions.specs.Plans.{search_plan, Settings}
+use Rattle.grep_definitions.specs.Searches.{searched_bytes}
 use Rattle.grep_definitions.specs.SearchLaws.{match_calls}
-use Rattle.grep_definitions.specs.Settings.{Settings}
 
 -- as many matches are reported whether lines are numbered or not
 abbrev pub NumbersChangeNoCount : Type 0

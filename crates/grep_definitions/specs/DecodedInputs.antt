@@ -5,9 +5,9 @@ use Rattle.std.specs.List.{concat}
 use Rattle.grep_decode.specs.declared.label.Label.{Label}
 use Rattle.grep_decode.specs.declared.label.Label.TheVariants.{Utf8, Utf16Le, Utf16Be}
 use Rattle.grep_decode.specs.Decoded.{by_label, found_mark}
-use Rattle.grep_definitions.specs.Settings.{Settings}
-use Rattle.grep_definitions.specs.Inputs.{searched_bytes, encoding_of}
-use Rattle.grep_definitions.specs.Inputs.{looks_for_mark, AreWaiting, IsInput}
+use Rattle.grep_definitions.specs.Plans.{Settings}
+use Rattle.grep_definitions.specs.Searches.{searched_bytes, encoding_of, looks_for_mark, AreWaiting}
+use Rattle.grep_definitions.specs.Searches.{IsInput}
 
 -- whether the bytes after this mark, or without one, pass unchanged: after that of UTF-8, or
 -- without a label too

@@ -5,10 +5,8 @@ use Rattle.std.specs.declared.io.Error.{Error}
 use Rattle.grep_decode.specs.Source.{ReadResult}
 use Rattle.grep_report.specs.ErrorMakers.{ErrorMakers}
 use Rattle.grep_matcher.specs.Meanings.{MatcherFacts}
-use Rattle.grep_definitions.specs.Searches.{IsInOrder, IsReaderSearched}
-use Rattle.grep_definitions.specs.Plans.{Steps}
-use Rattle.grep_definitions.specs.Inputs.{IsReadingError}
-use Rattle.grep_definitions.specs.Settings.{SearcherState, Settings}
+use Rattle.grep_definitions.specs.Searches.{IsInOrder, IsReaderSearched, IsReadingError}
+use Rattle.grep_definitions.specs.Plans.{Steps, SearcherState, Settings}
 
 -- a read of a file, if it says which bytes remain: what it returned was their front, and an error
 -- took none

@@ -1,32 +1,46 @@
 -- The reports of a search by line, as lemmas about its walk name them.
-use Rattle.std.specs.Prelude.{ℕ, Bool, List, ◌∷◌, Option}
+use Rattle.std.specs.Prelude.{ℕ, Bool, List, ◌∷◌, Option, ◌+◌, ◌&&◌, if◌then◌else◌, nat_le, filter}
+use Rattle.std.specs.Prelude.{None, suc}
 use Rattle.grep_matcher.specs.Meanings.{Meaning}
-use Rattle.grep_definitions.specs.Plans.{Planned, begins, planned}
-use Rattle.grep_definitions.specs.Reports
-use Rattle.grep_definitions.specs.Reports.{Selection, joined_from, through}
-use Rattle.grep_definitions.specs.SelectedLines.{end_by_stop, end_by_limit, reports_end}
-use Rattle.grep_definitions.specs.SelectedLines.{selected_lines}
-use Rattle.grep_definitions.specs.Settings.{Settings}
-use Rattle.grep_definitions.specs.Reports.{Kind}
+use Rattle.grep_definitions.specs.Plans.{Planned, begins, planned, Selection, joined_from}
+use Rattle.grep_definitions.specs.Plans.{end_by_limit, reports_end, selected_lines}
+use Rattle.grep_definitions.specs.Plans.{Settings, Kind, hits, is_chosen, ends_chosen, is_at}
+use Rattle.grep_definitions.specs.Plans.{count_below, first_below}
+use Rattle.grep_definitions.specs.Plans
+use Rattle.grep_definitions.specs.Selections
+use Rattle.std.specs.Option.{option_map}
+
+-- the calls after which that count is at most an offset
+abbrev pub through : ℕ → List Planned → List Planned
+through offset calls = filter (λ call. nat_le call.if_false.count offset) calls
 
 module _ (settings : Settings) (meaning : Meaning) (bytes : List ℕ) where
   abbrev pub line_count : ℕ
-  line_count = Reports.line_count settings bytes
+  line_count = Plans.line_count settings bytes
 
   abbrev pub line : ℕ → List ℕ
-  line = Reports.line settings bytes
+  line = Plans.line settings bytes
 
   abbrev pub start : ℕ → ℕ
-  start = Reports.start settings bytes
+  start = Plans.start settings bytes
 
   abbrev pub number : ℕ → Option ℕ
-  number = Reports.number settings bytes
+  number = Plans.number settings bytes
 
   abbrev pub selection : Selection
   selection = selected_lines settings meaning bytes
 
+  -- the line that fills the limit
+  abbrev pub fills_limit : ℕ → Bool
+  fills_limit i =
+      is_chosen settings meaning bytes i
+      && is_at (count_below (hits settings meaning bytes) i + 1) settings.max_matches
+
   abbrev pub turns_by_stop : Option ℕ
-  turns_by_stop = end_by_stop settings meaning bytes
+  turns_by_stop =
+      if settings.stop_on_nonmatch
+      then option_map suc (first_below (ends_chosen settings meaning bytes) line_count)
+      else None
 
   abbrev pub turns_by_limit : Option ℕ → Option ℕ
   turns_by_limit = end_by_limit settings meaning bytes
@@ -35,34 +49,34 @@ module _ (settings : Settings) (meaning : Meaning) (bytes : List ℕ) where
   turn_count = reports_end settings meaning bytes
 
   abbrev pub follows_selected : ℕ → Bool
-  follows_selected = Reports.follows_selected settings bytes selection
+  follows_selected = Plans.follows_selected settings bytes selection
 
   abbrev pub precedes_selected : ℕ → Bool
-  precedes_selected = Reports.precedes_selected settings bytes selection
+  precedes_selected = Plans.precedes_selected settings bytes selection
 
   abbrev pub kind : ℕ → Option Kind
-  kind = Reports.kind settings bytes selection
+  kind = Plans.kind settings bytes selection
 
   abbrev pub is_reported : ℕ → Bool
-  is_reported = Reports.is_reported settings bytes selection
+  is_reported = Plans.is_reported settings bytes selection
 
   abbrev pub lines_through_next : ℕ → ℕ
-  lines_through_next = Reports.lines_through_next settings bytes selection
+  lines_through_next = Selections.lines_through_next settings bytes selection
 
   abbrev pub turn_end : ℕ → Option Kind → ℕ
-  turn_end = Reports.count_at settings bytes selection
+  turn_end = Plans.count_at settings bytes selection
 
   abbrev pub can_break : Option Kind → Bool
-  can_break = Reports.can_break settings bytes selection
+  can_break = Plans.can_break settings bytes selection
 
   abbrev pub breaks_before : ℕ → Bool
-  breaks_before = Reports.breaks_before settings bytes selection
+  breaks_before = Plans.breaks_before settings bytes selection
 
   abbrev pub report : ℕ → Option Kind → List Planned
-  report = Reports.report settings bytes selection
+  report = Plans.report settings bytes selection
 
   abbrev pub turns_at : ℕ → List Planned
-  turns_at = Reports.calls_at settings bytes selection
+  turns_at = Plans.calls_at settings bytes selection
 
   -- `begin`, and the calls of the first i lines, in order
   abbrev pub turns_before : ℕ → List Planned

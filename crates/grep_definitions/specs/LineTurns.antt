@@ -1,14 +1,13 @@
 -- The calls of one line as a walk from line to line makes them, by what it knows at that line. No
 -- contract of grep_searcher cites these definitions.
-use Rattle.grep_definitions.specs.Plans.{planned, Call, Planned, matches, context, breaks}
+use Rattle.grep_definitions.specs.Plans.{planned, Call, Planned, matches, context, breaks, Settings}
+use Rattle.grep_definitions.specs.Plans.{joined_from}
 use Rattle.std.specs.Prelude.{ℕ, ◌+◌, ◌-◌, Bool, ◌&&◌, ◌==◌, if◌then◌else◌, nat_lt, nat_le, List}
 use Rattle.std.specs.Prelude.{[], ◌∷◌, take, slice_index_or, count_by, Option, Some, None, is_some}
 use Rattle.grep_matcher.specs.Lines.{byte_of, lines, line_start, strip}
 use Rattle.grep_matcher.specs.Meanings.{Meaning}
 use Rattle.grep_report.specs.declared.sink_context.SinkContextKind.{SinkContextKind}
 use Rattle.grep_report.specs.declared.sink_context.SinkContextKind.TheVariants.{Before, After}
-use Rattle.grep_definitions.specs.Settings.{Settings}
-use Rattle.grep_definitions.specs.Reports.{joined_from}
 
 -- the number of line i
 abbrev pub number_of : Settings → ℕ → Option ℕ

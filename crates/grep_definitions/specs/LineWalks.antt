@@ -2,11 +2,10 @@
 -- contracts of private functions cite these definitions; no public contract does.
 use Rattle.std.specs.Prelude.{◌≡◌, ℕ, ◌+◌, ◌<◌, true, false, not, nat_lt, List, Some}
 use Rattle.grep_matcher.specs.Meanings.{Meaning}
-use Rattle.grep_definitions.specs.Settings.{Settings}
-use Rattle.grep_definitions.specs.Reports.{some_below, count_below, first_below, is_below, is_at}
-use Rattle.grep_definitions.specs.SelectedLines.{hits, is_chosen, ends_chosen, fills_limit}
-use Rattle.grep_definitions.specs.SelectedLines.{is_selected, is_trailing}
-use Rattle.grep_definitions.specs.LineSearch.{line_count, turn_count}
+use Rattle.grep_definitions.specs.Plans.{Settings, some_below, count_below, first_below, is_below}
+use Rattle.grep_definitions.specs.Plans.{is_at, hits, is_chosen, ends_chosen, is_selected}
+use Rattle.grep_definitions.specs.Plans.{is_trailing}
+use Rattle.grep_definitions.specs.LineSearch.{fills_limit, line_count, turn_count}
 use Rattle.grep_definitions.specs.Selections
 
 module _ (settings : Settings) (meaning : Meaning) (bytes : List ℕ) where

@@ -10,22 +10,26 @@ use Rattle.std.specs.declared.io.ErrorKind.TheVariants.{OutOfMemory}
 use Rattle.grep_decode.specs.Source.{ReadResult}
 use Rattle.grep_matcher.specs.Lines.{lines, byte_of}
 use Rattle.grep_matcher.specs.Meanings.{Meaning, MatcherFacts}
-use Rattle.grep_definitions.specs.BinaryBytes.{before_quit, view_of}
+use Rattle.grep_definitions.specs.Searches.{before_quit, view_of, IsInput, GoesOnAfter, HasOpenLine}
+use Rattle.grep_definitions.specs.Searches.{IsFront, CutsShort, CutsContents, IsBelowLimit}
+use Rattle.grep_definitions.specs.Searches.{reads_lines, Taken}
 use Rattle.grep_definitions.specs.DecodedInputs.{IsDecodedSoFar, passes_unchanged}
-use Rattle.grep_definitions.specs.Inputs.{IsInput, GoesOnAfter, HasOpenLine, IsFront, CutsShort}
-use Rattle.grep_definitions.specs.Inputs.{CutsContents, IsBelowLimit}
 use Rattle.grep_report.specs.ErrorMakers.{ErrorMakers}
 use Rattle.grep_definitions.specs.ContentsSearches.{IsFaultIn, HasReportedIn, IsQuitFault}
 use Rattle.grep_definitions.specs.ContentsSearches.{IsRunUntil}
 use Rattle.grep_definitions.specs.SearchTurns.{SearchCalls, search_calls, calls_across}
-use Rattle.grep_definitions.specs.Settings.{Settings, SearcherState}
-use Rattle.grep_definitions.specs.Plans.{begins, Steps, Outcome, all_true, AreMade, IsFinished}
-use Rattle.grep_definitions.specs.Plans.{IsRun, counted, finish_after}
+use Rattle.grep_definitions.specs.Plans.{Settings, SearcherState, begins, Steps, Outcome, all_true}
+use Rattle.grep_definitions.specs.Plans.{AreMade, IsFinished, IsRun, counted, finish_after}
 use Rattle.grep_definitions.specs.SinkRuns.{plan_of}
-use Rattle.grep_definitions.specs.Inputs.{reads_lines, Taken}
 
 module _ {R : Type 0} (remaining : R → Option (List ℕ))
     (read_step : R → ReadResult → R → Type 0) where
+  -- the reader's last call failed
+  abbrev pub HasFailedRead : R → Error → R → Type 0
+  HasFailedRead old error new =
+      (mid : R) × (taken : Taken remaining read_step old mid) × (taken.ended ≡ false)
+      × read_step mid (Err error) new
+
   -- why a reader's input wasn't searched to its end, by line or across lines: after the lines that
   -- were seen, or before `begin`. By line it is searched as detection makes it, in a view of it,
   -- and no byte of the lines that were seen ends the search

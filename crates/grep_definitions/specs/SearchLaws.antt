@@ -10,17 +10,13 @@ use Rattle.grep_matcher.specs.Lines.{byte_of}
 use Rattle.grep_matcher.specs.FindResults.{plain}
 use Rattle.grep_matcher.specs.Meanings.{Meaning}
 use Rattle.grep_report.specs.declared.sink_context.SinkContextKind.TheVariants.{After}
-use Rattle.grep_definitions.specs.Asking.{is_across, search_plan}
-use Rattle.grep_definitions.specs.Plans.{Call, matches, context}
-use Rattle.grep_definitions.specs.Plans.{Planned, Plan, reported_bytes, reported_from}
-use Rattle.grep_definitions.specs.Plans.{planned}
-use Rattle.grep_definitions.specs.Inputs.{searched_bytes, encoding_of, looks_for_mark}
+use Rattle.grep_definitions.specs.Plans.{is_across, search_plan, Call, matches, context, Planned}
+use Rattle.grep_definitions.specs.Plans.{Plan, reported_bytes, reported_from, planned, count_below}
+use Rattle.grep_definitions.specs.Plans.{first_below, joined_from, line_count, line, start, number}
+use Rattle.grep_definitions.specs.Plans.{follows_selected, calls_at, reports_plan, is_selected}
+use Rattle.grep_definitions.specs.Plans.{is_trailing, reports_end, selected_lines, Settings}
+use Rattle.grep_definitions.specs.Searches.{searched_bytes, encoding_of, looks_for_mark}
 use Rattle.grep_definitions.specs.SliceSearches.{is_searched_unchanged}
-use Rattle.grep_definitions.specs.Reports.{count_below, first_below, joined_from, line_count, line}
-use Rattle.grep_definitions.specs.Reports.{start, number, follows_selected, calls_at, reports_plan}
-use Rattle.grep_definitions.specs.SelectedLines.{is_selected, is_trailing, reports_end}
-use Rattle.grep_definitions.specs.SelectedLines.{selected_lines}
-use Rattle.grep_definitions.specs.Settings.{Settings}
 
 -- without a label and a mark that is found, what is searched is the input
 abbrev pub UnchangedIsInput : Type 0

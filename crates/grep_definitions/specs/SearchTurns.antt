@@ -1,12 +1,10 @@
 -- The calls of a search by line and of one across lines, as the loops of a search name them.
 use Rattle.std.specs.Prelude.{ℕ, Bool, true, false, List}
 use Rattle.grep_matcher.specs.Meanings.{Meaning}
-use Rattle.grep_definitions.specs.Settings.{Settings}
-use Rattle.grep_definitions.specs.Plans.{Planned}
+use Rattle.grep_definitions.specs.Plans.{Settings, Planned, is_across}
 use Rattle.grep_definitions.specs.LineSearch
 use Rattle.grep_definitions.specs.AcrossLines
 use Rattle.grep_definitions.specs.AcrossQuestions.{IsAskedAcross}
-use Rattle.grep_definitions.specs.Asking.{is_across}
 use Rattle.grep_definitions.specs.Questions.{IsAskedByLine}
 
 -- what is defined of a search over any bytes, in one of the modes

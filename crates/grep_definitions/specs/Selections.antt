@@ -2,11 +2,25 @@
 -- lines. What a walk over lines knows of the lines before it. The contracts of private functions
 -- cite these definitions; no public contract does.
 use Rattle.std.specs.Prelude.{◌≡◌, ℕ, ◌-◌, ◌<◌, ◌≤◌, Bool, true, false, ◌&&◌, if◌then◌else◌, nat_lt}
-use Rattle.std.specs.Prelude.{nat_le, Option, Some, None, is_some}
+use Rattle.std.specs.Prelude.{nat_le, Option, Some, None, is_some, ◌+◌, List}
 use Rattle.grep_report.specs.declared.sink_context.SinkContextKind.TheVariants.{Before, After}
 use Rattle.grep_report.specs.declared.sink_context.SinkContextKind.TheVariants.{Other}
-use Rattle.grep_definitions.specs.Settings.{Settings}
-use Rattle.grep_definitions.specs.Reports.{some_below, Kind, matched, in_context}
+use Rattle.grep_definitions.specs.Plans.{Settings, some_below, Kind, matched, in_context, Selection}
+use Rattle.grep_definitions.specs.Plans.{report_end, first_below, line_count}
+use Rattle.std.specs.Option.{option_map, unwrap_or}
+
+module _ (settings : Settings) (bytes : List ℕ) (selection : Selection) where
+  -- whether a selected line is in one report with the line before it
+  abbrev pub continues : ℕ → Bool
+  continues i = selection.joined && nat_lt 0 i && selection.selected (i - 1)
+
+  -- how many lines there are up to the next report of selected lines after line i, and with it
+  abbrev pub lines_through_next : ℕ → ℕ
+  lines_through_next i =
+      unwrap_or
+      (option_map (report_end settings bytes selection)
+      (first_below (λ j. nat_lt i j && selection.selected j) (line_count settings bytes)))
+      (i + 1)
 
 -- across lines no line is trailing
 abbrev pub no_line : ℕ → Bool

@@ -6,17 +6,15 @@ use Rattle.std.specs.List.{fold}
 use Rattle.grep_decode.specs.Source.{ReadResult}
 use Rattle.grep_matcher.specs.Meanings.{IsInfallible, MatcherFacts}
 use Rattle.grep_report.specs.declared.binary_detection.BinaryDetection.TheVariants.{None as no_detection}
-use Rattle.grep_definitions.specs.Asking.{search_plan, IsLawful, refusal_of}
-use Rattle.grep_definitions.specs.BinaryBytes.{nowhere}
+use Rattle.grep_definitions.specs.Plans.{search_plan, IsLawful, refusal_of, Call, matches, finishes}
+use Rattle.grep_definitions.specs.Plans.{Finish, Planned, Plan, Steps, IsRun, Settings}
+use Rattle.grep_definitions.specs.Plans.{SearcherState}
+use Rattle.grep_definitions.specs.Searches.{nowhere, IsReaderSearched, IsReaderSearch, IsCutSearch}
+use Rattle.grep_definitions.specs.Searches.{IsInput, searched_bytes}
 use Rattle.grep_report.specs.ErrorMakers.{ErrorMakers}
-use Rattle.grep_definitions.specs.Searches.{IsReaderSearched, IsReaderSearch, IsCutSearch}
-use Rattle.grep_definitions.specs.Plans.{Call, matches}
-use Rattle.grep_definitions.specs.Plans.{finishes, Finish, Planned, Plan, Steps, IsRun}
-use Rattle.grep_definitions.specs.Inputs.{IsInput, searched_bytes}
 use Rattle.grep_definitions.specs.SliceSearches.{is_searched_unchanged, IsSliceRead}
 use Rattle.grep_definitions.specs.SliceSearches.{IsSliceSearched}
 use Rattle.grep_definitions.specs.SearchLaws.{calls_of, match_calls}
-use Rattle.grep_definitions.specs.Settings.{Settings, SearcherState}
 
 module _ {V : Type 0} (taken : V → Call → Bool → V → Type 0) where
   -- a call that succeeds, of a sink that takes matches alone: any other call goes on and leaves the

@@ -1,6 +1,7 @@
 -- What came of calls, by what is returned of them.
 use Rattle.std.specs.Prelude.{ℕ, Bool, true, false, List, Option, Result, Ok, Err}
 use Rattle.grep_definitions.specs.Plans.{Planned, Plan, Outcome, all_true, stopped, failed, counted}
+use Rattle.grep_definitions.specs.Searches.{BinaryPoint, with_offset}
 
 -- the plan of some calls after which `finish` has this byte count
 abbrev pub plan_of : List Planned → ℕ → Plan
@@ -9,6 +10,10 @@ plan_of calls count = record { calls = calls; finish = counted count }
 -- a call after which `finish` has this offset, if it returns false
 abbrev pub with_binary : Option ℕ → Planned → Planned
 with_binary binary call = record call { if_false = record call.if_false { binary = binary } }
+
+-- a call after `binary_data`
+abbrev pub after_binary : BinaryPoint → Planned → Planned
+after_binary point later = record later { if_false = with_offset point.offset later.if_false }
 
 -- what came of calls whose byte count is this, by what is returned of them: whether the search goes
 -- on, or the error

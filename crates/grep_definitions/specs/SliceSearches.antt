@@ -6,11 +6,9 @@ use Rattle.grep_decode.specs.Source.{ReadResult}
 use Rattle.grep_matcher.specs.Meanings.{Meaning, MatcherFacts}
 use Rattle.grep_report.specs.ErrorMakers.{ErrorMakers}
 use Rattle.grep_decode.specs.Decoded.{is_unchanged}
-use Rattle.grep_definitions.specs.BinaryBytes.{look_of}
-use Rattle.grep_definitions.specs.Inputs.{IsUnread}
-use Rattle.grep_definitions.specs.Plans.{Steps}
-use Rattle.grep_definitions.specs.Searches.{IsPoint, IsReaderSearched, IsSearchOf, IsUnlessRefused}
-use Rattle.grep_definitions.specs.Settings.{Settings, SearcherState}
+use Rattle.grep_definitions.specs.Searches.{look_of, IsUnread, IsPoint, IsReaderSearched}
+use Rattle.grep_definitions.specs.Searches.{IsSearchOf, IsUnlessRefusedBy}
+use Rattle.grep_definitions.specs.Plans.{Steps, Settings, SearcherState, refusal_of}
 
 -- no label is set and no mark is found, so that the input is searched as it is
 unfoldable pub is_searched_unchanged : Settings → List ℕ → Bool
@@ -34,8 +32,9 @@ module _ {S E F : Type 0} (step : Steps S E) (errors : ErrorMakers F E) (matcher
   -- by whether it is searched as it is: if it isn't, it is read, and some of it may be left
   abbrev pub IsSliceSearchedIf : Bool → S → Result (Unit {0}) E → S → Type 0
   IsSliceSearchedIf true old result new =
-      IsUnlessRefused errors matcher state.settings old result new (Unit {0})
+      IsUnlessRefusedBy errors matcher state.settings old result new (Unit {0})
       (IsSliceSearch step errors matcher state.settings input old result new)
+      (refusal_of state.settings matcher.meaning)
   IsSliceSearchedIf false old result new =
       (rest : List ℕ) × IsReaderSearched (λ all. Some all) IsSliceRead step errors matcher state
       input old result rest new

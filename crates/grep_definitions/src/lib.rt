@@ -2,9 +2,9 @@
 //! lines, what a sink makes of those calls, and how a search ends. Every contract of grep_searcher
 //! cites them.
 //!
-//! The definitions are in `specs/`: `Plans` has the calls of a search and a sink's run along them,
-//! `Reports` and `SelectedLines` which calls they are, `Inputs` what is read of an input, and
-//! `Searches` a search with its faults. What follows from them is in `laws`.
+//! The definitions are in `specs/`: `Plans` has the calls of a search, a sink's run along them, and
+//! which calls they are, `Searches` what is read of an input, and a search with its faults. What
+//! follows from them is in `laws`.
 #![tactic(auto)]
 
 pub mod laws;

@@ -2,7 +2,7 @@
 ghost use Rattle.std.specs.Prelude.{◌≡◌, ◌≢◌, ◌+◌, ◌-◌, ◌<◌, ◌≤◌, ◌++◌, [], Some, length};
 ghost use Rattle.std.specs.Prelude.{OnOk, OnErr, IfErr, replicate, take, vec_len, vec_capacity};
 ghost use Rattle.std.specs.Io.KnownBytes.{Consumes, IsAtEnd};
-ghost use Rattle.grep_decode.specs.Source.{FailsWith};
+ghost use Rattle.grep_decode.specs.Reading.{FailsWith};
 ghost use Rattle.grep_decode.specs.declared.mode.Mode.TheVariants.{Passing};
 ghost use Rattle.grep_decode.specs.DecoderStates.{Decodes, IsDone, IsSettled, IsWaiting};
 ghost use Rattle.grep_decode.specs.DecoderStates.{TakesAtMost};

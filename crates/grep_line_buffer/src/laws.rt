@@ -2,7 +2,7 @@
 ghost use Rattle.std.specs.Prelude.{◌≡◌, ◌++◌, ℕ, List, length, take, drop, false};
 ghost use Rattle.std.specs.declared.io.Error.{Error};
 ghost use Rattle.grep_decode.specs.DecoderStates.{DecoderState, Decodes};
-ghost use Rattle.grep_decode.specs.Source.{FailsWith};
+ghost use Rattle.grep_decode.specs.Reading.{FailsWith};
 ghost use Rattle.grep_line_buffer.specs.BufferStates.{BufferState, held, is_cut};
 ghost use Rattle.grep_line_buffer.specs.Detections.{detected, found_in};
 ghost use Rattle.grep_line_buffer.specs.Fills.{Fills, FailsToFill};

@@ -8,10 +8,9 @@ use Rattle.std.specs.Prelude.{nat_eq, nat_le, if◌then◌else◌, ◌-◌}
 use Rattle.grep_lines.proofs.LineLemmas.{lines-joined}
 use Rattle.grep_matcher.specs.Lines.{byte_of, bytes_of}
 use Rattle.grep_matcher.specs.declared.line_terminator.LineTerminator.{LineTerminator}
-use Rattle.grep_searcher.specs.Asking.{is_across}
+use Rattle.grep_searcher.specs.Plans.{is_across, Settings}
 use Rattle.grep_searcher.specs.Lines.{lines, strip}
 use Rattle.grep_searcher.specs.Meanings.{Meaning}
-use Rattle.grep_searcher.specs.Settings.{Settings}
 use Rattle.grep_printer.proofs.FoundPartLemmas.{ordered-from}
 use Rattle.grep_printer.specs.MatchedParts.{AreInOrder, parts_after}
 use Rattle.grep_printer.specs.PartTexts.{across_text, clipped_text}

@@ -5,8 +5,7 @@ use Rattle.std.specs.Prelude.{ℕ, List, Option, Bool, true, false, ◌||◌, Er
 use Rattle.grep_output.proofs.OutputLemmas.{Writes-none, Writes-more}
 use Rattle.grep_output.specs.Outputs.{Begins, FailsToWrite, OutputCall, WritesAll}
 use Rattle.grep_matcher.specs.Meanings.{MatcherFacts}
-use Rattle.grep_searcher.specs.Plans.{Call, Plan, IsRun, reported_bytes}
-use Rattle.grep_searcher.specs.Settings.{Settings}
+use Rattle.grep_searcher.specs.Plans.{Call, Plan, IsRun, reported_bytes, Settings}
 use Rattle.grep_searcher.specs.declared.SearchError.{SearchError}
 use Rattle.grep_printer.proofs.RunFoldLemmas.{FailsOnTheWay, run-fails, run-keeps}
 use Rattle.grep_printer.proofs.SomeTextLemmas.{text-more, text-none}

@@ -1,9 +1,8 @@
 -- What a fold over the calls of a plan has to do with a run along it.
 use Rattle.std.proofs.Common.{◌≡◌, List, [], ◌∷◌, inl, inr, sym, subst}
 use Rattle.std.specs.Prelude.{Bool, true, false, Err, Ok, if◌then◌else◌}
-use Rattle.grep_searcher.specs.Plans.{Call, Plan, Planned, Finish, Outcome, AreMade}
-use Rattle.grep_searcher.specs.Plans.{IsFinished, IsRun, Steps, finishes}
-use Rattle.grep_searcher.specs.Settings.{Settings}
+use Rattle.grep_searcher.specs.Plans.{Call, Plan, Planned, Finish, Outcome, AreMade, IsFinished}
+use Rattle.grep_searcher.specs.Plans.{IsRun, Steps, finishes, Settings}
 use Rattle.grep_searcher.specs.SinkFolds.{run_fold}
 
 -- What a sink has is what these functions of the calls make, and each call that succeeds keeps it so.

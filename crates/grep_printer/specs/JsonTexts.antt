@@ -6,8 +6,7 @@ use Rattle.grep_matcher.specs.Lines.{byte_of}
 use Rattle.grep_searcher.specs.Lines.{lines}
 use Rattle.grep_searcher.specs.Meanings.{Meaning}
 use Rattle.grep_searcher.specs.Plans.{Call, begins, matches, context, breaks, binary_data, finishes}
-use Rattle.grep_searcher.specs.Plans.{Plan}
-use Rattle.grep_searcher.specs.Settings.{Settings}
+use Rattle.grep_searcher.specs.Plans.{Plan, Settings}
 use Rattle.grep_searcher.specs.SinkFolds.{run_fold}
 use Rattle.grep_printer.specs.JsonMessages.{begin_json, end_json, json_line, report_json}
 use Rattle.grep_printer.specs.ReportedParts.{reported_parts}

@@ -2,10 +2,9 @@
 use Rattle.std.specs.Prelude.{ℕ, if◌then◌else◌, List, length, Option}
 use Rattle.std.specs.Global.{Global}
 use Rattle.grep_matcher.specs.Meanings.{MatcherFacts}
-use Rattle.grep_searcher.specs.Asking.{is_across}
+use Rattle.grep_searcher.specs.Plans.{is_across, Settings}
 use Rattle.grep_searcher.specs.Lines.{strip}
 use Rattle.grep_searcher.specs.Meanings.{Meaning}
-use Rattle.grep_searcher.specs.Settings.{Settings}
 use Rattle.grep_searcher.specs.declared.SearchError.{SearchError}
 use Rattle.grep_printer.specs.MatchedParts.{IsMessageOf, parts_in}
 

@@ -4,12 +4,10 @@ use Rattle.std.specs.Prelude.{List, [], ◌∷◌, ◌++◌, length, codes, deci
 use Rattle.std.specs.Prelude.{is_some}
 use Rattle.std.specs.Borrow.{Bor}
 use Rattle.grep_matcher.specs.Lines.{byte_of}
-use Rattle.grep_searcher.specs.Asking.{is_across}
+use Rattle.grep_searcher.specs.Plans.{is_across, Call, begins, matches, context, breaks}
+use Rattle.grep_searcher.specs.Plans.{binary_data, finishes, Plan, Settings}
 use Rattle.grep_searcher.specs.BinaryDetections.{convert_byte_of}
 use Rattle.grep_searcher.specs.Meanings.{Meaning}
-use Rattle.grep_searcher.specs.Plans.{Call, begins, matches, context, breaks, binary_data, finishes}
-use Rattle.grep_searcher.specs.Plans.{Plan}
-use Rattle.grep_searcher.specs.Settings.{Settings}
 use Rattle.grep_searcher.specs.SinkFolds.{run_fold}
 use Rattle.grep_searcher.specs.declared.BinaryDetection.{BinaryDetection}
 use Rattle.grep_searcher.specs.declared.BinaryDetection.TheVariants.{None as no_detection, Quit}

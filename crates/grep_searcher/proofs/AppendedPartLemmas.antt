@@ -5,9 +5,9 @@ use Rattle.std.proofs.lemmas.List.{append-nil}
 use Rattle.std.proofs.lemmas.List.Folds.{flat_map-map}
 use Rattle.std.specs.Prelude.{Ok}
 use Rattle.std.specs.List.{flat_map}
-use Rattle.grep_definitions.specs.Plans.{AreMade, Call, Finish, finishes, IsFinished, Outcome, Planned, Steps}
+use Rattle.grep_definitions.specs.Plans.{AreMade, Call, Finish, finishes, IsFinished, Outcome}
+use Rattle.grep_definitions.specs.Plans.{Planned, Steps, Settings}
 use Rattle.grep_definitions.specs.SearchLaws.{calls_of, MatchesAreMatchedLines, match_calls, match_of, matched_lines}
-use Rattle.grep_definitions.specs.Settings.{Settings}
 use Rattle.grep_definitions.specs.SinkFolds.{fold_while}
 use Rattle.grep_searcher.specs.AppendedParts.{AppendsMatches, AppendsParts, RunsAppend, RunsAppendLines, RunsAppendMatches}
 use Rattle.grep_searcher.proofs.MatchHandlerLemmas.{runs-handle}

@@ -19,17 +19,18 @@ use Rattle.grep_lines.specs.LineLaws.{LinesAppend}
 use Rattle.grep_matcher.specs.Lines.{byte_of, lines}
 use Rattle.grep_matcher.specs.Meanings.{MatcherFacts, Meaning}
 use Rattle.grep_report.specs.ErrorMakers.{ErrorMakers}
-use Rattle.grep_definitions.specs.Asking.{search_plan, selection_in}
-use Rattle.grep_definitions.specs.BinaryBytes.{BinaryPoint, nowhere, plan_with}
-use Rattle.grep_definitions.specs.Inputs.{encoding_after, encoding_of, IsClosed, IsFront, searched_bytes}
-use Rattle.grep_definitions.specs.Plans.{AreMade, begins, binary_data, breaks, Call, context, Finish, finish_after, finishes}
-use Rattle.grep_definitions.specs.Plans.{IsFinished, IsRun, matches, Outcome, Plan, Planned, planned}
-use Rattle.grep_definitions.specs.Reports.{breaks_before, calls_at, count_at, first_below, in_context, joined_from, Kind, kind}
-use Rattle.grep_definitions.specs.Reports.{line, line_count, matched, report, reports_plan, Selection, some_below, start}
-use Rattle.grep_definitions.specs.SearchLaws.{FirstMatchIsFirst, is_match, match_calls, match_of, reported_to, UnchangedIsInput}
+use Rattle.grep_definitions.specs.Plans.{search_plan, selection_in, AreMade, begins, binary_data}
+use Rattle.grep_definitions.specs.Plans.{breaks, Call, context, Finish, finish_after, finishes}
+use Rattle.grep_definitions.specs.Plans.{IsFinished, IsRun, matches, Outcome, Plan, Planned}
+use Rattle.grep_definitions.specs.Plans.{planned, breaks_before, calls_at, count_at, first_below}
+use Rattle.grep_definitions.specs.Plans.{in_context, joined_from, Kind, kind, line, line_count}
+use Rattle.grep_definitions.specs.Plans.{matched, report, reports_plan, Selection, some_below}
+use Rattle.grep_definitions.specs.Plans.{start, is_selected, reports_end, selected_lines, Settings}
+use Rattle.grep_definitions.specs.Plans.{SearcherState}
+use Rattle.grep_definitions.specs.Searches.{BinaryPoint, nowhere, plan_with, encoding_after}
+use Rattle.grep_definitions.specs.Searches.{encoding_of, IsClosed, IsFront, searched_bytes}
 use Rattle.grep_definitions.specs.Searches.{IsReaderSearch, IsSearchOf, ran}
-use Rattle.grep_definitions.specs.SelectedLines.{is_selected, reports_end, selected_lines}
-use Rattle.grep_definitions.specs.Settings.{Settings, SearcherState}
+use Rattle.grep_definitions.specs.SearchLaws.{FirstMatchIsFirst, is_match, match_calls, match_of, reported_to, UnchangedIsInput}
 use Rattle.grep_definitions.specs.SinkFolds.{IsMatchOk}
 use Rattle.grep_definitions.specs.SliceSearches.{is_searched_unchanged}
 use Rattle.grep_definitions.proofs.BelowLemmas.{first_below-before, first_below-here, first_below-of, some_below-none}

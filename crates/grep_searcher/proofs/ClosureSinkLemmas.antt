@@ -5,10 +5,9 @@ use Rattle.std.proofs.lemmas.List.{append-nil}
 use Rattle.std.specs.Prelude.{Result, Ok, map, if◌then◌else◌}
 use Rattle.std.specs.Borrow.{Bor}
 use Rattle.std.specs.declared.io.Error.{Error}
-use Rattle.grep_definitions.specs.Reports.{line, start}
+use Rattle.grep_definitions.specs.Plans.{line, start, Settings, Call, begins, matches, context}
+use Rattle.grep_definitions.specs.Plans.{breaks, binary_data, finishes}
 use Rattle.grep_definitions.specs.SearchLaws.{MatchesAreMatchedLines, match_of, matched_lines}
-use Rattle.grep_definitions.specs.Settings.{Settings}
-use Rattle.grep_definitions.specs.Plans.{Call, begins, matches, context, breaks, binary_data, finishes}
 use Rattle.grep_definitions.specs.SinkFolds.{AreTaken, IsTakenOk}
 use Rattle.grep_definitions.proofs.SinkFoldLemmas.{runs-take_matches}
 use Rattle.grep_matcher.specs.Meanings.{Meaning}

@@ -1,8 +1,7 @@
 -- What a sink that counts the matches makes of a run.
 use Rattle.std.proofs.Common.{◌≡◌, ℕ, ◌+◌, ◌<◌, ◌-◌, ◌^◌, min, true, List, [], ◌∷◌, length, refl, ◌∙◌, arith}
-use Rattle.grep_definitions.specs.Asking.{search_plan}
+use Rattle.grep_definitions.specs.Plans.{search_plan, Call}
 use Rattle.grep_definitions.specs.SearchLaws.{match_calls}
-use Rattle.grep_definitions.specs.Plans.{Call}
 use Rattle.grep_definitions.specs.SinkFolds.{fold_while}
 use Rattle.grep_searcher.specs.CountSinks.{counted, RunsCount, RunsCountAll}
 use Rattle.grep_searcher.specs.Units.{MatchesAreWithinCount}

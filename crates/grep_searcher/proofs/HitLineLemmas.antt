@@ -7,10 +7,9 @@ use Rattle.std.proofs.lemmas.List.Sums.{count_by_more_yes, count_by_more_no, sum
 use Rattle.std.specs.Prelude.{◌||◌, ◌&&◌, cond, nat_lt, count_by, slice_index_or, is_some}
 use Rattle.grep_matcher.specs.Lines.{byte_of, lines, strip}
 use Rattle.grep_matcher.specs.Meanings.{Meaning}
-use Rattle.grep_definitions.specs.Reports.{count_below, line, line_count}
+use Rattle.grep_definitions.specs.Plans.{count_below, line, line_count, differ, reports_end}
+use Rattle.grep_definitions.specs.Plans.{Settings}
 use Rattle.grep_definitions.specs.SearchLaws.{is_matched}
-use Rattle.grep_definitions.specs.SelectedLines.{differ, reports_end}
-use Rattle.grep_definitions.specs.Settings.{Settings}
 use Rattle.grep_searcher.specs.HitLines.{is_hit, HitsAreSelected, HitsAreMatched, HitsAreCounted, IsUnlimited}
 use Rattle.grep_searcher.specs.HitLines.{PredicatesAreCounted}
 

@@ -5,12 +5,10 @@ use Rattle.grep_decode.specs.Source.{ReadResult}
 use Rattle.grep_report.specs.declared.config_error.ConfigError.{ConfigError}
 use Rattle.grep_report.specs.ErrorMakers.{ErrorMakers}
 use Rattle.grep_matcher.specs.Meanings.{MatcherFacts}
-use Rattle.grep_definitions.specs.Asking.{IsLawful, refusal_of}
+use Rattle.grep_definitions.specs.Plans.{IsLawful, refusal_of, Steps, SearcherState}
 use Rattle.grep_definitions.specs.Searches.{IsReaderSearched}
 use Rattle.grep_definitions.specs.SliceSearches.{IsSliceSearch, IsSliceRead, IsSliceSearched, IsSliceSearchedIf}
 use Rattle.grep_definitions.specs.SliceSearches.{is_searched_unchanged}
-use Rattle.grep_definitions.specs.Plans.{Steps}
-use Rattle.grep_definitions.specs.Settings.{SearcherState}
 use Rattle.grep_searcher.proofs.SourceSearchLemmas.{not-refused, refused}
 
 -- a read of a slice, of which a name is no part

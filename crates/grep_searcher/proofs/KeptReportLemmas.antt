@@ -6,9 +6,9 @@ use Rattle.std.proofs.lemmas.Grind.{flat_map-append}
 use Rattle.std.proofs.lemmas.List.{append-nil}
 use Rattle.grep_report.specs.SearchErrors.{IsOutOfMemory}
 use Rattle.grep_report.specs.declared.sink_error.SearchError.{SearchError}
-use Rattle.grep_definitions.specs.Plans.{AreMade, Call, Finish, finishes, IsFinished, Outcome, Planned}
+use Rattle.grep_definitions.specs.Plans.{AreMade, Call, Finish, finishes, IsFinished, Outcome}
+use Rattle.grep_definitions.specs.Plans.{Planned, Settings}
 use Rattle.grep_definitions.specs.SearchLaws.{calls_of, is_report}
-use Rattle.grep_definitions.specs.Settings.{Settings}
 use Rattle.grep_searcher.specs.KeptReports.{IsReportsStep, kept_lines, kept_reports, RunsKeep, RunsKeepUntil}
 use Rattle.grep_searcher.specs.MatchHandlers.{KeptReport}
 use Rattle.grep_searcher.specs.declared.sinks.kept_lines.ReportKind.{ReportKind}

@@ -3,7 +3,7 @@ use Rattle.std.proofs.Common.{◌∙◌, Option, List, ℕ}
 use Rattle.grep_decode.specs.Source.{ReadResult}
 use Rattle.grep_matcher.specs.Meanings.{MatcherFacts}
 use Rattle.grep_report.specs.ErrorMakers.{ErrorMakers}
-use Rattle.grep_definitions.specs.Inputs.{searched_bytes}
+use Rattle.grep_definitions.specs.Searches.{searched_bytes}
 use Rattle.grep_definitions.specs.SearchLaws.{MatchesAreCounted, UnchangedIsInput}
 use Rattle.grep_definitions.proofs.SinkFoldLemmas.{known_readers-run, searches-run}
 use Rattle.grep_searcher.specs.CountSinks.{IsCountStep, RunsCountAll}

@@ -8,13 +8,12 @@ use Rattle.std.proofs.lemmas.List.{append-nil, length-append, take-map}
 use Rattle.std.specs.Prelude.{Option, is_some, slice_get, take, nat_lt}
 use Rattle.std.specs.List.{fold}
 use Rattle.std.specs.Option.{option_map}
-use Rattle.grep_definitions.specs.Plans.{Call, begins, matches, context, breaks, binary_data, finishes, Steps}
-use Rattle.grep_definitions.specs.Plans.{Finish, Planned, Plan, Outcome, AreMade, IsFinished, IsRun}
-use Rattle.grep_definitions.specs.Reports.{first_below, line_count, some_below}
+use Rattle.grep_definitions.specs.Plans.{Call, begins, matches, context, breaks, binary_data}
+use Rattle.grep_definitions.specs.Plans.{finishes, Steps, Finish, Planned, Plan, Outcome, AreMade}
+use Rattle.grep_definitions.specs.Plans.{IsFinished, IsRun, first_below, line_count, some_below}
+use Rattle.grep_definitions.specs.Plans.{is_selected, is_touched_selected, Settings}
 use Rattle.grep_definitions.specs.SearchLaws.{FirstMatchIsFirst, MatchesAreMatchedLines, match_calls, match_of}
 use Rattle.grep_definitions.specs.SearchLaws.{is_match, matched_lines}
-use Rattle.grep_definitions.specs.SelectedLines.{is_selected, is_touched_selected}
-use Rattle.grep_definitions.specs.Settings.{Settings}
 use Rattle.grep_definitions.specs.SinkFolds.{fold_while, IsMatchOk}
 use Rattle.grep_definitions.proofs.SinkFoldLemmas.{runs-fold_matches}
 use Rattle.grep_searcher.specs.MatchHandlers.{KeptReport, kept_of, collected, FirstReports, has_room}

@@ -6,10 +6,10 @@ use Rattle.std.proofs.lemmas.List.{append-nil}
 use Rattle.std.specs.Prelude.{Result, Ok, Err}
 use Rattle.std.specs.List.{flat_map}
 use Rattle.std.specs.declared.io.Error.{Error}
-use Rattle.grep_definitions.specs.Plans.{Call, begins, matches, context, breaks, binary_data, finishes}
-use Rattle.grep_definitions.specs.Plans.{Finish, Planned, Outcome, AreMade, IsFinished}
+use Rattle.grep_definitions.specs.Plans.{Call, begins, matches, context, breaks, binary_data}
+use Rattle.grep_definitions.specs.Plans.{finishes, Finish, Planned, Outcome, AreMade, IsFinished}
+use Rattle.grep_definitions.specs.Plans.{Settings}
 use Rattle.grep_definitions.specs.SearchLaws.{calls_of}
-use Rattle.grep_definitions.specs.Settings.{Settings}
 use Rattle.grep_searcher.specs.AppendedParts.{run_calls}
 use Rattle.grep_searcher.specs.declared.sinks.calls.SinkCall.{SinkCall}
 use Rattle.grep_searcher.specs.PassedCalls.{AppendsPassed, ArePassed, ClosuresAppend, ClosuresArePassed, ClosuresFailPassed}

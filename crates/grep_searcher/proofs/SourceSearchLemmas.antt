@@ -6,14 +6,11 @@ use Rattle.std.specs.declared.io.Error.{Error}
 use Rattle.std.specs.declared.io.ErrorKind.TheVariants.{OutOfMemory}
 use Rattle.grep_decode.specs.Source.{ReadResult}
 use Rattle.grep_report.specs.declared.config_error.ConfigError.{ConfigError}
-use Rattle.grep_definitions.specs.BinaryBytes.{Look, look_of}
+use Rattle.grep_definitions.specs.Searches.{Look, look_of, IsRead}
+use Rattle.grep_definitions.specs.Searches.{IsUnlessRefusedBy, IsUnread, Taken, of_buffers}
 use Rattle.grep_report.specs.ErrorMakers.{ErrorMakers}
 use Rattle.grep_matcher.specs.Meanings.{MatcherFacts}
-use Rattle.grep_definitions.specs.Asking.{IsLawful, refusal_of}
-use Rattle.grep_definitions.specs.Searches.{IsRead, IsUnlessRefused, IsUnlessRefusedBy}
-use Rattle.grep_definitions.specs.Plans.{Steps}
-use Rattle.grep_definitions.specs.Inputs.{IsUnread, Taken, of_buffers}
-use Rattle.grep_definitions.specs.Settings.{Settings, SearcherState}
+use Rattle.grep_definitions.specs.Plans.{IsLawful, refusal_of, Steps, Settings, SearcherState}
 use Rattle.grep_definitions.proofs.PlannedReaderLemmas.{consumes-none}
 
 -- another claim of an error
@@ -26,14 +23,14 @@ module _ {S E F : Type 0} (errors : ErrorMakers F E) (matcher : MatcherFacts F) 
   -- a search that isn't refused
   pub not-refused : refusal_of k matcher.meaning ≡ None → (old : S) (result : Result (Unit {0}) E) (new : S)
       (IsSame IsSearched : Type 0) → (IsLawful matcher k → IsSearched)
-      → IsUnlessRefused errors matcher k old result new IsSame IsSearched
+      → IsUnlessRefusedBy errors matcher k old result new IsSame IsSearched (refusal_of k matcher.meaning)
   not-refused allowed old result new IsSame IsSearched searched =
       subst (IsUnlessRefusedBy errors matcher k old result new IsSame IsSearched) (sym allowed) searched
 
   -- and one that is
   pub refused : (refusal : ConfigError) → refusal_of k matcher.meaning ≡ Some refusal → (old : S) (e : E)
       (IsSame IsSearched : Type 0) → errors.is_config refusal e → IsSame
-      → IsUnlessRefused errors matcher k old (Err e) old IsSame IsSearched
+      → IsUnlessRefusedBy errors matcher k old (Err e) old IsSame IsSearched (refusal_of k matcher.meaning)
   refused refusal is old e IsSame IsSearched made same =
       subst (IsUnlessRefusedBy errors matcher k old (Err e) old IsSame IsSearched) (sym is) (e, refl, made, refl, same)
 

@@ -11,14 +11,15 @@ use Rattle.grep_matcher.specs.Lines.{byte_of, lines, line_start}
 use Rattle.grep_matcher.specs.Meanings.{Meaning}
 use Rattle.grep_lines.proofs.LawLemmas.{AreLines-lines}
 use Rattle.grep_report.specs.declared.sink_context.SinkContextKind.TheVariants.{Before, After, Other}
-use Rattle.grep_definitions.specs.Asking.{is_across, search_plan, selection_in}
-use Rattle.grep_definitions.specs.Plans.{planned, Call, Planned, breaks, matches}
-use Rattle.grep_definitions.specs.Reports.{breaks_before, calls_at, continues, count_at, count_below, first_below}
-use Rattle.grep_definitions.specs.Reports.{follows_selected, in_context, joined_from, kind, line_count, matched, number}
-use Rattle.grep_definitions.specs.Reports.{precedes_selected, report, report_end, reports_plan, Selection, some_below, start}
+use Rattle.grep_definitions.specs.Plans.{is_across, search_plan, selection_in, planned, Call}
+use Rattle.grep_definitions.specs.Plans.{Planned, breaks, matches, breaks_before, calls_at}
+use Rattle.grep_definitions.specs.Plans.{count_at, count_below, first_below, follows_selected}
+use Rattle.grep_definitions.specs.Plans.{in_context, joined_from, kind, line_count, matched, number}
+use Rattle.grep_definitions.specs.Plans.{precedes_selected, report, report_end, reports_plan}
+use Rattle.grep_definitions.specs.Plans.{Selection, some_below, start, is_touched_selected}
+use Rattle.grep_definitions.specs.Plans.{reports_end, touched_lines, Settings}
+use Rattle.grep_definitions.specs.Selections.{continues}
 use Rattle.grep_definitions.specs.SearchLaws.{is_match, is_matched, LinesAreNumbered, MatchesAreCounted, match_calls}
-use Rattle.grep_definitions.specs.SelectedLines.{is_touched_selected, reports_end, touched_lines}
-use Rattle.grep_definitions.specs.Settings.{Settings}
 use Rattle.grep_definitions.proofs.BelowLemmas.{first_below-before, first_below-here, first_below-none, first_below-nowhere}
 use Rattle.grep_definitions.proofs.BelowLemmas.{first_below-of, joined_from-equal, some_below-false, some_below-none}
 use Rattle.grep_definitions.proofs.LineStartLemmas.{line_start-ascends, line_start-within}

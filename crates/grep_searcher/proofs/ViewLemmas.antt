@@ -1,6 +1,6 @@
 -- A searcher's settings are those of its configuration.
 use Rattle.std.proofs.Common.{◌≡◌, Bool, ap}
-use Rattle.grep_definitions.specs.Settings.{Settings, SearcherState}
+use Rattle.grep_definitions.specs.Plans.{Settings, SearcherState}
 
 -- what a searcher with these settings is seen as
 abbrev pub state_of : Settings → Bool → SearcherState

@@ -2,10 +2,9 @@
 use Rattle.std.specs.Prelude.{◌≡◌, ℕ, Bool, true, false, List, [], ◌∷◌, ◌++◌, Ok}
 use Rattle.std.specs.List.{flat_map}
 use Rattle.grep_matcher.specs.Meanings.{Meaning}
-use Rattle.grep_definitions.specs.Asking.{is_across, search_plan}
-use Rattle.grep_definitions.specs.Plans.{Call, finishes, Plan, Steps, IsRun}
+use Rattle.grep_definitions.specs.Plans.{is_across, search_plan, Call, finishes, Plan, Steps, IsRun}
+use Rattle.grep_definitions.specs.Plans.{Settings}
 use Rattle.grep_definitions.specs.SearchLaws.{calls_of, match_calls, match_of, matched_lines}
-use Rattle.grep_definitions.specs.Settings.{Settings}
 use Rattle.grep_searcher.specs.MatchHandlers.{IsHandlerStep}
 
 -- the calls of a run along a plan in which each returns true

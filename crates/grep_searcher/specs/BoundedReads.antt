@@ -3,11 +3,9 @@ use Rattle.std.specs.Prelude.{◌≡◌, ℕ, ◌+◌, ◌≤◌, Bool, true, fa
 use Rattle.grep_decode.specs.Source.{ReadResult}
 use Rattle.grep_matcher.specs.Meanings.{MatcherFacts, Meaning}
 use Rattle.grep_report.specs.ErrorMakers.{ErrorMakers}
-use Rattle.grep_definitions.specs.Inputs.{searched_bytes}
-use Rattle.grep_definitions.specs.Reports.{first_below, line_count, start}
-use Rattle.grep_definitions.specs.Searches.{IsReaderSearched}
-use Rattle.grep_definitions.specs.SelectedLines.{is_selected}
-use Rattle.grep_definitions.specs.Settings.{Settings, SearcherState}
+use Rattle.grep_definitions.specs.Searches.{searched_bytes, IsReaderSearched}
+use Rattle.grep_definitions.specs.Plans.{first_below, line_count, start, is_selected, Settings}
+use Rattle.grep_definitions.specs.Plans.{SearcherState}
 use Rattle.grep_definitions.specs.SliceSearches.{is_searched_unchanged}
 use Rattle.grep_searcher.specs.LineCounts.{IsLineSearch}
 use Rattle.grep_searcher.specs.MatchHandlers.{has_selected, IsFoundStep}

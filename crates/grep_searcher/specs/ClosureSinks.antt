@@ -7,12 +7,9 @@ use Rattle.std.specs.Str.{IsUtf8}
 use Rattle.std.specs.Str.Lossy.{utf8_lossy}
 use Rattle.std.specs.declared.io.Error.{Error}
 use Rattle.std.specs.declared.io.ErrorKind.TheVariants.{Other, OutOfMemory}
-use Rattle.grep_definitions.specs.Asking.{is_across, search_plan}
-use Rattle.grep_definitions.specs.Plans.{Call, matches}
-use Rattle.grep_definitions.specs.Plans.{Plan, Steps, IsRun}
-use Rattle.grep_definitions.specs.Reports.{line}
+use Rattle.grep_definitions.specs.Plans.{is_across, search_plan, Call, matches, Plan, Steps, IsRun}
+use Rattle.grep_definitions.specs.Plans.{line, Settings}
 use Rattle.grep_definitions.specs.SearchLaws.{match_calls, matched_lines}
-use Rattle.grep_definitions.specs.Settings.{Settings}
 use Rattle.grep_definitions.specs.SinkFolds.{AreTaken}
 use Rattle.grep_matcher.specs.Meanings.{Meaning}
 

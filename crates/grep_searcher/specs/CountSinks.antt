@@ -1,10 +1,8 @@
 -- What a sink that counts the matches makes of a call, and of a search.
 use Rattle.std.specs.Prelude.{◌≡◌, ℕ, ◌+◌, ◌-◌, ◌^◌, ◌<◌, true, min, List, length, Ok}
 use Rattle.grep_matcher.specs.Meanings.{Meaning}
-use Rattle.grep_definitions.specs.Asking.{search_plan}
-use Rattle.grep_definitions.specs.Plans.{Call, Plan, Steps, IsRun}
+use Rattle.grep_definitions.specs.Plans.{search_plan, Call, Plan, Steps, IsRun, Settings}
 use Rattle.grep_definitions.specs.SearchLaws.{match_calls}
-use Rattle.grep_definitions.specs.Settings.{Settings}
 use Rattle.grep_searcher.specs.MatchHandlers.{IsHandlerStep}
 
 -- one match more, up to the largest number

@@ -2,10 +2,8 @@
 use Rattle.std.specs.Prelude.{◌≡◌, ℕ, ◌<◌, Bool, false, List, count_by, is_some, None}
 use Rattle.grep_matcher.specs.Lines.{byte_of, lines, strip}
 use Rattle.grep_matcher.specs.Meanings.{Meaning}
-use Rattle.grep_definitions.specs.Reports.{line, line_count}
+use Rattle.grep_definitions.specs.Plans.{line, line_count, differ, is_selected, Settings}
 use Rattle.grep_definitions.specs.SearchLaws.{is_matched}
-use Rattle.grep_definitions.specs.SelectedLines.{differ, is_selected}
-use Rattle.grep_definitions.specs.Settings.{Settings}
 use Rattle.grep_searcher.specs.LineCounts.{matched_count}
 
 -- a line hits if whether it matches without its terminator differs from inversion

@@ -3,9 +3,8 @@ use Rattle.std.specs.Prelude.{◌≡◌, Bool, true, List, [], ◌∷◌, ◌++�
 use Rattle.std.specs.List.{flat_map}
 use Rattle.grep_report.specs.SearchErrors.{IsOutOfMemory}
 use Rattle.grep_report.specs.declared.sink_error.SearchError.{SearchError}
-use Rattle.grep_definitions.specs.Plans.{Call, matches, context, Plan, Steps, IsRun}
+use Rattle.grep_definitions.specs.Plans.{Call, matches, context, Plan, Steps, IsRun, Settings}
 use Rattle.grep_definitions.specs.SearchLaws.{calls_of, is_report}
-use Rattle.grep_definitions.specs.Settings.{Settings}
 use Rattle.grep_searcher.specs.MatchHandlers.{KeptReport, kept_of, LacksMemory}
 use Rattle.grep_searcher.specs.declared.sinks.kept_lines.ReportKind.{ReportKind}
 use Rattle.grep_searcher.specs.declared.sinks.kept_lines.ReportKind.TheVariants.{Match, Context}

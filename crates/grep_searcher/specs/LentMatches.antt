@@ -4,9 +4,8 @@ use Rattle.std.specs.List.{flat_map}
 use Rattle.std.specs.Borrow.{Bor}
 use Rattle.std.specs.declared.io.Error.{Error}
 use Rattle.grep_report.specs.SinkReports.{MatchReport}
-use Rattle.grep_definitions.specs.Plans.{Call, matches, Plan, Steps, IsRun}
+use Rattle.grep_definitions.specs.Plans.{Call, matches, Plan, Steps, IsRun, Settings}
 use Rattle.grep_definitions.specs.SearchLaws.{match_calls}
-use Rattle.grep_definitions.specs.Settings.{Settings}
 use Rattle.grep_definitions.specs.SinkArguments.{match_call}
 use Rattle.grep_definitions.specs.SinkFolds.{AreTaken}
 use Rattle.grep_searcher.specs.MatchHandlers.{KeptReport, kept_of}

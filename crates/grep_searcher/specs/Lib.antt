@@ -10,14 +10,8 @@ pub mod MatchHandlers
 pub mod PassedCalls
 pub mod SearchFailures
 pub mod Units
-pub use Rattle.grep_definitions.specs.Settings
 pub use Rattle.grep_definitions.specs.BuiltSettings
 pub use Rattle.grep_definitions.specs.Plans
-pub use Rattle.grep_definitions.specs.Reports
-pub use Rattle.grep_definitions.specs.SelectedLines
-pub use Rattle.grep_definitions.specs.Asking
-pub use Rattle.grep_definitions.specs.BinaryBytes
-pub use Rattle.grep_definitions.specs.Inputs
 pub use Rattle.grep_definitions.specs.Searches
 pub use Rattle.grep_definitions.specs.SliceSearches
 pub use Rattle.grep_definitions.specs.FileSearches

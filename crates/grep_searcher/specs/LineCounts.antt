@@ -4,14 +4,10 @@ use Rattle.grep_decode.specs.Source.{ReadResult}
 use Rattle.grep_matcher.specs.Meanings.{MatcherFacts, Meaning}
 use Rattle.grep_report.specs.declared.binary_detection.BinaryDetection.TheVariants.{None as no_detection}
 use Rattle.grep_report.specs.ErrorMakers.{ErrorMakers}
-use Rattle.grep_definitions.specs.Asking.{is_across, IsLawful, search_plan}
-use Rattle.grep_definitions.specs.Inputs.{searched_bytes}
-use Rattle.grep_definitions.specs.Plans.{IsRun}
-use Rattle.grep_definitions.specs.Reports.{count_below}
+use Rattle.grep_definitions.specs.Plans.{is_across, IsLawful, search_plan, IsRun, count_below}
+use Rattle.grep_definitions.specs.Plans.{reports_end, Settings, SearcherState}
+use Rattle.grep_definitions.specs.Searches.{searched_bytes, IsReaderSearched}
 use Rattle.grep_definitions.specs.SearchLaws.{is_matched}
-use Rattle.grep_definitions.specs.Searches.{IsReaderSearched}
-use Rattle.grep_definitions.specs.SelectedLines.{reports_end}
-use Rattle.grep_definitions.specs.Settings.{Settings, SearcherState}
 use Rattle.grep_definitions.specs.SliceSearches.{IsSliceSearched}
 use Rattle.grep_searcher.specs.CountSinks.{IsCountStep}
 

@@ -5,13 +5,11 @@ use Rattle.std.specs.List.{fold}
 use Rattle.grep_matcher.specs.Meanings.{Meaning}
 use Rattle.grep_report.specs.SearchErrors.{IsOutOfMemory}
 use Rattle.grep_report.specs.declared.sink_error.SearchError.{SearchError}
-use Rattle.grep_definitions.specs.Asking.{is_across, search_plan}
-use Rattle.grep_definitions.specs.Plans.{Call, matches, context, finishes, Plan, Steps, IsRun}
-use Rattle.grep_definitions.specs.Plans.{reported_bytes, reported_from}
-use Rattle.grep_definitions.specs.Reports.{line_count, some_below}
+use Rattle.grep_definitions.specs.Plans.{is_across, search_plan, Call, matches, context, finishes}
+use Rattle.grep_definitions.specs.Plans.{Plan, Steps, IsRun, reported_bytes, reported_from}
+use Rattle.grep_definitions.specs.Plans.{line_count, some_below, is_selected, is_touched_selected}
+use Rattle.grep_definitions.specs.Plans.{Settings}
 use Rattle.grep_definitions.specs.SearchLaws.{is_match, match_calls, match_of, matched_lines}
-use Rattle.grep_definitions.specs.SelectedLines.{is_selected, is_touched_selected}
-use Rattle.grep_definitions.specs.Settings.{Settings}
 use Rattle.grep_definitions.specs.SinkFolds.{fold_while, IsMatchOk, IsTakenBy}
 
 -- the byte count of the end fits in 64 bits

@@ -4,7 +4,7 @@ use Rattle.std.specs.List.{flat_map}
 use Rattle.std.specs.declared.io.Error.{Error}
 use Rattle.grep_definitions.specs.Plans.{Call, begins, breaks, binary_data, finishes}
 use Rattle.grep_definitions.specs.Plans.{Finish as PlanFinish, Plan, Planned, Steps, IsRun}
-use Rattle.grep_definitions.specs.Settings.{Settings}
+use Rattle.grep_definitions.specs.Plans.{Settings}
 use Rattle.grep_definitions.specs.SinkArguments.{match_call, context_call, finish_call}
 use Rattle.grep_searcher.specs.AppendedParts.{run_calls}
 use Rattle.grep_searcher.specs.declared.sinks.calls.SinkCall.{SinkCall}

@@ -7,11 +7,8 @@ use Rattle.grep_report.specs.ErrorMakers.{ErrorMakers}
 use Rattle.grep_report.specs.declared.binary_detection.BinaryDetection.TheVariants.{None as no_detection}
 use Rattle.grep_report.specs.declared.sink_error.SearchError.{SearchError}
 use Rattle.grep_report.specs.declared.sink_error.SearchError.TheVariants.{Io}
-use Rattle.grep_definitions.specs.Asking.{IsLawful, refusal_of}
-use Rattle.grep_definitions.specs.Inputs.{IsUnread}
-use Rattle.grep_definitions.specs.Plans.{Steps}
-use Rattle.grep_definitions.specs.Searches.{IsReaderSearched}
-use Rattle.grep_definitions.specs.Settings.{Settings, SearcherState}
+use Rattle.grep_definitions.specs.Plans.{IsLawful, refusal_of, Steps, Settings, SearcherState}
+use Rattle.grep_definitions.specs.Searches.{IsUnread, IsReaderSearched}
 use Rattle.grep_definitions.specs.SinkFolds.{FailsAtStep}
 use Rattle.grep_definitions.specs.SliceSearches.{IsSliceSearched, IsUndecoded}
 

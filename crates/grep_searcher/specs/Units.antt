@@ -3,13 +3,11 @@ use Rattle.std.specs.Prelude.{◌≡◌, ℕ, ◌≤◌, Bool, true, not, ◌&&�
 use Rattle.std.specs.Prelude.{map, slice_get, slice_range}
 use Rattle.std.specs.Option.{option_map}
 use Rattle.grep_matcher.specs.Meanings.{Meaning}
-use Rattle.grep_definitions.specs.Asking.{is_across, search_plan}
-use Rattle.grep_definitions.specs.Plans.{Call, matches}
-use Rattle.grep_definitions.specs.Reports.{continues, count_below, first_below, joined_from}
-use Rattle.grep_definitions.specs.Reports.{line_count, report_end, start}
+use Rattle.grep_definitions.specs.Plans.{is_across, search_plan, Call, matches, count_below}
+use Rattle.grep_definitions.specs.Plans.{first_below, joined_from, line_count, report_end, start}
+use Rattle.grep_definitions.specs.Plans.{is_touched_selected, touched_lines, Settings}
+use Rattle.grep_definitions.specs.Selections.{continues}
 use Rattle.grep_definitions.specs.SearchLaws.{match_calls, number_of}
-use Rattle.grep_definitions.specs.SelectedLines.{is_touched_selected, touched_lines}
-use Rattle.grep_definitions.specs.Settings.{Settings}
 
 module _ (settings : Settings) (meaning : Meaning) (bytes : List ℕ) where
   -- a unit begins at a selected line that isn't in one report with the line before it

@@ -2,9 +2,8 @@
 //! reports to a caller's `Sink` the matching lines, the lines near them, and how far it came.
 //!
 //! What a search does is one plan, which grep_definitions defines: `specs/Plans.antt` has the calls
-//! and a sink's run along them, `specs/Reports.antt` and `specs/SelectedLines.antt` which calls they
-//! are, by line and across lines, and `specs/Searches.antt` what a search does, with its
-//! faults.
+//! and a sink's run along them, and which calls they are, by line and across lines, and
+//! `specs/Searches.antt` what a search does, with its faults.
 #![tactic(auto)]
 
 pub mod laws;

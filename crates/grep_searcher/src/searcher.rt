@@ -31,7 +31,7 @@ pub struct Searcher<A: Allocator + Copy = Global> {
 
 impl<A: Allocator + Copy> Model for Searcher<A> {
     ghost use Rattle.std.specs.Prelude.{◌≡◌, true, is_some, IfSome};
-    ghost use Rattle.grep_definitions.specs.Settings.{SearcherState};
+    ghost use Rattle.grep_definitions.specs.Plans.{SearcherState};
     ghost use Rattle.grep_core.specs.SearchBuffers.{AreFitting};
 
     ghost Value = { SearcherState };

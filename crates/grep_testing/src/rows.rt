@@ -1,6 +1,6 @@
 //! Searches, and what they come to.
 ghost use Rattle.std.specs.Prelude.{◌≡◌, not, IfOk, IfErr};
-ghost use Rattle.grep_searcher.specs.BinaryBytes.{is_detecting};
+ghost use Rattle.grep_searcher.specs.Searches.{is_detecting};
 ghost use Rattle.grep_searcher.specs.BuiltSettings.{default_settings};
 
 use grep_searcher::{BinaryDetection, ConfigError, Searcher, SearcherBuilder};

@@ -6,14 +6,12 @@ use Rattle.grep_definitions.proofs.LineRangeLemmas.{comes-from, end-start}
 use Rattle.grep_matcher.specs.Lines.{lines, byte_of}
 use Rattle.grep_matcher.specs.Meanings.{Meaning, MatcherFacts}
 use Rattle.grep_definitions.specs.AcrossLines.{byte_count, turns, turns_at}
-use Rattle.grep_definitions.specs.Asking.{IsAskedAt}
-use Rattle.grep_definitions.specs.Reports.{joined_from}
+use Rattle.grep_definitions.specs.Plans.{IsAskedAt, joined_from, Settings, Planned, begins, Steps}
+use Rattle.grep_definitions.specs.Plans.{Outcome, all_true, stopped, failed, AreMade, counted}
 use Rattle.grep_definitions.specs.LineSearch.{start}
 use Rattle.grep_report.specs.ErrorMakers.{ErrorMakers}
 use Rattle.grep_definitions.specs.ContentsSearches.{IsFaultIn, of_sink, of_matcher}
 use Rattle.grep_definitions.specs.SearchTurns.{calls_across}
-use Rattle.grep_definitions.specs.Settings.{Settings}
-use Rattle.grep_definitions.specs.Plans.{Planned, begins, Steps, Outcome, all_true, stopped, failed, AreMade, counted}
 use Rattle.grep_definitions.proofs.AcrossTurnEndLemmas.{through-is}
 use Rattle.grep_definitions.proofs.BelowLemmas.{below_none}
 use Rattle.grep_definitions.proofs.SinkRunLemmas.{AreMade-append, AreMade-ended}

@@ -9,12 +9,9 @@ use Rattle.grep_matcher.specs.Lines.{lines, line_start, byte_of}
 use Rattle.grep_matcher.specs.Meanings.{Meaning}
 use Rattle.grep_lines.specs.Positions.{IsLine, IsLineStart}
 use Rattle.grep_report.specs.declared.sink_context.SinkContextKind.TheVariants.{After, Other}
-use Rattle.grep_definitions.specs.SelectedLines.{is_free}
+use Rattle.grep_definitions.specs.Plans.{is_free, count_below, is_at, is_below, Settings, Planned}
 use Rattle.grep_definitions.specs.AcrossLines.{is_selected}
-use Rattle.grep_definitions.specs.Reports.{count_below, is_at, is_below}
 use Rattle.grep_definitions.specs.LineTurns.{context_turns, match_turns, number_of, pending_turns}
-use Rattle.grep_definitions.specs.Settings.{Settings}
-use Rattle.grep_definitions.specs.Plans.{Planned}
 use Rattle.grep_definitions.proofs.BelowLemmas.{below_next, below_none, count_below-le, is_below-le}
 use Rattle.grep_walk.specs.declared.walk.Walk.{Walk}
 use Rattle.grep_walk.specs.AcrossWalks.{IsAcross, IsLimited, turns_before, after_lines}

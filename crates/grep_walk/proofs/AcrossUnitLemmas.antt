@@ -9,10 +9,9 @@ use Rattle.grep_matcher.specs.Lines.{lines, byte_of}
 use Rattle.grep_definitions.specs.LineSearch.{line_count}
 use Rattle.grep_matcher.specs.Meanings.{Meaning}
 use Rattle.grep_lines.specs.Positions.{IsLine, IsLineStart}
-use Rattle.grep_definitions.specs.SelectedLines.{is_free, is_touched, all_matches, matches_up_to}
+use Rattle.grep_definitions.specs.Plans.{is_free, is_touched, all_matches, matches_up_to}
+use Rattle.grep_definitions.specs.Plans.{count_below, is_at, is_below, Settings}
 use Rattle.grep_definitions.specs.AcrossLines.{is_selected, continues_unit}
-use Rattle.grep_definitions.specs.Reports.{count_below, is_at, is_below}
-use Rattle.grep_definitions.specs.Settings.{Settings}
 use Rattle.grep_definitions.proofs.BelowLemmas.{count_below-le, is_below-le}
 use Rattle.grep_definitions.proofs.BoolLemmas.{and-both, clash}
 use Rattle.grep_walk.specs.declared.blocks.Blocks.{Blocks}

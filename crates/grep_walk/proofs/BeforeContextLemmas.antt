@@ -5,9 +5,8 @@ use Rattle.std.proofs.lemmas.Bool.{lt-leb}
 use Rattle.std.specs.Prelude.{slice_range}
 use Rattle.grep_matcher.specs.Lines.{byte_of, lines, line_start}
 use Rattle.grep_lines.specs.Positions.{IsLine, IsLineStart}
-use Rattle.grep_definitions.specs.Settings.{Settings}
-use Rattle.grep_definitions.specs.Plans.{Planned, Steps, Outcome, all_true, AreMade}
-use Rattle.grep_definitions.specs.Reports.{joined_from}
+use Rattle.grep_definitions.specs.Plans.{Settings, Planned, Steps, Outcome, all_true, AreMade}
+use Rattle.grep_definitions.specs.Plans.{joined_from}
 use Rattle.grep_definitions.specs.LineTurns.{before_turns, listed_turns, pending_turns, listed_number, number_of}
 use Rattle.grep_definitions.proofs.BelowLemmas.{joined_from-add, joined_from-more, joined_from-none}
 use Rattle.grep_definitions.proofs.LineSliceLemmas.{number-line}

@@ -1,8 +1,8 @@
 -- The end of a search.
 use Rattle.std.proofs.Common.{ℕ, List, subst, None, Result, Ok, Err}
-use Rattle.grep_definitions.specs.Settings.{Settings}
-use Rattle.grep_definitions.specs.Plans.{Planned, finishes, Steps, Outcome, all_true, stopped, failed, IsFinished}
-use Rattle.grep_definitions.specs.Plans.{IsRun, Finish, finish_result, counted}
+use Rattle.grep_definitions.specs.Plans.{Settings, Planned, finishes, Steps, Outcome, all_true}
+use Rattle.grep_definitions.specs.Plans.{stopped, failed, IsFinished, IsRun, Finish, finish_result}
+use Rattle.grep_definitions.specs.Plans.{counted}
 use Rattle.grep_definitions.specs.SinkRuns.{plan_of}
 use Rattle.grep_definitions.specs.SearchTurns.{search_turns, search_byte_count}
 use Rattle.grep_report.specs.ErrorMakers.{ErrorMakers}

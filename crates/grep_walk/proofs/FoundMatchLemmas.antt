@@ -5,10 +5,8 @@ use Rattle.std.proofs.lemmas.Bool.Decides.{nat_tests}
 use Rattle.std.specs.Option.{option_map}
 use Rattle.grep_matcher.specs.Meanings.{Meaning}
 use Rattle.grep_matcher.specs.FindResults.{IsWithin}
-use Rattle.grep_definitions.specs.Reports.{is_below}
-use Rattle.grep_definitions.specs.Asking.{IsAskedAfter, match_limit}
-use Rattle.grep_definitions.specs.Settings.{Settings}
-use Rattle.grep_definitions.specs.SelectedLines.{position_after, match_from}
+use Rattle.grep_definitions.specs.Plans.{is_below, IsAskedAfter, match_limit, Settings}
+use Rattle.grep_definitions.specs.Plans.{position_after, match_from}
 use Rattle.grep_definitions.specs.SuccessiveMatches.{matches_left}
 use Rattle.grep_definitions.proofs.SuccessiveMatchLemmas.{matches_left-start, matches_left-found, matches_left-none}
 use Rattle.grep_definitions.proofs.SuccessiveMatchLemmas.{matches_left-end, position_past-last, match_from-found}

@@ -21,7 +21,7 @@ use Rattle.grep_lines.proofs.LawLemmas.{AreLines-lines}
 use Rattle.grep_lines.proofs.LineLemmas.{count, lines-closed, lines-unclosed}
 use Rattle.grep_lines.proofs.LineStepLemmas.{IsAt-start, IsStep-line, lines-at-most, lines-numbered}
 use Rattle.grep_definitions.specs.LineTurns.{matches_line}
-use Rattle.grep_definitions.specs.Settings.{Settings}
+use Rattle.grep_definitions.specs.Plans.{Settings}
 use Rattle.grep_definitions.proofs.LineStartLemmas.{line_start-last}
 use Rattle.grep_definitions.proofs.TurnEndLemmas.{line_start-le}
 use Rattle.grep_walk.specs.LookAheads.{IsKnown}

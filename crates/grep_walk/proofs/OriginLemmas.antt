@@ -1,7 +1,6 @@
 -- Calls that were made from an origin on, put together.
 use Rattle.std.proofs.Common.{◌≡◌, List, ◌++◌, refl, sym, ◌∙◌, ap, subst, append_assoc}
-use Rattle.grep_definitions.specs.Plans.{AreMade, Outcome, Planned, Steps, all_true}
-use Rattle.grep_definitions.specs.Settings.{Settings}
+use Rattle.grep_definitions.specs.Plans.{AreMade, Outcome, Planned, Steps, all_true, Settings}
 use Rattle.grep_definitions.proofs.SinkRunLemmas.{AreMade-append, AreMade-ended}
 use Rattle.grep_walk.specs.Origins.{AreMadeFrom, Origin, fresh}
 

@@ -8,10 +8,8 @@ use Rattle.std.specs.Prelude.{nat_lt, nat_le}
 use Rattle.grep_lines.specs.Positions.{IsLineStart}
 use Rattle.grep_matcher.specs.Meanings.{Meaning}
 use Rattle.grep_matcher.specs.Lines.{byte_of}
-use Rattle.grep_definitions.specs.SelectedLines.{is_touched}
-use Rattle.grep_definitions.specs.Asking.{IsAskedAfter, IsAskedAt}
+use Rattle.grep_definitions.specs.Plans.{is_touched, IsAskedAfter, IsAskedAt, Settings}
 use Rattle.grep_definitions.specs.LineSearch.{line_count, start}
-use Rattle.grep_definitions.specs.Settings.{Settings}
 use Rattle.grep_definitions.proofs.BlockLemmas.{block_start-low}
 use Rattle.grep_definitions.proofs.BoolLemmas.{and-both, both_true, clash}
 use Rattle.grep_walk.specs.TouchedUnits.{is_in, AreTouched}

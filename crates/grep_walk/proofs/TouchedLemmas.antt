@@ -14,10 +14,9 @@ use Rattle.grep_matcher.specs.Meanings.{Meaning}
 use Rattle.grep_matcher.specs.Lines.{byte_of}
 use Rattle.grep_lines.specs.Blocks.{block_start, block_end}
 use Rattle.grep_lines.specs.Positions.{IsLineStart}
-use Rattle.grep_definitions.specs.SelectedLines.{touches, position_after}
-use Rattle.grep_definitions.specs.Asking.{counted_matches}
+use Rattle.grep_definitions.specs.Plans.{touches, position_after, Settings}
+use Rattle.grep_definitions.specs.SuccessiveMatches.{counted_matches}
 use Rattle.grep_definitions.specs.LineSearch.{line_count, start}
-use Rattle.grep_definitions.specs.Settings.{Settings}
 use Rattle.grep_definitions.proofs.BlockLemmas.{within-block, block_start-edge, block_end-edge, block_start-le}
 use Rattle.grep_definitions.proofs.BlockLemmas.{block_start-low, block_end-within, block-some, block_start-part}
 use Rattle.grep_definitions.proofs.BlockLemmas.{block_end-part}

@@ -7,13 +7,11 @@ use Rattle.std.proofs.lemmas.Bool.{cases_lt}
 use Rattle.std.specs.Prelude.{IfSome, slice_range}
 use Rattle.grep_lines.specs.Positions.{IsLine, IsLineStart}
 use Rattle.grep_matcher.specs.Lines.{lines, strip, byte_of}
-use Rattle.grep_definitions.specs.Reports.{joined_from}
+use Rattle.grep_definitions.specs.Plans.{joined_from, Settings, Steps, Outcome, AreMade}
 use Rattle.grep_definitions.specs.LineTurns.{listed_turns, match_turns, matches_line, pending_turns}
 use Rattle.grep_report.specs.ErrorMakers.{ErrorMakers}
 use Rattle.grep_matcher.specs.Meanings.{Meaning, MatcherFacts}
 use Rattle.grep_walk.specs.WalkFaults.{IsWalkFault}
-use Rattle.grep_definitions.specs.Settings.{Settings}
-use Rattle.grep_definitions.specs.Plans.{Steps, Outcome, AreMade}
 use Rattle.grep_walk.specs.declared.look_ahead.Ahead.{Ahead}
 use Rattle.grep_walk.specs.declared.walk.Walk.{Walk}
 use Rattle.grep_walk.specs.LookAheads.{IsBounded, IsExact, IsKnown, MayAskAhead, known_at, skips}

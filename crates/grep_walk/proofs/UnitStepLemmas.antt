@@ -8,10 +8,8 @@ use Rattle.grep_matcher.specs.Meanings.{Meaning}
 use Rattle.grep_matcher.specs.Lines.{byte_of, lines}
 use Rattle.grep_lines.specs.Blocks.{block_start, block_end}
 use Rattle.grep_lines.proofs.LawLemmas.{AreLines-lines}
-use Rattle.grep_definitions.specs.Asking.{match_limit}
-use Rattle.grep_definitions.specs.Settings.{Settings}
+use Rattle.grep_definitions.specs.Plans.{match_limit, Settings, position_after}
 use Rattle.grep_definitions.specs.SuccessiveMatches.{matches_left}
-use Rattle.grep_definitions.specs.SelectedLines.{position_after}
 use Rattle.grep_definitions.proofs.BlockLemmas.{block_start-le}
 use Rattle.grep_definitions.proofs.LineStartLemmas.{line_start-within}
 use Rattle.grep_definitions.proofs.SuccessiveMatchLemmas.{matches_left-after, position_after-start}

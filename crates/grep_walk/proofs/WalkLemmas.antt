@@ -1,7 +1,8 @@
 -- A walk over lines, against the calls that are defined.
-use Rattle.grep_definitions.specs.SelectedLines
-use Rattle.grep_definitions.specs.Plans.{planned, Planned, begins, context, Steps, Outcome, all_true, stopped, failed}
-use Rattle.grep_definitions.specs.Plans.{AreMade, counted}
+use Rattle.grep_definitions.specs.Plans
+use Rattle.grep_definitions.specs.Plans.{planned, Planned, begins, context, Steps, Outcome}
+use Rattle.grep_definitions.specs.Plans.{all_true, stopped, failed, AreMade, counted, Settings}
+use Rattle.grep_definitions.specs.Plans.{is_at, joined_from, differ}
 use Rattle.std.proofs.Common.{◌≡◌, ℕ, ◌+◌, ◌-◌, ◌<◌, ◌≤◌, Bool, true, false, not, ◌&&◌, ◌||◌, List, [], ◌∷◌, ◌++◌}
 use Rattle.std.proofs.Common.{length, drop, refl, sym, ◌∙◌, ap, subst, arith, ⊎_elim, inl, inr, Ok}
 use Rattle.std.proofs.Common.{Err, if◌then◌else◌, length-take, length-drop}
@@ -13,17 +14,14 @@ use Rattle.grep_matcher.specs.Lines.{byte_of, lines}
 use Rattle.grep_matcher.specs.Meanings.{Meaning, MatcherFacts}
 use Rattle.grep_lines.specs.Positions.{IsLine, IsLineStart}
 use Rattle.grep_report.specs.declared.sink_context.SinkContextKind.TheVariants.{After, Other}
-use Rattle.grep_definitions.specs.Settings.{Settings}
-use Rattle.grep_definitions.specs.Reports.{through, is_at, joined_from}
+use Rattle.grep_definitions.specs.LineSearch.{through, turns_at, turns, turns_through, byte_count}
 use Rattle.grep_definitions.specs.LineSearch
-use Rattle.grep_definitions.specs.SelectedLines.{differ}
-use Rattle.grep_definitions.specs.LineSearch.{turns_at, turns, turns_through, byte_count}
 use Rattle.grep_definitions.specs.LineTurns.{after_turns, context_turns, match_turns, pending_turns, matches_line}
 use Rattle.grep_definitions.specs.LineTurns.{number_of}
 use Rattle.grep_report.specs.ErrorMakers.{ErrorMakers}
 use Rattle.grep_definitions.specs.ContentsSearches.{IsLineFault, of_sink, of_matcher}
 use Rattle.grep_definitions.specs.LineWalks.{IsNear, IsOpen}
-use Rattle.grep_definitions.specs.Asking.{IsAsked}
+use Rattle.grep_definitions.specs.Questions.{IsAsked}
 use Rattle.grep_definitions.proofs.BelowLemmas.{joined_from-equal, joined_from-none, headed-through, headed-many}
 use Rattle.grep_definitions.proofs.LimitLemmas.{IsOpen-none, IsOpen-chosen, IsOpen-missed, turn_above, turn_all, IsDone}
 use Rattle.grep_definitions.proofs.LimitLemmas.{IsDone-chosen, IsDone-limit, IsDone-stop, IsDone-none, selected-is}
@@ -162,26 +160,26 @@ module _ (k : Settings) (meaning : Meaning) (bytes : List ℕ) where
       number-is : LineSearch.number k meaning bytes w.line ≡ number_of k w.line
       number-is = number-line k bytes w.line line.listed
 
-      hits-here : SelectedLines.hits k meaning bytes w.line ≡ differ (matches_line k meaning here) k.invert_match
+      hits-here : Plans.hits k meaning bytes w.line ≡ differ (matches_line k meaning here) k.invert_match
       hits-here = let inside = lt-ltb w.line n line.listed in rw (inside, line.line) refl
 
-      pub chosen-here : (b r : Bool) → IsDecided k meaning w here b r → SelectedLines.is_chosen k meaning bytes w.line ≡ b
+      pub chosen-here : (b r : Bool) → IsDecided k meaning w here b r → Plans.is_chosen k meaning bytes w.line ≡ b
       chosen-here b r decided = grind (arith, chosen-is k meaning bytes walk.opened, hits-here, decided.chosen_is)
 
       pub trailing-here : (b r : Bool) → IsDecided k meaning w here b r → 0 < w.after_context_left
-          → SelectedLines.is_trailing k meaning bytes w.line ≡ r
+          → Plans.is_trailing k meaning bytes w.line ≡ r
       trailing-here b r decided some = grind (arith, hits-here, walk.opened.below, decided.trailing_is some)
 
       -- the matcher is asked about it only if the limit has room, or in the context after a selected line
       pub room-here : can_hit k w ≡ true
-          → (SelectedLines.is_open_at k meaning bytes w.line || LineSearch.follows_selected k meaning bytes w.line) ≡ true
+          → (Plans.is_open_at k meaning bytes w.line || LineSearch.follows_selected k meaning bytes w.line) ≡ true
       room-here can = grind (arith, walk.opened.below, follows-selected k meaning bytes walk.near, can)
 
-      selected : (b : Bool) → SelectedLines.is_chosen k meaning bytes w.line ≡ b
-          → SelectedLines.is_selected k meaning bytes w.line ≡ b
+      selected : (b : Bool) → Plans.is_chosen k meaning bytes w.line ≡ b
+          → Plans.is_selected k meaning bytes w.line ≡ b
       selected b is = selected-is k meaning bytes walk.opened ∙ is
 
-      pending-is : SelectedLines.is_selected k meaning bytes w.line ≡ true
+      pending-is : Plans.is_selected k meaning bytes w.line ≡ true
           → joined_from T w.next_unreported (w.line - w.next_unreported)
           ≡ pending_turns k bytes w.next_unreported w.line (line_end w here) w.next_unreported
           (w.line - w.next_unreported)
@@ -189,15 +187,15 @@ module _ (k : Settings) (meaning : Meaning) (bytes : List ℕ) where
           turns_at-passed k meaning bytes walk.near line.listed has hit
           j _ (line_end w here) _ low (omega arith) refl start-after refl)
 
-      hit-is : SelectedLines.is_selected k meaning bytes w.line ≡ true → T w.line
+      hit-is : Plans.is_selected k meaning bytes w.line ≡ true → T w.line
           ≡ match_turns k w.next_unreported w.line w.offset (line_end w here) here
       hit-is hit = turns_at-hit k meaning bytes walk.near line.listed has
           hit
           w.offset (line_end w here) _ number-is start-is start-after line.line
 
       -- the calls of the line
-      pub front-step : (chosen trailing : Bool) → SelectedLines.is_chosen k meaning bytes w.line ≡ chosen
-          → (0 < w.after_context_left → SelectedLines.is_trailing k meaning bytes w.line ≡ trailing)
+      pub front-step : (chosen trailing : Bool) → Plans.is_chosen k meaning bytes w.line ≡ chosen
+          → (0 < w.after_context_left → Plans.is_trailing k meaning bytes w.line ≡ trailing)
           → front (after_line k w here chosen).next_unreported
           ≡ front w.next_unreported ++ line_turns k bytes w here chosen trailing
       front-step true trailing is late =
@@ -211,7 +209,7 @@ module _ (k : Settings) (meaning : Meaning) (bytes : List ℕ) where
           headed-missed walk.near
           (planned begins 0) T _ _ after_is other_is
         where
-          miss : SelectedLines.is_selected k meaning bytes w.line ≡ false
+          miss : Plans.is_selected k meaning bytes w.line ≡ false
           miss = selected false is
 
           after_is : 0 < w.after_context_left
@@ -227,7 +225,7 @@ module _ (k : Settings) (meaning : Meaning) (bytes : List ℕ) where
               turns_at-other k meaning bytes walk.near line.listed has
               w.offset (line_end w here) _ miss none is_p (bare is_p).1 number-is start-is start-after line.line
 
-      pub near-next : (chosen : Bool) → SelectedLines.is_chosen k meaning bytes w.line ≡ chosen
+      pub near-next : (chosen : Bool) → Plans.is_chosen k meaning bytes w.line ≡ chosen
           → IsNear k meaning bytes (after_line k w here chosen).next_unreported (w.line + 1)
           (after_line k w here chosen).after_context_left
       near-next true is = IsNear-hit k meaning bytes walk.near line.listed
@@ -237,7 +235,7 @@ module _ (k : Settings) (meaning : Meaning) (bytes : List ℕ) where
           IsNear-missed k meaning bytes walk.near line.listed has
           (λ is_p. (bare is_p).1) (selected false is)
 
-      open-next : (chosen : Bool) → SelectedLines.is_chosen k meaning bytes w.line ≡ chosen
+      open-next : (chosen : Bool) → Plans.is_chosen k meaning bytes w.line ≡ chosen
           → is_over k (after_line k w here chosen) chosen
           ≡ false
           → IsOpen k meaning bytes (w.line + 1) (after_line k w here chosen).after_context_left
@@ -247,8 +245,8 @@ module _ (k : Settings) (meaning : Meaning) (bytes : List ℕ) where
       open-next false is goes = IsOpen-missed k meaning bytes walk.opened line.listed is
           (λ stop. grind (arith, nat_tests, goes, stop)) (λ plain full. grind (arith, nat_tests, goes, plain, full))
 
-      pub walk-next : (chosen trailing : Bool) → SelectedLines.is_chosen k meaning bytes w.line ≡ chosen
-          → (0 < w.after_context_left → SelectedLines.is_trailing k meaning bytes w.line ≡ trailing)
+      pub walk-next : (chosen trailing : Bool) → Plans.is_chosen k meaning bytes w.line ≡ chosen
+          → (0 < w.after_context_left → Plans.is_trailing k meaning bytes w.line ≡ trailing)
           → is_over k (after_line k w here chosen) chosen ≡ false
           → IsWalk k meaning bytes (after_line k w here chosen)
       walk-next chosen trailing is late goes = record {
@@ -259,7 +257,7 @@ module _ (k : Settings) (meaning : Meaning) (bytes : List ℕ) where
             (ended-next k bytes w here chosen trailing (front w.next_unreported) walk.ended);
       }
 
-      pub done-next : (chosen : Bool) → SelectedLines.is_chosen k meaning bytes w.line ≡ chosen
+      pub done-next : (chosen : Bool) → Plans.is_chosen k meaning bytes w.line ≡ chosen
           → is_over k (after_line k w here chosen) chosen ≡ true
           → IsDone k meaning bytes (w.line + 1)
       done-next true is over = IsDone-chosen k meaning bytes walk.opened line.listed is
@@ -354,10 +352,10 @@ module _ (k : Settings) (meaning : Meaning) (bytes : List ℕ) where
       abbrev next : Walk
       next = after_line k w text chosen
 
-      is : SelectedLines.is_chosen k meaning bytes w.line ≡ chosen
+      is : Plans.is_chosen k meaning bytes w.line ≡ chosen
       is = chosen-here w same line bare so_far.walk chosen trailing decided
 
-      late : 0 < w.after_context_left → SelectedLines.is_trailing k meaning bytes w.line ≡ trailing
+      late : 0 < w.after_context_left → Plans.is_trailing k meaning bytes w.line ≡ trailing
       late = trailing-here w same line bare so_far.walk chosen trailing decided
 
       few : next.next_unreported ≤ turned

@@ -7,16 +7,14 @@ use Rattle.grep_matcher.specs.Lines.{lines, line_start, strip, byte_of}
 use Rattle.grep_matcher.specs.Meanings.{Meaning, MatcherFacts}
 use Rattle.std.specs.Prelude.{slice_range}
 use Rattle.grep_lines.specs.Positions.{IsLine, IsLineStart}
-use Rattle.grep_definitions.specs.Settings.{Settings}
-use Rattle.grep_definitions.specs.Plans.{begins, Steps, Outcome, all_true, AreMade}
-use Rattle.grep_definitions.specs.Reports.{is_at}
+use Rattle.grep_definitions.specs.Plans.{Settings, begins, Steps, Outcome, all_true, AreMade, is_at}
 use Rattle.grep_definitions.specs.LineSearch.{turns, byte_count}
 use Rattle.grep_report.specs.ErrorMakers.{ErrorMakers}
 use Rattle.grep_walk.specs.WalkFaults.{IsWalkFault}
 use Rattle.grep_walk.specs.declared.walk.Walk.{Walk}
 use Rattle.grep_walk.specs.Walks.{IsDecided, IsOrdered, HasReported, can_hit, line_end, line_turns, after_line, is_over}
 use Rattle.grep_walk.specs.Walks.{recounted, CountedFrom}
-use Rattle.grep_definitions.specs.Asking.{IsAsked}
+use Rattle.grep_definitions.specs.Questions.{IsAsked}
 use Rattle.grep_walk.specs.LookAheads.{MayAskAhead}
 use Rattle.grep_walk.specs.Windows.{IsWindow, IsInWindow, HasPassed, HasSearched, HasWalked}
 use Rattle.grep_definitions.proofs.LineRangeLemmas.{line-at, end-start}

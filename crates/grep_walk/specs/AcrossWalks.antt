@@ -1,16 +1,14 @@
 -- The walk of a search across lines: what it knows of the lines before it and of the unit that it
 -- comes to, and how lines move it on. No contract of grep_searcher cites these definitions.
-use Rattle.grep_definitions.specs.Plans.{planned, Planned, begins}
+use Rattle.grep_definitions.specs.Plans.{planned, Planned, begins, is_free, count_below, is_at}
+use Rattle.grep_definitions.specs.Plans.{is_below, joined_from, Settings}
 use Rattle.std.specs.Prelude.{◌≡◌, ℕ, ◌+◌, ◌-◌, ◌<◌, ◌≤◌, Bool, true, false, not, ◌&&◌, nat_lt}
 use Rattle.std.specs.Prelude.{if◌then◌else◌, List, ◌∷◌, length, All}
 use Rattle.grep_matcher.specs.Lines.{lines, byte_of}
 use Rattle.grep_matcher.specs.Meanings.{Meaning}
-use Rattle.grep_definitions.specs.SelectedLines.{is_free}
 use Rattle.grep_definitions.specs.AcrossLines.{is_selected, turns_at}
-use Rattle.grep_definitions.specs.Reports.{count_below, is_at, is_below, joined_from}
 use Rattle.grep_definitions.specs.LineSearch.{line_count}
 use Rattle.grep_definitions.specs.Selections.{IsNear, no_line}
-use Rattle.grep_definitions.specs.Settings.{Settings}
 use Rattle.grep_walk.specs.declared.blocks.Blocks.{Blocks}
 use Rattle.grep_walk.specs.declared.walk.Walk.{Walk}
 use Rattle.grep_walk.specs.TouchedUnits.{AreLeft, IsUnit, is_hit}

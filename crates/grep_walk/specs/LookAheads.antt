@@ -5,10 +5,8 @@ use Rattle.std.specs.Prelude.{if◌then◌else◌, nat_lt, List, length, Option,
 use Rattle.grep_lines.specs.Positions.{IsLine, IsLineStart}
 use Rattle.grep_matcher.specs.Meanings.{Meaning}
 use Rattle.grep_matcher.specs.Lines.{byte_of}
-use Rattle.grep_definitions.specs.Reports.{is_at}
+use Rattle.grep_definitions.specs.Plans.{is_at, AsksAhead, is_declared, Settings}
 use Rattle.grep_definitions.specs.LineTurns.{matches_line}
-use Rattle.grep_definitions.specs.Asking.{AsksAhead, is_declared}
-use Rattle.grep_definitions.specs.Settings.{Settings}
 use Rattle.grep_walk.specs.declared.look_ahead.Ahead.{Ahead}
 use Rattle.grep_walk.specs.declared.look_ahead.Questions.{Questions}
 use Rattle.grep_walk.specs.declared.look_ahead.Questions.TheVariants.{ManyLines, OneLine}

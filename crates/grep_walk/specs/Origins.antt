@@ -1,8 +1,7 @@
 -- Where the calls of a walk begin: at the first of them, or after some of them, as in a search that
 -- goes on after `binary_data`. No contract of grep_searcher cites these definitions.
 use Rattle.std.specs.Prelude.{◌≡◌, List, [], ◌++◌}
-use Rattle.grep_definitions.specs.Plans.{AreMade, Outcome, Planned, Steps}
-use Rattle.grep_definitions.specs.Settings.{Settings}
+use Rattle.grep_definitions.specs.Plans.{AreMade, Outcome, Planned, Steps, Settings}
 
 -- a state of a sink, and the calls that were made before it
 pub record Origin (S : Type 0) : Type 0 where

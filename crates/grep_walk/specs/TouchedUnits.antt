@@ -8,11 +8,10 @@ use Rattle.grep_matcher.specs.Meanings.{Meaning}
 use Rattle.grep_matcher.specs.Lines.{byte_of}
 use Rattle.grep_lines.specs.Blocks.{block_start, block_end}
 use Rattle.grep_lines.specs.Positions.{IsLineStart}
-use Rattle.grep_definitions.specs.Settings.{Settings}
+use Rattle.grep_definitions.specs.Plans.{Settings, touches, is_touched, position_after}
+use Rattle.grep_definitions.specs.Plans.{position_past, match_limit}
 use Rattle.grep_definitions.specs.LineSearch.{line_count, start}
-use Rattle.grep_definitions.specs.SelectedLines.{touches, is_touched, position_after, position_past}
-use Rattle.grep_definitions.specs.Asking.{counted_matches, match_limit}
-use Rattle.grep_definitions.specs.SuccessiveMatches.{matches_left}
+use Rattle.grep_definitions.specs.SuccessiveMatches.{counted_matches, matches_left}
 use Rattle.grep_walk.specs.declared.blocks.Blocks.{Blocks}
 
 -- whether a line that begins at a position is in a range of whole lines, if there is one

@@ -6,8 +6,7 @@ use Rattle.grep_definitions.specs.LineSearch.{turns}
 use Rattle.grep_definitions.specs.Questions.{IsAskedByLine}
 use Rattle.grep_report.specs.ErrorMakers.{ErrorMakers}
 use Rattle.grep_matcher.specs.Meanings.{MatcherFacts}
-use Rattle.grep_definitions.specs.Settings.{Settings}
-use Rattle.grep_definitions.specs.Plans.{Planned, Steps, all_true, failed}
+use Rattle.grep_definitions.specs.Plans.{Settings, Planned, Steps, all_true, failed}
 use Rattle.grep_walk.specs.Origins.{AreMadeFrom, Origin}
 
 -- in the sink's own error, that of the last call; or in the matcher's at a question, before which

@@ -6,11 +6,8 @@ use Rattle.grep_matcher.specs.Lines.{byte_of, lines}
 use Rattle.grep_matcher.specs.Meanings.{Meaning}
 use Rattle.grep_lines.specs.Positions.{IsLineStart}
 use Rattle.grep_report.specs.declared.sink_context.SinkContextKind.TheVariants.{Other}
-use Rattle.grep_definitions.specs.Settings.{Settings}
-use Rattle.grep_definitions.specs.Plans.{Planned, Outcome, all_true, stopped, failed, Steps}
-use Rattle.grep_definitions.specs.Plans.{AreMade, counted}
-use Rattle.grep_definitions.specs.Reports.{is_at}
-use Rattle.grep_definitions.specs.SelectedLines.{differ}
+use Rattle.grep_definitions.specs.Plans.{Settings, Planned, Outcome, all_true, stopped, failed}
+use Rattle.grep_definitions.specs.Plans.{Steps, AreMade, counted, is_at, differ}
 use Rattle.grep_definitions.specs.LineSearch.{turns_before}
 use Rattle.grep_definitions.specs.LineWalks.{IsNear, IsOpen}
 use Rattle.grep_definitions.specs.LineTurns.{number_of, matches_line, pending_turns, match_turns}

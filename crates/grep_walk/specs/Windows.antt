@@ -4,8 +4,7 @@ use Rattle.std.specs.Prelude.{◌≡◌, ℕ, ◌+◌, ◌-◌, ◌≤◌, min, 
 use Rattle.grep_matcher.specs.Lines.{byte_of, lines}
 use Rattle.grep_matcher.specs.Meanings.{Meaning}
 use Rattle.grep_lines.specs.Positions.{IsLine, IsLineStart}
-use Rattle.grep_definitions.specs.Settings.{Settings}
-use Rattle.grep_definitions.specs.Plans.{Steps}
+use Rattle.grep_definitions.specs.Plans.{Settings, Steps}
 use Rattle.grep_walk.specs.declared.walk.Walk.{Walk}
 use Rattle.grep_walk.specs.Walks.{AreCounts, HasReported, recounted}
 use Rattle.grep_walk.specs.Origins.{Origin}

@@ -4,9 +4,8 @@ ghost use Rattle.std.specs.Prelude.{IfOk, IfErr, IfSome, IfNone};
 ghost use Rattle.std.specs.Option.{option_map};
 ghost use Rattle.grep_lines.specs.Positions.{IsLineStart};
 ghost use Rattle.grep_matcher.specs.Lines.{byte_of};
-ghost use Rattle.grep_definitions.specs.Asking.{IsAskedAfter, IsAskedAt, match_limit};
-ghost use Rattle.grep_definitions.specs.Reports.{is_below};
-ghost use Rattle.grep_definitions.specs.SelectedLines.{position_after};
+ghost use Rattle.grep_definitions.specs.Plans.{IsAskedAfter, IsAskedAt, match_limit, is_below};
+ghost use Rattle.grep_definitions.specs.Plans.{position_after};
 ghost use Rattle.grep_walk.specs.TouchedUnits.{AreFound, AreLeft, IsFound, HasNoMore, IsPart, IsUnit};
 
 use crate::config::Config;

@@ -1,8 +1,8 @@
 //! The settings of a searcher, and what they say of a search before its first line.
 ghost use Rattle.std.specs.Prelude.{◌≡◌};
 ghost use Rattle.grep_definitions.specs.SliceSearches.{is_searched_unchanged};
-ghost use Rattle.grep_definitions.specs.Asking.{is_across, refusal_of};
-ghost use Rattle.grep_definitions.specs.Inputs.{reads_lines};
+ghost use Rattle.grep_definitions.specs.Plans.{is_across, refusal_of};
+ghost use Rattle.grep_definitions.specs.Searches.{reads_lines};
 ghost use Rattle.grep_walk.specs.LookAheads.{excludes_terminator};
 
 use grep_decode::{Label, label_of_mark};
@@ -46,7 +46,7 @@ pub struct Config {
 }
 
 impl Model for Config {
-    ghost use Rattle.grep_definitions.specs.Settings.{Settings};
+    ghost use Rattle.grep_definitions.specs.Plans.{Settings};
 
     ghost Value = { Settings };
 

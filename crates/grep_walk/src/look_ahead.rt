@@ -6,7 +6,7 @@ ghost use Rattle.grep_lines.specs.Positions.{IsLine, IsLineStart};
 ghost use Rattle.grep_matcher.specs.Lines.{lines, byte_of};
 ghost use Rattle.grep_matcher.specs.Lawful.{IsInside, IsLawfulResult};
 ghost use Rattle.grep_matcher.specs.Meanings.{Meaning};
-ghost use Rattle.grep_definitions.specs.Asking.{IsLawful};
+ghost use Rattle.grep_definitions.specs.Plans.{IsLawful};
 ghost use Rattle.grep_walk.specs.LookAheads.{known_at, AreQuestions, IsBounded, IsExact, IsKnown};
 ghost use Rattle.grep_walk.specs.LookAheads.{can_skip, skips, MayAskAhead};
 ghost use Rattle.grep_walk.specs.Walks.{skip_unmatched, IsOrdered};

@@ -3,7 +3,7 @@ ghost use Rattle.std.specs.Prelude.{◌≡◌, ◌≤◌, ◌<◌, ◌+◌, ◌^
 ghost use Rattle.std.specs.Prelude.{IfErr};
 ghost use Rattle.grep_matcher.specs.Lines.{byte_of};
 ghost use Rattle.grep_lines.specs.Positions.{IsLine, IsLineStart};
-ghost use Rattle.grep_definitions.specs.Asking.{IsAskedAt};
+ghost use Rattle.grep_definitions.specs.Plans.{IsAskedAt};
 ghost use Rattle.grep_walk.specs.AcrossWalks.{is_done, is_joined, next_chosen, after_lines};
 ghost use Rattle.grep_walk.specs.AcrossWalks.{IsReady};
 ghost use Rattle.grep_walk.specs.Walks.{IsOrdered};

@@ -4,9 +4,8 @@ ghost use Rattle.std.specs.Prelude.{◌≡◌, ◌≤◌, ◌<◌, ◌+◌, ◌^
 ghost use Rattle.std.specs.Prelude.{IfOk, IfErr, IfSome, IfNone, MatchBool, None};
 ghost use Rattle.grep_matcher.specs.Lines.{byte_of, lines, strip};
 ghost use Rattle.grep_lines.specs.Positions.{IsLine, IsLineStart};
-ghost use Rattle.grep_definitions.specs.Reports.{is_at};
-ghost use Rattle.grep_definitions.specs.Inputs.{IsClosed};
-ghost use Rattle.grep_definitions.specs.SelectedLines.{differ};
+ghost use Rattle.grep_definitions.specs.Plans.{is_at, differ};
+ghost use Rattle.grep_definitions.specs.Searches.{IsClosed};
 ghost use Rattle.grep_definitions.specs.LineTurns.{number_of, matches_line};
 ghost use Rattle.grep_walk.specs.Walks.{counts_lines, after_line, skip_lines, is_over, IsOrdered};
 ghost use Rattle.grep_walk.specs.Walks.{can_hit, chooses, trails, IsDecided};

@@ -12,11 +12,9 @@ use Rattle.grep_searcher.specs.declared.SearchError.TheVariants.{Io}
 use Rattle.grep_searcher.specs.declared.BinaryDetection.TheVariants.{None as no_detection}
 use Rattle.grep_searcher.specs.CountLaws.{NumbersChangeNoBytes, NumbersChangeNoCount}
 use Rattle.grep_searcher.specs.CountSinks.{IsCountStep, RunsCountAll}
-use Rattle.grep_searcher.specs.Asking.{search_plan, refusal_of}
-use Rattle.grep_searcher.specs.Plans.{Planned, IsRun}
-use Rattle.grep_searcher.specs.Inputs.{IsInput, Taken, IsUnread}
+use Rattle.grep_searcher.specs.Plans.{search_plan, refusal_of, Planned, IsRun, SearcherState}
+use Rattle.grep_searcher.specs.Searches.{IsInput, Taken, IsUnread}
 use Rattle.grep_searcher.specs.SearchLaws.{is_match, match_calls}
-use Rattle.grep_searcher.specs.Settings.{SearcherState}
 use Rattle.lgrep_cli.specs.OptionSettings.{searched_settings, settings_of_options}
 use Rattle.lgrep_cli.specs.ProgramRuns.{searcher_of, meaning_of, calls_of, calls_over, Input, IsPrinted, IsFailure}
 use Rattle.lgrep_cli.specs.ProgramRuns.{of_reader, of_write}

@@ -5,13 +5,11 @@ use Rattle.std.proofs.lemmas.Bool.{ltb-true}
 use Rattle.std.proofs.lemmas.List.Elements.{All-nil, All-cons, All-head, All-tail, All-append, All-map}
 use Rattle.grep_matcher.specs.Lines.{byte_of, lines, onto_first}
 use Rattle.grep_matcher.specs.Meanings.{Meaning}
-use Rattle.grep_searcher.specs.Asking.{is_declared, search_plan}
-use Rattle.grep_searcher.specs.Reports.{joined_from, line, line_count}
+use Rattle.grep_searcher.specs.Plans.{is_declared, search_plan, joined_from, line, line_count}
+use Rattle.grep_searcher.specs.Plans.{reports_end, Settings, Call, Planned, begins, matches}
+use Rattle.grep_searcher.specs.Plans.{context, breaks, binary_data, finishes}
 use Rattle.grep_searcher.specs.SearchLaws.{MatchesAreMatchedLines, is_match, is_matched, match_calls, match_of}
 use Rattle.grep_searcher.specs.SearchLaws.{matched_lines}
-use Rattle.grep_searcher.specs.SelectedLines.{reports_end}
-use Rattle.grep_searcher.specs.Settings.{Settings}
-use Rattle.grep_searcher.specs.Plans.{Call, Planned, begins, matches, context, breaks, binary_data, finishes}
 use Rattle.lgrep_cli.specs.Printers.{IsOneLine, IsMade}
 
 -- the bytes have one line, which is all of them

@@ -8,12 +8,10 @@ use Rattle.std.specs.Global.{Global}
 use Rattle.std.specs.declared.io.Error.{Error}
 use Rattle.grep_searcher.specs.declared.SearchError.{SearchError}
 use Rattle.grep_searcher.specs.declared.SearchError.TheVariants.{Io}
-use Rattle.grep_searcher.specs.Settings.{Settings}
-use Rattle.grep_searcher.specs.Asking.{search_plan}
-use Rattle.grep_searcher.specs.BinaryBytes.{nowhere, BinaryPoint, plan_with}
-use Rattle.grep_searcher.specs.Searches.{IsPoint, IsSearchOf, ran, asked}
-use Rattle.grep_searcher.specs.Plans.{Outcome, all_true, stopped, failed, AreMade, IsFinished, IsRun, Finish, Plan}
-use Rattle.grep_searcher.specs.Plans.{Planned, finishes}
+use Rattle.grep_searcher.specs.Plans.{Settings, search_plan, Outcome, all_true, stopped, failed}
+use Rattle.grep_searcher.specs.Plans.{AreMade, IsFinished, IsRun, Finish, Plan, Planned, finishes}
+use Rattle.grep_searcher.specs.Searches.{nowhere, BinaryPoint, plan_with, IsPoint, IsSearchOf, ran}
+use Rattle.grep_searcher.specs.Searches.{asked}
 use Rattle.grep_searcher.specs.ErrorMakers.{ErrorMakers}
 use Rattle.grep_searcher.specs.Meanings.{MatcherFacts}
 use Rattle.grep_matcher.specs.Meanings.{IsInfallible}

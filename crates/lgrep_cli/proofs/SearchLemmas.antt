@@ -13,15 +13,13 @@ use Rattle.grep_searcher.specs.declared.ConfigError.{ConfigError}
 use Rattle.grep_searcher.specs.declared.SearchError.{SearchError}
 use Rattle.grep_searcher.specs.declared.SearchError.TheVariants.{Io}
 use Rattle.grep_searcher.specs.SearchErrors.{IsOutOfMemory}
-use Rattle.grep_searcher.specs.Settings.{Settings, SearcherState}
-use Rattle.grep_searcher.specs.Asking.{search_plan}
-use Rattle.grep_searcher.specs.BinaryBytes.{nowhere, BinaryPoint, calls_with}
+use Rattle.grep_searcher.specs.Plans.{Settings, SearcherState, search_plan, AreMade, all_true}
+use Rattle.grep_searcher.specs.Searches.{nowhere, BinaryPoint, calls_with, EachPoint, GoesOnWith}
+use Rattle.grep_searcher.specs.Searches.{IsReaderSearch, IsReaderSearched, IsRead, searched_bytes}
+use Rattle.grep_searcher.specs.Searches.{IsInput, IsUnread, Reads, Taken}
 use Rattle.grep_searcher.specs.ErrorMakers.{ErrorMakers}
 use Rattle.grep_searcher.specs.Meanings.{MatcherFacts}
-use Rattle.grep_searcher.specs.Searches.{EachPoint, GoesOnWith, IsReaderSearch, IsReaderSearched, IsRead}
-use Rattle.grep_searcher.specs.Plans.{AreMade, all_true}
-use Rattle.grep_searcher.specs.Inputs
-use Rattle.grep_searcher.specs.Inputs.{searched_bytes, IsInput, IsUnread, Reads, Taken}
+use Rattle.grep_searcher.specs.Searches
 use Rattle.grep_searcher.specs.SearchLaws.{MatchesAreMatchedLines}
 use Rattle.lgrep_cli.specs.OptionSettings.{numbered_unless, settings_of_options}
 use Rattle.lgrep_cli.specs.Printers.{Prints, IsMade}
@@ -325,7 +323,7 @@ module _ {R W : Type 0} (remaining : R → Option (List ℕ)) (read_step : R →
                 unread true short.seen short.error e short.made ok (
                   short.mid,
                   short.taken,
-                  subst (λ b. Inputs.IsCut remaining read_step (numbering options false)
+                  subst (λ b. Searches.IsCut remaining read_step (numbering options false)
                       (meaning_of options) reader short.mid reader' short.taken short.seen b short.error) is short.cause,
                 )
                 (reported short.taken.ended short.taken.pieces short.seen (short.calls is))
@@ -333,7 +331,7 @@ module _ {R W : Type 0} (remaining : R → Option (List ℕ)) (read_step : R →
                 unread false short.seen short.error e short.made ok (
                   short.mid,
                   short.taken,
-                  subst (λ b. Inputs.IsCut remaining read_step (numbering options false)
+                  subst (λ b. Searches.IsCut remaining read_step (numbering options false)
                       (meaning_of options) reader short.mid reader' short.taken short.seen b short.error) is short.cause,
                 )
                 (subst (ArePut write_step (settings_of_options options) old []) (sym (short.none is))

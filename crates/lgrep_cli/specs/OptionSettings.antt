@@ -1,7 +1,7 @@
 -- The settings that options ask for.
 use Rattle.std.specs.Prelude.{Bool, not}
 use Rattle.grep_searcher.specs.BuiltSettings.{built, default_settings}
-use Rattle.grep_searcher.specs.Settings.{Settings}
+use Rattle.grep_searcher.specs.Plans.{Settings}
 use Rattle.lgrep_cli.specs.declared.options.Options.{Options}
 
 -- what no option sets is at its default; both contexts are 0 under passthru

@@ -5,8 +5,7 @@ use Rattle.std.specs.declared.io.Error.{Error}
 use Rattle.grep_matcher.specs.Lines.{lines}
 use Rattle.grep_searcher.specs.declared.SearchError.{SearchError}
 use Rattle.grep_searcher.specs.declared.SearchError.TheVariants.{Io}
-use Rattle.grep_searcher.specs.Settings.{Settings}
-use Rattle.grep_searcher.specs.Plans.{Call, matches, context, breaks}
+use Rattle.grep_searcher.specs.Plans.{Settings, Call, matches, context, breaks}
 use Rattle.grep_searcher.specs.SearchLaws.{is_match}
 use Rattle.lgrep_cli.specs.PrintedTexts.{call_text}
 use Rattle.grep_output.specs.Outputs.{OutputCall}

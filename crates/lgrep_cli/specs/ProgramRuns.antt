@@ -13,10 +13,8 @@ use Rattle.grep_matcher.specs.Literals.{literal_meaning}
 use Rattle.grep_matcher.specs.Meanings.{Meaning}
 use Rattle.grep_searcher.specs.declared.SearchError.{SearchError}
 use Rattle.grep_searcher.specs.declared.SearchError.TheVariants.{Io}
-use Rattle.grep_searcher.specs.Asking.{search_plan}
-use Rattle.grep_searcher.specs.Plans.{Planned}
-use Rattle.grep_searcher.specs.Inputs.{IsInput, Taken, IsUnread, searched_bytes}
-use Rattle.grep_searcher.specs.Settings.{SearcherState}
+use Rattle.grep_searcher.specs.Plans.{search_plan, Planned, SearcherState}
+use Rattle.grep_searcher.specs.Searches.{IsInput, Taken, IsUnread, searched_bytes}
 use Rattle.lgrep_cli.specs.CommandLine.{AskFor}
 use Rattle.lgrep_cli.specs.OptionSettings.{searched_settings, settings_of_options}
 use Rattle.lgrep_cli.specs.PrintedTexts.{count_text, has_match, text}

@@ -1,7 +1,7 @@
 -- The settings of a search for the first matches and the lines around them.
 use Rattle.std.specs.Prelude.{ℕ, Some}
 use Rattle.grep_searcher.specs.BuiltSettings.{default_settings}
-use Rattle.grep_searcher.specs.Settings.{Settings}
+use Rattle.grep_searcher.specs.Plans.{Settings}
 
 -- the first n matches, with the line before and the line after each
 abbrev pub first_around : ℕ → Settings

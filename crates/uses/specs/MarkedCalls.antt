@@ -3,8 +3,7 @@ use Rattle.std.specs.Prelude.{ℕ, List, [], ◌∷◌, codes}
 use Rattle.std.specs.List.{flat_map}
 use Rattle.grep_searcher.specs.AppendedParts.{run_calls}
 use Rattle.grep_searcher.specs.BuiltSettings.{default_settings}
-use Rattle.grep_searcher.specs.Plans.{Call, matches, context, breaks, Plan}
-use Rattle.grep_searcher.specs.Settings.{Settings}
+use Rattle.grep_searcher.specs.Plans.{Call, matches, context, breaks, Plan, Settings}
 
 -- the line before each match is reported too
 abbrev pub one_before : Settings

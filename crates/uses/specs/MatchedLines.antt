@@ -4,9 +4,8 @@ use Rattle.std.specs.Prelude.{ℕ, ◌+◌, List, map, take}
 use Rattle.std.specs.List.{flat_map}
 use Rattle.grep_searcher.specs.MatchHandlers.{KeptReport, kept_line}
 use Rattle.grep_searcher.specs.Meanings.{Meaning}
-use Rattle.grep_searcher.specs.Reports.{line}
+use Rattle.grep_searcher.specs.Plans.{line, Settings}
 use Rattle.grep_searcher.specs.SearchLaws.{matched_lines}
-use Rattle.grep_searcher.specs.Settings.{Settings}
 
 -- the first matched lines, at most n, with their numbers, their offsets and their bytes
 abbrev pub first_lines : ℕ → Settings → Meaning → List ℕ → List KeptReport

@@ -5,7 +5,7 @@ use Rattle.std.specs.declared.io.Error.{Error}
 use Rattle.grep_searcher.specs.FindResults.{plain}
 use Rattle.grep_searcher.specs.Lines.{byte_of, lines, strip}
 use Rattle.grep_searcher.specs.Meanings.{MatcherFacts}
-use Rattle.grep_searcher.specs.Settings.{Settings}
+use Rattle.grep_searcher.specs.Plans.{Settings}
 
 -- a haystack that starts with the prefix has one match, the prefix; no terminator is declared
 abbrev pub prefix_facts : List ℕ → MatcherFacts Error

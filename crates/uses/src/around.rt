@@ -1,7 +1,7 @@
 //! The first matches of a slice with the lines around them, kept.
 ghost use Rattle.std.specs.Prelude.{◌≡◌, true, IfOk};
-ghost use Rattle.grep_searcher.specs.Asking.{IsLawful, search_plan};
-ghost use Rattle.grep_searcher.specs.Inputs.{searched_bytes};
+ghost use Rattle.grep_searcher.specs.Plans.{IsLawful, search_plan};
+ghost use Rattle.grep_searcher.specs.Searches.{searched_bytes};
 ghost use Rattle.grep_searcher.specs.KeptReports.{kept_reports};
 ghost use Rattle.grep_searcher.specs.SearchLaws.{calls_of};
 ghost use Rattle.uses.specs.FirstAround.{first_around};

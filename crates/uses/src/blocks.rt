@@ -1,7 +1,7 @@
 //! How many blocks of lines match, if a match may extend over several lines.
 ghost use Rattle.std.specs.Prelude.{◌≡◌, true, length, IfOk};
-ghost use Rattle.grep_searcher.specs.Asking.{search_plan};
-ghost use Rattle.grep_searcher.specs.Inputs.{searched_bytes};
+ghost use Rattle.grep_searcher.specs.Plans.{search_plan};
+ghost use Rattle.grep_searcher.specs.Searches.{searched_bytes};
 ghost use Rattle.grep_searcher.specs.Literals.{literal_meaning};
 ghost use Rattle.grep_searcher.specs.SearchLaws.{match_calls};
 ghost use Rattle.uses.specs.AcrossSettings.{across_lines};

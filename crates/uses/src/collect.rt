@@ -1,6 +1,6 @@
 //! The lines of all matches.
 ghost use Rattle.std.specs.Prelude.{◌≡◌, true, IfOk};
-ghost use Rattle.grep_searcher.specs.Inputs.{searched_bytes};
+ghost use Rattle.grep_searcher.specs.Searches.{searched_bytes};
 ghost use Rattle.grep_searcher.specs.LineCounts.{IsLineSearch};
 ghost use Rattle.uses.specs.MatchedLines.{matched_bytes};
 

@@ -1,6 +1,6 @@
 //! How many lines match.
 ghost use Rattle.std.specs.Prelude.{◌≡◌, ℕ, List, Some, None, true, IfOk, IfErr, IsOk};
-ghost use Rattle.grep_searcher.specs.Asking.{refusal_of};
+ghost use Rattle.grep_searcher.specs.Plans.{refusal_of};
 ghost use Rattle.grep_searcher.specs.LineCounts.{IsLineCount, IsLineSearch};
 ghost use Rattle.grep_searcher.specs.Meanings.{IsInfallible};
 ghost use Rattle.grep_searcher.specs.SearchFailures.{IsDecodingError, IsFaultless};

@@ -1,7 +1,7 @@
 //! How many lines match a regular expression.
 ghost use Rattle.std.specs.Prelude.{◌≡◌, false, IfOk};
-ghost use Rattle.grep_searcher.specs.Asking.{is_across};
-ghost use Rattle.grep_searcher.specs.Inputs.{searched_bytes};
+ghost use Rattle.grep_searcher.specs.Plans.{is_across};
+ghost use Rattle.grep_searcher.specs.Searches.{searched_bytes};
 ghost use Rattle.grep_searcher.specs.LineCounts.{matched_count};
 ghost use Rattle.uses.specs.Expressions.{line_meaning};
 

@@ -1,6 +1,6 @@
 //! The first matches of a reader.
 ghost use Rattle.std.specs.Prelude.{◌≡◌, true, List, ℕ, IfOk};
-ghost use Rattle.grep_searcher.specs.Inputs.{IsInput, Taken};
+ghost use Rattle.grep_searcher.specs.Searches.{IsInput, Taken};
 ghost use Rattle.grep_searcher.specs.LineCounts.{IsLineSearch};
 ghost use Rattle.uses.specs.MatchedLines.{first_lines};
 

@@ -2,8 +2,8 @@
 ghost use Rattle.std.specs.Prelude.{◌≡◌, ◌++◌, true, IfOk, OnOk};
 ghost use Rattle.std.specs.List.{flat_map};
 ghost use Rattle.std.specs.String.{string_bytes};
-ghost use Rattle.grep_searcher.specs.Asking.{IsLawful, search_plan};
-ghost use Rattle.grep_searcher.specs.Inputs.{searched_bytes};
+ghost use Rattle.grep_searcher.specs.Plans.{IsLawful, search_plan};
+ghost use Rattle.grep_searcher.specs.Searches.{searched_bytes};
 ghost use Rattle.grep_searcher.specs.SearchLaws.{match_calls};
 ghost use Rattle.grep_searcher.specs.SinkArguments.{match_call};
 ghost use Rattle.serde_json.specs.View.{view};

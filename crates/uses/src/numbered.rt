@@ -1,6 +1,6 @@
 //! The numbers and the texts of all matches, by a closure.
 ghost use Rattle.std.specs.Prelude.{◌≡◌, ◌++◌, ◌∷◌, [], true, IfOk};
-ghost use Rattle.grep_searcher.specs.Inputs.{searched_bytes};
+ghost use Rattle.grep_searcher.specs.Searches.{searched_bytes};
 ghost use Rattle.grep_searcher.specs.LineCounts.{IsLineSearch};
 ghost use Rattle.uses.specs.NumberedTexts.{texts_of};
 ghost use Rattle.uses.specs.MatchedLines.{numbered_lines_of};

@@ -2,7 +2,7 @@
 ghost use Rattle.std.specs.Prelude.{◌≡◌, ℕ, List, Some, true, IfOk, IfErr};
 ghost use Rattle.std.specs.declared.io.Error.{Error};
 ghost use Rattle.grep_searcher.specs.BoundedReads.{IsReadToMatch};
-ghost use Rattle.grep_searcher.specs.Inputs.{searched_bytes};
+ghost use Rattle.grep_searcher.specs.Searches.{searched_bytes};
 ghost use Rattle.grep_searcher.specs.LineCounts.{IsLineCount, IsLineSearch};
 ghost use Rattle.grep_searcher.specs.MatchHandlers.{has_selected};
 ghost use Rattle.grep_searcher.specs.SearchFailures.{IsFaultless};

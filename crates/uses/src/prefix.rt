@@ -1,7 +1,7 @@
 //! How many lines start with a prefix: a matcher of one's own.
 ghost use Rattle.std.specs.Prelude.{◌≡◌, false, IfOk};
 ghost use Rattle.grep_searcher.specs.HitLines.{IsUnlimited};
-ghost use Rattle.grep_searcher.specs.Inputs.{searched_bytes};
+ghost use Rattle.grep_searcher.specs.Searches.{searched_bytes};
 ghost use Rattle.grep_searcher.specs.LineCounts.{IsLineSearch};
 ghost use Rattle.uses.specs.Prefixes.{prefix_facts, prefixed_count};
 

@@ -1,7 +1,7 @@
 //! A report of the matches with the lines near them, by a closure that gets each call.
 ghost use Rattle.std.specs.Prelude.{◌≡◌, ◌++◌, ◌∷◌, true, IfOk, OnOk};
-ghost use Rattle.grep_searcher.specs.Asking.{IsLawful, search_plan};
-ghost use Rattle.grep_searcher.specs.Inputs.{searched_bytes};
+ghost use Rattle.grep_searcher.specs.Plans.{IsLawful, search_plan};
+ghost use Rattle.grep_searcher.specs.Searches.{searched_bytes};
 ghost use Rattle.grep_searcher.specs.PassedCalls.{passed_call};
 ghost use Rattle.uses.specs.MarkedCalls.{marked, one_before, report_of};
 

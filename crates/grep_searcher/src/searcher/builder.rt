@@ -17,7 +17,7 @@ pub struct SearcherBuilder {
 }
 
 impl Model for SearcherBuilder {
-    ghost use Rattle.grep_definitions.specs.Settings.{Settings};
+    ghost use Rattle.grep_definitions.specs.Plans.{Settings};
 
     ghost Value = { Settings };
 

@@ -1,12 +1,10 @@
 //! Searches of files.
 ghost use Rattle.std.specs.Prelude.{◌≡◌, true, ℕ, Bool, List, None, IfErr, OnOk};
 ghost use Rattle.std.specs.declared.io.Error.{Error};
-ghost use Rattle.grep_definitions.specs.Asking.{IsLawful, refusal_of};
+ghost use Rattle.grep_definitions.specs.Plans.{IsLawful, refusal_of, NeverFails};
 ghost use Rattle.grep_definitions.specs.FileSearches.{IsFileRead, IsFileSearched, IsPathInOrder};
 ghost use Rattle.grep_definitions.specs.FileSearches.{IsPathSearched};
-ghost use Rattle.grep_definitions.specs.Searches.{IsInOrder};
-ghost use Rattle.grep_definitions.specs.Plans.{NeverFails};
-ghost use Rattle.grep_definitions.specs.Inputs.{IsReadingError, IsUnread};
+ghost use Rattle.grep_definitions.specs.Searches.{IsInOrder, IsReadingError, IsUnread};
 ghost use Rattle.grep_matcher.specs.Meanings.{IsInfallible};
 ghost use Rattle.grep_report.specs.ErrorMakers.{makers_of};
 

@@ -1,6 +1,6 @@
 //! What a searcher was configured with.
 ghost use Rattle.std.specs.Prelude.{◌≡◌, true};
-ghost use Rattle.grep_definitions.specs.Asking.{is_across};
+ghost use Rattle.grep_definitions.specs.Plans.{is_across};
 
 use crate::searcher::Searcher;
 use grep_matcher::{LineTerminator, Matcher};

@@ -2,12 +2,9 @@
 ghost use Rattle.std.specs.Prelude.{◌≡◌, ℕ, Bool, true, false, List, None, IfErr, OnOk};
 ghost use Rattle.std.specs.declared.io.Error.{Error};
 ghost use Rattle.grep_matcher.specs.Meanings.{IsInfallible};
-ghost use Rattle.grep_definitions.specs.Asking.{IsLawful, refusal_of};
-ghost use Rattle.grep_definitions.specs.BinaryBytes.{look_of};
-ghost use Rattle.grep_definitions.specs.Searches.{IsInOrder, IsRead, IsReaderSearched};
-ghost use Rattle.grep_definitions.specs.Plans.{NeverFails};
-ghost use Rattle.grep_definitions.specs.Inputs.{IsReadingError, IsUnread};
-ghost use Rattle.grep_definitions.specs.Reports.{is_at};
+ghost use Rattle.grep_definitions.specs.Plans.{IsLawful, refusal_of, NeverFails, is_at};
+ghost use Rattle.grep_definitions.specs.Searches.{look_of, IsInOrder, IsRead, IsReaderSearched};
+ghost use Rattle.grep_definitions.specs.Searches.{IsReadingError, IsUnread};
 ghost use Rattle.grep_report.specs.ErrorMakers.{makers_of};
 
 use crate::searcher::Searcher;

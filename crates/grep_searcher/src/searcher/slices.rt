@@ -2,13 +2,10 @@
 ghost use Rattle.std.specs.Prelude.{◌≡◌, ℕ, Bool, true, false, List, None, IfErr, IsOk};
 ghost use Rattle.std.specs.declared.io.Error.{Error};
 ghost use Rattle.grep_matcher.specs.Meanings.{IsInfallible};
-ghost use Rattle.grep_definitions.specs.Asking.{IsLawful, refusal_of};
-ghost use Rattle.grep_definitions.specs.Searches.{IsInOrder};
-ghost use Rattle.grep_definitions.specs.Plans.{NeverFails};
-ghost use Rattle.grep_definitions.specs.Inputs.{IsOwnError};
+ghost use Rattle.grep_definitions.specs.Plans.{IsLawful, refusal_of, NeverFails, is_at};
+ghost use Rattle.grep_definitions.specs.Searches.{IsInOrder, IsOwnError};
 ghost use Rattle.grep_definitions.specs.SliceSearches.{is_searched_unchanged, IsSliceSearched};
 ghost use Rattle.grep_definitions.specs.SliceSearches.{IsUndecoded};
-ghost use Rattle.grep_definitions.specs.Reports.{is_at};
 ghost use Rattle.grep_report.specs.ErrorMakers.{makers_of};
 
 use crate::searcher::Searcher;

@@ -1,5 +1,5 @@
 use Rattle.std.proofs.Common.{refl, arith}
-use Rattle.grep_searcher.specs.Inputs.{searched_bytes}
+use Rattle.grep_searcher.specs.Searches.{searched_bytes}
 use Rattle.grep_searcher.specs.Literals.{literal_meaning}
 use Rattle.uses.specs.AcrossSettings.{across_lines}
 use Rattle.uses.proofs.blocks.count_blocks.Goals as goal

@@ -1,5 +1,5 @@
 use Rattle.std.proofs.Common.{refl, arith}
-use Rattle.grep_searcher.specs.Inputs.{searched_bytes}
+use Rattle.grep_searcher.specs.Searches.{searched_bytes}
 use Rattle.grep_searcher.specs.Plans.{reported_bytes}
 use Rattle.uses.proofs.collect.matching_lines.Goals as goal
 

@@ -1,5 +1,5 @@
 use Rattle.std.proofs.Common.{rules, arith, ap, refl}
-use Rattle.grep_searcher.specs.Inputs.{searched_bytes}
+use Rattle.grep_searcher.specs.Searches.{searched_bytes}
 use Rattle.uses.specs.NumberedTexts.{texts_of}
 use Rattle.uses.proofs.numbered.numbered_lines.Goals as goal
 

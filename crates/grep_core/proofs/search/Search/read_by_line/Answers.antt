@@ -12,11 +12,9 @@ use Rattle.grep_core.proofs.UnreadLemmas.{IsShort, short-filled}
 use Rattle.grep_core.specs.BinaryCalls.{Noted, PassesBinary}
 use Rattle.grep_core.specs.Rolls.{IsStartAt, not_passed}
 use Rattle.grep_line_buffer.specs.Fills.{FailsToFill, IfRead}
-use Rattle.grep_definitions.specs.Asking.{IsLawful}
-use Rattle.grep_definitions.specs.BinaryBytes.{is_detecting}
+use Rattle.grep_definitions.specs.Plans.{IsLawful, all_true, begins}
+use Rattle.grep_definitions.specs.Searches.{is_detecting, IsReadForLine, reports_nothing}
 use Rattle.grep_definitions.specs.CallOrder.{HasCalled, of_call}
-use Rattle.grep_definitions.specs.Inputs.{IsReadForLine, reports_nothing}
-use Rattle.grep_definitions.specs.Plans.{all_true, begins}
 use Rattle.grep_walk.specs.Origins.{fresh}
 use Rattle.grep_definitions.proofs.CallOrderLemmas as order
 use Rattle.grep_core.proofs.OrderLemmas as passed

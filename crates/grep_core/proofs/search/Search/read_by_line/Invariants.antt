@@ -1,12 +1,10 @@
 use Rattle.std.proofs.Common.{◌≡◌, ◌+◌, ◌-◌, ◌<◌, ◌^◌, Ok, None, true, false, ℕ, List, length}
 use Rattle.grep_decode.specs.DecoderStates.{Decodes}
 use Rattle.grep_matcher.specs.Lines.{byte_of}
-use Rattle.grep_definitions.specs.BinaryBytes.{is_detecting}
+use Rattle.grep_definitions.specs.Searches.{is_detecting, reports_nothing}
 use Rattle.grep_definitions.specs.CallOrder.{HasCalled}
-use Rattle.grep_definitions.specs.Inputs.{reports_nothing}
-use Rattle.grep_definitions.specs.Plans.{all_true, begins}
+use Rattle.grep_definitions.specs.Plans.{all_true, begins, IsLawful}
 use Rattle.grep_core.proofs.OrderLemmas.{known_count}
-use Rattle.grep_definitions.specs.Asking.{IsLawful}
 use Rattle.grep_core.specs.Rolls.{IsReadingOn}
 use Rattle.grep_core.specs.SearchBuffers.{IsFitting, detection_of}
 use Rattle.grep_walk.specs.Walks.{IsOrdered}

@@ -4,8 +4,7 @@ use Rattle.std.proofs.lemmas.Result.{err_from_is_err_and}
 use Rattle.grep_matcher.specs.Lines.{byte_of}
 use Rattle.std.specs.Prelude.{slice_range}
 use Rattle.grep_lines.specs.Positions.{IsLineStart}
-use Rattle.grep_definitions.specs.Settings.{Settings}
-use Rattle.grep_definitions.specs.Plans.{all_true, failed, stopped, counted}
+use Rattle.grep_definitions.specs.Plans.{Settings, all_true, failed, stopped, counted}
 use Rattle.grep_walk.specs.Walks.{line_end}
 use Rattle.grep_walk.proofs.AcrossEndLemmas as ends
 use Rattle.grep_walk.proofs.AcrossStepLemmas as steps

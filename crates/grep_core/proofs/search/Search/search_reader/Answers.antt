@@ -2,7 +2,7 @@ use Rattle.std.proofs.Common.{Bool, sym, ◌∙◌, arith}
 use Rattle.std.proofs.lemmas.Result.{err_from_is_err_and}
 use Rattle.grep_report.specs.ErrorMakers.{ErrorMakers}
 use Rattle.grep_matcher.specs.Meanings.{MatcherFacts}
-use Rattle.grep_definitions.specs.Settings.{SearcherState, Settings}
+use Rattle.grep_definitions.specs.Plans.{SearcherState, Settings}
 use Rattle.grep_definitions.proofs.PlannedUnreadLemmas.{unread-planned}
 use Rattle.grep_core.proofs.ResultLemmas.{if_err-each}
 use Rattle.grep_core.proofs.InputSearchLemmas.{read-across, read-by_line}

@@ -1,6 +1,6 @@
 use Rattle.std.proofs.Common.{rules, ◌≡◌, ◌∙◌, ◌-◌, ap, sym, subst, arith, length, true}
 use Rattle.std.proofs.lemmas.Result.{err_from_is_err_and}
-use Rattle.grep_definitions.specs.Inputs.{IsClosed}
+use Rattle.grep_definitions.specs.Searches.{IsClosed}
 use Rattle.grep_matcher.specs.Lines.{byte_of}
 use Rattle.grep_core.proofs.RollingLemmas as rolls
 use Rattle.grep_definitions.specs.Plans.{all_true}

@@ -7,8 +7,7 @@ use Rattle.grep_lines.specs.Positions.{IsLineStart}
 use Rattle.grep_matcher.specs.Lines.{lines}
 use Rattle.grep_report.specs.ErrorMakers.{ErrorMakers}
 use Rattle.grep_matcher.specs.Meanings.{MatcherFacts}
-use Rattle.grep_definitions.specs.Asking.{IsLawful}
-use Rattle.grep_definitions.specs.Plans.{all_true, failed, stopped, counted}
+use Rattle.grep_definitions.specs.Plans.{IsLawful, all_true, failed, stopped, counted}
 use Rattle.grep_walk.specs.Origins.{Origin}
 use Rattle.grep_walk.specs.Windows.{HasSearched}
 use Rattle.grep_walk.specs.Walks.{chooses, is_over, line_end, after_line}

@@ -1,7 +1,6 @@
 use Rattle.std.proofs.Common.{◌≡◌, ◌≤◌, ◌+◌, ◌-◌, ℕ, List, length}
 use Rattle.grep_definitions.specs.CallOrder.{HasCalled}
-use Rattle.grep_definitions.specs.Plans.{all_true}
-use Rattle.grep_definitions.specs.Asking.{IsLawful}
+use Rattle.grep_definitions.specs.Plans.{all_true, IsLawful}
 use Rattle.grep_walk.specs.LookAheads.{IsBounded, IsKnown}
 use Rattle.grep_walk.specs.Origins.{Origin}
 use Rattle.grep_walk.specs.Walks.{IsOrdered}

@@ -1,8 +1,6 @@
 use Rattle.std.proofs.Common.{◌∙◌, [], false, inl, inr, refl, subst, sym}
-use Rattle.grep_definitions.specs.Asking.{IsLawful}
-use Rattle.grep_definitions.specs.BinaryBytes.{look_of}
-use Rattle.grep_definitions.specs.Searches.{IsInOrder, read_in_order}
-use Rattle.grep_definitions.specs.Inputs.{IsReadingError}
+use Rattle.grep_definitions.specs.Plans.{IsLawful}
+use Rattle.grep_definitions.specs.Searches.{look_of, IsInOrder, read_in_order, IsReadingError}
 use Rattle.grep_searcher.proofs.SourceSearchLemmas.{fault-buffers, searched-same, unread-buffers, unread-same}
 use Rattle.grep_report.specs.ErrorMakers.{makers_of}
 use Rattle.grep_searcher.proofs.searcher.Searcher.search_source.Goals as goal

@@ -3,7 +3,7 @@ use Rattle.std.proofs.Common.{◌+◌, ◌-◌, drop, refl, sym, ◌∙◌, ap, 
 use Rattle.grep_matcher.specs.Lawful.{IsLawfulResult, position_of}
 use Rattle.grep_matcher.specs.Lines.{byte_of}
 use Rattle.grep_walk.proofs.LookAheadLemmas.{known-none, known-candidate, known-confirmed, IsLocated, IsLocated-empty}
-use Rattle.grep_definitions.specs.Settings.{Settings}
+use Rattle.grep_definitions.specs.Plans.{Settings}
 use Rattle.grep_walk.proofs.config.Config.ahead_of.Goals as goal
 
 pub returns-in_default-clause-known : goal.returns-in_default-clause-known

@@ -1,7 +1,7 @@
 use Rattle.std.proofs.Common.{◌≡◌, ◌∙◌, ◌-◌, ◌+◌, length, drop, refl, ap, ap₂, arith, take, take_all, length-drop}
 use Rattle.grep_lines.specs.Blocks.{block_start, block_end}
 use Rattle.grep_matcher.specs.Lines.{byte_of}
-use Rattle.grep_definitions.specs.Settings.{Settings}
+use Rattle.grep_definitions.specs.Plans.{Settings}
 use Rattle.grep_walk.proofs.config.Config.block_from.Goals as goal
 
 pub returns : goal.returns
