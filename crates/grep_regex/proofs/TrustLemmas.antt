@@ -1,6 +1,6 @@
 -- What a matcher finds in many lines can be trusted.
 use Rattle.std.proofs.Common.{◌≡◌, ℕ, ◌<◌, ◌≤◌, true, List, length, slice_index, Some, None, is_some, option_map}
-use Rattle.std.proofs.Common.{sym, ap, ap₂, ◌∙◌, subst, inl, inr, ⊎_elim, arith, get_or, true≢false, Option, nat_lt}
+use Rattle.std.proofs.Common.{sym, ap, ◌∙◌, subst, inl, inr, ⊎_elim, arith, get_or, true≢false, Option, nat_lt}
 use Rattle.std.proofs.Common.{lit<, refl, Bool, [], ◌∷◌, ◌⊎◌}
 use Rattle.std.proofs.Math.Logic.{∥∥₁_elim}
 use Rattle.std.proofs.lemmas.Bool.{and_from, and_parts, false_from_ne_true, not-true}
@@ -27,7 +27,7 @@ use Rattle.grep_matcher.proofs.StrippedLineLemmas.{line-is}
 use Rattle.grep_regex.specs.AbsentBytes.{is_absent}
 use Rattle.grep_regex.specs.Clear.{is_among}
 use Rattle.grep_regex.specs.Locality.{is_local, is_by_line, is_crlf, is_separator}
-use Rattle.grep_regex.specs.Patterns.{first_match_at, leftmost_match_at, excluded_bytes, written_re}
+use Rattle.grep_regex.specs.Patterns.{leftmost_match_at, excluded_bytes, written_re}
 use Rattle.grep_regex.specs.Views.{regex_first, regex_first_at, regex_meaning, regex_options, regex_patterns, program_re}
 use Rattle.grep_regex.specs.declared.regex.Regex.{Regex}
 use Rattle.grep_regex.proofs.AbsentLemmas.{absent-separator, absent-undeclared}
@@ -38,11 +38,6 @@ use Rattle.grep_regex.proofs.FindLemmas.{clear-match}
 use Rattle.grep_regex.proofs.LocalityLemmas.{local-anywhere}
 use Rattle.grep_regex.proofs.MatchedLineLemmas.{match-within, kept, IsListed, kept-small, missed-all, missed, matched}
 use Rattle.grep_regex.proofs.MatchedLineLemmas.{FindsClear}
-
--- expressions with the same options and texts find the same
-pub first-same : (p q : Regex) → regex_options p ≡ regex_options q → regex_patterns p ≡ regex_patterns q
-    → (hay : List ℕ) (start : ℕ) → regex_first_at p hay start ≡ regex_first_at q hay start
-first-same p q options patterns hay start = ap₂ (λ o texts. first_match_at o texts hay start) options patterns
 
 -- a match lies within its haystack, and starts at the position or after it
 pub first-within : (r : Regex) (hay : List ℕ) (start : ℕ) → ((k : ℕ) → get_or hay k 0 < 256) → start ≤ length hay

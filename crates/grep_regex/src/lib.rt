@@ -5,6 +5,7 @@ mod absent;
 mod builder;
 mod engine;
 mod error;
+mod finder;
 mod frame;
 pub mod laws;
 mod locality;

@@ -1,9 +1,10 @@
 //! The matcher of a regular expression.
-ghost use Rattle.std.specs.Prelude.{◌≡◌, ◌≤◌, length, is_some, IfOk};
+ghost use Rattle.std.specs.Prelude.{◌≡◌, ◌≤◌, length, IfOk};
 ghost use Rattle.grep_matcher.specs.FindResults.{IsFrom};
-ghost use Rattle.grep_regex.specs.Views.{regex_first, regex_first_at};
+ghost use Rattle.grep_regex.specs.Views.{regex_first_at};
 
 use crate::engine::Engine;
+use crate::finder::{find_by, is_match_by};
 use crate::regex::Regex;
 use grep_matcher::{ByteSet, FindAt, LineMatchKind, LineTerminator, Match, Matcher};
 use std::alloc::{AllocError, Global};
@@ -28,55 +29,25 @@ impl<'r> RegexMatcher<'r> {
     pub(crate) fn new(alloc: Global, regex: &'r Regex) -> Result<RegexMatcher<'r>, AllocError>
         ensures { IfOk result (λ matcher. matcher_regex matcher ≡ regex.now) }
     {
-        let engine = Engine::new(alloc, regex)?;
-        Ok(RegexMatcher {
-            alloc,
-            regex,
-            engine: RefCell::new(engine),
-        })
-    }
-}
-
-// The first match from a position on, by the engine in the cell if it is for this expression, and
-// otherwise by a new one.
-fn find_by<'r>(
-    alloc: Global,
-    regex: &'r Regex,
-    cell: &RefCell<Engine<'r>>,
-    haystack: &[u8],
-    start: usize,
-) -> Result<Option<(usize, usize)>, AllocError>
-    requires { start ≤ length haystack.now }
-    ensures value { IfOk result (λ found. found ≡ regex_first_at regex.now haystack.now start) }
-    ensures within { IfOk result (IsFrom start haystack.now) }
-{
-    if let Ok(mut borrowed) = cell.try_borrow_mut() {
-        let engine = &mut *borrowed;
-        if engine.regex.is_equal(regex) {
-            return Ok(engine.find_at(haystack, start));
+        match Engine::new(alloc, regex) {
+            Ok(engine) => Ok(RegexMatcher {
+                alloc,
+                regex,
+                engine: RefCell::new(engine),
+            }),
+            Err(error) => Err(error),
         }
     }
-    let mut engine = Engine::new(alloc, regex)?;
-    Ok(engine.find_at(haystack, start))
-}
 
-// Whether there is a match, in the same way.
-fn is_match_by<'r>(
-    alloc: Global,
-    regex: &'r Regex,
-    cell: &RefCell<Engine<'r>>,
-    haystack: &[u8],
-) -> Result<bool, AllocError>
-    ensures { IfOk result (λ matches. matches ≡ is_some (regex_first regex.now haystack.now)) }
-{
-    if let Ok(mut borrowed) = cell.try_borrow_mut() {
-        let engine = &mut *borrowed;
-        if engine.regex.is_equal(regex) {
-            return Ok(engine.is_match(haystack));
-        }
+    // The first match from a position on.
+    fn find_by(&self, haystack: &[u8], start: usize) -> Result<Option<(usize, usize)>, AllocError>
+        requires { start ≤ length haystack.now }
+        ensures value { IfOk result
+            (λ found. found ≡ regex_first_at (matcher_regex self.now) haystack.now start) }
+        ensures within { IfOk result (IsFrom start haystack.now) }
+    {
+        find_by(self.alloc, self.regex, &self.engine, haystack, start)
     }
-    let mut engine = Engine::new(alloc, regex)?;
-    Ok(engine.is_match(haystack))
 }
 
 impl Matcher for RegexMatcher<'_> {
@@ -104,7 +75,7 @@ impl Matcher for RegexMatcher<'_> {
         if !self.regex.is_by_line() {
             return Ok(Some(LineMatchKind::Candidate(0)));
         }
-        match find_by(self.alloc, self.regex, &self.engine, haystack, 0)? {
+        match self.find_by(haystack, 0)? {
             Some((start, _)) => Ok(Some(LineMatchKind::Confirmed(start))),
             None => Ok(None),
         }
@@ -131,7 +102,7 @@ impl FindAt for RegexMatcher<'_> {
         first-matches (regex_options (matcher_regex m)) (regex_patterns (matcher_regex m)) };
 
     fn find_at(&self, haystack: &[u8], start: usize) -> Result<Option<Match>, AllocError> {
-        match find_by(self.alloc, self.regex, &self.engine, haystack, start)? {
+        match self.find_by(haystack, start)? {
             Some((from, end)) => Ok(Some(Match::new(from, end))),
             None => Ok(None),
         }

@@ -1,10 +1,10 @@
 //! The matcher of an expression that has a name.
-ghost use Rattle.std.specs.Prelude.{◌≡◌, ◌≤◌, length, is_some, IfOk};
+ghost use Rattle.std.specs.Prelude.{◌≡◌, ◌≤◌, length, IfOk};
 ghost use Rattle.grep_matcher.specs.FindResults.{IsFrom};
-ghost use Rattle.grep_regex.specs.Patterns.{first_match_at};
-ghost use Rattle.grep_regex.specs.Views.{regex_first, regex_first_at, IsNamed};
+ghost use Rattle.grep_regex.specs.Views.{regex_first_at, IsNamed};
 
 use crate::engine::Engine;
+use crate::finder::{Finder, find_by, is_match_by};
 use crate::regex::Regex;
 use grep_matcher::{ByteSet, FindAt, LineMatchKind, LineTerminator, Match, Matcher};
 use std::alloc::{AllocError, Global};
@@ -41,29 +41,21 @@ struct NamedEngine<'r, N: Naming> {
     ghost named: { IsNamed N.options N.patterns engine.regex.now },
 }
 
-impl<'r, N: Naming> NamedEngine<'r, N> {
-    fn new(alloc: Global, regex: &'r Regex) -> Result<NamedEngine<'r, N>, AllocError>
-        requires { IsNamed N.options N.patterns regex.now }
-    {
-        let engine = Engine::new(alloc, regex)?;
-        Ok(NamedEngine {
-            engine,
-            name: PhantomData,
-        })
+// It is for the expressions of its name.
+impl<'r, N: Naming> Finder for NamedEngine<'r, N> {
+    ghost is_known = { IsNamed N.options N.patterns };
+
+    fn find_for(
+        &mut self,
+        _regex: &Regex,
+        haystack: &[u8],
+        start: usize,
+    ) -> Option<Option<(usize, usize)>> {
+        Some(self.engine.find_at(haystack, start))
     }
 
-    fn find_at(&mut self, haystack: &[u8], start: usize) -> Option<(usize, usize)>
-        requires { start ≤ length haystack.now }
-        ensures value { result ≡ first_match_at N.options N.patterns haystack.now start }
-        ensures within { IsFrom start haystack.now result }
-    {
-        self.engine.find_at(haystack, start)
-    }
-
-    fn is_match(&mut self, haystack: &[u8]) -> bool
-        ensures { result ≡ is_some (first_match_at N.options N.patterns haystack.now 0) }
-    {
-        self.engine.is_match(haystack)
+    fn is_match_for(&mut self, _regex: &Regex, haystack: &[u8]) -> Option<bool> {
+        Some(self.engine.is_match(haystack))
     }
 }
 
@@ -85,27 +77,27 @@ impl<'r, N: Naming> NamedMatcher<'r, N> {
         requires { IsNamed N.options N.patterns regex.now }
         ensures { IfOk result (λ matcher. named_regex matcher ≡ regex.now) }
     {
-        let engine = NamedEngine::new(alloc, regex)?;
-        Ok(NamedMatcher {
-            alloc,
-            regex,
-            engine: RefCell::new(engine),
-        })
+        match Engine::new(alloc, regex) {
+            Ok(engine) => Ok(NamedMatcher {
+                alloc,
+                regex,
+                engine: RefCell::new(NamedEngine {
+                    engine,
+                    name: PhantomData,
+                }),
+            }),
+            Err(error) => Err(error),
+        }
     }
 
-    // The first match from a position on, by the engine in the cell, or by a new one if the cell is
-    // in use.
+    // The first match from a position on.
     fn find_by(&self, haystack: &[u8], start: usize) -> Result<Option<(usize, usize)>, AllocError>
         requires { start ≤ length haystack.now }
         ensures value { IfOk result
             (λ found. found ≡ regex_first_at (named_regex self.now) haystack.now start) }
         ensures within { IfOk result (IsFrom start haystack.now) }
     {
-        if let Ok(mut borrowed) = self.engine.try_borrow_mut() {
-            return Ok(borrowed.find_at(haystack, start));
-        }
-        let mut engine: NamedEngine<'r, N> = NamedEngine::new(self.alloc, self.regex)?;
-        Ok(engine.find_at(haystack, start))
+        find_by(self.alloc, self.regex, &self.engine, haystack, start)
     }
 }
 
@@ -128,11 +120,7 @@ impl<N: Naming> Matcher for NamedMatcher<'_, N> {
     }
 
     fn is_match(&self, haystack: &[u8]) -> Result<bool, AllocError> {
-        if let Ok(mut borrowed) = self.engine.try_borrow_mut() {
-            return Ok(borrowed.is_match(haystack));
-        }
-        let mut engine: NamedEngine<'_, N> = NamedEngine::new(self.alloc, self.regex)?;
-        Ok(engine.is_match(haystack))
+        is_match_by(self.alloc, self.regex, &self.engine, haystack)
     }
 
     fn find_candidate_line(&self, haystack: &[u8]) -> Result<Option<LineMatchKind>, AllocError> {

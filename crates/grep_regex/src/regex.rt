@@ -6,7 +6,7 @@ ghost use Rattle.grep_matcher.specs.FindResults.{holds_if_some};
 ghost use Rattle.grep_regex.specs.AbsentBytes.{is_absent};
 ghost use Rattle.grep_regex.specs.Locality.{is_by_line};
 ghost use Rattle.grep_regex.specs.Patterns.{excluded_bytes, AvoidsAbsent, FindsAs};
-ghost use Rattle.grep_regex.specs.Refusals.{IsOfCompiler, IsTerminatorError};
+ghost use Rattle.grep_regex.specs.Refusals.{IsOfCompiler, IsRefusal, IsTerminatorError};
 ghost use Rattle.grep_regex.specs.Stripped.{AreAscii};
 
 use crate::absent::absent_bytes;
@@ -114,7 +114,6 @@ impl fmt::Debug for Regex {
 }
 
 impl Regex {
-    ghost use Rattle.grep_regex.specs.Refusals.{IsRefusal};
     ghost use Rattle.grep_regex.specs.Views.{regex_options, regex_patterns, program_re};
     ghost use Rattle.grep_regex.specs.Views.{regex_program, searcher_program, matcher_regex};
     ghost use Rattle.grep_regex.specs.NamedViews.{named_regex};
@@ -126,13 +125,12 @@ impl Regex {
         ensures patterns { IfOk result (λ r. regex_patterns r ≡ map (λ p. p.now) patterns.now) }
         ensures error { IfErr result (IsRefusal options (map (λ p. p.now) patterns.now)) }
     {
-        check_terminator(options.line_terminator)?;
-        let Choice { hir, groups } = read_choice(alloc, &options, patterns)?;
-        let whole = framed(alloc, &options, hir)?;
-        let stripped = without_bytes(alloc, &whole, excluded_bytes(&options.line_terminator))?;
+        let program = match program_of(alloc, &options, patterns) {
+            Ok(program) => program,
+            Err(error) => return Err(error),
+        };
         let absent = absent_bytes(&options, patterns);
-        let by_line = confirms(options.line_terminator, &absent, &stripped);
-        let program = compiled(alloc, stripped, groups, options.size_limit)?;
+        let by_line = confirms(options.line_terminator, &absent, &program.hir);
         let patterns = Texts::new(alloc, patterns)?;
         let shared = Shared {
             options,
@@ -141,9 +139,10 @@ impl Regex {
             program,
             by_line,
         };
-        Ok(Regex {
-            shared: Arc::new(alloc, shared)?,
-        })
+        match Arc::new(alloc, shared) {
+            Ok(shared) => Ok(Regex { shared }),
+            Err(error) => Err(Error::from(error)),
+        }
     }
 
     /// A matcher of the expression. The only error is being out of memory for what its engines
@@ -201,6 +200,22 @@ impl Regex {
     {
         self.shared.options.is_equal(&other.shared.options)
             && self.shared.patterns.is_equal(&other.shared.patterns)
+    }
+}
+
+// What finds the first of the patterns that works.
+fn program_of(alloc: Global, options: &Options, patterns: &[&str]) -> Result<Program, Error>
+    ensures ok { IfOk result (λ program.
+        FindsAs options.now (map (λ p. p.now) patterns.now) (meaning program.hir)) }
+    ensures error { IfErr result (IsRefusal options.now (map (λ p. p.now) patterns.now)) }
+{
+    check_terminator(options.line_terminator)?;
+    let Choice { hir, groups } = read_choice(alloc, options, patterns)?;
+    let whole = framed(alloc, options, hir)?;
+    let stripped = without_bytes(alloc, &whole, excluded_bytes(&options.line_terminator))?;
+    match compiled(alloc, stripped, groups, options.size_limit) {
+        Ok(program) => Ok(program),
+        Err(error) => Err(error),
     }
 }
 
