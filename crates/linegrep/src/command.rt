@@ -246,7 +246,14 @@ const COLOR: [&str; 3] = ["auto", "always", "never"];
 /// The command line of the program. An error is one of being out of memory.
 pub fn command<'a>(alloc: Global) -> Result<Command<'a>, Error> {
     let json = json(alloc)?;
-    let command = Command::new(alloc, "linegrep")
+    let command = add_single(alloc, program(alloc), json)?;
+    let command = add_switches(alloc, command)?;
+    Ok(add_valued(alloc, command)?)
+}
+
+// The program, without its arguments.
+fn program<'a>(alloc: Global) -> Command<'a> {
+    Command::new(alloc, "linegrep")
         .version("0.1.0")
         .about("Searches files, or standard input, for lines that match a pattern")
         .override_usage(
@@ -254,12 +261,19 @@ pub fn command<'a>(alloc: Global) -> Result<Command<'a>, Error> {
         )
         .disable_help_flag(true)
         .args_override_self(true)
+}
+
+// Adds the arguments that are in neither table.
+fn add_single<'a>(
+    alloc: Global,
+    command: Command<'a>,
+    json: Arg<'a>,
+) -> Result<Command<'a>, AllocError> {
+    command
         .arg(operands(alloc))?
         .arg(help(alloc))?
         .arg(json)?
-        .arg(color(alloc))?;
-    let command = add_switches(alloc, command)?;
-    Ok(add_valued(alloc, command)?)
+        .arg(color(alloc))
 }
 
 fn add_switches<'a>(alloc: Global, command: Command<'a>) -> Result<Command<'a>, AllocError> {

@@ -90,8 +90,7 @@ where
         has_match: false,
         has_error: false,
     };
-    run.search_paths(paths, input)?;
-    run.finish()
+    run.complete(paths, input)
 }
 
 // What the arguments say of a run.
@@ -137,6 +136,16 @@ where
     M: FindAt,
     W: Output,
 {
+    // Searches the files at some paths, writes what is left, and gives the status.
+    fn complete<R: Source>(
+        &mut self,
+        paths: &[String],
+        input: &mut R,
+    ) -> Result<ExitCode, Failure> {
+        self.search_paths(paths, input)?;
+        self.finish()
+    }
+
     // Searches the files at some paths. If there is none, it searches the current folder or the
     // input.
     fn search_paths<R: Source>(&mut self, paths: &[String], input: &mut R) -> Result<(), Failure> {
@@ -148,19 +157,23 @@ where
             };
         }
         for path in paths {
-            let path = path.as_str();
-            if path == "-" {
-                self.search_input(input)?;
-            } else if self.flags.is_recursive && is_folder(self.rt, path) {
-                self.search_folder(path)?;
-            } else {
-                self.search_path(path)?;
-            }
+            self.search_operand(path.as_str(), input)?;
             if self.is_over() {
                 break;
             }
         }
         Ok(())
+    }
+
+    // Searches what an operand names: the input, a folder or a file.
+    fn search_operand<R: Source>(&mut self, path: &str, input: &mut R) -> Result<(), Failure> {
+        if path == "-" {
+            self.search_input(input)
+        } else if self.flags.is_recursive && is_folder(self.rt, path) {
+            self.search_folder(path)
+        } else {
+            self.search_path(path)
+        }
     }
 
     // Whether nothing that is found from now on makes a difference.

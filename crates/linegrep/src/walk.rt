@@ -1,5 +1,6 @@
 //! The files of a folder and of the folders in it.
 use crate::globs::{Choice, GlobsMatcher};
+use std::fs::DirEntry;
 use std::rt::Files;
 use std::{fs, io};
 
@@ -67,21 +68,33 @@ impl<'r, T: Files + AllocGlobal + Clone + Drop> Walk<'r, T> {
 
     // Adds what a folder holds, the last name first.
     fn push_entries(&mut self, globs: &mut GlobsMatcher<'_>, folder: &str) -> io::Result<()> {
-        let alloc = self.rt.alloc();
-        let mut entries = Vec::new(alloc);
-        let name = name_of(folder);
-        for entry in fs::read_dir(self.rt, name)? {
-            match entry {
-                Ok(entry) => {
-                    if let Some(entry) = self.entry(globs, folder, entry.file_name())? {
-                        entries.push(entry)?;
-                    }
-                }
-                Err(error) => entries.push(Entry::Unread(String::from_str(alloc, name)?, error))?,
-            }
+        let mut entries = Vec::new(self.rt.alloc());
+        for entry in fs::read_dir(self.rt, name_of(folder))? {
+            self.push_entry(globs, folder, entry, &mut entries)?;
         }
         entries.sort_unstable_by(|a, b| b.path().cmp(a.path()));
         self.pending.append(&mut entries)?;
+        Ok(())
+    }
+
+    // Adds an entry of a folder, if it is one to visit, or why it can't be read.
+    fn push_entry(
+        &self,
+        globs: &mut GlobsMatcher<'_>,
+        folder: &str,
+        entry: io::Result<DirEntry<T>>,
+        entries: &mut Vec<Entry>,
+    ) -> io::Result<()> {
+        let entry = match entry {
+            Ok(entry) => self.entry(globs, folder, entry.file_name())?,
+            Err(error) => {
+                let name = String::from_str(self.rt.alloc(), name_of(folder))?;
+                Some(Entry::Unread(name, error))
+            }
+        };
+        if let Some(entry) = entry {
+            entries.push(entry)?;
+        }
         Ok(())
     }
 
