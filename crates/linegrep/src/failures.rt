@@ -13,7 +13,7 @@ pub enum Failure {
     Usage(clap::Error),
     /// There is no pattern.
     NoPattern,
-    /// A pattern can't be compiled: its text, and why.
+    /// A pattern can't be compiled: its text, empty if it may be one of several, and why.
     Pattern(String, grep_regex::Error),
     /// A setting can't be used, as a message.
     Setting(String),
@@ -21,24 +21,30 @@ pub enum Failure {
     Patterns(String, io::Error),
     /// Standard output can't be written to.
     Output(io::Error),
-    /// Anything else that the system refuses.
+    /// Anything else that the system refuses; invalid data are those of an argument.
     System(io::Error),
 }
 
 impl Failure {
-    /// Says what went wrong, and gives the status to exit with: 2, or 0 if help was asked for, or if
-    /// nobody reads the output any more.
+    /// Says what went wrong, and gives the status to exit with: 2, or 0 if help was asked for and
+    /// could be written, or if nobody reads the output any more.
     pub fn report<T: Print + Eprint + AllocGlobal>(&self, rt: &T) -> ExitCode {
-        let _ = match self {
+        let reported = match self {
             Failure::Usage(error) => error.print(rt),
             Failure::NoPattern => eprintln!(rt; "linegrep: there is no pattern\n\n{MORE}"),
             Failure::Pattern(text, error) => report_pattern(rt, text, error),
             Failure::Setting(message) => eprintln!(rt; "linegrep: {message}"),
             Failure::Patterns(path, error) => report_cause(rt, path, error),
             Failure::Output(error) => report_output(rt, error),
+            Failure::System(error) if error.kind() == io::ErrorKind::InvalidData => {
+                eprintln!(rt; "linegrep: an argument isn't UTF-8")
+            }
             Failure::System(error) => eprintln!(rt; "linegrep: {error}"),
         };
-        ExitCode::from(self.status())
+        match (self, reported) {
+            (Failure::Usage(error), Err(cause)) if !error.use_stderr() => report_help(rt, cause),
+            _ => ExitCode::from(self.status()),
+        }
     }
 
     fn status(&self) -> u8 {
@@ -48,6 +54,12 @@ impl Failure {
             _ => 2,
         }
     }
+}
+
+// Says why help or the version can't be written, and gives the status.
+fn report_help<T: Eprint + AllocGlobal>(rt: &T, error: io::Error) -> ExitCode {
+    let _ = report_output(rt, &error);
+    ExitCode::from(Failure::Output(error).status())
 }
 
 // Says why nothing more can be written, unless nobody reads it.
@@ -80,8 +92,23 @@ fn report_pattern<T: Eprint>(rt: &T, text: &str, error: &grep_regex::Error) -> i
             eprintln!(rt; "linegrep: {message}\n    {text}")?;
             report_mark(rt, text, error.span.start)
         }
-        other => eprintln!(rt; "linegrep: {other}\n    {text}"),
+        grep_regex::Error::NotAllowed(_) => {
+            eprintln!(rt; "linegrep: {error}, which needs -U")?;
+            report_text(rt, text)
+        }
+        other => {
+            eprintln!(rt; "linegrep: {other}")?;
+            report_text(rt, text)
+        }
     }
+}
+
+// Writes the text of a pattern, unless it isn't known.
+fn report_text<T: Eprint>(rt: &T, text: &str) -> io::Result<()> {
+    if text.is_empty() {
+        return Ok(());
+    }
+    eprintln!(rt; "    {text}")
 }
 
 // Writes a mark below the character that begins at a position of a text, counted in bytes.

@@ -111,7 +111,16 @@ pub fn shows_paths(matches: &ArgMatches<'_>, searches_several: bool) -> bool {
     if writes_paths || matches.get_flag("json") {
         return true;
     }
-    !matches.get_flag("no-filename") && (matches.get_flag("with-filename") || searches_several)
+    !decides(matches, "no-filename", "with-filename")
+        && (matches.get_flag("with-filename") || searches_several)
+}
+
+// Whether a flag is given, and not before another one that says the opposite.
+fn decides(matches: &ArgMatches<'_>, name: &str, opposite: &str) -> bool {
+    if !(matches.get_flag(name) && matches.get_flag(opposite)) {
+        return matches.get_flag(name);
+    }
+    last_place(matches, name) > last_place(matches, opposite)
 }
 
 /// What ends a line.
@@ -141,15 +150,27 @@ pub fn texts(
 }
 
 fn shows_numbers(matches: &ArgMatches<'_>, is_terminal: bool) -> bool {
-    !matches.get_flag("no-line-number")
+    !decides(matches, "no-line-number", "line-number")
         && (matches.get_flag("line-number")
             || matches.get_flag("column")
             || matches.get_flag("json")
             || is_terminal)
 }
 
-// How many lines of context: by the option itself, or else by the one for both sides.
+// The last place of a flag among the words.
+fn last_place(matches: &ArgMatches<'_>, name: &str) -> usize {
+    match matches.indices_of(name) {
+        Some(places) => places.last().copied().unwrap_or(0),
+        None => 0,
+    }
+}
+
+// How many lines of context: by the option itself, or else by the one for both sides. A summary
+// has none, so that its counts end at the limit.
 fn context(matches: &ArgMatches<'_>, name: &str) -> usize {
+    if summary_kind(matches).is_some() {
+        return 0;
+    }
     let number = matches.get_one::<u64>(name);
     let both = matches.get_one::<u64>("context");
     number.or(both).unwrap_or(0) as usize
@@ -192,7 +213,7 @@ fn path_terminator(matches: &ArgMatches<'_>) -> Option<u8> {
 }
 
 fn shows_headings(matches: &ArgMatches<'_>, is_terminal: bool) -> bool {
-    !matches.get_flag("no-heading") && (matches.get_flag("heading") || is_terminal)
+    !decides(matches, "no-heading", "heading") && (matches.get_flag("heading") || is_terminal)
 }
 
 // Headings are set apart by an empty line. Without them groups of lines of two files are set apart

@@ -120,11 +120,12 @@ fn has_capital(pattern: &str) -> bool {
     false
 }
 
-// The failure of patterns, with the text of the one that is wrong, or of the first.
+// The failure of patterns, with the text of the one that is wrong, or none if that isn't known.
 fn refused(alloc: Global, error: Error, texts: &[&str]) -> Failure {
     let index = match &error {
         Error::Syntax { pattern, error: _ } => *pattern,
-        _ => 0,
+        _ if texts.len() == 1 => 0,
+        _ => texts.len(),
     };
     let text = texts.get(index).copied().unwrap_or("");
     match String::from_str(alloc, text) {
