@@ -6,16 +6,21 @@ use std::alloc::{AllocError, Global};
 use std::io::Write;
 use std::path::Path;
 use std::process::ExitCode;
-use std::test::Fail;
 use std::{fs, io};
 
 // The arguments of a line, which one space each keeps apart.
 fn arguments(alloc: Global, line: &str) -> Result<Vec<String>, AllocError> {
     let mut arguments = Vec::new(alloc);
     for argument in line.split(' ') {
-        arguments.push(String::from_str(alloc, argument)?)?;
+        push(alloc, &mut arguments, argument)?;
     }
     Ok(arguments)
+}
+
+// Adds an argument.
+fn push(alloc: Global, arguments: &mut Vec<String>, argument: &str) -> Result<(), AllocError> {
+    arguments.push(String::from_str(alloc, argument)?)?;
+    Ok(())
 }
 
 // The options of a line.
@@ -33,36 +38,46 @@ fn search<R: Source, W: Write>(
     reader: &mut R,
     writer: &mut Writing<W>,
 ) -> Result<bool, SearchError> {
-    let Ok(options) = options(alloc, line) else {
-        return Err(SearchError::Io(io::Error::from(io::ErrorKind::InvalidInput)));
-    };
-    run(alloc, &options, reader, writer)
+    match options(alloc, line) {
+        Ok(options) => run(alloc, &options, reader, writer),
+        Err(_) => Err(no_options()),
+    }
+}
+
+// The error of a line that has no options.
+fn no_options() -> SearchError {
+    SearchError::Io(io::Error::from(io::ErrorKind::InvalidInput))
+}
+
+const REFUSED_LINES: &[&str] = &[
+    "-m 4294967296 a",
+    "-m 00000000001 a",
+    "-A +1 a",
+    "-B x a",
+    "-m a",
+    "-A",
+    "-B",
+    "-m",
+    "-x a",
+    "-U",
+    "-v",
+    "a b c",
+    "a b -v",
+    "--",
+    "-- a b c",
+];
+
+// Whether the arguments of a line are refused.
+fn is_refused(alloc: Global, line: &str) -> bool {
+    matches!(options(alloc, line), Err(OptionsFault::Usage))
 }
 
 #[test]
 fn refuses_arguments(rt: HostRuntime) {
-    for line in [
-        "-m 4294967296 a",
-        "-m 00000000001 a",
-        "-A +1 a",
-        "-B x a",
-        "-m a",
-        "-A",
-        "-B",
-        "-m",
-        "-x a",
-        "-U",
-        "-v",
-        "a b c",
-        "a b -v",
-        "--",
-        "-- a b c",
-    ] {
-        let parsed = options(rt.alloc(), line);
-        assert!(rt; matches!(parsed, Err(OptionsFault::Usage)), "at {line}");
+    for line in REFUSED_LINES {
+        assert!(rt; is_refused(rt.alloc(), line), "at {line}");
     }
-    let parsed = Options::parse(rt.alloc(), &[]);
-    assert!(rt; matches!(parsed, Err(OptionsFault::Usage)));
+    assert!(rt; matches!(Options::parse(rt.alloc(), &[]), Err(OptionsFault::Usage)));
     assert!(rt;
         USAGE == "usage: lgrep [-v] [-A N] [-B N] [-m N] [-U] [--passthru] [-c] LITERAL [PATH]"
     );
@@ -164,18 +179,40 @@ fn has_options(options: &Options, row: &OptionsRow) -> bool {
         && options.max == row.6
         && !options.count
         && options.literal.as_str() == row.7
-        && options.path.as_ref().map(|path| path.as_str()) == row.8
+        && has_path(options, row.8)
+}
+
+// Whether options have this path, or none.
+fn has_path(options: &Options, path: Option<&str>) -> bool {
+    match (&options.path, path) {
+        (Some(own), Some(path)) => own.as_str() == path,
+        (None, None) => true,
+        _ => false,
+    }
+}
+
+// Whether the options of a row's line are the row's.
+fn is_read(alloc: Global, row: &OptionsRow) -> bool {
+    match options(alloc, row.0) {
+        Ok(options) => has_options(&options, row),
+        Err(_) => false,
+    }
+}
+
+// Whether `-c -v a` counts the lines without an `a`.
+fn is_counting(alloc: Global) -> bool {
+    match options(alloc, "-c -v a") {
+        Ok(options) => options.count && options.invert && options.path.is_none(),
+        Err(_) => false,
+    }
 }
 
 #[test]
-fn reads_arguments(rt: HostRuntime) -> Result<(), Fail> {
+fn reads_arguments(rt: HostRuntime) {
     for row in OPTIONS_ROWS {
-        let options = options(rt.alloc(), row.0)?;
-        assert!(rt; has_options(&options, row), "at {}", row.0);
+        assert!(rt; is_read(rt.alloc(), row), "at {}", row.0);
     }
-    let counting = options(rt.alloc(), "-c -v a")?;
-    assert!(rt; counting.count && counting.invert && counting.path.is_none());
-    Ok(())
+    assert!(rt; is_counting(rt.alloc()));
 }
 
 // The arguments of a search, its input, what it writes, and whether it reports a match.
@@ -221,26 +258,29 @@ const SEARCH_ROWS: &[(&str, &[u8], &str, bool)] = &[
 ];
 
 // Whether a search of a line writes this, and reports a match or not.
-fn writes(
-    alloc: Global,
-    line: &str,
-    input: &[u8],
-    text: &str,
-    found: bool,
-) -> Result<bool, SearchError> {
+fn writes(alloc: Global, line: &str, input: &[u8], text: &[u8], found: bool) -> bool {
     let mut reader = input;
     let mut writer = Writing::new(Vec::new(alloc));
-    let is_found = search(alloc, line, &mut reader, &mut writer)?;
-    let written = writer.into_inner();
-    Ok(is_found == found && written.as_slice() == text.as_bytes())
+    let ended = search(alloc, line, &mut reader, &mut writer);
+    is_found(ended, found) && writer.into_inner().as_slice() == text
+}
+
+// Whether a search ended in no error, and reported a match or not.
+fn is_found(ended: Result<bool, SearchError>, found: bool) -> bool {
+    match ended {
+        Ok(is_found) => is_found == found,
+        Err(_) => false,
+    }
 }
 
 #[test]
-fn writes_what_it_finds(rt: HostRuntime) -> Result<(), Fail> {
+fn writes_what_it_finds(rt: HostRuntime) {
     for (line, input, text, found) in SEARCH_ROWS {
-        assert!(rt; writes(rt.alloc(), line, input, text, *found)?, "at {line}");
+        assert!(rt;
+            writes(rt.alloc(), line, input, text.as_bytes(), *found),
+            "at {line}"
+        );
     }
-    Ok(())
 }
 
 // Takes a few bytes a call, after a first call that is interrupted.
@@ -266,17 +306,21 @@ impl Write for Slow {
     }
 }
 
-#[test]
-fn writes_all_in_parts(rt: HostRuntime) -> Result<(), Fail> {
+// Whether such a writer takes the whole text.
+fn is_taken_in_parts(alloc: Global) -> bool {
     let mut writer = Writing::new(Slow {
         is_interrupted: false,
-        taken: Vec::new(rt.alloc()),
+        taken: Vec::new(alloc),
     });
     let mut input = b"a needle\nand a haystack".as_slice();
-    assert!(rt; search(rt.alloc(), "-A 1 a", &mut input, &mut writer)?);
-    let Slow { taken, .. } = writer.into_inner();
-    assert!(rt; taken.as_slice() == b"1:a needle\n2:and a haystack\n".as_slice());
-    Ok(())
+    let ended = search(alloc, "-A 1 a", &mut input, &mut writer);
+    is_found(ended, true)
+        && writer.into_inner().taken.as_slice() == b"1:a needle\n2:and a haystack\n".as_slice()
+}
+
+#[test]
+fn writes_all_in_parts(rt: HostRuntime) {
+    assert!(rt; is_taken_in_parts(rt.alloc()));
 }
 
 // Fails once it has taken some writes, and when it is flushed.
@@ -307,21 +351,29 @@ fn is_fault(ended: Result<bool, SearchError>, kind: io::ErrorKind) -> bool {
     }
 }
 
+// Whether a search whose writer takes so many writes, all of them, ends in an error of this kind.
+fn breaks<R: Source>(
+    alloc: Global,
+    line: &str,
+    reader: &mut R,
+    left: usize,
+    kind: io::ErrorKind,
+) -> bool {
+    let mut writer = Writing::new(Broken { left });
+    let ended = search(alloc, line, reader, &mut writer);
+    is_fault(ended, kind) && writer.into_inner().left == 0
+}
+
+// The same of a search of a short text, which is one write.
+fn breaks_at(alloc: Global, left: usize, kind: io::ErrorKind) -> bool {
+    let mut input = b"a\nx\nx\na".as_slice();
+    breaks(alloc, "-A 1 a", &mut input, left, kind)
+}
+
 #[test]
 fn returns_the_error_of_the_writer(rt: HostRuntime) {
-    // One write, since the text is short.
-    for (left, kind) in [
-        (0, io::ErrorKind::BrokenPipe),
-        (1, io::ErrorKind::StorageFull),
-    ] {
-        let mut writer = Writing::new(Broken { left });
-        let mut input = b"a\nx\nx\na".as_slice();
-        let ended = search(rt.alloc(), "-A 1 a", &mut input, &mut writer);
-        assert!(rt;
-            is_fault(ended, kind) && writer.into_inner().left == 0,
-            "at {left}"
-        );
-    }
+    assert!(rt; breaks_at(rt.alloc(), 0, io::ErrorKind::BrokenPipe));
+    assert!(rt; breaks_at(rt.alloc(), 1, io::ErrorKind::StorageFull));
 }
 
 // Many short lines, and between them one that is longer than the text that is kept, each with its
@@ -330,15 +382,25 @@ fn many_lines(alloc: Global, is_numbered: bool) -> Result<Vec<u8>, AllocError> {
     let mut bytes = Vec::new(alloc);
     for number in 1..=20_000u32 {
         if is_numbered {
-            bytes.extend_from_slice(format!(in alloc; "{number}:")?.as_bytes())?;
+            push_number(alloc, &mut bytes, number)?;
         }
-        let length = if number == 15_000 { 100_000 } else { 1 };
-        for _ in 0..length {
-            bytes.push(b'a')?;
-        }
-        bytes.push(b'\n')?;
+        push_line(&mut bytes, if number == 15_000 { 100_000 } else { 1 })?;
     }
     Ok(bytes)
+}
+
+// Adds a number and a colon.
+fn push_number(alloc: Global, bytes: &mut Vec<u8>, number: u32) -> Result<(), AllocError> {
+    let text = format!(in alloc; "{number}:")?;
+    bytes.extend_from_slice(text.as_bytes())?;
+    Ok(())
+}
+
+// Adds a line of so many bytes.
+fn push_line(bytes: &mut Vec<u8>, length: usize) -> Result<(), AllocError> {
+    bytes.resize(bytes.len().saturating_add(length), b'a')?;
+    bytes.push(b'\n')?;
+    Ok(())
 }
 
 // Takes some writes whole, and then fails at each call.
@@ -363,34 +425,52 @@ impl Write for Full {
     }
 }
 
-#[test]
-fn writes_whenever_no_more_is_kept(rt: HostRuntime) -> Result<(), Fail> {
-    let input = many_lines(rt.alloc(), false)?;
-    let text = many_lines(rt.alloc(), true)?;
-    // How many bytes are taken if so many writes are: the text that is kept twice, the number of
-    // the long line, the line, and the text after it.
-    for (left, length) in [
-        (0, 0),
-        (1, 65_519),
-        (2, 108_886),
-        (3, 108_892),
-        (4, 208_893),
-    ] {
-        let taken = Vec::new(rt.alloc());
-        let mut writer = Writing::new(Full { left, taken });
-        let mut reader = input.as_slice();
-        let ended = search(rt.alloc(), "a", &mut reader, &mut writer);
-        let Full { taken, .. } = writer.into_inner();
-        assert!(rt; is_fault(ended, io::ErrorKind::BrokenPipe), "at {left}");
-        assert!(rt;
-            taken.len() == length && text.starts_with(&taken),
-            "at {left}"
-        );
+// How many bytes are taken if so many writes are: the text that is kept twice, the number of the
+// long line, the line, and the text after it.
+const TAKEN_ROWS: &[(usize, usize)] = &[
+    (0, 0),
+    (1, 65_519),
+    (2, 108_886),
+    (3, 108_892),
+    (4, 208_893),
+];
+
+// Whether so many bytes of a text are taken if so many writes are.
+fn takes(alloc: Global, input: &[u8], text: &[u8], (left, length): (usize, usize)) -> bool {
+    let taken = Vec::new(alloc);
+    let mut writer = Writing::new(Full { left, taken });
+    let mut reader = input;
+    let ended = search(alloc, "a", &mut reader, &mut writer);
+    is_fault(ended, io::ErrorKind::BrokenPipe)
+        && is_front(writer.into_inner().taken.as_slice(), text, length)
+}
+
+// Whether these are so many first bytes of a text.
+fn is_front(taken: &[u8], text: &[u8], length: usize) -> bool {
+    taken.len() == length && text.starts_with(taken)
+}
+
+// Whether each row is so, and the text is written if all writes are taken.
+fn takes_all(alloc: Global, input: &[u8], text: &[u8]) -> bool {
+    for row in TAKEN_ROWS {
+        if !takes(alloc, input, text, *row) {
+            return false;
+        }
     }
-    let mut writer = Writing::new(Vec::new(rt.alloc()));
-    assert!(rt; search(rt.alloc(), "a", &mut input.as_slice(), &mut writer)?);
-    assert!(rt; writer.into_inner().as_slice() == text.as_slice());
-    Ok(())
+    writes(alloc, "a", input, text, true)
+}
+
+// Whether it is so with many lines.
+fn takes_many_lines(alloc: Global) -> bool {
+    match (many_lines(alloc, false), many_lines(alloc, true)) {
+        (Ok(input), Ok(text)) => takes_all(alloc, &input, &text),
+        _ => false,
+    }
+}
+
+#[test]
+fn writes_whenever_no_more_is_kept(rt: HostRuntime) {
+    assert!(rt; takes_many_lines(rt.alloc()));
 }
 
 // Fails at its first call, and counts its calls.
@@ -471,49 +551,39 @@ impl Source for Cut {
     }
 }
 
-#[test]
-fn writes_the_lines_before_a_read_that_fails(rt: HostRuntime) {
-    let mut writer = Writing::new(Vec::new(rt.alloc()));
-    let ended = search(rt.alloc(), "a", &mut Cut { is_read: false }, &mut writer);
-    assert!(rt; is_fault(ended, io::ErrorKind::ConnectionReset));
-    assert!(rt; writer.into_inner().as_slice() == b"1:a\n".as_slice());
+// Arguments, and what is written before the read that fails: the lines, but neither a count nor
+// what was searched for across lines.
+const CUT_ROWS: &[(&str, &str)] = &[("a", "1:a\n"), ("-c a", ""), ("-U a\na", "")];
+
+// Whether a search of such a reader writes this, and ends in the reader's error.
+fn writes_before_the_error(alloc: Global, line: &str, text: &str) -> bool {
+    let mut writer = Writing::new(Vec::new(alloc));
+    let ended = search(alloc, line, &mut Cut { is_read: false }, &mut writer);
+    is_fault(ended, io::ErrorKind::ConnectionReset)
+        && writer.into_inner().as_slice() == text.as_bytes()
 }
 
 #[test]
-fn a_write_that_fails_hides_a_read_that_failed(rt: HostRuntime) {
-    // A flush that fails hides none.
-    for (left, kind) in [
-        (0, io::ErrorKind::BrokenPipe),
-        (1, io::ErrorKind::ConnectionReset),
-    ] {
-        let mut writer = Writing::new(Broken { left });
-        let ended = search(rt.alloc(), "a", &mut Cut { is_read: false }, &mut writer);
+fn writes_the_lines_before_a_read_that_fails(rt: HostRuntime) {
+    for (line, text) in CUT_ROWS {
         assert!(rt;
-            is_fault(ended, kind) && writer.into_inner().left == 0,
-            "at {left}"
+            writes_before_the_error(rt.alloc(), line, text),
+            "at {line}"
         );
     }
 }
 
-#[test]
-fn writes_no_count_if_a_read_fails(rt: HostRuntime) {
-    let mut writer = Writing::new(Vec::new(rt.alloc()));
-    let ended = search(rt.alloc(), "-c a", &mut Cut { is_read: false }, &mut writer);
-    assert!(rt; is_fault(ended, io::ErrorKind::ConnectionReset));
-    assert!(rt; writer.into_inner().is_empty());
+// Whether a search of such a reader, whose writer takes so many writes, ends in an error of this
+// kind.
+fn breaks_before_the_error(alloc: Global, left: usize, kind: io::ErrorKind) -> bool {
+    breaks(alloc, "a", &mut Cut { is_read: false }, left, kind)
 }
 
 #[test]
-fn writes_nothing_across_lines_if_a_read_fails(rt: HostRuntime) {
-    let mut writer = Writing::new(Vec::new(rt.alloc()));
-    let ended = search(
-        rt.alloc(),
-        "-U a\na",
-        &mut Cut { is_read: false },
-        &mut writer,
-    );
-    assert!(rt; is_fault(ended, io::ErrorKind::ConnectionReset));
-    assert!(rt; writer.into_inner().is_empty());
+fn a_write_that_fails_hides_a_read_that_failed(rt: HostRuntime) {
+    assert!(rt; breaks_before_the_error(rt.alloc(), 0, io::ErrorKind::BrokenPipe));
+    // A flush that fails hides none.
+    assert!(rt; breaks_before_the_error(rt.alloc(), 1, io::ErrorKind::ConnectionReset));
 }
 
 // Searches the file at a path by the options of a line, and returns whether a match was reported.
@@ -523,47 +593,64 @@ fn search_path(
     path: Path<'_>,
     writer: &mut Writing<Vec<u8>>,
 ) -> Result<bool, SearchError> {
-    let Ok(options) = options(rt.alloc(), line) else {
-        return Err(SearchError::Io(io::Error::from(io::ErrorKind::InvalidInput)));
-    };
-    run_path(rt, rt.alloc(), &options, path, writer)
+    match options(rt.alloc(), line) {
+        Ok(options) => run_path(rt, rt.alloc(), &options, path, writer),
+        Err(_) => Err(no_options()),
+    }
 }
 
-// Whether a search of a file with this input writes this, and reports a match or not.
+// Whether a search of the file at a path writes this, and reports a match or not.
+fn writes_at(rt: &HostRuntime, line: &str, path: Path<'_>, text: &str, found: bool) -> bool {
+    let mut writer = Writing::new(Vec::new(rt.alloc()));
+    let ended = search_path(rt, line, path, &mut writer);
+    is_found(ended, found) && writer.into_inner().as_slice() == text.as_bytes()
+}
+
+// The same of a new file with this input.
 fn writes_of_file(
     rt: &HostRuntime,
+    (line, input): (&str, &[u8]),
     path: Path<'_>,
-    line: &str,
-    input: &[u8],
     text: &str,
     found: bool,
-) -> Result<bool, Fail> {
-    fs::write(rt, path, input)?;
-    let mut writer = Writing::new(Vec::new(rt.alloc()));
-    let outcome = search_path(rt, line, path, &mut writer);
-    fs::remove_file(rt, path)?;
-    Ok(outcome? == found && writer.into_inner().as_slice() == text.as_bytes())
+) -> bool {
+    let is_found = fs::write(rt, path, input).is_ok() && writes_at(rt, line, path, text, found);
+    fs::remove_file(rt, path).is_ok() && is_found
+}
+
+// The same of a temporary file.
+fn writes_of_input(rt: &HostRuntime, line: &str, input: &[u8], text: &str, found: bool) -> bool {
+    match temporary_path(rt, "input") {
+        Ok(path) => writes_of_file(rt, (line, input), path.as_path(), text, found),
+        Err(_) => false,
+    }
+}
+
+// 200 KiB, and an `a` in the last line alone.
+fn large_input(alloc: Global) -> Result<Vec<u8>, AllocError> {
+    let mut input = vec![in alloc; b'\n'; 200 * 1024 - 1]?;
+    input.push(b'a')?;
+    Ok(input)
+}
+
+// Whether the last line of such a file is found.
+fn finds_the_last_line(rt: &HostRuntime) -> bool {
+    match large_input(rt.alloc()) {
+        Ok(input) => writes_of_input(rt, "a", &input, "204800:a\n", true),
+        Err(_) => false,
+    }
 }
 
 #[test]
-fn writes_what_it_finds_in_a_file(rt: HostRuntime) -> Result<(), Fail> {
-    let path = temporary_path(&rt, "rows")?;
+fn writes_what_it_finds_in_a_file(rt: HostRuntime) {
     for (line, input, text, found) in SEARCH_ROWS {
         assert!(rt;
-            writes_of_file(&rt, path.as_path(), line, input, text, *found)?,
+            writes_of_input(&rt, line, input, text, *found),
             "at {line}"
         );
     }
-    Ok(())
-}
-
-#[test]
-fn reads_a_large_file_to_its_end(rt: HostRuntime) -> Result<(), Fail> {
-    let path = temporary_path(&rt, "large")?;
-    let mut input = vec![in rt.alloc(); b'\n'; 200 * 1024 - 1]?;
-    input.push(b'a')?;
-    assert!(rt; writes_of_file(&rt, path.as_path(), "a", &input, "204800:a\n", true)?);
-    Ok(())
+    // It is read to its end.
+    assert!(rt; finds_the_last_line(&rt));
 }
 
 // Whether a search ended in the system's error number 2, of a path at which there is nothing.
@@ -581,11 +668,17 @@ fn finds_no_file(rt: &HostRuntime, path: Path<'_>) -> bool {
     is_unopened(ended) && writer.into_inner().is_empty()
 }
 
+// The same of a temporary path.
+fn finds_nothing(rt: &HostRuntime) -> bool {
+    match temporary_path(rt, "missing") {
+        Ok(path) => finds_no_file(rt, path.as_path()),
+        Err(_) => false,
+    }
+}
+
 #[test]
-fn returns_the_error_of_opening(rt: HostRuntime) -> Result<(), Fail> {
-    let path = temporary_path(&rt, "missing")?;
-    assert!(rt; finds_no_file(&rt, path.as_path()));
-    Ok(())
+fn returns_the_error_of_opening(rt: HostRuntime) {
+    assert!(rt; finds_nothing(&rt));
 }
 
 // The arguments of the program, what it writes of `a` without a line feed, and its exit status.
@@ -597,19 +690,25 @@ const PROGRAM_ROWS: &[(&str, &str, u8)] = &[
     ("a -", "", 2),
 ];
 
-// Whether the program writes this and exits so.
-fn exits(rt: &HostRuntime, line: &str, text: &str, code: u8) -> Result<bool, AllocError> {
-    let arguments = arguments(rt.alloc(), line)?;
+// Whether the program writes this of these arguments, and exits so.
+fn exits(rt: &HostRuntime, arguments: &[String], text: &str, code: u8) -> bool {
     let mut input = b"a".as_slice();
     let mut writer = Writing::new(Vec::new(rt.alloc()));
-    let ended = run_arguments(rt, rt.alloc(), &arguments, &mut input, &mut writer);
-    Ok(ended == ExitCode::from(code) && writer.into_inner().as_slice() == text.as_bytes())
+    let ended = run_arguments(rt, rt.alloc(), arguments, &mut input, &mut writer);
+    ended == ExitCode::from(code) && writer.into_inner().as_slice() == text.as_bytes()
+}
+
+// The same of a line.
+fn exits_on(rt: &HostRuntime, line: &str, text: &str, code: u8) -> bool {
+    match arguments(rt.alloc(), line) {
+        Ok(arguments) => exits(rt, &arguments, text, code),
+        Err(_) => false,
+    }
 }
 
 #[test]
-fn exits_with_a_status(rt: HostRuntime) -> Result<(), Fail> {
+fn exits_with_a_status(rt: HostRuntime) {
     for (line, text, code) in PROGRAM_ROWS {
-        assert!(rt; exits(&rt, line, text, *code)?, "at {line}");
+        assert!(rt; exits_on(&rt, line, text, *code), "at {line}");
     }
-    Ok(())
 }
