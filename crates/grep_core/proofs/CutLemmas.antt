@@ -35,7 +35,8 @@ use Rattle.grep_core.proofs.StreamSearchLemmas.{goes-false, goes-true, noted-pas
 use Rattle.grep_core.proofs.StreamSearchLemmas as quitting
 use Rattle.grep_core.proofs.RollingLemmas as rolls
 use Rattle.grep_core.proofs.StreamSearchLemmas.{binary-nil, front-none}
-use Rattle.grep_core.proofs.StreamViewLemmas as views
+use Rattle.grep_core.proofs.StreamViewLemmas.{as-found}
+use Rattle.grep_line_buffer.proofs.InputViewLemmas as views
 use Rattle.grep_core.proofs.UnreadLemmas.{IsShort}
 use Rattle.grep_walk.specs.WalkFaults.{IsWalkFault}
 use Rattle.grep_definitions.proofs.FrontLemmas.{closed-append, turns-within}
@@ -98,7 +99,7 @@ module _ {R : Type 0} {remaining : R → Option (List ℕ)} {read_step : R → R
 
     -- the calls so far are those for the lines that were seen
     reported-so_far : AreMadeFrom step k on.start (turns k meaning seen) all_true sink.sink
-    reported-so_far = (rolls.counted-seen stream.join stream.append so_far.between).reported
+    reported-so_far = (rolls.counted-seen so_far.between).reported
 
     -- without `binary_data` they are calls from the first state on
     plain-so_far : sink.binary ≡ None → AreMade step k first (turns k meaning seen) all_true sink.sink
@@ -116,7 +117,7 @@ module _ {R : Type 0} {remaining : R → Option (List ℕ)} {read_step : R → R
     front-seen : (bytes later : List ℕ) → bytes ≡ so_far.given ++ later → IsFront k (view_of k bytes) seen
     front-seen bytes later is =
         let back = reading.fronts-there held-then later in
-        (rolls.goes-on stream.join stream.append so_far.between _
+        (rolls.goes-on so_far.between _
         (ap (view_of k) is ∙ (back.1 ∙ (ap (λ xs. xs ++ back.0) (sym (append_assoc so_far.gone old.shown old.rest))
         ∙ append_assoc seen old.rest back.0)))).front
 
@@ -124,14 +125,15 @@ module _ {R : Type 0} {remaining : R → Option (List ℕ)} {read_step : R → R
         → binary_of k (take (length seen) bytes) ≡ None
     clear-seen unfound bytes later is =
         ap (λ xs. binary_of k (take (length seen) xs)) is
-        ∙ views.clear-front k.binary_detection (byte_of k.line_terminator) so_far.given later (length seen)
+        ∙ (as-found k.binary_detection _ _
+        ∙ views.clear-front _ (byte_of k.line_terminator) so_far.given later (length seen)
         (omega (
           arith,
           reading.length-there held-then so_far.uncut,
           length-append so_far.gone old.shown,
           length-append old.shown old.rest,
         ))
-        (sym (reading.found-there held-then) ∙ unfound)
+        (sym (reading.found-there held-then) ∙ unfound))
 
     -- what was seen when the input wasn't searched to its end
     pub cut-short : {F : Type 0} {errors : ErrorMakers F E} (facts : MatcherFacts F)
@@ -201,7 +203,7 @@ module _ {R : Type 0} {remaining : R → Option (List ℕ)} {read_step : R → R
                 ∙ (ap (λ b. b && is_some new.binary) quits.1 ∙ ap is_some is)),
             length-is,
           ))
-          (views.found-below k.binary_detection (byte_of k.line_terminator) raw offset found-is)
+          (views.found-below _ (byte_of k.line_terminator) raw offset found-is)
         where
           length-is : length on.rolling.gone + length (held new)
               ≡ length (detected (detection_of k.binary_detection) (byte_of k.line_terminator) raw)
@@ -230,10 +232,11 @@ module _ {R : Type 0} {remaining : R → Option (List ℕ)} {read_step : R → R
           let text = reading.fronts-there held-now later in
           let more : List ℕ = detected old.detection old.terminator fill.fills.given in
           record {
-            front = rolls.goes-on stream.join stream.append on.rolling.between _
+            front = rolls.goes-on on.rolling.between _
                 (reading.split-text _ _ _ more _
                 (text.1 ∙ ap (λ xs. (on.rolling.gone ++ xs) ++ text.0) fill.fills.appended));
-            first = views.first-kept k.binary_detection (byte_of k.line_terminator) raw later _ found-is;
+            first = as-found k.binary_detection _ _
+                ∙ views.first-kept _ (byte_of k.line_terminator) raw later _ found-is;
             after = omega (
               arith,
               past,
@@ -254,7 +257,7 @@ module _ {R : Type 0} {remaining : R → Option (List ℕ)} {read_step : R → R
       cut-input : (bytes : List ℕ) → IsInput k d'.has_ended reads-now.pieces bytes
           → IsCutAt k meaning bytes seen-then offset
       cut-input bytes input =
-          let text = reading.input-is k reads-now stream.none bytes input in
+          let text = reading.input-is k reads-now bytes input in
           subst (λ xs. IsCutAt k meaning xs seen-then offset) (sym text.1) (cut-there _)
 
       -- `binary_data` returned true, and the search goes on from then
@@ -352,7 +355,7 @@ module _ {R : Type 0} {remaining : R → Option (List ℕ)} {read_step : R → R
           let same_input : input ≡ seen-then ++ back =
           ap (λ xs. on.rolling.gone ++ xs) (append_assoc old.shown more after)
           ∙ sym (append_assoc on.rolling.gone old.shown back) in
-          let line = rolls.line-seen stream.join stream.append on.rolling.between more there in
+          let line = rolls.line-seen on.rolling.between more there in
           let turned : there.line ≤ LineSearch.turn_count k meaning input = ⊎_elim
           (λ less. omega (
             arith,
@@ -382,7 +385,7 @@ module _ {R : Type 0} {remaining : R → Option (List ℕ)} {read_step : R → R
           × All (λ (turn : Planned). turn.if_false.count ≤ LineSearch.start k meaning xs (length (lines t seen-then)))
           (turns_before k meaning xs there.through)) same_input known in
           ap (λ xs. turns_before k meaning xs there.through) same_input
-          ∙ turns-seen stream.join stream.append k meaning _ back
+          ∙ turns-seen k meaning _ back
           (closed-append t on.rolling.gone old.shown on.rolling.between.opens on.rolling.between.shut) stream.built
           _
           _ moved.0 moved.1 moved.2
@@ -553,7 +556,7 @@ module _ {R : Type 0} {remaining : R → Option (List ℕ)} {read_step : R → R
             taken = reading.taken k reads;
             seen = [];
             within = omega (arith, zero);
-            begins = λ bytes input. let text = reading.input-is k reads stream.none bytes input in (text.0, text.1);
+            begins = λ bytes input. let text = reading.input-is k reads bytes input in (text.0, text.1);
             front = λ bytes input. front-none;
             clear = λ unfound bytes input. binary-nil k.binary_detection (byte_of k.line_terminator);
           };

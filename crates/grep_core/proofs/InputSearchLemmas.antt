@@ -1,5 +1,4 @@
 -- A search of whole contents, by how it looks for a binary byte, and the searches of a reader by line and across lines.
-use Rattle.grep_core.proofs.ReadingLemmas.{DoneGivesNothing}
 use Rattle.grep_core.specs.InputSearches.{IsBytesSearched, IsSearchedUntil, IsAcrossSearched, IsSourceSearchedIn}
 use Rattle.grep_core.specs.SearchBuffers.{IsMadeOf}
 use Rattle.grep_decode.specs.DecoderStates.{DecoderState, Decodes, IsDone, IsWaiting, started}
@@ -28,7 +27,6 @@ use Rattle.grep_line_buffer.specs.Contents.{IsBelow, ContentsFail, FailsAfter}
 use Rattle.grep_line_buffer.specs.Fills.{IfRead, UnlessRead}
 use Rattle.grep_line_buffer.specs.declared.fill_error.FillError.{FillError}
 use Rattle.grep_line_buffer.specs.declared.fill_error.FillError.TheVariants.{Read, HeapLimit, Offset, Memory}
-use Rattle.grep_lines.specs.LineLaws.{LinesJoin}
 use Rattle.grep_matcher.specs.Lines.{byte_of, lines}
 use Rattle.grep_matcher.specs.Meanings.{MatcherFacts, Meaning}
 use Rattle.grep_report.specs.BinaryDetections.{quit_byte_of}
@@ -279,9 +277,9 @@ module _ {R : Type 0} (remaining : R → Option (List ℕ)) (read_step : R → R
         go (Convert b) is = searched
 
 -- bytes below the heap limit are a front of themselves: no line of theirs is too long
-pub front-whole : LinesJoin → (k : Settings) (bytes : List ℕ) → IsBelow k.heap_limit (length bytes)
+pub front-whole : (k : Settings) (bytes : List ℕ) → IsBelow k.heap_limit (length bytes)
     → IsFront k bytes bytes
-front-whole join k bytes below = record {
+front-whole k bytes below = record {
   after = [];
   whole = sym (append-nil bytes);
   closed = λ more. absurd (omega (arith, more));
@@ -290,7 +288,7 @@ front-whole join k bytes below = record {
       All-weaker (λ line. length line ≤ length bytes) (λ line. IsTooLong t limit line → ⊥)
       (λ line within. λ long. ⊎_elim (λ more. absurd (omega (arith, more, within, fits)))
       (λ full. absurd (omega (arith, full.0, within, fits))) long)
-      (lines t bytes) (lines-within join t bytes);
+      (lines t bytes) (lines-within t bytes);
 }
   where
     t : ℕ
@@ -309,7 +307,7 @@ has-begun step k old end later count outcome mid new (inr (inr (e, is, made))) f
 
 -- why not all was read, by the error
 module _ {R : Type 0} (remaining : R → Option (List ℕ)) (read_step : R → ReadResult → R → Type 0) (k : Settings)
-    (reader reader' : R) (view : List ℕ → List ℕ) (has_buffers : Bool) (meaning : Meaning) (none : DoneGivesNothing)
+    (reader reader' : R) (view : List ℕ → List ℕ) (has_buffers : Bool) (meaning : Meaning)
     (given : List ℕ) (d d' : DecoderState) (start : d ≡ started d.capacity k.encoding k.bom_sniffing) where
   abbrev Unread : Error → Type 0
   Unread error =
@@ -322,7 +320,7 @@ module _ {R : Type 0} (remaining : R → Option (List ℕ)) (read_step : R → R
   unread-contents decodes cut =
       let reads = subst (λ from. Decodes remaining read_step from reader given d' reader') start decodes in
       of_contents refl (reading.taken k reads) (λ bytes input.
-      let text = reading.input-is k reads none bytes input in
+      let text = reading.input-is k reads bytes input in
       cut bytes (omega (arith, ap length text.1, length-append given text.0)))
 
   pub unread-read : (e : FillError) {error : Error} → IsMadeOf e error → (size : ℕ)
@@ -336,7 +334,7 @@ module _ {R : Type 0} (remaining : R → Option (List ℕ)) (read_step : R → R
       let fails' = subst (λ from. FailsAfter remaining read_step io from reader given d' reader') start fails in
       subst Unread (sym made)
       (of_failed_read refl fails'.mid (reading.taken k fails'.decodes) fails'.unended fails'.failed given
-      (reading.decoded-so_far k fails'.decodes none fails'.unended ready waits)
+      (reading.decoded-so_far k fails'.decodes fails'.unended ready waits)
       (λ limit is. subst (λ l. IsBelow l (length given)) is below))
   unread-read HeapLimit made size full reads fails ready waits =
       unread-contents reads (λ bytes enough. of_full (length given) full made enough)
@@ -345,8 +343,7 @@ module _ {R : Type 0} (remaining : R → Option (List ℕ)) (read_step : R → R
 
 -- all of it was read
 module _ {R : Type 0} {remaining : R → Option (List ℕ)} {read_step : R → ReadResult → R → Type 0} (k : Settings)
-    {reader reader' : R} {given : List ℕ} {d d' : DecoderState} (none : DoneGivesNothing) (join : LinesJoin)
-    (start : d ≡ started d.capacity k.encoding k.bom_sniffing)
+    {reader reader' : R} {given : List ℕ} {d d' : DecoderState} (start : d ≡ started d.capacity k.encoding k.bom_sniffing)
     (reads : Decodes remaining read_step d reader given d' reader') (done : IsDone d')
     (below : IsBelow k.heap_limit (length given)) {S E F : Type 0} (step : Steps S E) (errors : ErrorMakers F E)
     (matcher : MatcherFacts F) (has_buffers : Bool) (old : S) where
@@ -361,11 +358,11 @@ module _ {R : Type 0} {remaining : R → Option (List ℕ)} {read_step : R → R
 
   given-is : (bytes : List ℕ) → IsInput k d'.has_ended from-start.pieces bytes → given ≡ bytes
   given-is bytes input =
-      let text = reading.input-is k from-start none bytes input in
+      let text = reading.input-is k from-start bytes input in
       sym (text.1 ∙ (ap (λ xs. given ++ xs) (text.2 done) ∙ append-nil given))
 
   front-is : (bytes : List ℕ) → IsInput k d'.has_ended from-start.pieces bytes → IsFront k bytes given
-  front-is bytes input = subst (λ xs. IsFront k xs given) (given-is bytes input) (front-whole join k given below)
+  front-is bytes input = subst (λ xs. IsFront k xs given) (given-is bytes input) (front-whole k given below)
 
   below-limit : (bytes : List ℕ) → IsInput k d'.has_ended from-start.pieces bytes → IsBelowLimit k bytes
   below-limit bytes input limit is =

@@ -1,8 +1,10 @@
 -- What a decoder gave and what a line buffer holds of it, against the bytes that are searched.
-use Rattle.grep_core.proofs.StreamViewLemmas.{before-held, view-held, view-length, view-none}
+use Rattle.grep_core.proofs.StreamViewLemmas.{as-unquit, as-viewed}
 use Rattle.grep_core.specs.HeldViews.{HoldsGiven}
 use Rattle.grep_core.specs.SearchBuffers.{IsFitting, detection_of}
-use Rattle.grep_decode.proofs.DecoderLemmas.{looks-unsettled, mode-settled, unread-none, waits-few}
+use Rattle.grep_decode.proofs.DecoderLemmas.{done-gives, looks-unsettled, mode-settled, unread-none, waits-few}
+use Rattle.grep_decode.proofs.DecoderLemmas.{Decodes-append}
+use Rattle.grep_line_buffer.proofs.GivenLemmas.{fills-continue}
 use Rattle.grep_decode.specs.Decoded.{by_label, decoded, found_mark}
 use Rattle.grep_decode.specs.DecoderStates.{DecoderState, Decodes, HasReadNothing, IsDone, IsSettled, LooksForMark}
 use Rattle.grep_decode.specs.DecoderStates.{decode_by, mode_of, IsWaiting, started, still_to_give, unread}
@@ -20,21 +22,19 @@ use Rattle.grep_line_buffer.specs.BufferStates.{BufferState, empty_buffer, is_cu
 use Rattle.grep_line_buffer.specs.BufferStates.{IsWithin}
 use Rattle.grep_line_buffer.specs.Detections.{detected, found_in, is_quit}
 use Rattle.grep_line_buffer.specs.Fills.{HasWaitedForLine, Fills}
-use Rattle.grep_lines.specs.LineLaws.{LinesJoin, LinesAppend}
 use Rattle.grep_matcher.specs.Lines.{byte_of}
 use Rattle.grep_matcher.specs.Meanings.{Meaning}
 use Rattle.std.proofs.Common.{◌≡◌, ◌≢◌, ◌⊎◌, ℕ, ◌+◌, ◌<◌, ◌≤◌, true, false, List, [], ◌++◌, length, Option}
-use Rattle.std.proofs.Common.{Some, None, inl, inr, ⊎_elim, refl, sym, subst, ◌∙◌, ap, arith, append-nil}
+use Rattle.std.proofs.Common.{Some, None, inl, inr, ⊎_elim, refl, sym, subst, ◌∙◌, ap, ap₂, arith, append-nil}
 use Rattle.std.proofs.Common.{append_assoc, length-append}
 use Rattle.std.proofs.Math.Bool.{and-false}
 use Rattle.std.proofs.lemmas.Bool.{false≢true}
 use Rattle.std.specs.List.{concat}
 use Rattle.std.specs.Prelude.{All}
-use Rattle.grep_core.proofs.StreamViewLemmas as views
+use Rattle.grep_line_buffer.proofs.InputViewLemmas as views
 
--- the law of a decoder that is done
-abbrev pub DoneGivesNothing : Type 0
-DoneGivesNothing = (d : DecoderState) (more : List ℕ) → IsDone d → still_to_give d more ≡ []
+view-length : (k : Settings) (bytes : List ℕ) → length (view_of k bytes) ≡ length bytes
+view-length k bytes = ap length (as-viewed k.binary_detection _ _) ∙ views.view-length _ (byte_of k.line_terminator) bytes
 
 -- without a label and a mark the bytes pass, and after the mark of UTF-8
 mode-passing : (label mark : Option Label) → passes_after mark label ≡ true → mode_of mark label ≡ Passing
@@ -70,34 +70,32 @@ module _ {R : Type 0} {remaining : R → Option (List ℕ)} {step : R → ReadRe
     taken = record { ended = d.has_ended; pieces = reads.pieces; calls = reads.calls; takes = reads.takes }
 
     -- what it gave is the front of the bytes that are searched, and all of them once it is done
-    pub input-is : DoneGivesNothing → (bytes : List ℕ)
+    pub input-is : (bytes : List ℕ)
         → IsInput settings d.has_ended reads.pieces bytes → (later : List ℕ) × (bytes ≡ given ++ later)
         × (IsDone d → later ≡ [])
     unfolding searched_bytes
-    input-is none bytes (more, end, is) = (still_to_give d more, is ∙ reads.gives more end, none d more)
+    input-is bytes (more, end, is) = (still_to_give d more, is ∙ reads.gives more end, done-gives d more)
 
     -- what is made of it begins with what was made of that
-    pub front-is : DoneGivesNothing
-        → (made : List ℕ → List ℕ)
+    pub front-is : (made : List ℕ → List ℕ)
         (shown : List ℕ) → ((later : List ℕ) → (back : List ℕ) × (made (given ++ later) ≡ shown ++ back))
         → (bytes : List ℕ)
         → IsInput settings d.has_ended reads.pieces bytes → (back : List ℕ) × (made bytes ≡ shown ++ back)
-    front-is none made shown fronts bytes input =
-        let text = input-is none bytes input in
+    front-is made shown fronts bytes input =
+        let text = input-is bytes input in
         let front = fronts text.0 in
         (front.0, ap made text.1 ∙ front.1)
 
     -- and its view is all of it once it is done, if no byte cut it
-    pub view-is : DoneGivesNothing → (shown : List ℕ)
+    pub view-is : (shown : List ℕ)
         → ((later : List ℕ) → view_of settings (given ++ later) ≡ shown ++ view_of settings later) → (bytes : List ℕ)
         → IsInput settings d.has_ended reads.pieces bytes
         → (later : List ℕ) × (view_of settings bytes ≡ shown ++ later) × (IsDone d → later ≡ [])
-    view-is none shown shows bytes input =
-        let text = input-is none bytes input in (
+    view-is shown shows bytes input =
+        let text = input-is bytes input in (
           view_of settings text.0,
           ap (view_of settings) text.1 ∙ shows text.0,
-          λ done. ap (view_of settings) (text.2 done) ∙ view-none _
-              _,
+          λ done. ap (view_of settings) (text.2 done) ∙ (as-viewed settings.binary_detection _ _ ∙ views.view-none _ _),
         )
 
     -- the bytes that are searched, if the input ended here
@@ -175,12 +173,11 @@ module _ {R : Type 0} {remaining : R → Option (List ℕ)} {step : R → ReadRe
           ∙ ap (λ xs. given ++ xs) (mode-decodes _ mark _))))
 
     -- what was decoded when the reader failed
-    pub decoded-so_far : DoneGivesNothing → d.has_ended
-        ≡ false
+    pub decoded-so_far : d.has_ended ≡ false
         → d.ready ≡ [] → IsWaiting d.mode d.held → IsDecodedSoFar settings reads.pieces given
-    decoded-so_far none unended ready waits = record {
+    decoded-so_far unended ready waits = record {
       begins = λ bytes input.
-          let text = input-is none bytes (input.0, (λ ended. absurd (false≢true (sym unended ∙ ended))), input.2) in
+          let text = input-is bytes (input.0, (λ ended. absurd (false≢true (sym unended ∙ ended))), input.2) in
           (text.0, text.1);
       none = given-none few unended;
       all = λ enough.
@@ -201,9 +198,7 @@ module _ {R : Type 0} {remaining : R → Option (List ℕ)} {step : R → ReadRe
 
 -- what the first fill of a buffer had read before the reader's last call
 module _ {R : Type 0} {remaining : R → Option (List ℕ)} {step : R → ReadResult → R → Type 0} {k : Settings}
-    {buffer : BufferState} {decoder : DecoderState} {reader : R} (none : DoneGivesNothing)
-    (more : (d d1 d2 : DecoderState) (r r1 r2 : R) (given later : List ℕ) → Decodes remaining step d r given d1 r1
-    → Decodes remaining step d1 r1 later d2 r2 → Decodes remaining step d r (given ++ later) d2 r2)
+    {buffer : BufferState} {decoder : DecoderState} {reader : R}
     (fitting : IsFitting k.heap_limit (byte_of k.line_terminator) buffer)
     (empty : buffer ≡ empty_buffer buffer.size buffer.limit buffer.terminator (detection_of k.binary_detection))
     (begun : decoder ≡ started decoder.capacity k.encoding k.bom_sniffing) where
@@ -218,13 +213,13 @@ module _ {R : Type 0} {remaining : R → Option (List ℕ)} {step : R → ReadRe
       let reads = subst (λ xs. Decodes remaining step (started decoder.capacity k.encoding k.bom_sniffing) reader xs
       last.waiting last.mid) (append-nil given)
       (subst (λ d. Decodes remaining step d reader (given ++ []) last.waiting last.mid) begun
-      (more _ _ _ _ _ _ given [] waited.decodes last.decodes)) in
-      let decoded = decoded-so_far k reads none last.unended last.empty last.waits in
+      (Decodes-append remaining step _ _ _ _ _ _ given [] waited.decodes last.decodes)) in
+      let decoded = decoded-so_far k reads last.unended last.empty last.waits in
       let uncut : is_quit (detection_of bd) ≡ true → found_in (detection_of bd) t given ≡ None =
       λ quits. ap (λ c. found_in (detection_of bd) c given) (sym fitting.terminator)
       ∙ (ap (λ x. found_in x buffer.terminator given) (sym detects)
       ∙ waited.uncut (ap is_quit detects ∙ quits)) in
-      let held = view-held bd t given uncut in
+      let held = views.view-held _ t given uncut ∙ sym (as-viewed bd _ _) in
       let shown : detected buffer.detection buffer.terminator given ≡ view_of k given =
       ap (λ x. detected x buffer.terminator given) detects
       ∙ (ap (λ c. detected (detection_of bd) c given) fitting.terminator ∙ held) in
@@ -242,8 +237,8 @@ module _ {R : Type 0} {remaining : R → Option (List ℕ)} {step : R → ReadRe
           unended = subst (All (λ b. b ≢ t)) shown
               (subst (λ c. All (λ b. b ≢ c) (detected buffer.detection buffer.terminator given)) fitting.terminator
               waited.unended);
-          room = λ limit is. omega (arith, waited.room limit (fitting.limit ∙ is), view-length bd t given);
-          unquit = ap (before_quit bd) (sym held) ∙ (before-held bd t given ∙ held);
+          room = λ limit is. omega (arith, waited.room limit (fitting.limit ∙ is), view-length k given);
+          unquit = ap (before_quit bd) (sym held) ∙ (as-unquit bd _ ∙ (views.before-held _ t given ∙ held));
         };
       }
 
@@ -274,26 +269,11 @@ abbrev t : Settings → ℕ
 t k = byte_of k.line_terminator
 
 module _ {R : Type 0} (remaining : R → Option (List ℕ)) (step : R → ReadResult → R → Type 0) where
-  -- the law of fills that follow one another
-  abbrev pub FillsContinue : Type 0
-  FillsContinue = (old new : BufferState) (d d1 d2 : DecoderState) (r r1 r2 : R) (gone given : List ℕ)
-      → Decodes remaining step d r given d1 r1
-      → gone ++ held old ≡ detected old.detection old.terminator given
-      → old.offset ≡ length gone → old.binary ≡ found_in old.detection old.terminator given
-      → is_cut old ≡ false → (fill : Fills remaining step old d1 r1 new d2 r2)
-      → Decodes remaining step d r (given ++ fill.given) d2 r2
-      × (gone ++ held new ≡ detected old.detection old.terminator (given ++ fill.given))
-      × (new.binary ≡ found_in old.detection old.terminator (given ++ fill.given))
-
-  -- a search of a stream by line, read by a decoder that was started for it, and the laws
+  -- a search of a stream by line, read by a decoder that was started for it
   pub record IsStream (k : Settings) (meaning : Meaning) (decoder : DecoderState) : Type 0 where
     pub by_line : is_across k meaning ≡ false
     pub built : k.passthru ≡ true → k.before_context ≡ 0
     pub begun : decoder ≡ started decoder.capacity k.encoding k.bom_sniffing
-    pub join : LinesJoin
-    pub append : LinesAppend
-    pub none : DoneGivesNothing
-    pub continues : FillsContinue
 
   -- what was given is what is gone and what a buffer holds, which is like one of the search
   pub record IsHeld (k : Settings) (gone given : List ℕ) (like buffer : BufferState) (decoder d : DecoderState)
@@ -322,12 +302,12 @@ module _ {R : Type 0} (remaining : R → Option (List ℕ)) (step : R → ReadRe
 module _ {R : Type 0} {remaining : R → Option (List ℕ)} {step : R → ReadResult → R → Type 0} where
   -- what a buffer holds after a fill
   pub held-next : {old new : BufferState} {decoder d d' : DecoderState} {reader r r' : R} {gone given : List ℕ}
-      → FillsContinue remaining step → old.offset ≡ length gone → is_cut old ≡ false
+      → old.offset ≡ length gone → is_cut old ≡ false
       → HoldsGiven remaining step gone old.detection old.terminator old decoder reader given d r
       → (fills : Fills remaining step old d r new d' r')
       → HoldsGiven remaining step gone old.detection old.terminator new decoder reader (given ++ fills.given) d' r'
-  held-next continues at uncut holds fills =
-      let next = continues _ _ _ _ _ _ _ _ _ _ holds.decodes holds.whole at holds.found uncut fills in
+  held-next at uncut holds fills =
+      let next = fills-continue remaining step _ _ _ _ _ _ _ _ _ _ holds.decodes holds.whole at holds.found uncut fills in
       record { whole = next.1; found = next.2; decodes = next.0 }
 
   -- the bytes that were given, read by the decoder of the search
@@ -353,36 +333,39 @@ module _ {R : Type 0} {remaining : R → Option (List ℕ)} {step : R → ReadRe
     pub fronts-there : (later : List ℕ) → (back : List ℕ) × (view_of k (given ++ later) ≡ (gone ++ held new) ++ back)
     fronts-there later =
         let front = views.view-front _ (t k) given later in
-        (front.0, front.1 ∙ ap (λ xs. xs ++ front.0) (sym holds-is))
+        (front.0, as-viewed k.binary_detection _ _ ∙ (front.1 ∙ ap (λ xs. xs ++ front.0) (sym holds-is)))
 
     -- also of what comes before a byte that ends the search
     pub before-there : (later : List ℕ)
         → (back : List ℕ) × (before_quit k.binary_detection (view_of k (given ++ later)) ≡ (gone ++ held new) ++ back)
     before-there later =
-        let front = views.before-front _ (t k) given later in
-        (front.0, front.1 ∙ ap (λ xs. xs ++ front.0) (sym holds-is))
+        let front = views.before-front _ (t k) given later in (
+          front.0,
+          as-unquit k.binary_detection _ ∙ (ap (views.unquit _) (as-viewed k.binary_detection _ _)
+              ∙ (front.1 ∙ ap (λ xs. xs ++ front.0) (sym holds-is))),
+        )
 
     -- which is none of the bytes that are gone or held
     pub unquit-held : before_quit k.binary_detection (gone ++ held new) ≡ gone ++ held new
     unquit-held = ap (before_quit k.binary_detection) holds-is
-        ∙ (views.before-held _ (t k) given ∙ sym holds-is)
+        ∙ (as-unquit k.binary_detection _ ∙ (views.before-held _ (t k) given ∙ sym holds-is))
 
     module _ (uncut : is_cut new ≡ false) where
       pub view-there : view_of k given ≡ gone ++ held new
       view-there = sym (holds-is ∙ views.view-held _ (t k) given
           (λ quits. sym found-there
-          ∙ uncut-none _ _ uncut (ap is_quit (is.same.detection ∙ is.detects) ∙ quits)))
+          ∙ uncut-none _ _ uncut (ap is_quit (is.same.detection ∙ is.detects) ∙ quits)) ∙ sym (as-viewed k.binary_detection _ _))
 
       pub shows-there : (later : List ℕ) → view_of k (given ++ later) ≡ (gone ++ held new) ++ view_of k later
-      shows-there later = views.view-append _ (t k) given later
-          ∙ ap (λ xs. xs ++ view_of k later) view-there
+      shows-there later = as-viewed k.binary_detection _ _ ∙ (views.view-append _ (t k) given later
+          ∙ ap₂ (λ xs ys. xs ++ ys) (sym (as-viewed k.binary_detection _ _) ∙ view-there) (sym (as-viewed k.binary_detection _ _)))
 
       -- as much is gone and held as was given
       pub length-there : length given ≡ length gone + length (held new)
       length-there = omega (
         arith,
         ap length view-there,
-        views.view-length k.binary_detection (t k) given,
+        view-length k given,
         length-append gone (held new),
       )
 

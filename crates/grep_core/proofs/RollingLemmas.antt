@@ -18,12 +18,12 @@ use Rattle.grep_definitions.specs.Searches.{reads_lines}
 use Rattle.grep_definitions.specs.LineWalks.{IsOpen}
 use Rattle.grep_definitions.specs.Plans.{Steps, Outcome, all_true, begins, Settings}
 use Rattle.grep_line_buffer.proofs.BufferStateLemmas.{IsUncut, long-shown, uncut-filled, grown, same-buffer}
+use Rattle.grep_line_buffer.proofs.BufferStateLemmas.{closed-filled, last-filled, unended-filled}
+use Rattle.grep_line_buffer.proofs.DetectionLemmas.{detected-nil, found-nil}
 use Rattle.grep_line_buffer.specs.BufferStates.{BufferState, held, is_cut, IsWithin}
-use Rattle.grep_line_buffer.specs.BufferStates.{Lacks, empty_buffer, GrowsIfFull, IsSameBuffer}
+use Rattle.grep_line_buffer.specs.BufferStates.{empty_buffer, GrowsIfFull, IsSameBuffer}
 use Rattle.grep_line_buffer.specs.Detections.{detected, found_in, is_quit}
-use Rattle.grep_line_buffer.specs.declared.detection.Detection.{Detection}
-use Rattle.grep_line_buffer.specs.declared.detection.Detection.TheVariants.{None as no_detection, Quit, Convert}
-use Rattle.grep_lines.specs.LineLaws.{LinesJoin, LinesAppend, LinesAreNumbered, LinesAreFew}
+use Rattle.grep_lines.proofs.LineLemmas.{lines-append}
 use Rattle.grep_lines.specs.Positions.{IsLineStart}
 use Rattle.grep_matcher.specs.Lines.{lines, byte_of}
 use Rattle.grep_matcher.specs.Meanings.{Meaning, MatcherFacts}
@@ -36,66 +36,24 @@ use Rattle.grep_walk.specs.WalkFaults.{IsWalkFault}
 use Rattle.grep_walk.specs.Walks.{AreCounts, recounted, IsCount}
 use Rattle.grep_walk.specs.Windows.{HasPassed, HasSearched, IsInWindow}
 use Rattle.grep_walk.specs.declared.walk.Walk.{Walk}
-use Rattle.std.proofs.Common.{◌≡◌, ◌≢◌, ℕ, ◌+◌, ◌-◌, ◌<◌, ◌≤◌, ◌&&◌, ◌==◌, Bool, true, false, List, [], ◌++◌}
-use Rattle.std.proofs.Common.{length, take, drop, get_or, Option, Some, inl, inr, refl, sym, ◌∙◌, ap, subst, arith}
-use Rattle.std.proofs.Common.{append-nil, append_assoc, length-append, length-drop, None, Ok}
+use Rattle.std.proofs.Common.{◌≡◌, ℕ, ◌+◌, ◌-◌, ◌<◌, ◌≤◌, ◌&&◌, ◌==◌, Bool, true, false, List, [], ◌++◌}
+use Rattle.std.proofs.Common.{length, take, drop, Option, Some, inl, inr, refl, sym, ◌∙◌, ap, subst, arith}
+use Rattle.std.proofs.Common.{append-nil, append_assoc, length-append, length-drop, Ok}
 use Rattle.std.proofs.Math.Bool.{and-false}
 use Rattle.std.proofs.lemmas.Bool.{false≢true}
-use Rattle.std.proofs.lemmas.List.{drop_at, get_or-append-add, get_or_append_left, length-take-le, take-append-drop}
-use Rattle.std.proofs.lemmas.List.Elements.{All-append, All-get_or}
-use Rattle.std.specs.List.{position}
-use Rattle.std.specs.Prelude.{All, slice_index, not, ◌||◌, if◌then◌else◌, is_some}
+use Rattle.std.proofs.lemmas.List.{get_or_append_left, length-take-le, take-append-drop}
+use Rattle.std.proofs.lemmas.List.Elements.{All-append}
+use Rattle.std.specs.Prelude.{All, not, ◌||◌, is_some}
 use Rattle.grep_definitions.specs.LineSearch
 use Rattle.grep_core.proofs.ReadingLemmas as reading
-use Rattle.grep_core.proofs.StreamViewLemmas as views
+use Rattle.grep_core.proofs.StreamViewLemmas.{as-found}
+use Rattle.grep_line_buffer.proofs.InputViewLemmas as views
 use Rattle.grep_walk.proofs.WalkLemmas as walks
 use Rattle.grep_walk.proofs.WindowLemmas as windows
 
 -- no bytes are more than none
 pub nothing : {X : Type 0} → 0 < length {A = ℕ} [] → X
 nothing none = absurd (omega (arith, none))
-
-module _ {t : ℕ} {old new : BufferState} (ends_at : old.terminator ≡ t) where
-  -- what a fill shows are whole lines, unless nothing follows
-  pub closed-filled : (later : List ℕ) → IsUncut old new → (new.has_ended ≡ true → later ≡ [])
-      → 0 < length (new.rest ++ later) → IsClosed t new.shown
-  closed-filled later (inl line) done some = λ _. line.ends.last ∙ ends_at
-  closed-filled later (inr end) done some =
-      absurd (omega (arith, some, length-append new.rest later, ap length end.all, ap length (done end.ended)))
-
-  -- nothing follows if it shows no more lines, or an unterminated one
-  pub last-filled : (later : List ℕ) → IsUncut old new → (new.has_ended ≡ true → later ≡ [])
-      → IsLast t new.shown (length old.shown) → new.rest ++ later ≡ []
-  last-filled later (inl line) done (inl same) = absurd (omega (
-    arith,
-    same,
-    line.came,
-    length-append old.shown
-        old.rest,
-  ))
-  last-filled later (inl line) done (inr broken) = absurd (broken (λ _. line.ends.last ∙ ends_at))
-  last-filled later (inr end) done last = ap (λ xs. xs ++ later) end.all ∙ done end.ended
-
-  -- if it shows whole lines, and more than before, the end wasn't seen
-  pub unended-filled : (given : List ℕ) → held new ≡ held old ++ given → Lacks t old.rest → IsUncut old new
-      → length old.shown < length new.shown → IsClosed t new.shown → (new.has_ended ≡ false) × Lacks t new.rest
-  unended-filled given whole lacks (inl line) more closed =
-      (line.unended, λ i x below. subst (λ b. get_or new.rest i x ≢ b) ends_at (line.none i x below))
-  unended-filled given whole lacks (inr end) more closed =
-      let all : new.shown ≡ held old ++ given = sym (append-nil new.shown)
-      ∙ (ap (λ xs. new.shown ++ xs) (sym end.all) ∙ whole) in
-      let tail : List ℕ = old.rest ++ given in
-      let shown : new.shown ≡ old.shown ++ tail = all ∙ append_assoc old.shown old.rest given in
-      let given_lacks : All (λ b. b ≢ t) given = subst (All (λ b. b ≢ t))
-      (ap (drop (length (held old))) all ∙ drop_at (held old) given (length (held old)) refl)
-      (λ i x below. subst (λ b. get_or (drop (length (held old)) new.shown) i x ≢ b) ends_at (end.none i x below)) in
-      let tail_lacks = All-append (λ b. b ≢ t) old.rest given lacks given_lacks in
-      let size : length new.shown ≡ length old.shown + length tail = ap length shown ∙ length-append old.shown tail in
-      let last : length old.shown + (length tail - 1) ≡ length new.shown - 1 = omega (arith, size, more) in
-      absurd (All-get_or (λ b. b ≢ t) tail (length tail - 1) 0 (omega (arith, size, more)) tail_lacks
-      (sym (get_or-append-add old.shown tail (length tail - 1) 0)
-      ∙ (ap (λ i. get_or (old.shown ++ tail) i 0) last ∙ (ap (λ xs. slice_index xs (length new.shown - 1)) (sym shown)
-      ∙ closed (omega (arith, more))))))
 
 -- a buffer is never larger than its limit
 pub limit-within : {R : Type 0} {remaining : R → Option (List ℕ)} {read_step : R → ReadResult → R → Type 0} {k : Settings}
@@ -107,7 +65,7 @@ limit-within {new} fill limit is =
 abbrev t_of : Settings → ℕ
 t_of k = byte_of k.line_terminator
 
-module _ (join : LinesJoin) (append : LinesAppend) {S E : Type 0} {step : Steps S E} {k : Settings} {meaning : Meaning}
+module _ {S E : Type 0} {step : Steps S E} {k : Settings} {meaning : Meaning}
   where
     -- at the end of what is shown, if nothing follows it
     passed-end : {gone shown : List ℕ} {start : ℕ} {first : Origin S} {w : Walk} {now : S}
@@ -320,14 +278,14 @@ module _ (join : LinesJoin) (append : LinesAppend) {S E : Type 0} {step : Steps 
         pub fits-filled : (limit : ℕ) → k.heap_limit ≡ Some limit
             → All (λ line. IsTooLong t limit line → ⊥) (lines t (gone ++ new.shown))
         fits-filled limit is =
-            subst (All Fits) (sym (append t gone new.shown between.opens))
+            subst (All Fits) (sym (lines-append t gone new.shown between.opens))
             (All-append Fits (lines t gone) (lines t new.shown) left right)
           where
             Fits : List ℕ → Type 0
             Fits line = IsTooLong t limit line → ⊥
 
             before : All Fits (lines t gone ++ lines t old.shown)
-            before = subst (All Fits) (append t gone old.shown between.opens) (between.fits limit is)
+            before = subst (All Fits) (lines-append t gone old.shown between.opens) (between.fits limit is)
 
             left : All Fits (lines t gone)
             left = λ i x below. subst Fits (get_or_append_left (lines t gone) (lines t old.shown) x i below)
@@ -397,7 +355,7 @@ idle-detects false detecting is reads = absurd (false≢true is)
 module _ {R : Type 0} {remaining : R → Option (List ℕ)} {read_step : R → ReadResult → R → Type 0} {S E : Type 0}
     {step : Steps S E} {k : Settings} {meaning : Meaning} where
   -- a search begins with an empty buffer, once `begin` returned true
-  pub rolling-start : LinesJoin → LinesAppend → LinesAreNumbered → LinesAreFew → {decoder : DecoderState} {reader : R}
+  pub rolling-start : {decoder : DecoderState} {reader : R}
       {first now : S} {buffer : BufferState}
       → buffer ≡ empty_buffer buffer.size buffer.limit buffer.terminator (detection_of k.binary_detection)
       → buffer.terminator ≡ byte_of k.line_terminator
@@ -405,7 +363,7 @@ module _ {R : Type 0} {remaining : R → Option (List ℕ)} {read_step : R → R
       → step first k begins (Ok true) now
       → IsRolling step k meaning remaining read_step decoder reader (fresh first) buffer decoder reader
       (start_walk k meaning []) now
-  rolling-start join append numbered few {first} {now} {buffer} empty ends_at reads busy begun = record {
+  rolling-start {first} {now} {buffer} empty ends_at reads busy begun = record {
     gone = [];
     between = record {
       opens = λ none. nothing none;
@@ -430,8 +388,8 @@ module _ {R : Type 0} {remaining : R → Option (List ℕ)} {read_step : R → R
     };
     given = [];
     holds = record {
-      whole = ap held empty ∙ sym (nothing-held buffer.detection);
-      found = ap (λ b. b.binary) empty ∙ sym (nothing-found buffer.detection);
+      whole = ap held empty ∙ sym (detected-nil buffer.detection _);
+      found = ap (λ b. b.binary) empty ∙ sym (found-nil buffer.detection _);
       decodes = reads;
     };
     detects = ap (λ b. b.detection) empty;
@@ -446,20 +404,6 @@ module _ {R : Type 0} {remaining : R → Option (List ℕ)} {read_step : R → R
 
       rest : buffer.rest ≡ []
       rest = ap (λ b. b.rest) empty
-
-      nothing-held : (d : Detection) → detected d buffer.terminator [] ≡ []
-      nothing-held no_detection = refl
-      nothing-held (Quit b) = refl
-      nothing-held (Convert b) = refl
-
-      nothing-found : (d : Detection) → found_in d buffer.terminator [] ≡ None
-      nothing-found no_detection = refl
-      nothing-found (Quit b) = refl
-      nothing-found (Convert b) = go (b == buffer.terminator)
-        where
-          go : (same : Bool) → (if same then None else position (λ x. x == b) []) ≡ None
-          go true = refl
-          go false = refl
 
   -- what is held while a search reads on
   pub held-then : {decoder d : DecoderState} {reader r : R} {first : Origin S} {old : BufferState} {w : Walk} {now : S}
@@ -482,7 +426,7 @@ module _ {R : Type 0} {remaining : R → Option (List ℕ)} {read_step : R → R
 
     pub held-now : IsHeld remaining read_step k so_far.gone raw old new decoder d' reader r'
     held-now = record {
-      holds = reading.held-next stream.continues so_far.between.offset so_far.uncut so_far.holds fill.fills;
+      holds = reading.held-next so_far.between.offset so_far.uncut so_far.holds fill.fills;
       detects = so_far.detects;
       ends_at = fill.fitting.terminator;
       same = fill.same;
@@ -502,7 +446,7 @@ module _ {R : Type 0} {remaining : R → Option (List ℕ)} {read_step : R → R
       -- what follows what is gone and held
       abbrev view : (bytes : List ℕ) → Input bytes
           → (later : List ℕ) × (view_of k bytes ≡ (so_far.gone ++ held new) ++ later) × (IsDone d' → later ≡ [])
-      view = reading.view-is k reads-now stream.none _ (reading.shows-there held-now uncut)
+      view = reading.view-is k reads-now _ (reading.shows-there held-now uncut)
 
       -- and what is shown
       abbrev after : (bytes : List ℕ) → Input bytes → List ℕ
@@ -530,7 +474,7 @@ module _ {R : Type 0} {remaining : R → Option (List ℕ)} {read_step : R → R
         after = after bytes input;
         whole = sym (after-is bytes input) ∙ sym (append_assoc so_far.gone new.shown (after bytes input));
         closed = λ some. closed-append end_byte _ _ so_far.between.opens (closes bytes input some);
-        held = fits-filled stream.join stream.append so_far.between fill uncut;
+        held = fits-filled so_far.between fill uncut;
       }
 
       start-is : start_in new w ≡ length old.shown
@@ -538,7 +482,7 @@ module _ {R : Type 0} {remaining : R → Option (List ℕ)} {read_step : R → R
 
       ready : IsReady step k meaning so_far.gone new.shown (start_in new w) first w now
       ready = subst (λ p. IsReady step k meaning so_far.gone new.shown p first w now) (sym start-is)
-          (filled-ready stream.join stream.append so_far.between fill uncut busy)
+          (filled-ready so_far.between fill uncut busy)
 
       -- what is shown was seen
       abbrev seen-to : (low : ℕ) → low ≤ length shown
@@ -547,18 +491,18 @@ module _ {R : Type 0} {remaining : R → Option (List ℕ)} {read_step : R → R
         taken = reading.taken k reads-now;
         seen = shown;
         within = within_shown;
-        begins = λ bytes input. let text = reading.input-is k reads-now stream.none bytes input in (text.0, text.1);
+        begins = λ bytes input. let text = reading.input-is k reads-now bytes input in (text.0, text.1);
         front = front;
         clear = λ unfound bytes input.
-            let text = reading.input-is k reads-now stream.none bytes input in
+            let text = reading.input-is k reads-now bytes input in
             ap (λ xs. binary_of k (take (length shown) xs)) text.1
-            ∙ views.clear-front _ end_byte raw _ _
+            ∙ (as-found k.binary_detection _ _ ∙ views.clear-front _ end_byte raw _ _
             (omega (
               arith,
               reading.length-there held-now uncut,
               length-append so_far.gone new.shown,
               length-append new.shown new.rest,
-            )) (sym (reading.found-there held-now) ∙ unfound);
+            )) (sym (reading.found-there held-now) ∙ unfound));
       }
 
       -- a fault within what is shown
@@ -637,7 +581,7 @@ module _ {R : Type 0} {remaining : R → Option (List ℕ)} {read_step : R → R
           → IsRolling step k meaning remaining read_step decoder reader first moved d' r' w' now'
       rolling-next on consumed = record {
         gone = so_far.gone ++ take on.count new.shown;
-        between = between-next stream.join stream.append so_far.between fill uncut busy on;
+        between = between-next so_far.between fill uncut busy on;
         given = raw;
         holds = subst (λ b. HoldsGiven remaining read_step (so_far.gone ++ take on.count new.shown) b.detection
             b.terminator b

@@ -20,7 +20,7 @@ use Rattle.grep_definitions.specs.Plans.{finish_after, finishes, finish_result, 
 use Rattle.grep_definitions.specs.Plans.{line_count, Settings, SearcherState}
 use Rattle.grep_definitions.specs.Searches.{quits, on_stream, binary_of, view_of, BinaryPoint}
 use Rattle.grep_definitions.specs.Searches.{plan_with, calls_with, planned_binary, with_offset}
-use Rattle.grep_definitions.specs.Searches.{binary_position, position_of, IsInput, searched_bytes}
+use Rattle.grep_definitions.specs.Searches.{binary_position, IsInput, searched_bytes}
 use Rattle.grep_definitions.specs.Searches.{Taken, IsFront, reports_nothing, IsPoint, IsCutAt}
 use Rattle.grep_definitions.specs.Searches.{IsReaderSearch, IsSearchOf, Points, ran, asked}
 use Rattle.grep_definitions.specs.Searches.{IsStreamPoint, IsRead}
@@ -28,10 +28,10 @@ use Rattle.grep_definitions.specs.SinkRuns.{after_binary}
 use Rattle.grep_definitions.specs.DecodedInputs.{passes_unchanged}
 use Rattle.grep_definitions.specs.LineSearch.{byte_count, turns, through}
 use Rattle.grep_definitions.specs.Questions.{IsAskedByLine}
-use Rattle.grep_line_buffer.proofs.DetectionLemmas.{first-none}
+use Rattle.grep_core.proofs.StreamViewLemmas.{as-found}
+use Rattle.grep_line_buffer.proofs.DetectionLemmas.{first-none, found-nil}
 use Rattle.grep_line_buffer.specs.BufferStates.{BufferState, is_cut}
 use Rattle.grep_line_buffer.specs.Detections.{first_of, is_quit}
-use Rattle.grep_lines.specs.LineLaws.{LinesJoin, LinesAppend}
 use Rattle.grep_matcher.specs.Lines.{byte_of}
 use Rattle.grep_matcher.specs.Meanings.{Meaning, MatcherFacts}
 use Rattle.grep_report.specs.BinaryDetections.{quit_byte_of}
@@ -52,7 +52,7 @@ use Rattle.std.proofs.lemmas.Bool.{false≢true}
 use Rattle.std.proofs.lemmas.List.{append-nil}
 use Rattle.std.proofs.lemmas.Option.{none-some}
 use Rattle.std.specs.List.{concat}
-use Rattle.std.specs.Prelude.{is_none, is_some, ◌&&◌, if◌then◌else◌, ◌==◌, ◌||◌, not, OnOk}
+use Rattle.std.specs.Prelude.{is_none, is_some, ◌&&◌, ◌||◌, not, OnOk}
 use Rattle.grep_definitions.specs.LineSearch
 use Rattle.grep_walk.proofs.WalkLemmas as walks
 
@@ -407,7 +407,7 @@ module _ {R : Type 0} {remaining : R → Option (List ℕ)} {read_step : R → R
       later)
   calls-begin bytes one =
       let there = (cut bytes one).front in
-      let begun = turns-begin stream.join stream.append k meaning seen _ there.closed stream.built in (
+      let begun = turns-begin k meaning seen _ there.closed stream.built in (
         begun.0,
         plan-calls _
             ∙ (ap (LineSearch.turns k meaning) there.front.whole ∙ begun.1
@@ -514,13 +514,7 @@ front-none {bytes} = record {
 
 -- no binary byte is in no bytes
 pub binary-nil : (d : BinaryDetection) (t : ℕ) → binary_position d t [] ≡ None
-binary-nil no_detection t = refl
-binary-nil (Quit b) t = refl
-binary-nil (Convert b) t = go (b == t)
-  where
-    go : (same : Bool) → (if same then None else position_of b []) ≡ None
-    go true = refl
-    go false = refl
+binary-nil d t = as-found d t [] ∙ found-nil _ t
 
 module _ {R : Type 0} (remaining : R → Option (List ℕ)) (read_step : R → ReadResult → R → Type 0) where
   module _ {S E : Type 0} (step : Steps S E) (k : Settings) (meaning : Meaning) where
@@ -535,7 +529,7 @@ module _ {R : Type 0} (remaining : R → Option (List ℕ)) (read_step : R → R
       clear = λ none bytes input. binary-nil k.binary_detection (byte_of k.line_terminator);
     }
 
-    module _ (by_line : is_across k meaning ≡ false) (join : LinesJoin) (append : LinesAppend) {reader : R} {old new : S}
+    module _ (by_line : is_across k meaning ≡ false) {reader : R} {old new : S}
       where
         -- a search that made no report and reads nothing
         counted-unread : (outcome : Outcome E)

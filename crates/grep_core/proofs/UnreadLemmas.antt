@@ -29,7 +29,8 @@ use Rattle.grep_line_buffer.proofs.BufferStateLemmas.{grown}
 use Rattle.grep_core.proofs.ReadingLemmas as reading
 use Rattle.grep_core.proofs.ReadingLemmas.{IsHeld, IsStream}
 use Rattle.grep_core.proofs.RollingLemmas as rolls
-use Rattle.grep_core.proofs.StreamViewLemmas as views
+use Rattle.grep_core.proofs.StreamViewLemmas.{as-unquit}
+use Rattle.grep_line_buffer.proofs.InputViewLemmas.{before-kept}
 
 -- a limit that isn't 0 is above it
 limit-above : (limit : Option ℕ) (size : ℕ) → is_at 0 limit ≡ false → limit ≡ Some size → 0 < size
@@ -99,7 +100,7 @@ module _ {R : Type 0} {remaining : R → Option (List ℕ)} {read_step : R → R
 
     held-now : IsHeld remaining read_step k so_far.gone raw old new decoder d' reader mid
     held-now = record {
-      holds = reading.held-next stream.continues so_far.between.offset so_far.uncut so_far.holds fills;
+      holds = reading.held-next so_far.between.offset so_far.uncut so_far.holds fills;
       detects = so_far.detects;
       ends_at = fill.fitting.terminator;
       same = fill.same;
@@ -180,19 +181,19 @@ module _ {R : Type 0} {remaining : R → Option (List ℕ)} {read_step : R → R
         (reading.taken k reads-now) seen
     stops = (
       stream.by_line,
-      views.before-kept _ seen _
-          (ap (before_quit k.binary_detection) (sym seen-is) ∙ (reading.unquit-held held-now ∙ seen-is)),
+      as-unquit k.binary_detection _ ∙ before-kept _ seen _ (sym (as-unquit k.binary_detection _)
+          ∙ (ap (before_quit k.binary_detection) (sym seen-is) ∙ (reading.unquit-held held-now ∙ seen-is))),
       λ bytes input.
-          let text = reading.front-is k reads-now stream.none (view_of k) _
+          let text = reading.front-is k reads-now (view_of k) _
           (reading.fronts-there held-now) bytes input in
-          rolls.goes-on stream.join stream.append so_far.between _
+          rolls.goes-on so_far.between _
           (text-is _ text.1),
     )
 
     begins-to : (bytes : List ℕ) → IsInput k d'.has_ended reads-now.pieces bytes
         → (later : List ℕ) × (bytes ≡ so_far.given ++ later)
     begins-to bytes input =
-        let text = reading.input-is k reads-now stream.none bytes input in
+        let text = reading.input-is k reads-now bytes input in
         (fills.given ++ text.0, text.1 ∙ append_assoc so_far.given fills.given text.0)
 
     -- the reader's own error
@@ -200,7 +201,7 @@ module _ {R : Type 0} {remaining : R → Option (List ℕ)} {read_step : R → R
         → d'.has_ended ≡ false
         → read_step mid (Err e) r' → d'.ready ≡ [] → IsWaiting d'.mode d'.held → IsShortTo r' e
     short-read uncut no_line room unended failed ready waits =
-        let decoded = reading.decoded-so_far k reads-now stream.none unended ready waits in
+        let decoded = reading.decoded-so_far k reads-now unended ready waits in
         let shows = reading.view-there held-now uncut in
         let unquit = reading.unquit-held held-now in
         record {
@@ -232,7 +233,7 @@ module _ {R : Type 0} {remaining : R → Option (List ℕ)} {read_step : R → R
     taken = reading.taken k (reads-now fill fills);
     begins = begins-to fill fills;
     cause = of_lines (stops fill fills) refl (λ bytes input.
-        let before = reading.front-is k (reads-now fill fills) stream.none (λ xs. before_quit k.binary_detection (view_of k xs))
+        let before = reading.front-is k (reads-now fill fills) (λ xs. before_quit k.binary_detection (view_of k xs))
         _ (reading.before-there (held-now fill fills)) bytes input in
         cuts-short fill fills error made fill.fails other _ before.1);
   }

@@ -13,10 +13,8 @@ ghost use Rattle.grep_report.specs.ErrorMakers.{makers_of};
 use crate::calls::Calls;
 use crate::read_by_line::io_error;
 use crate::search::Search;
-use grep_decode::laws::{done_gives_nothing, reads_continue};
 use grep_decode::{Decoder, Source};
 use grep_line_buffer::read_contents;
-use grep_lines::laws::lines_join;
 use grep_matcher::Matcher;
 use grep_report::{SinkError, SinkFinish};
 use std::alloc::Allocator;
@@ -54,9 +52,6 @@ impl<'c, A: Allocator + Copy, T> Search<'c, A, T> {
             reader.old seen error reader.new × C.Error.makers.is_io error e) }
         ensures may_call { C.may_call sink.new }
     {
-        reads_continue::<R>();
-        done_gives_nothing();
-        lines_join();
         if let Err(error) = read_contents(decoder, reader, self.heap_limit(), contents) {
             return Err(C::Error::error_io(self.alloc, io_error(error)));
         }

@@ -26,11 +26,8 @@ ghost use Rattle.grep_report.specs.ErrorMakers.{makers_of};
 use crate::buffers::Buffers;
 use crate::calls::Calls;
 use crate::search::Search;
-use grep_decode::laws::{done_gives_nothing, reads_continue};
 use grep_decode::{Decoder, Source};
-use grep_line_buffer::laws::fills_continue;
 use grep_line_buffer::{Detection, FillError, LineBuffer};
-use grep_lines::laws::{lines_append, lines_are_few, lines_are_numbered, lines_join};
 use grep_matcher::Matcher;
 use grep_report::{BinaryDetection, SinkError, SinkFinish};
 use grep_walk::{Questions, WALK_START, Walk};
@@ -137,8 +134,6 @@ impl<'c, A: Allocator + Copy, T> Search<'c, A, T> {
             × C.Error.makers.is_io error e) }
         ensures may_call { C.may_call sink.new }
     {
-        lines_join();
-        lines_append();
         if !C::begin(self, sink)? {
             return Ok(SinkFinish::new(0, None));
         }
@@ -219,13 +214,6 @@ impl<'c, A: Allocator + Copy, T> Search<'c, A, T> {
             × C.Error.makers.is_io error e) }
         ensures may_call { C.may_call sink.new }
     {
-        reads_continue::<R>();
-        fills_continue::<R>();
-        done_gives_nothing();
-        lines_join();
-        lines_append();
-        lines_are_numbered();
-        lines_are_few();
         let questions = self.config.questions(matcher);
         let mut walk = WALK_START;
         'fills: loop {
@@ -332,8 +320,6 @@ impl<'c, A: Allocator + Copy, T> Search<'c, A, T> {
             sink.old result walk.new.offset sink.new }
         ensures may_call { C.may_call sink.new }
     {
-        lines_join();
-        lines_append();
         let window = lines.buffer();
         let start = (walk.offset - lines.absolute_byte_offset()) as usize;
         if start == window.len() {

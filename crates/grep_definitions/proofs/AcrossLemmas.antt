@@ -12,7 +12,6 @@ use Rattle.std.specs.List.{list_any}
 use Rattle.grep_matcher.specs.Lines.{byte_of}
 use Rattle.grep_matcher.specs.Meanings.{Meaning}
 use Rattle.grep_lines.specs.Blocks.{block_start, block_end}
-use Rattle.grep_lines.proofs.LawLemmas.{AreLines-lines}
 use Rattle.grep_report.specs.declared.sink_context.SinkContextKind.TheVariants.{After}
 use Rattle.grep_definitions.specs.LineSearch.{line_count, line, number, start}
 use Rattle.grep_definitions.specs.AcrossLines
@@ -153,7 +152,7 @@ module _ (k : Settings) (meaning : Meaning) (bytes : List ℕ) where
       _)
     where
       above : at i < at (i + 1)
-      above = line_start-ascends AreLines-lines (byte_of k.line_terminator) bytes i inside
+      above = line_start-ascends (byte_of k.line_terminator) bytes i inside
 
       go : (o : Option Kind) → AcrossLines.kind k meaning bytes i ≡ o
           → report_calls (T i) ≡ report_calls (AcrossLines.report k meaning bytes i o)
@@ -195,7 +194,7 @@ module _ (k : Settings) (meaning : Meaning) (bytes : List ℕ) where
 
   -- the reports ascend
   pub in_order-across : AreInOrder (report_calls (AcrossLines.turns k meaning bytes))
-  in_order-across = in_order-joined T at n (line_start-ascends AreLines-lines (byte_of k.line_terminator) bytes)
+  in_order-across = in_order-joined T at n (line_start-ascends (byte_of k.line_terminator) bytes)
       reported-line
 
   -- a line after a selected one that isn't selected itself is reported as the line after it

@@ -1,14 +1,13 @@
 -- Where the turns of the calls across lines end, against where lines start.
-use Rattle.grep_definitions.specs.Plans.{planned, Planned, breaks, first_below, joined_from, Kind}
+use Rattle.grep_definitions.specs.Plans.{planned, Planned, breaks, first_below, Kind}
 use Rattle.grep_definitions.specs.Plans.{matched, in_context, Settings}
-use Rattle.std.proofs.Common.{◌≡◌, ◌⊎◌, ℕ, ◌+◌, ◌-◌, ◌<◌, ◌≤◌, Bool, true, false, ◌&&◌, List, [], ◌∷◌, ◌++◌, Option}
-use Rattle.std.proofs.Common.{Some, None, refl, sym, ◌∙◌, ap, subst, arith, ⊎_elim, inl, inr, append-nil, if◌then◌else◌}
+use Rattle.std.proofs.Common.{◌≡◌, ◌⊎◌, ℕ, ◌+◌, ◌-◌, ◌<◌, ◌≤◌, Bool, true, false, ◌&&◌, List, [], ◌∷◌, Option}
+use Rattle.std.proofs.Common.{Some, None, refl, sym, ◌∙◌, ap, subst, arith, ⊎_elim, inl, inr, if◌then◌else◌}
 use Rattle.std.proofs.Math.Bool.{and-false}
-use Rattle.std.proofs.lemmas.Bool.{ltb-true, le-leb, lt-leb, cases_lt, cases_Bool}
-use Rattle.std.proofs.lemmas.List.Elements.{All-nil, All-cons, All-weaker, filter-append}
-use Rattle.std.specs.Prelude.{filter, nat_le, nat_lt, All}
+use Rattle.std.proofs.lemmas.Bool.{ltb-true, cases_lt, cases_Bool}
+use Rattle.std.proofs.lemmas.List.Elements.{All-nil, All-cons, All-weaker}
+use Rattle.std.specs.Prelude.{nat_le, nat_lt, All}
 use Rattle.std.specs.Option.{option_map, unwrap_or}
-use Rattle.grep_lines.proofs.LawLemmas.{AreLines-lines}
 use Rattle.grep_matcher.specs.Meanings.{Meaning}
 use Rattle.grep_matcher.specs.Lines.{byte_of}
 use Rattle.grep_report.specs.declared.sink_context.SinkContextKind.TheVariants.{Before, After, Other}
@@ -18,7 +17,6 @@ use Rattle.grep_definitions.proofs.AcrossWalkLemmas.{Near, front, front-through,
 use Rattle.grep_definitions.proofs.BelowLemmas.{first_below-none, first_below-of, some_below-find, some_below-some}
 use Rattle.grep_definitions.proofs.BoolLemmas.{both_true, clash}
 use Rattle.grep_definitions.proofs.LineStartLemmas.{line_start-ascends}
-use Rattle.grep_definitions.proofs.ListLemmas.{All-joined_from, filter-all, filter-none}
 use Rattle.grep_definitions.proofs.SearchLawLemmas.{kind-selected}
 use Rattle.grep_definitions.proofs.TurnEndLemmas.{ended-by, line_start-le}
 use Rattle.grep_definitions.specs.LineSearch.{through}
@@ -161,5 +159,5 @@ module _ (k : Settings) (meaning : Meaning) (bytes : List ℕ) where
         ap (through (at i)) (front-through k meaning bytes v count (omega arith))
         ∙ ended-by (at i) (front k meaning bytes v) (T k meaning bytes) v (count - v) ended (λ j low high.
         All-weaker (λ turn. at (i + 1) ≤ turn.if_false.count) (λ turn. at i < turn.if_false.count)
-        (λ turn low. omega (arith, line_start-ascends AreLines-lines (byte_of k.line_terminator) bytes i inside))
+        (λ turn low. omega (arith, line_start-ascends (byte_of k.line_terminator) bytes i inside))
         (T k meaning bytes j) (ends-late j low (omega arith)))

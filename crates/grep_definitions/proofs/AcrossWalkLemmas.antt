@@ -9,8 +9,6 @@ use Rattle.std.proofs.lemmas.Bool.{lt-ltb, lt-leb, le-leb, cases_Bool, cases_lt}
 use Rattle.std.proofs.lemmas.List.{append-nil}
 use Rattle.std.specs.Prelude.{nat_lt, nat_le, slice_range}
 use Rattle.grep_matcher.specs.Meanings.{Meaning}
-use Rattle.grep_matcher.specs.Lines.{byte_of}
-use Rattle.grep_lines.proofs.LineStepLemmas.{lines-numbered}
 use Rattle.grep_report.specs.declared.sink_context.SinkContextKind.TheVariants.{Before, After, Other}
 use Rattle.grep_definitions.specs.LineSearch.{line_count, line, start, number}
 use Rattle.grep_definitions.specs.LineTurns.{before_turns, pending_turns, match_turns, context_turns, is_gap, number_of}

@@ -9,7 +9,6 @@ use Rattle.std.specs.List.{position}
 use Rattle.std.specs.Option.{option_map}
 use Rattle.grep_matcher.specs.Meanings.{Meaning}
 use Rattle.grep_matcher.specs.Lines.{byte_of}
-use Rattle.grep_lines.specs.LineLaws.{LinesJoin}
 use Rattle.grep_definitions.specs.Searches.{binary_position, position_of, stream_view, BinaryPoint}
 use Rattle.grep_definitions.specs.Searches.{call_at, contents_point, point_at, point_unless}
 use Rattle.grep_definitions.specs.BinaryLaws.{first_look, holds_byte, QuitReportsAreClear}
@@ -134,8 +133,8 @@ pub counted_reports-clear : CountedReportsAreClear
 counted_reports-clear b k meaning bytes count clear = lines-clear k meaning bytes b count clear
 
 -- lines that were seen are clear if what they are of the input is
-pub seen_lines-clear : LinesJoin → SeenLinesAreClear
-seen_lines-clear join b k meaning bytes seen quits front clear =
+pub seen_lines-clear : SeenLinesAreClear
+seen_lines-clear b k meaning bytes seen quits front clear =
     All-cons P (planned begins 0)
     (joined_from (LineSearch.turns_at k meaning seen) 0 (LineSearch.turn_count k meaning seen)) refl
     (All-joined_from P (LineSearch.turns_at k meaning seen) 0 (LineSearch.turn_count k meaning seen)
@@ -158,5 +157,5 @@ seen_lines-clear join b k meaning bytes seen quits front clear =
         (λ none. ap (λ xs. is_some (position_of b xs)) none)
         (λ line. ap (λ xs. is_some (position_of b xs)) line
         ∙ ap is_some (line-clear k meaning seen b (length seen) is_clear i inside
-        (line_start-within join (byte_of k.line_terminator) seen (i + 1))))
+        (line_start-within (byte_of k.line_terminator) seen (i + 1))))
         (reports-line k meaning seen i j d below)

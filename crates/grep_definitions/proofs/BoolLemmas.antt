@@ -1,8 +1,6 @@
 -- Booleans: what a conjunction, a disjunction or a negation says of its parts.
-use Rattle.std.proofs.Common.{◌≡◌, ◌⊎◌, ℕ, ◌<◌, Bool, true, false, not, ◌&&◌, ◌||◌, refl, inl, inr, arith, ⊎_elim}
+use Rattle.std.proofs.Common.{◌≡◌, ◌⊎◌, Bool, true, false, not, ◌&&◌, ◌||◌, refl, inl, inr}
 use Rattle.std.proofs.Math.Bool.{or-true}
-use Rattle.std.proofs.lemmas.Bool.{eq-eqb, cases_lt}
-use Rattle.std.specs.Prelude.{◌==◌}
 
 -- no test both passes and doesn't
 pub clash : {b : Bool} → b ≡ true → b ≡ false → ⊥

@@ -7,7 +7,7 @@ use Rattle.std.specs.Prelude.{nat_eq, nat_lt, nat_le, count_by}
 use Rattle.std.specs.List.{concat}
 use Rattle.grep_matcher.specs.Lines.{byte_of, lines}
 use Rattle.grep_matcher.specs.Meanings.{Meaning}
-use Rattle.grep_lines.specs.LineLaws.{LinesJoin, LinesAppend}
+use Rattle.grep_lines.proofs.LineLemmas.{lines-append}
 use Rattle.grep_definitions.specs.Plans
 use Rattle.grep_definitions.specs.Plans.{Settings, some_below, count_below, first_below}
 use Rattle.grep_definitions.specs.LineSearch
@@ -39,7 +39,7 @@ first_below-same p q (suc n) same = rw (
 abbrev pub IsClosed : ℕ → List ℕ → Type 0
 IsClosed t bytes = 0 < length bytes → slice_index bytes (length bytes - 1) ≡ t
 
-module _ (join : LinesJoin) (append : LinesAppend) (k : Settings) (meaning : Meaning) (front back : List ℕ)
+module _ (k : Settings) (meaning : Meaning) (front back : List ℕ)
     (closed : IsClosed (byte_of k.line_terminator) front) where
   -- all bytes, and how many lines the front has
   abbrev whole : List ℕ
@@ -51,7 +51,7 @@ module _ (join : LinesJoin) (append : LinesAppend) (k : Settings) (meaning : Mea
   -- the lines of the front, and then those of the back
   pub all_lines : lines (byte_of k.line_terminator) whole ≡ lines (byte_of k.line_terminator) front
       ++ lines (byte_of k.line_terminator) back
-  all_lines = append (byte_of k.line_terminator) front back closed
+  all_lines = lines-append (byte_of k.line_terminator) front back closed
 
   -- a line of the front is that line of the whole
   pub line-same : (i : ℕ) → i < n → LineSearch.line k meaning whole i ≡ LineSearch.line k meaning front i
@@ -124,7 +124,7 @@ module _ (join : LinesJoin) (append : LinesAppend) (k : Settings) (meaning : Mea
       let cut : take (LineSearch.start k meaning whole i) whole
       ≡ take (LineSearch.start k meaning front i) front = ap (λ p. take p whole)
       (start-same i inside) ∙ take-append-le (LineSearch.start k meaning front i) front back
-      (line_start-within join (byte_of k.line_terminator) front i) in
+      (line_start-within (byte_of k.line_terminator) front i) in
       ap (λ bs. if k.line_number then Some (count_by (λ b. nat_eq b (byte_of k.line_terminator)) bs + 1) else None) cut
 
   -- it fills the limit in both or in neither

@@ -12,7 +12,6 @@ use Rattle.std.specs.Prelude.{nat_lt, nat_le, All}
 use Rattle.std.specs.Option.{option_map}
 use Rattle.grep_matcher.specs.Lines.{byte_of, lines}
 use Rattle.grep_matcher.specs.Meanings.{Meaning}
-use Rattle.grep_lines.specs.LineLaws.{LinesJoin, LinesAppend}
 use Rattle.grep_report.specs.declared.sink_context.SinkContextKind.TheVariants.{Before, After, Other}
 use Rattle.grep_definitions.proofs.LineSliceLemmas.{line-report}
 use Rattle.grep_definitions.specs.LineSearch
@@ -38,7 +37,7 @@ first_below-far p n (suc m) is =
     let sum : n + suc m ≡ suc (n + m) = omega arith in
     rw (sum, there) (first_below-far p n m is)
 
-module _ (join : LinesJoin) (append : LinesAppend) (k : Settings) (meaning : Meaning) (front back : List ℕ)
+module _ (k : Settings) (meaning : Meaning) (front back : List ℕ)
     (closed : IsClosed (byte_of k.line_terminator) front) where
   -- all bytes, and how many lines the front and they have
   abbrev whole : List ℕ
@@ -52,7 +51,7 @@ module _ (join : LinesJoin) (append : LinesAppend) (k : Settings) (meaning : Mea
 
   -- the whole has the lines of the front and those of the back
   more_lines : all ≡ n + length (lines (byte_of k.line_terminator) back)
-  more_lines = ap length (prefix.all_lines join append k meaning front back closed)
+  more_lines = ap length (prefix.all_lines k meaning front back closed)
       ∙ length-append (lines (byte_of k.line_terminator) front) (lines (byte_of k.line_terminator) back)
 
   -- whether a line of the front is selected
@@ -61,7 +60,7 @@ module _ (join : LinesJoin) (append : LinesAppend) (k : Settings) (meaning : Mea
 
   -- the whole selects the same lines there
   same_selected : (i : ℕ) → i < n → Plans.is_selected k meaning whole i ≡ selected i
-  same_selected i below = prefix.is_selected-same join append k meaning front back closed i below
+  same_selected i below = prefix.is_selected-same k meaning front back closed i below
 
   -- a selected line that has line i in the reach before it
   abbrev near_before : List ℕ → ℕ → ℕ → Bool
@@ -120,10 +119,10 @@ module _ (join : LinesJoin) (append : LinesAppend) (k : Settings) (meaning : Mea
       s = same_selected i below
 
       f : LineSearch.follows_selected k meaning whole i ≡ LineSearch.follows_selected k meaning front i
-      f = prefix.follows-same join append k meaning front back closed i below
+      f = prefix.follows-same k meaning front back closed i below
 
       t : Plans.is_trailing k meaning whole i ≡ Plans.is_trailing k meaning front i
-      t = prefix.is_trailing-same join append k meaning front back closed i below
+      t = prefix.is_trailing-same k meaning front back closed i below
 
       go : (a b c d : Bool) → selected i ≡ a → LineSearch.follows_selected k meaning front i ≡ b
           → LineSearch.precedes_selected k meaning front i ≡ c → LineSearch.precedes_selected k meaning whole i ≡ d
@@ -277,15 +276,15 @@ module _ (join : LinesJoin) (append : LinesAppend) (k : Settings) (meaning : Mea
   end-same : (i : ℕ) → i < n → (kd : Option Kind) → LineSearch.kind k meaning front i ≡ kd
       → LineSearch.turn_end k meaning whole i kd
       ≡ LineSearch.turn_end k meaning front i kd
-  end-same i below None is = prefix.start-same join append k meaning front back closed (i + 1) (omega arith)
-  end-same i below (Some matched) is = prefix.start-same join append k meaning front back closed (i + 1) (omega arith)
+  end-same i below None is = prefix.start-same k meaning front back closed (i + 1) (omega arith)
+  end-same i below (Some matched) is = prefix.start-same k meaning front back closed (i + 1) (omega arith)
   end-same i below (Some (in_context Before)) is =
       let through = through-same i below (kind-before i is) in
-      ap (LineSearch.start k meaning whole) through.0 ∙ prefix.start-same join append k meaning front back closed
+      ap (LineSearch.start k meaning whole) through.0 ∙ prefix.start-same k meaning front back closed
       (LineSearch.lines_through_next k meaning front i) through.1
-  end-same i below (Some (in_context After)) is = prefix.start-same join append k meaning front back closed (i + 1)
+  end-same i below (Some (in_context After)) is = prefix.start-same k meaning front back closed (i + 1)
       (omega arith)
-  end-same i below (Some (in_context Other)) is = prefix.start-same join append k meaning front back closed (i + 1)
+  end-same i below (Some (in_context Other)) is = prefix.start-same k meaning front back closed (i + 1)
       (omega arith)
 
   -- a line of the front has the same report in the whole
@@ -294,9 +293,9 @@ module _ (join : LinesJoin) (append : LinesAppend) (k : Settings) (meaning : Mea
       ≡ LineSearch.report k meaning front i kd
   report-same i below None is = refl
   report-same i below (Some matched) is =
-      let number = prefix.number-same join append k meaning front back closed i (omega arith) in
-      let start = prefix.start-same join append k meaning front back closed i (omega arith) in
-      let line = prefix.line-same join append k meaning front back closed i below in
+      let number = prefix.number-same k meaning front back closed i (omega arith) in
+      let start = prefix.start-same k meaning front back closed i (omega arith) in
+      let line = prefix.line-same k meaning front back closed i below in
       let end = end-same i below (Some matched) is in
       line-report k whole meaning i
       ∙ ap (λ x. planned (matches x (LineSearch.start k meaning whole i) (LineSearch.line k meaning whole i))
@@ -309,9 +308,9 @@ module _ (join : LinesJoin) (append : LinesAppend) (k : Settings) (meaning : Mea
       (LineSearch.line k meaning front i)) x ∷ []) end
       ∙ sym (line-report k front meaning i)
   report-same i below (Some (in_context c)) is =
-      let number = prefix.number-same join append k meaning front back closed i (omega arith) in
-      let start = prefix.start-same join append k meaning front back closed i (omega arith) in
-      let line = prefix.line-same join append k meaning front back closed i below in
+      let number = prefix.number-same k meaning front back closed i (omega arith) in
+      let start = prefix.start-same k meaning front back closed i (omega arith) in
+      let line = prefix.line-same k meaning front back closed i below in
       let end = end-same i below (Some (in_context c)) is in
       ap (λ x. (planned (context c x (LineSearch.start k meaning whole i) (LineSearch.line k meaning whole i))
       (LineSearch.turn_end k meaning whole i (Some (in_context c)))) ∷ []) number
@@ -372,7 +371,7 @@ module _ (join : LinesJoin) (append : LinesAppend) (k : Settings) (meaning : Mea
           → Bounds (LineSearch.turns_by_stop k meaning whole) (LineSearch.turns_by_stop k meaning front)
       go false is = inl (rw is refl)
       go true is = rw is (first-bounds suc (λ u. omega arith) (Plans.ends_chosen k meaning whole)
-          (Plans.ends_chosen k meaning front) (λ j below. prefix.ends_chosen-same join append k meaning front back
+          (Plans.ends_chosen k meaning front) (λ j below. prefix.ends_chosen-same k meaning front back
           closed j below))
 
   -- so is the bound by the limit
@@ -382,7 +381,7 @@ module _ (join : LinesJoin) (append : LinesAppend) (k : Settings) (meaning : Mea
   limit-bounds (Some zero) = inl refl
   limit-bounds (Some (suc l)) = first-bounds (λ m. suc (m + k.after_context)) (λ u. omega arith)
       (LineSearch.fills_limit k meaning whole)
-      (LineSearch.fills_limit k meaning front) (λ j below. prefix.fills_limit-same join append k meaning front back
+      (LineSearch.fills_limit k meaning front) (λ j below. prefix.fills_limit-same k meaning front back
       closed j below)
 
   -- so is that bound if passthru lifts it
@@ -534,7 +533,7 @@ module _ (join : LinesJoin) (append : LinesAppend) (k : Settings) (meaning : Mea
             let out = near.passed j low below in
             let unselected : selected j ≡ false = sym (same_selected j below) ∙ out.0 in
             let unfollowed : LineSearch.follows_selected k meaning front j ≡ false =
-            sym (prefix.follows-same join append k meaning front back closed j below) ∙ out.1 in
+            sym (prefix.follows-same k meaning front back closed j below) ∙ out.1 in
             let plain : k.passthru ≡ false = ⊎_elim (λ yes. absurd (omega (arith, near.bare yes)))
             (λ no. no) (cases_Bool k.passthru) in
             let unpreceded : LineSearch.precedes_selected k meaning front j ≡ false = ⊎_elim
@@ -591,7 +590,7 @@ module _ (join : LinesJoin) (append : LinesAppend) (k : Settings) (meaning : Mea
                 let far : n ≤ q = ⊎_elim
                 (λ less. absurd (clash (sym (same_selected q less) ∙ both.1)
                 (late-unselected i q late (omega (arith, beyond)) less))) (λ out. out) (cases_lt q n) in
-                let up = line_start-ascends join (byte_of k.line_terminator) whole n (omega (arith, found.0)) in
+                let up = line_start-ascends (byte_of k.line_terminator) whole n (omega (arith, found.0)) in
                 let le = line_start-le (byte_of k.line_terminator) whole (n + 1) (q + 1) (omega arith) in
                 rw is (omega arith)
 
@@ -599,7 +598,7 @@ module _ (join : LinesJoin) (append : LinesAppend) (k : Settings) (meaning : Mea
         not-late i below late =
             let is : LineSearch.kind k meaning whole i ≡ Some (in_context Before) =
             let s = same_selected i late.inside ∙ late.unselected in
-            let f = prefix.follows-same join append k meaning front back closed i late.inside ∙ late.unfollowed in
+            let f = prefix.follows-same k meaning front back closed i late.inside ∙ late.unfollowed in
             let p = late.precedes in
             rw (s, f, p) refl in
             let end = LineSearch.turn_end k meaning whole i (Some (in_context Before)) in

@@ -62,8 +62,8 @@ pub lines-fit : (t size : ℕ) (bytes : List ℕ) → length bytes ≤ size
     → (length bytes ≡ size → IsClosed t bytes)
     → All (λ line. IsTooLong t size line → ⊥) (lines t bytes)
 lines-fit t size bytes within full = λ k x below. go (get_or (lines t bytes) k x)
-    (lines-within AreLines-lines t bytes k x below)
-    (λ closed. lines-end AreLines-lines t bytes closed k x below)
+    (lines-within t bytes k x below)
+    (λ closed. lines-end t bytes closed k x below)
   where
     go : (line : List ℕ) → length line ≤ length bytes → (IsClosed t bytes → slice_index line (length line - 1) ≡ t)
         → IsTooLong t size line → ⊥

@@ -8,7 +8,7 @@ use Rattle.std.specs.List.{concat}
 use Rattle.std.specs.Prelude.{All, slice_index_or}
 use Rattle.grep_matcher.specs.Lines.{lines, line_start, onto_first}
 use Rattle.grep_matcher.specs.AreLines.{AreEnded}
-use Rattle.grep_lines.specs.LineLaws.{LinesJoin}
+use Rattle.grep_lines.proofs.LawLemmas.{AreLines-lines}
 
 -- no piece is longer than all pieces joined
 pieces-within : (pieces : List (List ℕ)) → All (λ piece. length piece ≤ length (concat pieces)) pieces
@@ -20,9 +20,9 @@ pieces-within (piece ∷ later) =
     (λ p within. omega arith) later (pieces-within later))
 
 -- no line is longer than the bytes
-pub lines-within : LinesJoin → (t : ℕ) (bytes : List ℕ) → All (λ line. length line ≤ length bytes) (lines t bytes)
-lines-within join t bytes =
-    subst (λ bs. All (λ line. length line ≤ length bs) (lines t bytes)) (join t bytes).joined
+pub lines-within : (t : ℕ) (bytes : List ℕ) → All (λ line. length line ≤ length bytes) (lines t bytes)
+lines-within t bytes =
+    subst (λ bs. All (λ line. length line ≤ length bs) (lines t bytes)) (AreLines-lines t bytes).joined
     (pieces-within (lines t bytes))
 
 -- if all pieces but the last end in t, and all pieces joined do, then each piece does
@@ -45,10 +45,10 @@ pieces-end t (piece ∷ next ∷ later) filled ended closed =
     ∙ (ap (λ i. get_or (piece ++ rest) i 0) last ∙ closed (omega arith))))
 
 -- every line of bytes that are empty or end in the terminator ends in it
-pub lines-end : LinesJoin → (t : ℕ) (bytes : List ℕ) → (0 < length bytes → slice_index bytes (length bytes - 1) ≡ t)
+pub lines-end : (t : ℕ) (bytes : List ℕ) → (0 < length bytes → slice_index bytes (length bytes - 1) ≡ t)
     → All (λ line. slice_index line (length line - 1) ≡ t) (lines t bytes)
-lines-end join t bytes closed =
-    let is = join t bytes in
+lines-end t bytes closed =
+    let is = AreLines-lines t bytes in
     pieces-end t (lines t bytes) is.filled is.ended
     (subst (λ bs. 0 < length bs → slice_index bs (length bs - 1) ≡ t) (sym is.joined) closed)
 

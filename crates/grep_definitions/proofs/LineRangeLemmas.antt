@@ -5,7 +5,6 @@ use Rattle.std.proofs.lemmas.Bool.{cases_lt}
 use Rattle.std.proofs.lemmas.List.{take-append-drop, get_or-drop, get_or-take, drop-drop, take_all}
 use Rattle.grep_lines.proofs.LineLemmas.{lines-append}
 use Rattle.grep_lines.proofs.LineStepLemmas.{IsAt-start, IsStep-line, all_passed}
-use Rattle.grep_lines.proofs.LawLemmas.{AreLines-lines}
 use Rattle.std.specs.Prelude.{slice_range}
 use Rattle.grep_lines.specs.Positions.{IsLine, IsLineStart}
 use Rattle.grep_matcher.specs.Lines.{lines, line_start}
@@ -71,7 +70,7 @@ line-at t window i listed =
 
 -- the end of the bytes is where a line after the last would start
 pub end-start : (t : ℕ) (bytes : List ℕ) → IsLineStart t bytes (length bytes) (length (lines t bytes))
-end-start t bytes = record { listed = omega arith; begins = line_start-last AreLines-lines t bytes }
+end-start t bytes = record { listed = omega arith; begins = line_start-last t bytes }
 
 -- where lines start, against the start of one of them
 module _ {t : ℕ} {bytes : List ℕ} {p i : ℕ} (there : IsLineStart t bytes p i) where
@@ -79,7 +78,7 @@ module _ {t : ℕ} {bytes : List ℕ} {p i : ℕ} (there : IsLineStart t bytes p
   pub starts-before : (j : ℕ) → j < i → line_start t bytes j < p
   starts-before j less = omega (
     arith,
-    line_start-ascends AreLines-lines t bytes j (omega arith),
+    line_start-ascends t bytes j (omega arith),
     line_start-le t bytes (j + 1) i (omega arith),
   )
 

@@ -8,7 +8,7 @@ use Rattle.std.proofs.lemmas.List.Folds.{concat-append}
 use Rattle.std.proofs.Math.Seq.{take-length}
 use Rattle.std.specs.List.{concat}
 use Rattle.grep_matcher.specs.Lines.{lines, line_start}
-use Rattle.grep_lines.specs.LineLaws.{LinesJoin}
+use Rattle.grep_lines.proofs.LawLemmas.{AreLines-lines}
 
 -- a line starts after all of the line before it
 pub line_start-more : (t : ℕ) (bytes : List ℕ) (i : ℕ) → i < length (lines t bytes) → line_start t bytes (i + 1)
@@ -30,13 +30,13 @@ line_start-next t bytes i = ⊎_elim
     omega arith)
     (cases_lt i (length (lines t bytes)))
 
-module _ (join : LinesJoin) (t : ℕ) (bytes : List ℕ) where
+module _ (t : ℕ) (bytes : List ℕ) where
   -- a line begins before the next one
   pub line_start-ascends : (i : ℕ) → i < length (lines t bytes) → line_start t bytes i < line_start t bytes (i + 1)
   line_start-ascends i below =
       let filled : 0 < length (get_or (lines t bytes) i []) = All-get_or (λ line. 0 < length line) (lines t bytes) i []
       below
-      (join t bytes).filled in
+      (AreLines-lines t bytes).filled in
       omega (arith, line_start-more t bytes i below)
 
   -- no line begins after the end of the bytes
@@ -49,9 +49,9 @@ module _ (join : LinesJoin) (t : ℕ) (bytes : List ℕ) where
         ap length (concat-append (take i all) (drop i all)),
         length-append (concat (take i all))
             (concat (drop i all)),
-        ap length (join t bytes).joined,
+        ap length (AreLines-lines t bytes).joined,
       )
 
   -- after the last line the bytes end
   pub line_start-last : line_start t bytes (length (lines t bytes)) ≡ length bytes
-  line_start-last = ap (λ ls. length (concat ls)) (take-length (lines t bytes)) ∙ ap length (join t bytes).joined
+  line_start-last = ap (λ ls. length (concat ls)) (take-length (lines t bytes)) ∙ ap length (AreLines-lines t bytes).joined

@@ -14,7 +14,7 @@ use Rattle.std.specs.Prelude.{IfSome, map, nat_lt, nat_le, slice_get}
 use Rattle.std.specs.Option.{option_map}
 use Rattle.grep_matcher.specs.Lines.{byte_of}
 use Rattle.grep_matcher.specs.Meanings.{Meaning}
-use Rattle.grep_lines.specs.LineLaws.{LinesAreNumbered}
+use Rattle.grep_lines.proofs.LineStepLemmas.{lines-numbered}
 use Rattle.grep_report.specs.declared.sink_context.SinkContextKind.TheVariants.{Before, After, Other}
 use Rattle.grep_definitions.proofs.LineSliceLemmas.{line-report}
 use Rattle.grep_definitions.specs.SearchLaws.{is_match, is_matched, match_calls, match_of, matched_lines}
@@ -101,7 +101,7 @@ match_calls-joined f i (suc n) =
     match_calls-append (f i) (joined_from f (i + 1) n)
     ∙ ap (λ xs. match_calls (f i) ++ xs) (match_calls-joined f (i + 1) n)
 
-module _ (numbered : LinesAreNumbered) (k : Settings) (meaning : Meaning) (bytes : List ℕ) where
+module _ (k : Settings) (meaning : Meaning) (bytes : List ℕ) where
   abbrev n : ℕ
   n = LineSearch.line_count k meaning bytes
 
@@ -199,7 +199,7 @@ module _ (numbered : LinesAreNumbered) (k : Settings) (meaning : Meaning) (bytes
       one : match_calls (LineSearch.report k meaning bytes i (Some Plans.matched)) ≡ match_of k bytes i ∷ []
       one = ap match_calls (line-report k bytes meaning i) ∙ ap (λ number. matches number (LineSearch.start k meaning
           bytes i) (LineSearch.line k meaning bytes i) ∷ [])
-          (rw (numbered (byte_of k.line_terminator) bytes i inside) refl)
+          (rw (lines-numbered (byte_of k.line_terminator) bytes i inside) refl)
 
       go : (a b t c d : Bool)
           → match_calls (LineSearch.report k meaning bytes i (if a then Some Plans.matched

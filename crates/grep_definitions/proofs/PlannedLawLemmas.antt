@@ -3,7 +3,6 @@ use Rattle.std.proofs.Common.{◌≡◌, ◌+◌, Bool, List, [], ◌∷◌, ◌
 use Rattle.std.specs.Prelude.{cond, count_by}
 use Rattle.std.specs.List.{flat_map, fold}
 use Rattle.std.specs.List.Sorted.{IsStrictlyIncreasing}
-use Rattle.grep_lines.specs.LineLaws.{LinesJoin, LinesAppend}
 use Rattle.grep_definitions.specs.AcrossLaws
 use Rattle.grep_definitions.specs.BinaryLaws.{SeenLinesBegin}
 use Rattle.grep_definitions.specs.SearchLaws
@@ -30,16 +29,16 @@ flat_map-map g f [] = refl
 flat_map-map g f (x ∷ xs) = ap (λ later. g (f x) ++ later) (flat_map-map g f xs)
 
 -- ---- by line
-pub reports-ascend : LinesJoin → SearchLaws.ReportsAscend
-reports-ascend join k meaning bytes = by_line.in_order-by_line k meaning bytes join
+pub reports-ascend : SearchLaws.ReportsAscend
+reports-ascend k meaning bytes = by_line.in_order-by_line k meaning bytes
 
 pub after-wins : SearchLaws.AfterWins
 after-wins k meaning bytes i j has misses hit less close =
     by_line.turns_at-follows k meaning bytes i j has misses hit less close
 
-pub first_lines-begin : LinesJoin → LinesAppend → SearchLaws.FirstLinesBegin
-first_lines-begin join append k meaning front back closed built =
-    turns-begin join append k meaning front back closed built
+pub first_lines-begin : SearchLaws.FirstLinesBegin
+first_lines-begin k meaning front back closed built =
+    turns-begin k meaning front back closed built
 
 pub at_most-limit : SearchLaws.AtMostLimit
 at_most-limit k meaning bytes limit is =
@@ -80,8 +79,8 @@ pub as-by_line : AcrossLaws.ReportsAreAsByLine
 as-by_line k meaning other bytes inverted same each none = turns-same k meaning other bytes inverted same each none
 
 -- ---- binary bytes
-pub seen_lines-begin_all : LinesJoin → LinesAppend → SeenLinesBegin
-seen_lines-begin_all join append k meaning bytes seen offset built cut =
+pub seen_lines-begin_all : SeenLinesBegin
+seen_lines-begin_all k meaning bytes seen offset built cut =
     let goes = cut.front in
-    let begun = first_lines-begin join append k meaning seen goes.front.after goes.closed built in
+    let begun = first_lines-begin k meaning seen goes.front.after goes.closed built in
     (begun.0, ap (λ xs. (line_plan k meaning xs).calls) goes.front.whole ∙ begun.1)

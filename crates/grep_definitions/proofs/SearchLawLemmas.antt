@@ -14,7 +14,6 @@ use Rattle.std.specs.Prelude.{nat_lt, nat_le, ◌&&◌, ◌||◌, not, is_some, 
 use Rattle.std.specs.List.Sorted.{IsStrictlyIncreasing}
 use Rattle.grep_matcher.specs.Lines.{byte_of}
 use Rattle.grep_matcher.specs.Meanings.{Meaning}
-use Rattle.grep_lines.specs.LineLaws.{LinesJoin}
 use Rattle.grep_report.specs.declared.sink_context.SinkContextKind.TheVariants.{Before, After, Other}
 use Rattle.grep_definitions.proofs.LineSliceLemmas.{line-report, slice-line}
 use Rattle.grep_definitions.specs.SearchLaws.{AreInOrder, is_match, is_matched, report_calls}
@@ -207,8 +206,8 @@ module _ (k : Settings) (meaning : Meaning) (bytes : List ℕ) where
           rw (kind, and-false (nat_lt 0 (k.after_context + k.before_context))) refl
 
   -- a line has one report at most, of its bytes
-  reported-line : LinesJoin → (i : ℕ) → i < n → (report_calls (T i) ≡ []) ⊎ IsReported T start i
-  reported-line join i inside = go (LineSearch.kind k meaning bytes i)
+  reported-line : (i : ℕ) → i < n → (report_calls (T i) ≡ []) ⊎ IsReported T start i
+  reported-line i inside = go (LineSearch.kind k meaning bytes i)
       (report_calls-broken (LineSearch.breaks_before k meaning bytes i) _ _)
     where
       one : (call : Call) → report_calls (T i) ≡ call ∷ [] → reported_from call ≡ start i
@@ -218,7 +217,7 @@ module _ (k : Settings) (meaning : Meaning) (bytes : List ℕ) where
         next = i + 1;
         reports = is;
         later = omega arith;
-        above = line_start-ascends join (byte_of k.line_terminator) bytes i inside;
+        above = line_start-ascends (byte_of k.line_terminator) bytes i inside;
         from = from;
         to = omega (arith, ap length own, line_start-more (byte_of k.line_terminator) bytes i inside);
         alone = λ j above below. absurd (omega arith);
@@ -231,10 +230,10 @@ module _ (k : Settings) (meaning : Meaning) (bytes : List ℕ) where
       go (Some (in_context c)) is = inr (one _ is refl refl)
 
   -- the reports ascend
-  pub in_order-by_line : LinesJoin → AreInOrder (report_calls (LineSearch.turns k meaning bytes))
-  in_order-by_line join = in_order-joined T start (LineSearch.turn_count k meaning bytes)
-      (λ i below. line_start-ascends join (byte_of k.line_terminator) bytes i (omega (arith, turn_count-le)))
-      (λ i below. reported-line join i (omega (arith, turn_count-le)))
+  pub in_order-by_line : AreInOrder (report_calls (LineSearch.turns k meaning bytes))
+  in_order-by_line = in_order-joined T start (LineSearch.turn_count k meaning bytes)
+      (λ i below. line_start-ascends (byte_of k.line_terminator) bytes i (omega (arith, turn_count-le)))
+      (λ i below. reported-line i (omega (arith, turn_count-le)))
 
   -- whether a line is trailing in the context after a selected line
   abbrev late : ℕ → Bool

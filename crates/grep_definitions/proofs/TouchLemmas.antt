@@ -9,7 +9,6 @@ use Rattle.grep_matcher.specs.Lawful.{HoldsPosition}
 use Rattle.grep_matcher.specs.Lines.{lines, line_start, byte_of}
 use Rattle.grep_matcher.specs.Meanings.{Meaning}
 use Rattle.grep_lines.specs.Blocks.{lines_before, block_start, block_end}
-use Rattle.grep_lines.proofs.LawLemmas.{AreLines-lines}
 use Rattle.grep_lines.proofs.LineLemmas.{count, lines-closed, lines-unclosed}
 use Rattle.grep_lines.proofs.LinePositionLemmas.{block_start-is, block_end-closed, block_end-open}
 use Rattle.grep_lines.proofs.LineStepLemmas.{IsLastStart-line}
@@ -39,13 +38,13 @@ module _ (t : ℕ) (bytes : List ℕ) where
   from = line_start t bytes
 
   pub rises : (i : ℕ) → i < n → from i < from (i + 1)
-  rises = line_start-ascends AreLines-lines t bytes
+  rises = line_start-ascends t bytes
 
   high : (i : ℕ) → from i ≤ length bytes
-  high = line_start-within AreLines-lines t bytes
+  high = line_start-within t bytes
 
   end : from n ≡ length bytes
-  end = line_start-last AreLines-lines t bytes
+  end = line_start-last t bytes
 
   -- each byte is in a line
   pub holder : (p : ℕ) → p < length bytes → (a : ℕ) × (a < n) × (from a ≤ p) × (p < from (a + 1))

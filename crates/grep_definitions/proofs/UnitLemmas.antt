@@ -13,7 +13,6 @@ use Rattle.std.specs.List.{flat_map}
 use Rattle.std.specs.List.Sorted.{IsStrictlyIncreasing}
 use Rattle.grep_matcher.specs.Meanings.{Meaning}
 use Rattle.grep_matcher.specs.Lines.{byte_of}
-use Rattle.grep_lines.proofs.LawLemmas.{AreLines-lines}
 use Rattle.grep_report.specs.declared.sink_context.SinkContextKind.{SinkContextKind}
 use Rattle.grep_report.specs.declared.sink_context.SinkContextKind.TheVariants.{Before, After, Other}
 use Rattle.grep_definitions.proofs.LineSliceLemmas.{slice-line}
@@ -192,7 +191,7 @@ module _ (k : Settings) (meaning : Meaning) (bytes : List ℕ) where
         length-take (at (run_end selected n i) - at i) (drop (at i) bytes),
         length-drop (at i) bytes,
         line_start-le (byte_of k.line_terminator) bytes i (run_end selected n i) run.low,
-        line_start-within AreLines-lines (byte_of k.line_terminator) bytes (run_end selected n i),
+        line_start-within (byte_of k.line_terminator) bytes (run_end selected n i),
       )
 
   -- the lines of the unit that begins at a selected line, and where its bytes end
@@ -249,7 +248,7 @@ module _ (k : Settings) (meaning : Meaning) (bytes : List ℕ) where
       (edges-rise selected n at rises higher)
     where
       rises : (i : ℕ) → i < n → at i < at (i + 1)
-      rises = line_start-ascends AreLines-lines (byte_of k.line_terminator) bytes
+      rises = line_start-ascends (byte_of k.line_terminator) bytes
 
       higher : (i j : ℕ) → i ≤ j → at i ≤ at j
       higher = line_start-le (byte_of k.line_terminator) bytes

@@ -10,7 +10,7 @@ use Rattle.std.specs.Option.{option_map}
 use Rattle.std.specs.declared.io.Error.{Error}
 use Rattle.std.specs.declared.io.ErrorKind.TheVariants.{InvalidData, Other, OutOfMemory}
 use Rattle.grep_decode.specs.declared.label.Label.{Label}
-use Rattle.grep_decode.specs.declared.label.Label.TheVariants.{Utf8, Utf16Le, Utf16Be}
+use Rattle.grep_decode.specs.declared.label.Label.TheVariants.{Utf8}
 use Rattle.grep_decode.specs.Decoded.{IsUnfinished, by_label, decoded, found_mark}
 use Rattle.grep_decode.specs.Source.{ReadResult, Pulls}
 use Rattle.grep_matcher.specs.Lines.{byte_of, lines}

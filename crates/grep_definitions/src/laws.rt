@@ -19,7 +19,6 @@ ghost use Rattle.grep_definitions.specs.BinaryLaws.{SeenLinesAreClear, SeenLines
 ghost use Rattle.grep_definitions.specs.CountLaws.{NumbersChangeNoCount, NumbersChangeNoBytes};
 
 use grep_decode::laws::unchanged_is_decoded;
-use grep_lines::laws::{lines_append, lines_are_few, lines_join};
 
 /// An input without a label, and without a mark that is looked for and found, is searched as it is.
 /// After a mark of UTF-8 that is looked for, what comes after it is searched as it is.
@@ -37,9 +36,7 @@ pub fn unchanged_is_searched()
 /// offset of each later one.
 pub fn reports_ascend()
     ensures { ReportsAscend }
-{
-    lines_join();
-}
+{}
 
 /// A line in reach of an earlier selected line is reported as the line after it, even if it is also
 /// before a later one; as a match, if it hits past the limit.
@@ -56,10 +53,7 @@ pub fn inversion_complements()
 /// they are built.
 pub fn first_lines_begin()
     ensures { FirstLinesBegin }
-{
-    lines_join();
-    lines_append();
-}
+{}
 
 /// No more matches are reported than the limit has and, if that isn't 0, those in the context after
 /// the last of them.
@@ -71,9 +65,7 @@ pub fn at_most_limit()
 /// returns true.
 pub fn whole_count()
     ensures { WholeCount }
-{
-    lines_join();
-}
+{}
 
 /// By line the plan depends on a matcher's matches alone, not on the terminator or the bytes that it
 /// excludes: a search by line with `Plain` of a matcher, which asks about one line at a time, makes
@@ -93,32 +85,23 @@ pub fn lines_are_numbered()
 /// context after them, in order: each with its number, its offset and its bytes.
 pub fn matches_are_matched_lines()
     ensures { MatchesAreMatchedLines }
-{
-    grep_lines::laws::lines_are_numbered();
-}
+{}
 
 /// As many matches are reported as there are such lines.
 pub fn matches_are_counted()
     ensures { MatchesAreCounted }
-{
-    grep_lines::laws::lines_are_numbered();
-}
+{}
 
 /// The first match that is reported is the first selected line; if no line is selected, there is
 /// none.
 pub fn first_match_is_first()
     ensures { FirstMatchIsFirst }
-{
-    grep_lines::laws::lines_are_numbered();
-}
+{}
 
 /// At most as many matches are reported as there are bytes.
 pub fn matches_are_few()
     ensures { MatchesAreFew }
-{
-    grep_lines::laws::lines_are_numbered();
-    lines_are_few();
-}
+{}
 
 /// Whether lines are numbered changes no count: a search that doesn't number lines reports as many
 /// matches as one that does, and the same bytes are searched.
@@ -193,9 +176,7 @@ pub fn reports_are_as_by_line()
 /// Across lines every byte counts, whatever the limit is.
 pub fn whole_count_across()
     ensures { AcrossLaws.WholeCount }
-{
-    lines_join();
-}
+{}
 
 /// Across lines `stop_on_nonmatch` is ignored.
 pub fn stop_is_ignored_across()
@@ -214,15 +195,10 @@ pub fn quit_reports_are_clear()
 pub fn counted_reports_are_clear()
     ensures first { CountedReportsAreClear }
     ensures seen { SeenLinesAreClear }
-{
-    lines_join();
-}
+{}
 
 /// The calls for the lines before a binary byte at which a search by line ends begin those for all
 /// lines of the input, under settings as they are built.
 pub fn seen_lines_begin()
     ensures { SeenLinesBegin }
-{
-    lines_join();
-    lines_append();
-}
+{}

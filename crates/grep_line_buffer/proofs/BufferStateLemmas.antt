@@ -1,7 +1,10 @@
 -- What a line buffer shows, by the positions of its bytes, and after a fill.
 use Rattle.std.proofs.Common.{◌≡◌, ℕ, ◌+◌, ◌-◌, ◌<◌, ◌≤◌, Bool, List, ◌++◌, length, drop, Option, slice_index, sym, ap}
-use Rattle.std.proofs.Common.{subst, ◌∙◌, arith, ◌⊎◌, inl, inr, refl, false, length-append}
+use Rattle.std.proofs.Common.{subst, ◌∙◌, arith, ◌⊎◌, inl, inr, refl, false, length-append, ◌≢◌, true, [], get_or}
+use Rattle.std.proofs.Common.{append-nil, append_assoc}
 use Rattle.std.proofs.lemmas.Bool.{false≢true}
+use Rattle.std.proofs.lemmas.List.{drop_at, get_or-append-add}
+use Rattle.std.proofs.lemmas.List.Elements.{All-append, All-get_or}
 use Rattle.grep_line_buffer.specs.declared.detection.Detection.{Detection}
 use Rattle.std.specs.Prelude.{slice_range}
 use Rattle.grep_line_buffer.specs.BufferStates.{BufferState, EndsAtEnd, EndsAtLine, EndsWith, GrowsIfFull, IsFilled}
@@ -122,3 +125,48 @@ long-shown {old} {new} given whole (inr end) = omega (
   length-append (held old) given,
   length-append old.shown old.rest,
 )
+
+-- bytes that are empty or end with the byte t
+abbrev pub IsEnded : ℕ → List ℕ → Type 0
+IsEnded t bytes = 0 < length bytes → slice_index bytes (length bytes - 1) ≡ t
+
+module _ {t : ℕ} {old new : BufferState} (ends_at : old.terminator ≡ t) where
+  -- what a fill shows are whole lines, unless nothing follows
+  pub closed-filled : (later : List ℕ) → IsUncut old new → (new.has_ended ≡ true → later ≡ [])
+      → 0 < length (new.rest ++ later) → IsEnded t new.shown
+  closed-filled later (inl line) done some = λ _. line.ends.last ∙ ends_at
+  closed-filled later (inr end) done some =
+      absurd (omega (arith, some, length-append new.rest later, ap length end.all, ap length (done end.ended)))
+
+  -- nothing follows if it shows no more lines, or an unterminated one
+  pub last-filled : (later : List ℕ) → IsUncut old new → (new.has_ended ≡ true → later ≡ [])
+      → (length old.shown ≡ length new.shown) ⊎ (IsEnded t new.shown → ⊥) → new.rest ++ later ≡ []
+  last-filled later (inl line) done (inl same) = absurd (omega (
+    arith,
+    same,
+    line.came,
+    length-append old.shown
+        old.rest,
+  ))
+  last-filled later (inl line) done (inr broken) = absurd (broken (λ _. line.ends.last ∙ ends_at))
+  last-filled later (inr end) done last = ap (λ xs. xs ++ later) end.all ∙ done end.ended
+
+  -- if it shows whole lines, and more than before, the end wasn't seen
+  pub unended-filled : (given : List ℕ) → held new ≡ held old ++ given → Lacks t old.rest → IsUncut old new
+      → length old.shown < length new.shown → IsEnded t new.shown → (new.has_ended ≡ false) × Lacks t new.rest
+  unended-filled given whole lacks (inl line) more closed =
+      (line.unended, subst (λ c. Lacks c new.rest) ends_at line.none)
+  unended-filled given whole lacks (inr end) more closed =
+      let all : new.shown ≡ held old ++ given = sym (append-nil new.shown)
+      ∙ (ap (λ xs. new.shown ++ xs) (sym end.all) ∙ whole) in
+      let tail : List ℕ = old.rest ++ given in
+      let shown : new.shown ≡ old.shown ++ tail = all ∙ append_assoc old.shown old.rest given in
+      let given_lacks = subst (λ c. Lacks c given) ends_at (subst (Lacks old.terminator)
+      (ap (drop (length (held old))) all ∙ drop_at (held old) given (length (held old)) refl) end.none) in
+      let tail_lacks = All-append (λ b. b ≢ t) old.rest given lacks given_lacks in
+      let size : length new.shown ≡ length old.shown + length tail = ap length shown ∙ length-append old.shown tail in
+      let last : length old.shown + (length tail - 1) ≡ length new.shown - 1 = omega (arith, size, more) in
+      absurd (All-get_or (λ b. b ≢ t) tail (length tail - 1) 0 (omega (arith, size, more)) tail_lacks
+      (sym (get_or-append-add old.shown tail (length tail - 1) 0)
+      ∙ (ap (λ i. get_or (old.shown ++ tail) i 0) last ∙ (ap (λ xs. slice_index xs (length new.shown - 1)) (sym shown)
+      ∙ closed (omega (arith, more))))))

@@ -3,6 +3,8 @@ pub mod ContentsLemmas
 pub mod DetectionLemmas
 pub mod FillLemmas
 pub mod FirstPositionLemmas
+pub mod GivenLemmas
+pub mod InputViewLemmas
 pub mod ReadLemmas
 pub mod SliceLemmas
 pub mod DetectLemmas

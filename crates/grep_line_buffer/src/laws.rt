@@ -8,7 +8,6 @@ ghost use Rattle.grep_line_buffer.specs.Detections.{detected, found_in};
 ghost use Rattle.grep_line_buffer.specs.Fills.{Fills, FailsToFill};
 
 use grep_decode::Source;
-use grep_decode::laws::{reads_continue, reads_fail};
 
 /// Over many fills of a line buffer, with `gone` the bytes that were consumed: these and what the
 /// buffer holds are what detection makes of the bytes that reads of the decoder gave since the
@@ -31,7 +30,4 @@ pub fn fills_continue<R: Source>()
         (e : Error)
         → Decodes R.remaining R.step d r given d1 r1
         → FailsToFill R.remaining R.step e old d1 r1 new d2 r2 → FailsWith R.step r e r2 }
-{
-    reads_continue::<R>();
-    reads_fail::<R>();
-}
+{}

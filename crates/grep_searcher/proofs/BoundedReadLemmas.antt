@@ -15,7 +15,6 @@ use Rattle.grep_decode.specs.Source.{ReadResult}
 use Rattle.grep_decode.specs.declared.label.Label.{Label}
 use Rattle.grep_decode.specs.declared.label.Label.TheVariants.{Utf8, Utf16Le, Utf16Be}
 use Rattle.grep_lines.proofs.LawLemmas.{AreLines-lines}
-use Rattle.grep_lines.specs.LineLaws.{LinesAppend}
 use Rattle.grep_matcher.specs.Lines.{byte_of, lines}
 use Rattle.grep_matcher.specs.Meanings.{MatcherFacts, Meaning}
 use Rattle.grep_report.specs.ErrorMakers.{ErrorMakers}
@@ -135,26 +134,26 @@ module _ {E : Type 0} (settings : Settings) (finish : Finish) (new : Bool) (foun
 
 -- ---- the first selected line of some first lines is that of all
 
-first-same : LinesAppend → (k : Settings) (meaning : Meaning) (front back : List ℕ) (j : ℕ)
+first-same : (k : Settings) (meaning : Meaning) (front back : List ℕ) (j : ℕ)
     → (0 < length back → IsClosed (byte_of k.line_terminator) front)
     → first_below (is_selected k meaning front) (line_count k front) ≡ Some j
     → (first_below (is_selected k meaning (front ++ back)) (line_count k (front ++ back)) ≡ Some j)
     × (start k (front ++ back) (j + 1) ≡ start k front (j + 1))
-first-same append k meaning front [] j closed is =
+first-same k meaning front [] j closed is =
     subst (λ bytes. (first_below (is_selected k meaning bytes) (line_count k bytes) ≡ Some j)
     × (start k bytes (j + 1) ≡ start k front (j + 1))) (sym (append-nil front)) (is, refl)
-first-same append k meaning front (b ∷ back) j closed is =
+first-same k meaning front (b ∷ back) j closed is =
     let ends = closed (omega arith) in
     let here = first_below-of (is_selected k meaning front) (line_count k front) j is in
     let t = byte_of k.line_terminator in
-    let more = ap length (all_lines AreLines-lines append k meaning front (b ∷ back) ends)
+    let more = ap length (all_lines k meaning front (b ∷ back) ends)
     ∙ length-append (lines t front) (lines t (b ∷ back)) in
-    let same = is_selected-same AreLines-lines append k meaning front (b ∷ back) ends in (
+    let same = is_selected-same k meaning front (b ∷ back) ends in (
       first_below-here (is_selected k meaning (front ++ (b ∷ back))) (line_count k (front ++ (b ∷ back))) j
           (omega (arith, here.0, more)) (same j here.0 ∙ here.1)
           (some_below-none _ j (λ m less. same m (omega (arith, less, here.0))
           ∙ first_below-before (is_selected k meaning front) (line_count k front) j m is less)),
-      start-same AreLines-lines append k meaning front (b ∷ back) ends (j + 1) (omega (arith, here.0)),
+      start-same k meaning front (b ∷ back) ends (j + 1) (omega (arith, here.0)),
     )
 
 -- ---- an input that is searched as it is has no encoding, and so have its first bytes
@@ -197,7 +196,7 @@ unencoded k front back = go k.encoding k.bom_sniffing
 
 -- ---- a search of a reader
 
-module _ (is_first : FirstMatchIsFirst) (append : LinesAppend) (unchanged : UnchangedIsInput) {F E : Type 0}
+module _ (is_first : FirstMatchIsFirst) (unchanged : UnchangedIsInput) {F E : Type 0}
     (errors : ErrorMakers F E) (matcher : MatcherFacts F) {R : Type 0} (remaining : R → Option (List ℕ))
     (read_step : R → ReadResult → R → Type 0) where
   -- a run over the lines that were seen, with what it has read
@@ -236,7 +235,7 @@ module _ (is_first : FirstMatchIsFirst) (append : LinesAppend) (unchanged : Unch
           × (start k input (j + 1) ≡ start k seen (j + 1)) =
           subst (λ bytes. (first_below (is_selected k meaning bytes) (line_count k bytes) ≡ Some j)
           × (start k bytes (j + 1) ≡ start k seen (j + 1))) (sym front.whole)
-          (first-same append k meaning seen front.after j front.closed is) in
+          (first-same k meaning seen front.after j front.closed is) in
           ap reported_to (sym (same_Some (match_of k seen j) call here))
           ∙ sym (line_start-more (byte_of k.line_terminator) seen j inside) ∙ sym at.1
           ∙ ap (λ m. start k input (m + 1)) (same_Some j i (sym at.0 ∙ first))

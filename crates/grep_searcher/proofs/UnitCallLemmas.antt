@@ -165,7 +165,7 @@ start-high t bytes (suc i) inside =
       arith,
       ap (line_start t bytes) next,
       start-high t bytes i low,
-      line_start-ascends AreLines-lines t bytes i below,
+      line_start-ascends t bytes i below,
     )
 
 pub matches-are_within_count : LinesAreNumbered → MatchesAreCounted → MatchesAreWithinCount
@@ -189,7 +189,7 @@ matches-are_within_count numbered are_counted k meaning bytes = go (is_across k 
             count_below-few (is_matched k meaning bytes) end,
             start-high t bytes end (turn_count-le k meaning bytes),
           ),
-          omega (arith, count false is, line_start-within AreLines-lines t bytes end),
+          omega (arith, count false is, line_start-within t bytes end),
         )
     go true is =
         let end = line_count k bytes in
@@ -201,5 +201,5 @@ matches-are_within_count numbered are_counted k meaning bytes = go (is_across k 
             count_below-few (begins_unit k meaning bytes) end,
             start-high t bytes end (omega arith),
           ),
-          omega (arith, count true is, line_start-within AreLines-lines t bytes end),
+          omega (arith, count true is, line_start-within t bytes end),
         )

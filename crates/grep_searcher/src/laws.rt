@@ -42,7 +42,6 @@ pub use grep_definitions::laws::{
     selected_are_reported_across, stop_is_ignored_across, unchanged_is_searched, whole_count,
     whole_count_across,
 };
-use grep_lines::laws::lines_append;
 use grep_matcher::Matcher;
 use grep_report::{SinkError, SinkMatch};
 use std::alloc::Allocator;
@@ -372,7 +371,6 @@ pub fn readers_find_lines<A: Allocator + Copy, M: Matcher, R: Source, E: SinkErr
 {
     unchanged_is_searched();
     first_match_is_first();
-    lines_append();
 }
 
 /// So did such a search of a file that says which bytes remain. After `search_path` such a file is
@@ -384,5 +382,4 @@ pub fn files_find_lines<A: Allocator + Copy, M: Matcher, F: Read, E: SinkError<A
 {
     unchanged_is_searched();
     first_match_is_first();
-    lines_append();
 }

@@ -8,19 +8,18 @@ use Rattle.grep_matcher.specs.declared.line_terminator.LineTerminator.TheVariant
 use Rattle.grep_matcher.specs.Lawful.{HoldsPosition}
 use Rattle.grep_matcher.specs.Lines.{line_start, byte_of}
 use Rattle.grep_matcher.specs.Meanings.{Meaning}
-use Rattle.grep_lines.specs.LineLaws.{LinesJoin}
 use Rattle.grep_lines.specs.Positions.{IsLine, IsLineStart}
 use Rattle.grep_definitions.proofs.LineStartLemmas.{line_start-within}
 use Rattle.grep_definitions.proofs.TurnEndLemmas.{line_start-le}
 
 -- no line holds the end of bytes that end in the terminator
-pub unheld-end : LinesJoin → (b : ℕ) (terminator : LineTerminator) → Some (Byte b) ≡ Some terminator
+pub unheld-end : (b : ℕ) (terminator : LineTerminator) → Some (Byte b) ≡ Some terminator
     → (meaning : Meaning)
     (bytes : List ℕ) → slice_get bytes (length bytes - 1) ≡ Some b → (i : ℕ)
     → HoldsPosition terminator meaning bytes i (length bytes) → ⊥
-unheld-end join b terminator declared meaning bytes closed i (low, inl below) =
-    omega (arith, below, line_start-within join (byte_of terminator) bytes (i + 1))
-unheld-end join b terminator declared meaning bytes closed i (low, inr (last, end, other)) =
+unheld-end b terminator declared meaning bytes closed i (low, inl below) =
+    omega (arith, below, line_start-within (byte_of terminator) bytes (i + 1))
+unheld-end b terminator declared meaning bytes closed i (low, inr (last, end, other)) =
     other (get_or_from_slice_get bytes (length bytes - 1) b 0 closed
     ∙ ap (λ t. byte_of (unwrap_or t (Byte b))) declared)
 

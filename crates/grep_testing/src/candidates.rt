@@ -1,6 +1,5 @@
 //! Matchers for tests of what a search asks about many lines at once.
 use grep_lines::LineStep;
-use grep_lines::laws::lines_join;
 use grep_matcher::{ByteSet, LineMatchKind, LineTerminator, Match, Matcher};
 use std::io;
 
@@ -101,7 +100,6 @@ impl Matcher for ConfirmsEnd {
     }
 
     fn find_candidate_line(&self, haystack: &[u8]) -> Result<Option<LineMatchKind>, io::Error> {
-        lines_join();
         match haystack.last() {
             Some(b'\n') => Ok(Some(LineMatchKind::Confirmed(haystack.len()))),
             _ => Ok(None),

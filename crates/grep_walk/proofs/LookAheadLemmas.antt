@@ -110,7 +110,7 @@ module _ (terminator : LineTerminator) (meaning : Meaning) (bytes : List ℕ) (p
           ≡ length bytes
       end over last =
           let all : holder + 1 ≡ length (lines byte bytes) = omega arith in
-          same over ∙ (ap (line_start byte bytes) all ∙ line_start-last AreLines-lines byte bytes)
+          same over ∙ (ap (line_start byte bytes) all ∙ line_start-last byte bytes)
 
 -- the lines of what follows the start of a line
 module _ (t : ℕ) (bytes : List ℕ) (start first : ℕ) (here : IsLineStart t bytes start first) where

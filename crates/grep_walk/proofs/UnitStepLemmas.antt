@@ -89,7 +89,7 @@ module _ (k : Settings) (meaning : Meaning) (bytes : List ℕ) where
     pub unit-last : IsUnit k meaning bytes b.end (length bytes, length bytes)
     unit-last = unit-none k meaning bytes b.end b.position left.asked passed
         (left.found.all ∙ (ap (λ later. left.asked ++ later) nothing ∙ append-nil left.asked))
-        (omega (arith, line_start-within AreLines-lines t bytes left.line))
+        (omega (arith, line_start-within t bytes left.line))
 
     pub left-last : AreLeft k meaning bytes (record b { end = length bytes; next = None })
     left-last = record {

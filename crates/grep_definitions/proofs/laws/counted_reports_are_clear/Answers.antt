@@ -5,4 +5,4 @@ pub returns-clause-first : goal.returns-clause-first
 returns-clause-first c = counted_reports-clear
 
 pub returns-clause-seen : goal.returns-clause-seen
-returns-clause-seen c = seen_lines-clear c.lines_join.ensures
+returns-clause-seen c = seen_lines-clear

@@ -8,4 +8,4 @@ use Rattle.grep_definitions.proofs.laws.first_match_is_first.Goals as goal
 pub returns : goal.returns
 returns c = λ k meaning bytes by_line.
     ap (λ plan. slice_get (match_calls plan.calls) 0) (plan-by_line k meaning bytes by_line)
-    ∙ first-match_calls c.lines_are_numbered.ensures k meaning bytes
+    ∙ first-match_calls k meaning bytes

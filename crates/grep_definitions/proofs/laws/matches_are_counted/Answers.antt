@@ -7,4 +7,4 @@ use Rattle.grep_definitions.proofs.laws.matches_are_counted.Goals as goal
 pub returns : goal.returns
 returns c = λ k meaning bytes by_line.
     ap (λ plan. length (match_calls plan.calls)) (plan-by_line k meaning bytes by_line)
-    ∙ length-match_calls c.lines_are_numbered.ensures k meaning bytes
+    ∙ length-match_calls k meaning bytes

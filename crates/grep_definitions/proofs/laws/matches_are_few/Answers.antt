@@ -1,3 +1,4 @@
+use Rattle.grep_lines.proofs.LineStepLemmas.{lines-at-most}
 use Rattle.std.proofs.Common.{length, ap, arith}
 use Rattle.grep_matcher.specs.Lines.{byte_of}
 use Rattle.grep_definitions.specs.LineSearch.{turn_count}
@@ -12,8 +13,8 @@ returns c = λ k meaning bytes by_line.
     omega (
       arith,
       ap (λ plan. length (match_calls plan.calls)) (plan-by_line k meaning bytes by_line),
-      length-match_calls c.lines_are_numbered.ensures k meaning bytes,
+      length-match_calls k meaning bytes,
       count_below-few (is_matched k meaning bytes) (turn_count k meaning bytes),
       turn_count-le k meaning bytes,
-      c.lines_are_few.ensures (byte_of k.line_terminator) bytes,
+      lines-at-most (byte_of k.line_terminator) bytes,
     )

@@ -7,4 +7,4 @@ use Rattle.grep_definitions.proofs.laws.matches_are_matched_lines.Goals as goal
 pub returns : goal.returns
 returns c = λ k meaning bytes by_line.
     ap (λ plan. match_calls plan.calls) (plan-by_line k meaning bytes by_line)
-    ∙ match_calls-turns c.lines_are_numbered.ensures k meaning bytes
+    ∙ match_calls-turns k meaning bytes

@@ -2,4 +2,4 @@ use Rattle.grep_definitions.proofs.PlannedLawLemmas.{reports-ascend}
 use Rattle.grep_definitions.proofs.laws.reports_ascend.Goals as goal
 
 pub returns : goal.returns
-returns c = reports-ascend c.lines_join.ensures
+returns c = reports-ascend

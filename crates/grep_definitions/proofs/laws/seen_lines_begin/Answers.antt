@@ -2,4 +2,4 @@ use Rattle.grep_definitions.proofs.PlannedLawLemmas.{seen_lines-begin_all}
 use Rattle.grep_definitions.proofs.laws.seen_lines_begin.Goals as goal
 
 pub returns : goal.returns
-returns c = seen_lines-begin_all c.lines_join.ensures c.lines_append.ensures
+returns c = seen_lines-begin_all

@@ -14,7 +14,7 @@ returns-in_err-begin-clause-fault g c =
 
 pub returns-then-not-branch-clause-counted : goal.returns-then-not-branch-clause-counted
 returns-then-not-branch-clause-counted g c = λ lawful.
-    rw c.new.ensures (streams.counted-unbegun _ _ _ _ _ c.requires.by_line c.lines_join.ensures c.lines_append.ensures
+    rw c.new.ensures (streams.counted-unbegun _ _ _ _ _ c.requires.by_line
     (rw c.if-not-branch.true at c.in_ok-begin.ensures.step))
 
 pub returns-then-not-branch-clause-begun : goal.returns-then-not-branch-clause-begun
@@ -37,10 +37,8 @@ returns-then-not-reads_lines-clause-begun g c = record {
 
 pub returns-then-not-reads_lines-clause-counted : goal.returns-then-not-reads_lines-clause-counted
 returns-then-not-reads_lines-clause-counted g c = λ lawful.
-    rw c.new-then-not-reads_lines.ensures (streams.counted-idle _ _ _ _ _ c.requires.by_line c.lines_join.ensures
-    c.lines_append.ensures
-    (idle-unread _ _
-    (sym c.reads_lines.ensures ∙ c.if-not-reads_lines.true)) (rw c.if-not-branch.false at c.in_ok-begin.ensures.step))
+    rw c.new-then-not-reads_lines.ensures (streams.counted-idle _ _ _ _ _ c.requires.by_line
+    (idle-unread _ _ (sym c.reads_lines.ensures ∙ c.if-not-reads_lines.true)) (rw c.if-not-branch.false at c.in_ok-begin.ensures.step))
 
 pub returns-in-Err-clause-succeeds : goal.returns-in-Err-clause-succeeds
 returns-in-Err-clause-succeeds g c = λ never infallible lawful.

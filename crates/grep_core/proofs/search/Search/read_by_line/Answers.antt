@@ -2,6 +2,8 @@ use Rattle.std.proofs.Common.{rules, false, inl, inr, None, Err, Bool, [], ap, a
 use Rattle.std.proofs.Common.{subst, ◌≡◌, ◌++◌, Ok, true, ℕ, Option}
 use Rattle.std.proofs.lemmas.Bool.{false≢true}
 use Rattle.std.proofs.lemmas.Result.{err_from_is_err_and}
+use Rattle.grep_decode.proofs.DecoderLemmas.{Decodes-append, Decodes-none}
+use Rattle.grep_line_buffer.proofs.GivenLemmas.{consumed-held}
 use Rattle.grep_matcher.specs.Meanings.{Meaning}
 use Rattle.grep_core.proofs.CutLemmas as cuts
 use Rattle.grep_core.proofs.ReadingLemmas.{HasFilled, IsStream}
@@ -20,7 +22,7 @@ use Rattle.grep_definitions.proofs.CallOrderLemmas as order
 use Rattle.grep_core.proofs.OrderLemmas as passed
 use Rattle.grep_core.proofs.search.Search.read_by_line.Given.{Over}
 use Rattle.grep_core.proofs.search.Search.read_by_line.Goals as goal
-use Rattle.grep_core.proofs.search.Search.read_by_line.Goals.{After-error_io, After-lines_are_few, After-passes_binary, Else-not-branch}
+use Rattle.grep_core.proofs.search.Search.read_by_line.Goals.{After-error_io, After-questions-questions, After-passes_binary, Else-not-branch}
 
 -- a sink's state, with the offset of the byte that was reported to it
 abbrev noted : {S : Type 0} → S → Option ℕ → Noted S
@@ -30,16 +32,12 @@ abbrev meaning-of : (g : Over) → g.row.M.Denot → Meaning
 meaning-of g matcher = (g.M.Matcher.facts matcher).meaning
 
 -- the search, and the laws
-abbrev stream : (g : Over) (c : goal.After-lines_are_few g) → IsStream g.R.Source.remaining g.R.Source.step c.args.self.now.config
+abbrev stream : (g : Over) (c : goal.After-questions-questions g) → IsStream g.R.Source.remaining g.R.Source.step c.args.self.now.config
     (meaning-of g c.args.matcher.now) c.args.decoder.now
 stream g c = record {
   by_line = c.requires.by_line;
   built = λ passthru. (c.requires.configured.bare passthru).1;
   begun = c.requires.started;
-  join = c.lines_join.ensures;
-  append = c.lines_append.ensures;
-  none = c.done_gives_nothing.ensures;
-  continues = c.fills_continue.ensures.fills;
 }
 
 -- a fill that succeeded
@@ -101,7 +99,7 @@ there : (g : Over) (c : goal.Else-not-branch g) → IsLawful (g.M.Matcher.facts 
     c.in_default.ensures.reads.given c.fill.new.self (noted c.passes_binary.new.sink c.passes_binary.new.binary)
 there g c lawful first begun =
     let here = (goal.at.Else-not-branch g c).After-passes_binary in
-    cuts.goes-on (stream g (goal.at.Else-not-branch g c).After-lines_are_few) (filled g here)
+    cuts.goes-on (stream g (goal.at.Else-not-branch g c).After-questions-questions) (filled g here)
     (c.fills.invariant.rolling lawful first begun) (c.fills.invariant.noted lawful) (passes g c)
 
 -- why no more is read
@@ -115,7 +113,7 @@ short : (g : Over) (c : goal.After-error_io g) → (lawful : IsLawful (g.M.Match
     c.io_error.result
 short g c lawful first begun has_buffers =
     let fill = c.in-Err.ensures in
-    short-filled _ (stream g (goal.at.After-error_io g c).After-lines_are_few)
+    short-filled _ (stream g (goal.at.After-error_io g c).After-questions-questions)
     (c.fills.invariant.rolling lawful first begun).rolling _ c.io_error.ensures (record {
       fitting = c.fills.invariant.fitting;
       allowed = c.requires.allowed;
@@ -133,7 +131,7 @@ short g c lawful first begun has_buffers =
 -- a search that may report nothing has read for one line
 read-once : (g : Over) (c : goal.After-passes_binary g) → reports_nothing c.args.self.now.config ≡ true
     → IsReadForLine g.R.Source.remaining g.R.Source.step c.args.self.now.config c.args.reader.now c.fill.new.reader
-read-once g c idle = reading.read-once c.done_gives_nothing.ensures c.reads_continue.ensures.more c.requires.fitting
+read-once g c idle = reading.read-once c.requires.fitting
     c.requires.empty c.requires.started (c.fills.invariant.fresh idle) c.in_default.ensures.begins
 
 pub fills-init : goal.fills-init
@@ -145,7 +143,7 @@ fills-init g c =
       below = omega arith;
       ordered = record { few = omega arith; low = omega arith; chosen = omega arith };
       may_call = c.requires.may_call;
-      decoded = ([], c.reads_continue.ensures.none c.args.decoder.now c.args.reader.now);
+      decoded = ([], Decodes-none g.R.Source.remaining g.R.Source.step c.args.decoder.now c.args.reader.now);
       detects = ap (λ b. b.detection) empty;
       clear = λ _. ap (λ b. b.binary) empty;
       noted_clear = λ _. c.requires.binary;
@@ -153,9 +151,8 @@ fills-init g c =
       calls = order.called-none _ _ _;
       noted = λ lawful. c.requires.binary ∙ sym (ap (λ b. b.binary) empty);
       rolling = λ lawful first begun.
-          let rolls = rolling.rolling-start c.lines_join.ensures c.lines_append.ensures c.lines_are_numbered.ensures
-          c.lines_are_few.ensures empty c.requires.fitting.terminator
-          (c.reads_continue.ensures.none c.args.decoder.now c.args.reader.now) c.requires.busy begun in
+          let rolls = rolling.rolling-start empty c.requires.fitting.terminator
+          (Decodes-none g.R.Source.remaining g.R.Source.step c.args.decoder.now c.args.reader.now) c.requires.busy begun in
           record {
             start = fresh first;
             rolling = rolls;
@@ -167,7 +164,7 @@ fills-init g c =
 pub returns-in-Err-clause-fault : goal.returns-in-Err-clause-fault
 returns-in-Err-clause-fault g c = λ lawful first begun has_buffers.
     let at = (goal.at.returns-in-Err-clause-fault g c).After-error_io in
-    inr (cuts.cut-short (stream g (goal.at.returns-in-Err-clause-fault g c).After-lines_are_few)
+    inr (cuts.cut-short (stream g (goal.at.returns-in-Err-clause-fault g c).After-questions-questions)
     (c.fills.invariant.rolling lawful first begun) c.fills.invariant.fitting.terminator
     (c.fills.invariant.noted lawful) (g.M.Matcher.facts c.args.matcher.now) (short g at lawful first begun has_buffers)
     c.error_io.ensures)
@@ -182,7 +179,7 @@ returns-in_err-passes_binary-clause-fault g c =
     let p = err_from_is_err_and c.from_residual.result c.from_residual.ensures.1 in
     let at = (goal.at.returns-in_err-passes_binary-clause-fault g c).After-passes_binary in
     rw (p.1, p.2) (λ lawful first begun has_buffers.
-    inl (cuts.fault-cut (stream g (goal.at.returns-in_err-passes_binary-clause-fault g c).After-lines_are_few) (filled g at)
+    inl (cuts.fault-cut (stream g (goal.at.returns-in_err-passes_binary-clause-fault g c).After-questions-questions) (filled g at)
     (c.fills.invariant.rolling lawful first begun) (c.fills.invariant.noted lawful)
     (g.M.Matcher.facts c.args.matcher.now) (noted c.passes_binary.new.sink c.passes_binary.new.binary)
     (rw (exact g at) at c.in_err-passes_binary.ensures.fails)))
@@ -190,7 +187,7 @@ returns-in_err-passes_binary-clause-fault g c =
 pub returns-then-not-branch-clause-counted : goal.returns-then-not-branch-clause-counted
 returns-then-not-branch-clause-counted g c = λ lawful first begun.
     let at = (goal.at.returns-then-not-branch-clause-counted g c).After-passes_binary in
-    cuts.ended-cut (stream g (goal.at.returns-then-not-branch-clause-counted g c).After-lines_are_few) (filled g at)
+    cuts.ended-cut (stream g (goal.at.returns-then-not-branch-clause-counted g c).After-questions-questions) (filled g at)
     (c.fills.invariant.rolling lawful first begun) (c.fills.invariant.noted lawful)
     {sink' = noted c.passes_binary.new.sink c.passes_binary.new.binary}
     (rw (exact g at, c.if-not-branch.true) at c.in_ok-passes_binary.ensures.passes)
@@ -202,7 +199,7 @@ returns-in_err-search_shown-clause-fault g c =
     let on = (goal.at.returns-in_err-search_shown-clause-fault g c).Else-not-branch in
     let at = (goal.at.Else-not-branch g on).After-passes_binary in
     rw (p.1, p.2) (λ lawful first begun has_buffers.
-    inl (cuts.fault-shown (stream g (goal.at.returns-in_err-search_shown-clause-fault g c).After-lines_are_few) (filled g at)
+    inl (cuts.fault-shown (stream g (goal.at.returns-in_err-search_shown-clause-fault g c).After-questions-questions) (filled g at)
     (there g on lawful first begun) (sym c.reports_nothing.ensures ∙ c.if-reports_nothing.false)
     (g.M.Matcher.facts c.args.matcher.now) (c.in_err-search_shown.ensures.fault lawful)))
 
@@ -210,14 +207,14 @@ pub returns-then-reports_nothing-clause-counted : goal.returns-then-reports_noth
 returns-then-reports_nothing-clause-counted g c = λ lawful first begun.
     let on = (goal.at.returns-then-reports_nothing-clause-counted g c).Else-not-branch in
     let at = (goal.at.Else-not-branch g on).After-passes_binary in
-    cuts.counted-idle (stream g (goal.at.returns-then-reports_nothing-clause-counted g c).After-lines_are_few) (filled g at)
+    cuts.counted-idle (stream g (goal.at.returns-then-reports_nothing-clause-counted g c).After-questions-questions) (filled g at)
     (there g on lawful first begun) (sym c.reports_nothing.ensures ∙ c.if-reports_nothing.true)
 
 pub returns-then-not-branch-2-clause-counted : goal.returns-then-not-branch-2-clause-counted
 returns-then-not-branch-2-clause-counted g c = λ lawful first begun.
     let on = (goal.at.returns-then-not-branch-2-clause-counted g c).Else-not-branch in
     let at = (goal.at.Else-not-branch g on).After-passes_binary in
-    cuts.counted-shown (stream g (goal.at.returns-then-not-branch-2-clause-counted g c).After-lines_are_few) (filled g at)
+    cuts.counted-shown (stream g (goal.at.returns-then-not-branch-2-clause-counted g c).After-questions-questions) (filled g at)
     (there g on lawful first begun) (sym c.reports_nothing.ensures ∙ c.if-reports_nothing.false)
     (c.in_ok-search_shown.ensures.ends lawful c.if-not-branch-2.true)
 
@@ -238,7 +235,7 @@ fills-preserved g c =
       may_call = c.search_shown.ensures.may_call;
       decoded = (
         c.fills.invariant.decoded.0 ++ reads.given,
-        c.reads_continue.ensures.more _ c.fills.decoder _ _ c.fills.reader _ _ _ c.fills.invariant.decoded.1
+        Decodes-append g.R.Source.remaining g.R.Source.step _ c.fills.decoder _ _ c.fills.reader _ _ _ c.fills.invariant.decoded.1
             reads.decodes,
       );
       detects = c.in_ok-search_shown.ensures.detection ∙ (c.fill.ensures.same.detection ∙ c.fills.invariant.detects);
@@ -250,10 +247,10 @@ fills-preserved g c =
       noted = λ lawful. noting.noted-passed g.C.Calls.step k c.fills.lines.binary _ _ (noted c.fills.sink c.fills.binary)
           _ reads.found (c.fills.invariant.noted lawful)
           (passes g on) ∙ sym c.in_ok-search_shown.ensures.binary;
-      rolling = λ lawful first begun. cuts.reads-on (stream g (goal.at.fills-preserved g c).After-lines_are_few) (filled g at)
+      rolling = λ lawful first begun. cuts.reads-on (stream g (goal.at.fills-preserved g c).After-questions-questions) (filled g at)
           (there g on lawful first begun) busy (c.in_ok-search_shown.ensures.goes_on lawful moves)
           (omega (arith, c.in_ok-search_shown.ensures.ahead moves))
-          (c.fills_continue.ensures.consumed c.fill.new.self);
+          (λ gone count. consumed-held gone c.fill.new.self.shown c.fill.new.self.rest count);
     }
 
 pub returns-in-Err-clause-in_order : goal.returns-in-Err-clause-in_order
@@ -264,7 +261,7 @@ returns-in-Err-clause-in_order g c = inr (
       (λ e. FailsToFill g.R.Source.remaining g.R.Source.step e c.fills.lines
       c.fills.decoder c.fills.reader c.fill.new.self c.fill.new.decoder c.fill.new.reader)) is c.in-Err.ensures.read in
       passed.failed-read _ _ _ (ap (λ d. d.has_ended) c.requires.started)
-      (c.reads_continue.ensures.more _ c.fills.decoder _ _ c.fills.reader _ _ _ c.fills.invariant.decoded.1
+      (Decodes-append g.R.Source.remaining g.R.Source.step _ c.fills.decoder _ _ c.fills.reader _ _ _ c.fills.invariant.decoded.1
       fails.fills.decodes)
       fails.unended fails.failed) c.io_error.ensures,
   c.error_io.ensures,

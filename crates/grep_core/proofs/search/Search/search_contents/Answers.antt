@@ -30,7 +30,7 @@ unread : (g : Over) (c : goal.After-error_io g) (has_buffers : Bool) (view : Lis
     (g.M.Matcher.facts c.args.matcher.now).meaning c.args.reader.now None c.io_error.result c.read_contents.new.reader
 unread g c has_buffers view =
     let failed = c.in-Err.ensures in
-    whole.unread-read _ _ _ _ _ _ _ _ c.done_gives_nothing.ensures _ _
+    whole.unread-read _ _ _ _ _ _ _ _ _ _
     _ c.requires.started _ c.io_error.ensures _
     (subst (λ limit. ContentsFail limit (vec_capacity c.args.contents.now) c.read_contents.new.contents.items
     c.in-Err.error) c.heap_limit.ensures failed.error)
@@ -55,7 +55,7 @@ pub returns-in-Some-clause-searched : goal.returns-in-Some-clause-searched
 returns-in-Some-clause-searched g c = λ has_buffers.
     let searched = rw c.deref.ensures.value at (c.search_until.ensures.searched (λ never. absurd (true≢false never))) in
     rw (look-quit _ _ (sym c.quit_byte.ensures ∙ c.in-Some.is))
-    (whole.contents-until _ c.done_gives_nothing.ensures c.lines_join.ensures c.requires.started
+    (whole.contents-until _ c.requires.started
     c.in_default.ensures.reads c.in_default.ensures.done
     (below g (goal.at.returns-in-Some-clause-searched g c).After-quit_byte) _ _
     _ _ _ _ _
@@ -70,7 +70,7 @@ returns-in_err-count-clause-searched g c = λ has_buffers.
       error.1,
       error.2,
     )
-    (whole.contents-fault _ c.done_gives_nothing.ensures c.lines_join.ensures c.requires.started
+    (whole.contents-fault _ c.requires.started
     c.in_default.ensures.reads c.in_default.ensures.done
     (below g (goal.at.returns-in_err-count-clause-searched g c).After-quit_byte) _ _
     _ _ _
@@ -81,7 +81,7 @@ returns-clause-searched g c = λ has_buffers.
     let reported = rw c.deref-2.ensures.value at c.in_ok-count.ensures.reported in
     rw (look-plain _
     (λ b is. c.in_default-quit_byte.not-Some b (c.quit_byte.ensures ∙ is)))
-    (whole.contents-finished _ c.done_gives_nothing.ensures c.lines_join.ensures
+    (whole.contents-finished _
     c.requires.started c.in_default.ensures.reads c.in_default.ensures.done
     (below g (goal.at.returns-clause-searched g c).After-quit_byte) _ _
     _ _ _ _ reported.1

@@ -16,7 +16,7 @@ start g c = ap (λ o. c.args.walk.now.offset - o) c.absolute_byte_offset.ensures
 
 pub returns-then-start-window-clause-ends : goal.returns-then-start-window-clause-ends
 returns-then-start-window-clause-ends g c = λ lawful _.
-    rolls.ended-nothing c.lines_join.ensures c.lines_append.ensures
+    rolls.ended-nothing
     (ap (λ o. c.args.walk.now.offset - o) (sym c.absolute_byte_offset.ensures)
     ∙ (c.if-start-window.true ∙ ap (λ xs. length xs) c.buffer-window.ensures.value))
     c.requires.low
@@ -32,7 +32,7 @@ pub returns-then-not-branch-clause-ends : goal.returns-then-not-branch-clause-en
 returns-then-not-branch-clause-ends g c = λ lawful _.
     let searched = c.in_ok-search_window.ensures in
     let ends = searched.ends lawful c.if-not-branch.true in
-    rolls.ended-within c.lines_join.ensures c.lines_append.ensures _ c.buffer-window.ensures.value
+    rolls.ended-within _ c.buffer-window.ensures.value
     (start g (goal.at.returns-then-not-branch-clause-ends g c).After-search_window) searched.ahead
     (omega (
       arith,
@@ -46,7 +46,7 @@ pub returns-then-not-is_terminated-clause-ends : goal.returns-then-not-is_termin
 returns-then-not-is_terminated-clause-ends g c = λ lawful _.
     let searched = c.in_ok-search_window.ensures in
     let goes : c.in_ok-search_window.field-0 ≡ true = search rules in
-    rolls.ended-broken c.lines_join.ensures c.lines_append.ensures _ c.buffer-window.ensures.value
+    rolls.ended-broken _ c.buffer-window.ensures.value
     (start g (goal.at.returns-then-not-is_terminated-clause-ends g c).After-search_window)
     (searched.goes_on lawful goes) searched.ahead
     (omega (
@@ -83,7 +83,7 @@ returns-clause-goes_on g c = λ lawful _.
       moved = c.consume.ensures;
       closed = closed;
       few = first.few;
-      next = rolls.next-rolled c.lines_join.ensures c.lines_append.ensures c.args.lines.now shown.value
+      next = rolls.next-rolled c.args.lines.now shown.value
           (start g (goal.at.returns-clause-goes_on g c).After-search_window) (searched.goes_on lawful goes)
           _ closed (λ gone opens. first.closed gone opens closed)
           (λ gone more after opens closes. first.kept gone more after opens closed closes);

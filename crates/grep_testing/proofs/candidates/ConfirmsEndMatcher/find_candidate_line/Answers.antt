@@ -11,7 +11,7 @@ returns-in-Some-eq10-clause-trusted c terminator lawful (inl declared) =
     let last = sym c.last.ensures.value ∙ (ap option_copied c.in-Some-eq10.is ∙ ap Some c.in-Some-eq10.field-0-test) in (
       λ i below ends. refl,
       λ i below holds confirmed. absurd
-          (unheld-end c.lines_join.ensures 10 terminator declared (naming (Byte 10) (λ x. None)) c.args.haystack.now
+          (unheld-end 10 terminator declared (naming (Byte 10) (λ x. None)) c.args.haystack.now
           last i holds),
     )
 returns-in-Some-eq10-clause-trusted c terminator lawful (inr excluded) = (
