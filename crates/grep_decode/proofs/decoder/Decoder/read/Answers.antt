@@ -1,22 +1,31 @@
 use Rattle.grep_decode.proofs.DecoderLemmas.{result-gives, result-ends, result-fault, result-keeps}
 use Rattle.grep_decode.proofs.decoder.Decoder.read.Goals as goal
 
-pub returns-clause-gives : goal.returns-clause-gives
-returns-clause-gives g c =
-    result-gives g.R.Source.remaining g.R.Source.step _ _ _ _ c.read_some-result.result c.read_some-result.new.buffer
-    c.read_some-result.ensures.decodes
-
-pub returns-clause-end : goal.returns-clause-end
-returns-clause-end g c =
-    result-ends g.R.Source.remaining g.R.Source.step _ _ c.read_some-result.result c.read_some-result.new.buffer
-    c.read_some-result.ensures.done
-
-pub returns-clause-fault : goal.returns-clause-fault
-returns-clause-fault g c =
-    result-fault g.R.Source.remaining g.R.Source.step _ _ _ _ c.read_some-result.result
-    c.read_some-result.ensures.failed
-
-pub returns-clause-kept : goal.returns-clause-kept
-returns-clause-kept g c =
-    result-keeps g.R.Source.remaining g.R.Source.step _ _ _ _ c.read_some-result.result g.met.R.Source.keeps
-    c.read_some-result.ensures.failed
+pub returns : goal.returns
+returns g c =
+    let remaining = g.R.Source.remaining in
+    let step = g.R.Source.step in
+    let result = c.read_some-result.result in
+    let said = c.read_some-result.ensures in
+    record {
+      bound = said.bound;
+      capacity = said.capacity;
+      decodes = said.decodes;
+      gives = result-gives remaining step _ _ _ _ result c.read_some-result.new.buffer said.decodes;
+      done = said.done;
+      end = result-ends remaining step _ _ result c.read_some-result.new.buffer said.done;
+      fault = result-fault remaining step _ _ _ _ result said.failed;
+      failed = said.failed;
+      kept = result-keeps remaining step _ _ _ _ result g.met.R.Source.keeps said.failed;
+      beneath = said.beneath;
+      ready = said.ready;
+      first = said.first;
+      begins = said.begins;
+      last = said.last;
+      settled = said.settled;
+      stays = said.stays;
+      ahead = said.ahead;
+      passing = c.holds_few.ensures;
+      empty = said.empty;
+      waits = said.waits;
+    }

@@ -1,9 +1,11 @@
-use Rattle.std.proofs.Common.{inl, inr, [], take, refl, ◌∙◌, sym, subst, arith}
+use Rattle.std.proofs.Common.{◌≡◌, true, inl, inr, [], take, refl, ◌∙◌, sym, subst, arith}
 use Rattle.grep_decode.specs.declared.mode.Mode.TheVariants.{Decoding}
 use Rattle.grep_decode.specs.DecoderStates.{Decodes}
 use Rattle.grep_decode.specs.UndecodedBytes.{UndecodedBytes, holding}
 use Rattle.grep_decode.proofs.DecoderLemmas.{Decodes-append, Decodes-none, Decodes-text, hold-more}
 use Rattle.grep_decode.proofs.undecoded.Undecoded.read.Goals as goal
+use Rattle.grep_decode.proofs.undecoded.Undecoded.read.Goals.{then-count-gt0-via-then-count-gt0}
+use Rattle.grep_decode.proofs.undecoded.Undecoded.read.Goals.{then-count-gt0-via-else-count-gt0+then-has_ended}
 
 pub loop-label-init : goal.loop-label-init
 loop-label-init g c = record {
@@ -54,3 +56,11 @@ returns-then-count-gt0-clause-decodes g c =
     (Decodes-text g.R.Source.remaining g.R.Source.step c.args.label before after c.loop-label.reader given
     c.decode-count.ensures.ended
     c.decode-count.ensures.text c.decode-count.ensures.last)
+
+pub returns-then-count-gt0-clause-done : goal.returns-then-count-gt0-clause-done
+returns-then-count-gt0-clause-done g c = λ none.
+    let ended : c.decode-count.new.self.has_ended ≡ true = elim c.then-count-gt0.branch [
+      | then-count-gt0-via-then-count-gt0 w ↦ absurd (omega (arith, none, w.if-count-gt0.true))
+      | then-count-gt0-via-else-count-gt0+then-has_ended w ↦ sym w.has_ended.ensures ∙ w.if-has_ended.true
+    ] in
+    record { ended = ended; ready = refl {a = []}; held = c.decode-count.ensures.all none ended }
