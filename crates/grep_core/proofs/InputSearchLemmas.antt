@@ -3,7 +3,7 @@ use Rattle.grep_core.specs.InputSearches.{IsBytesSearched, IsSearchedUntil, IsAc
 use Rattle.grep_core.specs.SearchBuffers.{IsMadeOf}
 use Rattle.grep_decode.specs.DecoderStates.{DecoderState, Decodes, IsDone, IsWaiting, started}
 use Rattle.grep_decode.specs.Source.{ReadResult}
-use Rattle.grep_definitions.proofs.LineLengthLemmas.{lines-within}
+use Rattle.grep_matcher.proofs.LineLengthLemmas.{lines-within}
 use Rattle.grep_definitions.proofs.PlanLemmas.{plans-turns}
 use Rattle.grep_definitions.proofs.PlannedReaderLemmas.{contents-planned, plain-planned}
 use Rattle.grep_definitions.proofs.PlannedSliceLemmas.{plain-fault, quit-fault, until-planned}

@@ -11,7 +11,7 @@ use Rattle.grep_definitions.proofs.BoolLemmas.{clash}
 use Rattle.grep_definitions.proofs.FrontLemmas.{closed-append, closed-drop, count-after, lines-fit, longer-front}
 use Rattle.grep_definitions.proofs.FrontLemmas.{start-there, turns-within}
 use Rattle.grep_definitions.proofs.LimitLemmas.{turn_above}
-use Rattle.grep_definitions.proofs.LineRangeLemmas.{end-start, start-same}
+use Rattle.grep_lines.proofs.LineRangeLemmas.{end-start, start-same}
 use Rattle.grep_definitions.specs.Searches.{is_detecting, binary_of, view_of, GoesOnAfter, IsClosed}
 use Rattle.grep_definitions.specs.Searches.{IsTooLong, reports_nothing, IsInput, IsFront}
 use Rattle.grep_definitions.specs.Searches.{reads_lines}
@@ -23,7 +23,7 @@ use Rattle.grep_line_buffer.proofs.DetectionLemmas.{detected-nil, found-nil}
 use Rattle.grep_line_buffer.specs.BufferStates.{BufferState, held, is_cut, IsWithin}
 use Rattle.grep_line_buffer.specs.BufferStates.{empty_buffer, GrowsIfFull, IsSameBuffer}
 use Rattle.grep_line_buffer.specs.Detections.{detected, found_in, is_quit}
-use Rattle.grep_lines.proofs.LineLemmas.{lines-append}
+use Rattle.grep_matcher.proofs.LineLemmas.{lines-append}
 use Rattle.grep_lines.specs.Positions.{IsLineStart}
 use Rattle.grep_matcher.specs.Lines.{lines, byte_of}
 use Rattle.grep_matcher.specs.Meanings.{Meaning, MatcherFacts}

@@ -20,9 +20,8 @@ use Rattle.grep_definitions.specs.SearchLaws.{AreInOrder, report_calls}
 use Rattle.grep_definitions.proofs.BoolLemmas.{both_true, and-both, or-cases, or-first, or-second}
 use Rattle.grep_definitions.proofs.BelowLemmas.{some_below-some, count_below-none, count_below-once, count_below-either}
 use Rattle.grep_definitions.proofs.RunLemmas.{begins_run, begins_run-either, is_inside-run}
-use Rattle.grep_definitions.proofs.LineStartLemmas.{line_start-ascends, line_start-more}
+use Rattle.grep_matcher.proofs.LineStartLemmas.{line_start-ascends, line_start-more, line_start-le}
 use Rattle.grep_definitions.proofs.ReportLemmas.{IsReported, in_order-joined, report_calls-broken}
-use Rattle.grep_definitions.proofs.TurnEndLemmas.{line_start-le}
 use Rattle.grep_definitions.proofs.UnitLemmas.{unit-lines}
 use Rattle.grep_definitions.proofs.SearchLawLemmas.{matches_in, matches-joined, kind-selected, count_below-weaker}
 use Rattle.grep_definitions.proofs.SearchLawLemmas.{count_below-limited}

@@ -16,9 +16,9 @@ use Rattle.grep_definitions.specs.AcrossLines.{turn_end, turns_at, turns_through
 use Rattle.grep_definitions.proofs.AcrossWalkLemmas.{Near, front, front-through, n, S, starts, T}
 use Rattle.grep_definitions.proofs.BelowLemmas.{first_below-none, first_below-of, some_below-find, some_below-some}
 use Rattle.grep_definitions.proofs.BoolLemmas.{both_true, clash}
-use Rattle.grep_definitions.proofs.LineStartLemmas.{line_start-ascends}
+use Rattle.grep_matcher.proofs.LineStartLemmas.{line_start-ascends, line_start-le}
 use Rattle.grep_definitions.proofs.SearchLawLemmas.{kind-selected}
-use Rattle.grep_definitions.proofs.TurnEndLemmas.{ended-by, line_start-le}
+use Rattle.grep_definitions.proofs.TurnEndLemmas.{ended-by}
 use Rattle.grep_definitions.specs.LineSearch.{through}
 use Rattle.grep_definitions.proofs.UnitLemmas.{unit-lines}
 

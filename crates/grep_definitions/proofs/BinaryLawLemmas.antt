@@ -17,10 +17,10 @@ use Rattle.grep_definitions.specs.Plans.{calls_at, joined_from, Settings, is_acr
 use Rattle.grep_definitions.specs.Plans.{Planned, begins, is_break, planned}
 use Rattle.grep_definitions.specs.LineSearch
 use Rattle.grep_definitions.proofs.LineReportLemmas.{reports-line}
-use Rattle.grep_definitions.proofs.LineStartLemmas.{line_start-within}
+use Rattle.grep_matcher.proofs.LineStartLemmas.{line_start-within, line_start-le}
 use Rattle.grep_definitions.proofs.ListLemmas.{All-joined_from}
 use Rattle.grep_definitions.proofs.SearchLawLemmas.{turn_count-le}
-use Rattle.grep_definitions.proofs.TurnEndLemmas.{ends-late, line_start-le}
+use Rattle.grep_definitions.proofs.TurnEndLemmas.{ends-late}
 use Rattle.grep_definitions.proofs.LineSliceLemmas.{slice-line}
 use Rattle.grep_definitions.proofs.PositionLemmas.{none-passes, position-none, position-take-before}
 

@@ -15,7 +15,7 @@ use Rattle.grep_lines.specs.Positions.{IsLineStart}
 use Rattle.grep_lines.proofs.LineStepLemmas.{IsAt-start}
 use Rattle.grep_definitions.proofs.TouchLemmas.{same-tests, rises, holder, block_start-line, block_end-line}
 use Rattle.grep_definitions.proofs.TouchLemmas.{block_end-empty}
-use Rattle.grep_definitions.proofs.TurnEndLemmas.{line_start-le}
+use Rattle.grep_matcher.proofs.LineStartLemmas.{line_start-le}
 
 module _ (t : ℕ) (bytes : List ℕ) where
   -- where any line starts a line of the list does, or the bytes end

@@ -7,11 +7,11 @@ use Rattle.std.specs.Prelude.{nat_eq, nat_lt, nat_le, count_by}
 use Rattle.std.specs.List.{concat}
 use Rattle.grep_matcher.specs.Lines.{byte_of, lines}
 use Rattle.grep_matcher.specs.Meanings.{Meaning}
-use Rattle.grep_lines.proofs.LineLemmas.{lines-append}
+use Rattle.grep_matcher.proofs.LineLemmas.{lines-append}
 use Rattle.grep_definitions.specs.Plans
 use Rattle.grep_definitions.specs.Plans.{Settings, some_below, count_below, first_below}
 use Rattle.grep_definitions.specs.LineSearch
-use Rattle.grep_definitions.proofs.LineStartLemmas.{line_start-within}
+use Rattle.grep_matcher.proofs.LineStartLemmas.{line_start-within}
 
 -- as many pass if the tests agree
 pub count_below-same : (p q : ℕ → Bool) (n : ℕ) → ((j : ℕ) → j < n → p j ≡ q j) → count_below p n ≡ count_below q n

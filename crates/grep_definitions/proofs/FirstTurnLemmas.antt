@@ -22,8 +22,7 @@ use Rattle.grep_definitions.proofs.BelowLemmas.{headed-through, joined_from-none
 use Rattle.grep_definitions.proofs.FirstLineLemmas as prefix
 use Rattle.grep_definitions.proofs.FirstLineLemmas.{IsClosed, some_below-same, first_below-same}
 use Rattle.grep_definitions.proofs.BoolLemmas.{and-both, both_true, clash}
-use Rattle.grep_definitions.proofs.LineStartLemmas.{line_start-ascends}
-use Rattle.grep_definitions.proofs.TurnEndLemmas.{line_start-le}
+use Rattle.grep_matcher.proofs.LineStartLemmas.{line_start-ascends, line_start-le}
 use Rattle.grep_definitions.specs.LineWalks.{IsNear}
 use Rattle.std.proofs.lemmas.List.{take_at, drop_at}
 use Rattle.std.proofs.lemmas.List.Elements.{All-drop, All-take}

@@ -12,14 +12,13 @@ use Rattle.std.specs.List.{concat}
 use Rattle.std.specs.Prelude.{All, slice_index, slice_index_or}
 use Rattle.grep_matcher.specs.Lines.{byte_of, lines, line_start}
 use Rattle.grep_matcher.specs.Meanings.{Meaning}
-use Rattle.grep_lines.proofs.LawLemmas.{AreLines-lines}
-use Rattle.grep_lines.proofs.LineLemmas.{lines-append}
+use Rattle.grep_matcher.proofs.LineLemmas.{AreLines-lines, lines-append}
 use Rattle.grep_lines.specs.Positions.{IsLineStart}
 use Rattle.grep_definitions.specs.Searches.{IsClosed, IsCrowded, IsTooLong}
 use Rattle.grep_definitions.specs.Plans.{Settings}
-use Rattle.grep_definitions.proofs.LineLengthLemmas.{lines-within, lines-end, first-long, first-open}
+use Rattle.grep_matcher.proofs.LineLengthLemmas.{lines-within, lines-end, first-long, first-open}
 use Rattle.grep_definitions.proofs.SearchLawLemmas as laws
-use Rattle.grep_definitions.proofs.LineRangeLemmas.{comes-from}
+use Rattle.grep_lines.proofs.LineRangeLemmas.{comes-from}
 use Rattle.grep_definitions.specs.LineSearch
 
 module _ (t : ℕ) where

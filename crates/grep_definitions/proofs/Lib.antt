@@ -18,11 +18,8 @@ pub mod FirstTurnLemmas
 pub mod FrontLemmas
 pub mod KnownReaderLemmas
 pub mod LimitLemmas
-pub mod LineLengthLemmas
-pub mod LineRangeLemmas
 pub mod LineReportLemmas
 pub mod LineSliceLemmas
-pub mod LineStartLemmas
 pub mod ListLemmas
 pub mod MatchCallLemmas
 pub mod SearchModeLemmas

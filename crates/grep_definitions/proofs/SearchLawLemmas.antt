@@ -22,7 +22,7 @@ use Rattle.grep_definitions.specs.LineSearch.{turns_at}
 use Rattle.grep_definitions.proofs.BelowLemmas.{some_below-some, some_below-false, some_below-find, first_below-before}
 use Rattle.grep_definitions.proofs.BelowLemmas.{first_below-none, first_below-of, count_below-either, count_below-le}
 use Rattle.grep_definitions.proofs.BelowLemmas.{count_below-none, count_below-within, is_below-le, joined_from-more}
-use Rattle.grep_definitions.proofs.LineStartLemmas.{line_start-ascends, line_start-more}
+use Rattle.grep_matcher.proofs.LineStartLemmas.{line_start-ascends, line_start-more}
 use Rattle.grep_definitions.proofs.BoolLemmas.{both_true, clash, not_false, or-cases}
 use Rattle.grep_definitions.proofs.ReportLemmas.{IsReported, in_order-joined, report_calls-broken}
 

@@ -9,12 +9,12 @@ use Rattle.grep_matcher.specs.Lawful.{HoldsPosition}
 use Rattle.grep_matcher.specs.Lines.{lines, line_start, byte_of}
 use Rattle.grep_matcher.specs.Meanings.{Meaning}
 use Rattle.grep_lines.specs.Blocks.{lines_before, block_start, block_end}
-use Rattle.grep_lines.proofs.LineLemmas.{count, lines-closed, lines-unclosed}
+use Rattle.grep_matcher.proofs.LineLemmas.{count, lines-closed, lines-unclosed}
 use Rattle.grep_lines.proofs.LinePositionLemmas.{block_start-is, block_end-closed, block_end-open}
 use Rattle.grep_lines.proofs.LineStepLemmas.{IsLastStart-line}
 use Rattle.grep_definitions.proofs.BoolLemmas.{both_true, and-both}
-use Rattle.grep_definitions.proofs.LineStartLemmas.{line_start-ascends, line_start-within, line_start-last}
-use Rattle.grep_definitions.proofs.TurnEndLemmas.{line_start-le}
+use Rattle.grep_matcher.proofs.LineStartLemmas.{line_start-ascends, line_start-within, line_start-last}
+use Rattle.grep_matcher.proofs.LineStartLemmas.{line_start-le}
 
 -- a test for at most that passes if a test for less does, and no other time
 pub same-tests : (x y z w : ℕ) → (x ≤ y → w ≤ z → ⊥) → (z < w → y < x → ⊥) → nat_le x y ≡ nat_lt z w

@@ -2,7 +2,7 @@
 use Rattle.grep_definitions.specs.Plans
 use Rattle.grep_definitions.specs.Plans.{planned, Call, Planned, matches, context, breaks, Settings}
 use Rattle.grep_definitions.specs.Plans.{first_below, joined_from, Kind, matched, in_context}
-use Rattle.std.proofs.Common.{◌≡◌, ℕ, zero, suc, ◌+◌, ◌-◌, ◌<◌, ◌≤◌, Bool, true, false, ◌&&◌, List, [], ◌∷◌, ◌++◌, refl, sym}
+use Rattle.std.proofs.Common.{◌≡◌, ℕ, ◌+◌, ◌-◌, ◌<◌, ◌≤◌, Bool, true, false, ◌&&◌, List, [], ◌∷◌, ◌++◌, refl, sym}
 use Rattle.std.proofs.Common.{ap, append-nil, ◌∙◌, arith, ⊎_elim, Option, Some, None, if◌then◌else◌}
 use Rattle.std.proofs.Math.Bool.{and-false}
 use Rattle.std.proofs.lemmas.Bool.{ltb-true, le-ltb, le-leb, lt-leb, cases_lt, cases_Bool}
@@ -16,20 +16,10 @@ use Rattle.grep_definitions.specs.LineSearch.{turns_at, through}
 use Rattle.grep_definitions.specs.LineTurns.{one_turn, broken_turns, pending_turns, match_turns, listed_turns}
 use Rattle.grep_definitions.specs.LineTurns.{listed_number, number_of, is_gap}
 use Rattle.grep_definitions.proofs.BelowLemmas.{some_below-some, some_below-find, first_below-of, first_below-none}
-use Rattle.grep_definitions.proofs.LineStartLemmas.{line_start-next}
+use Rattle.grep_matcher.proofs.LineStartLemmas.{line_start-le}
 use Rattle.grep_definitions.specs.LineWalks.{IsNear}
 use Rattle.grep_definitions.proofs.BoolLemmas.{both_true, clash}
 use Rattle.grep_definitions.proofs.ListLemmas.{All-joined_from, filter-all, filter-none}
-
--- a later line starts no earlier
-pub line_start-le : (t : ℕ) (bytes : List ℕ) (i j : ℕ) → i ≤ j → line_start t bytes i ≤ line_start t bytes j
-line_start-le t bytes i j low = at (j - i) j (omega arith)
-  where
-    at : (d m : ℕ) → m ≡ i + d → line_start t bytes i ≤ line_start t bytes m
-    at zero m is = let same : m ≡ i = omega arith in rw same (omega arith)
-    at (suc d) m is =
-        let next : m ≡ (i + d) + 1 = omega arith in
-        rw next (omega (arith, at d (i + d) refl, line_start-next t bytes (i + d)))
 
 -- of calls whose turns end by an offset, and later ones whose turns end after it, just the first have ended by it
 pub ended-by : (at : ℕ) (first : List Planned) (T : ℕ → List Planned) (v m : ℕ)

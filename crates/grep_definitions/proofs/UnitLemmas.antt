@@ -23,9 +23,9 @@ use Rattle.grep_definitions.specs.AcrossLaws.{report_bytes, report_edges}
 use Rattle.grep_definitions.proofs.BelowLemmas.{joined_from-equal}
 use Rattle.grep_definitions.proofs.BoolLemmas.{clash}
 use Rattle.grep_definitions.proofs.RunLemmas.{run_end, IsRunEnd-run_end, continues, joined-runs, edges, edges-rise}
-use Rattle.grep_definitions.proofs.LineStartLemmas.{line_start-ascends, line_start-more, line_start-within}
+use Rattle.grep_matcher.proofs.LineStartLemmas.{line_start-ascends, line_start-more, line_start-within}
 use Rattle.grep_definitions.proofs.SearchLawLemmas.{kind-selected}
-use Rattle.grep_definitions.proofs.TurnEndLemmas.{line_start-le}
+use Rattle.grep_matcher.proofs.LineStartLemmas.{line_start-le}
 
 -- a line that isn't reported as a match isn't selected
 kind-other : (a b c d : Bool) (kind : Option Kind)

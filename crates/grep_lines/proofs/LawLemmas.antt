@@ -1,74 +1,95 @@
--- The lines of some bytes have the four properties that make a list their lines, and no other list has them.
-use Rattle.std.proofs.Common.{◌≡◌, ◌≢◌, ℕ, zero, suc, ◌-◌, ◌<◌, List, [], ◌∷◌, ◌++◌, length, drop, slice_index, refl}
-use Rattle.std.proofs.Common.{ap, sym, ◌∙◌, subst, arith, length-append, ⊎_elim}
+-- The first line of some bytes, and that no other pieces than the lines have their four properties.
+use Rattle.std.proofs.Common.{◌≡◌, ◌≢◌, ℕ, zero, suc, ◌+◌, ◌-◌, ◌<◌, List, [], ◌∷◌, ◌++◌, length, take, drop, slice_index}
+use Rattle.std.proofs.Common.{refl, ap, ap₂, sym, ◌∙◌, arith, length-append, ⊎_elim}
 use Rattle.std.proofs.lemmas.Bool.{cases_eq}
 use Rattle.std.proofs.lemmas.List.{get_or_append_left, take_at, drop_at}
-use Rattle.std.proofs.lemmas.List.Elements.{All-nil, All-cons, All-head, All-tail}
+use Rattle.std.proofs.lemmas.List.Elements.{All-head, All-tail}
 use Rattle.std.specs.List.{concat}
 use native.Mathlib.Numerals.{unary_clauses}
 use Rattle.grep_matcher.specs.Lines.{lines, onto_first}
 use Rattle.grep_matcher.specs.AreLines.{IsUnbroken, AreEnded, AreLines}
+use Rattle.grep_matcher.proofs.LineLemmas.{count, count-end, count-inner, lines-end, lines-inner}
 use Rattle.grep_lines.specs.FirstLine.{IsFirstLine}
-use Rattle.grep_lines.proofs.LineLemmas.{lines-end, lines-inner, lines-first}
 
--- a byte t in front, as a line of its own
-AreLines-end : (t b : ℕ) (bytes : List ℕ) (ls : List (List ℕ)) → b ≡ t → AreLines t bytes ls
-    → AreLines t (b ∷ bytes) ((b ∷ []) ∷ ls)
-AreLines-end t b bytes ls same later = record {
-  joined = ap (λ l. b ∷ l) later.joined;
-  filled = All-cons (λ piece. 0 < length piece) (b ∷ []) ls (omega arith) later.filled;
-  unbroken = All-cons (IsUnbroken t) (b ∷ []) ls (λ k below. absurd (omega arith)) later.unbroken;
-  ended = end ls later.ended;
-}
-  where
-    end : (rest : List (List ℕ)) → AreEnded t rest → AreEnded t ((b ∷ []) ∷ rest)
-    end [] is = tt
-    end (next ∷ rest) is = (same, is)
+module _ (t : ℕ) where
+  -- a first line without its first byte
+  IsFirstLine-tail : (b : ℕ) (bytes : List ℕ) (e : ℕ) → IsFirstLine t (b ∷ bytes) (suc (suc e))
+      → IsFirstLine t bytes (suc e)
+  IsFirstLine-tail b bytes e h = record {
+    above = omega arith;
+    within = omega arith;
+    inner = λ i below. h.inner (suc i) (omega arith);
+    closed = λ below. simp unary_clauses (simp unary_clauses at (h.closed (omega arith)));
+  }
 
--- another byte in front of the first line
-AreLines-inner : (t b : ℕ) (bytes : List ℕ) (ls : List (List ℕ)) → b ≢ t → AreLines t bytes ls
-    → AreLines t (b ∷ bytes) (onto_first b ls)
-AreLines-inner t b bytes [] other later = record {
-  joined = ap (λ l. b ∷ l) later.joined;
-  filled = All-cons (λ piece. 0 < length piece) (b ∷ []) [] (omega arith) later.filled;
-  unbroken = All-cons (IsUnbroken t) (b ∷ []) [] (λ k below. absurd (omega arith)) later.unbroken;
-  ended = tt;
-}
-AreLines-inner t b bytes (line ∷ ls) other later = record {
-  joined = ap (λ l. b ∷ l) later.joined;
-  filled = All-cons (λ piece. 0 < length piece) (b ∷ line) ls (omega arith)
-      (All-tail (λ piece. 0 < length piece) line ls later.filled);
-  unbroken = All-cons (IsUnbroken t) (b ∷ line) ls (longer line (All-head (IsUnbroken t) line ls later.unbroken))
-      (All-tail (IsUnbroken t) line ls later.unbroken);
-  ended = end line ls (All-head (λ piece. 0 < length piece) line ls later.filled) later.ended;
-}
-  where
-    longer : (l : List ℕ) → IsUnbroken t l → IsUnbroken t (b ∷ l)
-    longer l is zero below = other
-    longer l is (suc k) below = is k (omega arith)
+  -- a first line with a byte in front of it
+  IsFirstLine-cons : (b : ℕ) (bytes : List ℕ) (e : ℕ) → b ≢ t → IsFirstLine t bytes (suc e)
+      → IsFirstLine t (b ∷ bytes) (suc (suc e))
+  IsFirstLine-cons b bytes e other h = record {
+    above = omega arith;
+    within = omega arith;
+    inner = λ i below. inner_at i below;
+    closed = λ below. simp unary_clauses (simp unary_clauses at (h.closed (omega arith)));
+  }
+    where
+      inner_at : (i : ℕ) → i + 1 < suc (suc e) → slice_index (b ∷ bytes) i ≢ t
+      inner_at zero below = other
+      inner_at (suc i) below = h.inner i (omega arith)
 
-    end : (l : List ℕ) (rest : List (List ℕ)) → 0 < length l → AreEnded t (l ∷ rest) → AreEnded t ((b ∷ l) ∷ rest)
-    end l [] some is = tt
-    end [] (next ∷ rest) some is = absurd (omega arith)
-    end (c ∷ l) (next ∷ rest) some is = (simp unary_clauses (simp unary_clauses at is.0), is.1)
+  -- some bytes have a first line
+  pub first_line : (bytes : List ℕ) → 0 < length bytes → (e : ℕ) × IsFirstLine t bytes (suc e)
+  first_line [] some = absurd (omega arith)
+  first_line (b ∷ []) some = (
+    0,
+    record {
+      above = omega arith;
+      within = omega arith;
+      inner = λ i below. absurd (omega arith);
+      closed = λ below. absurd (omega arith);
+    },
+  )
+  first_line (b ∷ c ∷ later) some =
+      let rest = first_line (c ∷ later) (omega arith) in
+      ⊎_elim
+      (λ same. (
+        0,
+        record {
+          above = omega arith;
+          within = omega arith;
+          inner = λ i below. absurd (omega arith);
+          closed =
+              λ _. same;
+        },
+      ))
+      (λ other. (suc rest.0, IsFirstLine-cons b (c ∷ later) rest.0 other rest.1))
+      (cases_eq b t)
 
--- the lines have the four properties
-pub AreLines-lines : (t : ℕ) (bytes : List ℕ) → AreLines t bytes (lines t bytes)
-AreLines-lines t [] = record {
-  joined = refl;
-  filled = All-nil (λ piece. 0 < length piece);
-  unbroken = All-nil
-      (IsUnbroken t);
-  ended = tt;
-}
-AreLines-lines t (b ∷ bytes) =
-    let later = AreLines-lines t bytes in
-    ⊎_elim
-    (λ same. subst (AreLines t (b ∷ bytes)) (sym (lines-end t b bytes same))
-    (AreLines-end t b bytes (lines t bytes) same later))
-    (λ other. subst (AreLines t (b ∷ bytes)) (sym (lines-inner t b bytes other))
-    (AreLines-inner t b bytes (lines t bytes) other later))
-    (cases_eq b t)
+  -- the first line, and the lines of what follows it
+  pub lines-first : (bytes : List ℕ) (e : ℕ) → IsFirstLine t bytes e → lines t bytes ≡ take e bytes
+      ∷ lines t (drop e bytes)
+  lines-first [] e h = absurd (omega arith)
+  lines-first (b ∷ bytes) zero h = absurd (omega arith)
+  lines-first (b ∷ []) (suc zero) h = ⊎_elim (λ same. lines-end t b [] same) (λ other. lines-inner t b [] other)
+      (cases_eq b t)
+  lines-first (b ∷ c ∷ later) (suc zero) h = lines-end t b (c ∷ later) (h.closed (omega arith))
+  lines-first (b ∷ bytes) (suc (suc e)) h = lines-inner t b bytes (h.inner 0 (omega arith))
+      ∙ ap (onto_first b) (lines-first bytes (suc e) (IsFirstLine-tail b bytes e h))
+
+  -- the same of two parts
+  pub lines-parts : (bytes line rest : List ℕ) (e : ℕ) → IsFirstLine t bytes e → line ≡ take e bytes → rest
+      ≡ drop e bytes
+      → lines t bytes ≡ line ∷ lines t rest
+  lines-parts bytes line rest e is_first is_line is_rest = lines-first bytes e is_first
+      ∙ sym (ap₂ ◌∷◌ is_line (ap (lines t) is_rest))
+
+  -- a first line that isn't the last holds one t
+  pub count-first_line : (bytes : List ℕ) (e : ℕ) → IsFirstLine t bytes e → e < length bytes
+      → count t (take e bytes) ≡ 1
+  count-first_line [] e h more = absurd (omega arith)
+  count-first_line (b ∷ bytes) zero h more = absurd (omega arith)
+  count-first_line (b ∷ bytes) (suc zero) h more = count-end t b [] (h.closed more)
+  count-first_line (b ∷ bytes) (suc (suc e)) h more = count-inner t b (take (suc e) bytes) (h.inner 0 (omega arith))
+      ∙ count-first_line bytes (suc e) (IsFirstLine-tail b bytes e h) (omega arith)
 
 -- pieces that have the four properties are the lines of what they make when joined
 pieces-lines : (t : ℕ) (pieces : List (List ℕ)) → AreLines t (concat pieces) pieces → pieces ≡ lines t (concat pieces)

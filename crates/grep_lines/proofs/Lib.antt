@@ -1,6 +1,6 @@
-pub mod LineLemmas
 pub mod LaneLemmas
 pub mod LawLemmas
 pub mod LineStepLemmas
 pub mod LinePositionLemmas
 pub mod ReplaceLemmas
+pub mod LineRangeLemmas

@@ -12,7 +12,7 @@ use Rattle.grep_matcher.specs.Lines.{lines, line_start}
 use Rattle.grep_lines.specs.Blocks.{block_start, block_end}
 use Rattle.grep_lines.specs.FirstLine.{IsLastStart}
 use Rattle.grep_lines.specs.Positions.{IsLineStart}
-use Rattle.grep_lines.proofs.LineLemmas.{count, IsClosed, lines-append, lines-closed, lines-few, lines-joined}
+use Rattle.grep_matcher.proofs.LineLemmas.{count, IsClosed, lines-append, lines-closed, lines-few, lines-joined}
 use Rattle.grep_lines.proofs.LineStepLemmas.{IsAt-start, IsStep-line, IsLastStart-line}
 
 module _ (t : ℕ) (bytes : List ℕ) where

@@ -12,7 +12,8 @@ use Rattle.grep_matcher.specs.Lines.{lines, line_start}
 use Rattle.grep_lines.specs.FirstLine.{IsFirstLine, IsLastStart}
 use Rattle.std.specs.Prelude.{slice_range}
 use Rattle.grep_lines.specs.Positions.{IsLineStart, IsLine}
-use Rattle.grep_lines.proofs.LineLemmas.{count, first_line, lines-first, count-first_line}
+use Rattle.grep_matcher.proofs.LineLemmas.{count}
+use Rattle.grep_lines.proofs.LawLemmas.{first_line, lines-first, count-first_line}
 
 -- the element of a list at a position, if the rest of the list is known
 drop-here : {X : Type 0} (xs : List X) (i : ℕ) (x : X) (later : List X) (d : X) → drop i xs ≡ x ∷ later

@@ -5,7 +5,7 @@ use Rattle.std.proofs.lemmas.List.{append-nil, length-append, length-take}
 use Rattle.std.proofs.lemmas.Bool.Decides.{nat_tests}
 use Rattle.std.specs.List.{concat, ends_with, flat_map}
 use Rattle.std.specs.Prelude.{nat_eq, nat_le, if◌then◌else◌, ◌-◌}
-use Rattle.grep_lines.proofs.LineLemmas.{lines-joined}
+use Rattle.grep_matcher.proofs.LineLemmas.{lines-joined}
 use Rattle.grep_matcher.specs.Lines.{byte_of, bytes_of}
 use Rattle.grep_matcher.specs.declared.line_terminator.LineTerminator.{LineTerminator}
 use Rattle.grep_searcher.specs.Plans.{is_across, Settings}

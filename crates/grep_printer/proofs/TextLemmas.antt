@@ -4,7 +4,7 @@ use Rattle.std.proofs.Common.{append_assoc, subst}
 use Rattle.std.proofs.lemmas.List.{length-append}
 use Rattle.std.specs.List.{concat}
 use Rattle.std.specs.Prelude.{if◌then◌else◌}
-use Rattle.grep_lines.proofs.LineLemmas.{lines-joined}
+use Rattle.grep_matcher.proofs.LineLemmas.{lines-joined}
 use Rattle.grep_searcher.specs.Lines.{lines, strip}
 use Rattle.grep_matcher.specs.Lines.{byte_of}
 use Rattle.grep_printer.proofs.ColorLemmas.{painted-after}

@@ -14,7 +14,7 @@ use Rattle.grep_decode.specs.Decoded.{begins_with_mark, found_mark, mark_of}
 use Rattle.grep_decode.specs.Source.{ReadResult}
 use Rattle.grep_decode.specs.declared.label.Label.{Label}
 use Rattle.grep_decode.specs.declared.label.Label.TheVariants.{Utf8, Utf16Le, Utf16Be}
-use Rattle.grep_lines.proofs.LawLemmas.{AreLines-lines}
+use Rattle.grep_matcher.proofs.LineLemmas.{AreLines-lines}
 use Rattle.grep_matcher.specs.Lines.{byte_of, lines}
 use Rattle.grep_matcher.specs.Meanings.{MatcherFacts, Meaning}
 use Rattle.grep_report.specs.ErrorMakers.{ErrorMakers}
@@ -36,7 +36,7 @@ use Rattle.grep_definitions.proofs.BelowLemmas.{first_below-before, first_below-
 use Rattle.grep_definitions.proofs.FirstLineLemmas.{all_lines, is_selected-same, start-same}
 use Rattle.grep_definitions.proofs.KnownReaderLemmas.{taken-input}
 use Rattle.grep_definitions.proofs.LineSliceLemmas.{line-report}
-use Rattle.grep_definitions.proofs.LineStartLemmas.{line_start-more}
+use Rattle.grep_matcher.proofs.LineStartLemmas.{line_start-more}
 use Rattle.grep_definitions.proofs.ListLemmas.{All-joined_from}
 use Rattle.grep_definitions.proofs.SearchLawLemmas.{turn_count-le}
 use Rattle.grep_definitions.proofs.SinkFoldLemmas.{reader_searches-run}

@@ -9,7 +9,7 @@ use Rattle.std.specs.Prelude.{filter, map, nat_lt, slice_get}
 use Rattle.std.specs.Option.{option_map}
 use Rattle.grep_matcher.specs.Lines.{byte_of, lines, line_start}
 use Rattle.grep_matcher.specs.Meanings.{Meaning}
-use Rattle.grep_lines.proofs.LawLemmas.{AreLines-lines}
+use Rattle.grep_matcher.proofs.LineLemmas.{AreLines-lines}
 use Rattle.grep_report.specs.declared.sink_context.SinkContextKind.TheVariants.{Before, After, Other}
 use Rattle.grep_definitions.specs.Plans.{is_across, search_plan, selection_in, planned, Call}
 use Rattle.grep_definitions.specs.Plans.{Planned, breaks, matches, breaks_before, calls_at}
@@ -22,7 +22,7 @@ use Rattle.grep_definitions.specs.Selections.{continues}
 use Rattle.grep_definitions.specs.SearchLaws.{is_match, is_matched, LinesAreNumbered, MatchesAreCounted, match_calls}
 use Rattle.grep_definitions.proofs.BelowLemmas.{first_below-before, first_below-here, first_below-none, first_below-nowhere}
 use Rattle.grep_definitions.proofs.BelowLemmas.{first_below-of, joined_from-equal, some_below-false, some_below-none}
-use Rattle.grep_definitions.proofs.LineStartLemmas.{line_start-ascends, line_start-within}
+use Rattle.grep_matcher.proofs.LineStartLemmas.{line_start-ascends, line_start-within}
 use Rattle.grep_definitions.proofs.MatchCallLemmas.{count_below-few, first-passing, length-passing, passing}
 use Rattle.grep_definitions.proofs.SearchLawLemmas.{turn_count-le}
 use Rattle.grep_searcher.specs.Units.{begins_unit, unit_bytes, unit_lines, unit_of, FirstMatchIsFirstUnit, MatchesAreUnits}

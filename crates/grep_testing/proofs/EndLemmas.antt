@@ -9,8 +9,7 @@ use Rattle.grep_matcher.specs.Lawful.{HoldsPosition}
 use Rattle.grep_matcher.specs.Lines.{line_start, byte_of}
 use Rattle.grep_matcher.specs.Meanings.{Meaning}
 use Rattle.grep_lines.specs.Positions.{IsLine, IsLineStart}
-use Rattle.grep_definitions.proofs.LineStartLemmas.{line_start-within}
-use Rattle.grep_definitions.proofs.TurnEndLemmas.{line_start-le}
+use Rattle.grep_matcher.proofs.LineStartLemmas.{line_start-within, line_start-le}
 
 -- no line holds the end of bytes that end in the terminator
 pub unheld-end : (b : ℕ) (terminator : LineTerminator) → Some (Byte b) ≡ Some terminator

@@ -2,7 +2,7 @@
 use Rattle.std.proofs.Common.{◌≡◌, ℕ, ◌+◌, ◌-◌, ◌≤◌, true, List, ◌++◌, length, drop, inl, inr, refl, sym, ◌∙◌, ap}
 use Rattle.std.proofs.Common.{subst, arith, length-take, length-drop}
 use Rattle.std.specs.Prelude.{Ok, Err, false, All, slice_range}
-use Rattle.grep_definitions.proofs.LineRangeLemmas.{comes-from, end-start}
+use Rattle.grep_lines.proofs.LineRangeLemmas.{comes-from, end-start}
 use Rattle.grep_matcher.specs.Lines.{lines, byte_of}
 use Rattle.grep_matcher.specs.Meanings.{Meaning, MatcherFacts}
 use Rattle.grep_definitions.specs.AcrossLines.{byte_count, turns, turns_at}

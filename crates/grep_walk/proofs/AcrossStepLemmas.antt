@@ -18,7 +18,7 @@ use Rattle.grep_walk.specs.AcrossWalks.{IsAcross, IsLimited, turns_before, after
 use Rattle.grep_walk.specs.Walks.{line_end, line_turns, after_line, skip_lines}
 use Rattle.grep_definitions.proofs.AcrossWalkLemmas as calls
 use Rattle.grep_walk.proofs.AcrossUnitLemmas.{IsChosen, IsNext, selected-inverted}
-use Rattle.grep_definitions.proofs.LineRangeLemmas.{lines-between}
+use Rattle.grep_lines.proofs.LineRangeLemmas.{lines-between}
 use Rattle.grep_walk.proofs.WalkLemmas.{Bare, ended-next, ended-start, placed-next, placed-start, start-after, start_walk}
 
 -- one more number

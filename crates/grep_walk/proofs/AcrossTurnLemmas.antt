@@ -17,7 +17,7 @@ use Rattle.grep_walk.specs.Windows.{IsInWindow}
 use Rattle.grep_walk.proofs.AcrossStepLemmas as steps
 use Rattle.grep_walk.proofs.AcrossUnitLemmas as units
 use Rattle.grep_walk.proofs.AcrossUnitLemmas.{IsChosen}
-use Rattle.grep_definitions.proofs.LineRangeLemmas.{comes-before}
+use Rattle.grep_lines.proofs.LineRangeLemmas.{comes-before}
 use Rattle.grep_walk.proofs.WalkLemmas.{Bare}
 use Rattle.grep_walk.proofs.WindowLemmas.{own-window}
 

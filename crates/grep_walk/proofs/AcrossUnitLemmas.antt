@@ -18,8 +18,8 @@ use Rattle.grep_walk.specs.declared.blocks.Blocks.{Blocks}
 use Rattle.grep_walk.specs.declared.walk.Walk.{Walk}
 use Rattle.grep_walk.specs.AcrossWalks.{IsAcross, IsComing, IsReady, is_done, is_joined, next_chosen}
 use Rattle.grep_walk.specs.TouchedUnits.{AreLeft, IsUnit, is_hit}
-use Rattle.grep_definitions.proofs.LineRangeLemmas.{starts-before, starts-from, starts-until, comes-before, comes-from}
-use Rattle.grep_definitions.proofs.LineRangeLemmas.{end-start}
+use Rattle.grep_lines.proofs.LineRangeLemmas.{starts-before, starts-from, starts-until, comes-before, comes-from}
+use Rattle.grep_lines.proofs.LineRangeLemmas.{end-start}
 
 module _ (k : Settings) (meaning : Meaning) (bytes : List ℕ) where
   abbrev t : ℕ

@@ -17,15 +17,13 @@ use Rattle.grep_matcher.specs.Meanings.{Meaning}
 use Rattle.grep_lines.specs.Blocks.{lines_before, block_start, block_end}
 use Rattle.std.specs.Prelude.{slice_range}
 use Rattle.grep_lines.specs.Positions.{IsLine, IsLineStart}
-use Rattle.grep_lines.proofs.LawLemmas.{AreLines-lines}
-use Rattle.grep_lines.proofs.LineLemmas.{count, lines-closed, lines-unclosed}
+use Rattle.grep_matcher.proofs.LineLemmas.{AreLines-lines, count, lines-closed, lines-unclosed}
 use Rattle.grep_lines.proofs.LineStepLemmas.{IsAt-start, IsStep-line, lines-at-most, lines-numbered}
 use Rattle.grep_definitions.specs.LineTurns.{matches_line}
 use Rattle.grep_definitions.specs.Plans.{Settings}
-use Rattle.grep_definitions.proofs.LineStartLemmas.{line_start-last}
-use Rattle.grep_definitions.proofs.TurnEndLemmas.{line_start-le}
+use Rattle.grep_matcher.proofs.LineStartLemmas.{line_start-last, line_start-le}
 use Rattle.grep_walk.specs.LookAheads.{IsKnown}
-use Rattle.grep_definitions.proofs.LineRangeLemmas.{end-start, line-from, start-same}
+use Rattle.grep_lines.proofs.LineRangeLemmas.{end-start, line-from, start-same}
 
 -- the line of a position extends from one position up to another
 pub record IsLocated (t : ℕ) (bytes : List ℕ) (position : ℕ) (line : ℕ × ℕ) : Type 0 where

@@ -13,7 +13,7 @@ use Rattle.grep_definitions.specs.LineSearch.{line_count, start}
 use Rattle.grep_definitions.proofs.BlockLemmas.{block_start-low}
 use Rattle.grep_definitions.proofs.BoolLemmas.{and-both, both_true, clash}
 use Rattle.grep_walk.specs.TouchedUnits.{is_in, AreTouched}
-use Rattle.grep_definitions.proofs.LineRangeLemmas.{starts-before, starts-from, comes-before, comes-from, end-start}
+use Rattle.grep_lines.proofs.LineRangeLemmas.{starts-before, starts-from, comes-before, comes-from, end-start}
 
 module _ (k : Settings) (meaning : Meaning) (bytes : List ℕ) where
   abbrev t : ℕ

@@ -17,8 +17,8 @@ use Rattle.grep_walk.specs.declared.walk.Walk.{Walk}
 use Rattle.grep_walk.specs.LookAheads.{IsKnown, MayAskAhead, can_skip, known_at, skips}
 use Rattle.grep_walk.specs.Walks.{IsDecided, is_over, line_turns, after_line, skip_lines}
 use Rattle.grep_walk.specs.Windows.{HasWalked}
-use Rattle.grep_definitions.proofs.LineRangeLemmas.{lines-between, comes-before, comes-from, end-start, line-from, start-same}
-use Rattle.grep_definitions.proofs.LineRangeLemmas.{starts-until}
+use Rattle.grep_lines.proofs.LineRangeLemmas.{lines-between, comes-before, comes-from, end-start, line-from, start-same}
+use Rattle.grep_lines.proofs.LineRangeLemmas.{starts-until}
 use Rattle.grep_walk.proofs.WalkLemmas.{Bare}
 use Rattle.grep_walk.proofs.WindowSearchLemmas.{asked-ahead, failed-matcher, line-comes}
 use Rattle.grep_walk.specs.Origins.{Origin}

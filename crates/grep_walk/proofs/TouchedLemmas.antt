@@ -20,7 +20,7 @@ use Rattle.grep_definitions.specs.LineSearch.{line_count, start}
 use Rattle.grep_definitions.proofs.BlockLemmas.{within-block, block_start-edge, block_end-edge, block_start-le}
 use Rattle.grep_definitions.proofs.BlockLemmas.{block_start-low, block_end-within, block-some, block_start-part}
 use Rattle.grep_definitions.proofs.BlockLemmas.{block_end-part}
-use Rattle.grep_definitions.proofs.LineRangeLemmas.{comes-before, end-start, starts-before, starts-until}
+use Rattle.grep_lines.proofs.LineRangeLemmas.{comes-before, end-start, starts-before, starts-until}
 use Rattle.grep_definitions.proofs.TouchLemmas.{rises}
 use Rattle.grep_definitions.proofs.SuccessiveMatchLemmas.{position_after-start}
 use Rattle.grep_walk.specs.TouchedUnits.{is_in, is_hit, IsPart, IsUnit, AreTouched}

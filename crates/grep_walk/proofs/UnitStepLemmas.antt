@@ -7,18 +7,18 @@ use Rattle.std.specs.Prelude.{IfNone}
 use Rattle.grep_matcher.specs.Meanings.{Meaning}
 use Rattle.grep_matcher.specs.Lines.{byte_of, lines}
 use Rattle.grep_lines.specs.Blocks.{block_start, block_end}
-use Rattle.grep_lines.proofs.LawLemmas.{AreLines-lines}
+use Rattle.grep_matcher.proofs.LineLemmas.{AreLines-lines}
 use Rattle.grep_definitions.specs.Plans.{match_limit, Settings, position_after}
 use Rattle.grep_definitions.specs.SuccessiveMatches.{matches_left}
 use Rattle.grep_definitions.proofs.BlockLemmas.{block_start-le}
-use Rattle.grep_definitions.proofs.LineStartLemmas.{line_start-within}
+use Rattle.grep_matcher.proofs.LineStartLemmas.{line_start-within}
 use Rattle.grep_definitions.proofs.SuccessiveMatchLemmas.{matches_left-after, position_after-start}
 use Rattle.grep_walk.specs.declared.blocks.Blocks.{Blocks}
 use Rattle.grep_walk.specs.TouchedUnits.{IsPart, IsUnit, AreFound, IsFound, HasNoMore, AreTouched, AreLeft, IsReached}
 use Rattle.grep_walk.proofs.FoundMatchLemmas.{found-start}
 use Rattle.grep_walk.proofs.TouchedLemmas.{touched-none, touched-passed, touched-first, touched-inside, touched-part}
 use Rattle.grep_walk.proofs.TouchedLemmas.{touched-end, unit-of, unit-none, starts-there, part-apart}
-use Rattle.grep_definitions.proofs.LineRangeLemmas.{end-start}
+use Rattle.grep_lines.proofs.LineRangeLemmas.{end-start}
 
 -- before the first match
 abbrev pub starts : Option ℕ → Blocks

@@ -10,10 +10,10 @@ use Rattle.std.specs.Prelude.{slice_range}
 use Rattle.std.specs.List.{concat}
 use Rattle.grep_matcher.specs.Lines.{byte_of, lines, line_start}
 use Rattle.grep_lines.specs.Positions.{IsLine, IsLineStart}
-use Rattle.grep_lines.proofs.LineLemmas.{lines-append}
+use Rattle.grep_matcher.proofs.LineLemmas.{lines-append}
 use Rattle.grep_definitions.specs.Plans.{Settings}
 use Rattle.grep_definitions.proofs.FrontLemmas.{closed-append, closed-drop, closed-take, count-after, start-after, start-there}
-use Rattle.grep_definitions.proofs.LineRangeLemmas.{end-start, line-from, start-same}
+use Rattle.grep_lines.proofs.LineRangeLemmas.{end-start, line-from, start-same}
 use Rattle.grep_walk.specs.declared.walk.Walk.{Walk}
 use Rattle.grep_definitions.specs.Searches.{IsClosed}
 use Rattle.grep_walk.specs.Windows.{IsWindow, IsLineIn, IsInWindow}

@@ -17,7 +17,7 @@ use Rattle.grep_walk.specs.Walks.{recounted, CountedFrom}
 use Rattle.grep_definitions.specs.Questions.{IsAsked}
 use Rattle.grep_walk.specs.LookAheads.{MayAskAhead}
 use Rattle.grep_walk.specs.Windows.{IsWindow, IsInWindow, HasPassed, HasSearched, HasWalked}
-use Rattle.grep_definitions.proofs.LineRangeLemmas.{line-at, end-start}
+use Rattle.grep_lines.proofs.LineRangeLemmas.{line-at, end-start}
 use Rattle.grep_walk.proofs.WalkLemmas as walks
 use Rattle.grep_walk.proofs.WalkLemmas.{Bare, Comes, start_walk}
 use Rattle.grep_walk.specs.Origins.{Origin, fresh}

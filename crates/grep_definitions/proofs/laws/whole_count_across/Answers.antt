@@ -1,5 +1,5 @@
 use Rattle.grep_matcher.specs.Lines.{byte_of}
-use Rattle.grep_definitions.proofs.LineStartLemmas.{line_start-last}
+use Rattle.grep_matcher.proofs.LineStartLemmas.{line_start-last}
 use Rattle.grep_definitions.proofs.laws.whole_count_across.Goals as goal
 
 pub returns : goal.returns

@@ -1,5 +1,5 @@
 use Rattle.std.proofs.Common.{rules, ◌∙◌, ◌<◌, sym, arith, length}
-use Rattle.grep_lines.proofs.LineLemmas.{lines-closed, lines-unclosed}
+use Rattle.grep_matcher.proofs.LineLemmas.{lines-closed, lines-unclosed}
 use Rattle.grep_lines.proofs.counts.line_count.Goals as goal
 
 pub returns-then-bytes-terminator : goal.returns-then-bytes-terminator

@@ -1,4 +1,4 @@
-use Rattle.grep_lines.proofs.LineLemmas.{lines-append}
+use Rattle.grep_matcher.proofs.LineLemmas.{lines-append}
 use Rattle.grep_lines.proofs.laws.lines_append.Goals as goal
 
 pub returns : goal.returns

@@ -1,5 +1,5 @@
 use Rattle.std.proofs.Common.{length, ap, sym, ◌∙◌, rules}
-use Rattle.grep_lines.proofs.LineLemmas.{lines-parts}
+use Rattle.grep_lines.proofs.LawLemmas.{lines-parts}
 use Rattle.grep_lines.proofs.line_iter.LineIterIterator.next.Goals as goal
 
 pub returns-clause-steps : goal.returns-clause-steps

@@ -1,6 +1,6 @@
 -- Where lines start, by the laws of the lines of some bytes.
-use Rattle.std.proofs.Common.{◌≡◌, ℕ, ◌+◌, ◌<◌, ◌≤◌, List, [], ◌∷◌, ◌++◌, length, take, drop, get_or, ap, sym, ◌∙◌}
-use Rattle.std.proofs.Common.{arith, ⊎_elim, length-append, take-append-drop}
+use Rattle.std.proofs.Common.{◌≡◌, ℕ, zero, suc, ◌+◌, ◌-◌, ◌<◌, ◌≤◌, List, [], ◌∷◌, ◌++◌, length, take, drop, get_or, ap, sym, ◌∙◌}
+use Rattle.std.proofs.Common.{refl, arith, ⊎_elim, length-append, take-append-drop}
 use Rattle.std.proofs.lemmas.Bool.{cases_lt}
 use Rattle.std.proofs.lemmas.List.{take_more, take_all, append-nil}
 use Rattle.std.proofs.lemmas.List.Elements.{All-get_or}
@@ -8,7 +8,7 @@ use Rattle.std.proofs.lemmas.List.Folds.{concat-append}
 use Rattle.std.proofs.Math.Seq.{take-length}
 use Rattle.std.specs.List.{concat}
 use Rattle.grep_matcher.specs.Lines.{lines, line_start}
-use Rattle.grep_lines.proofs.LawLemmas.{AreLines-lines}
+use Rattle.grep_matcher.proofs.LineLemmas.{AreLines-lines}
 
 -- a line starts after all of the line before it
 pub line_start-more : (t : ℕ) (bytes : List ℕ) (i : ℕ) → i < length (lines t bytes) → line_start t bytes (i + 1)
@@ -29,6 +29,16 @@ line_start-next t bytes i = ⊎_elim
     let same = ap (λ ls. length (concat ls)) (take_all (i + 1) all (omega arith) ∙ sym (take_all i all beyond)) in
     omega arith)
     (cases_lt i (length (lines t bytes)))
+
+-- a later line starts no earlier
+pub line_start-le : (t : ℕ) (bytes : List ℕ) (i j : ℕ) → i ≤ j → line_start t bytes i ≤ line_start t bytes j
+line_start-le t bytes i j low = at (j - i) j (omega arith)
+  where
+    at : (d m : ℕ) → m ≡ i + d → line_start t bytes i ≤ line_start t bytes m
+    at zero m is = let same : m ≡ i = omega arith in rw same (omega arith)
+    at (suc d) m is =
+        let next : m ≡ (i + d) + 1 = omega arith in
+        rw next (omega (arith, at d (i + d) refl, line_start-next t bytes (i + d)))
 
 module _ (t : ℕ) (bytes : List ℕ) where
   -- a line begins before the next one

@@ -1,13 +1,14 @@
--- The lines of some bytes, from one byte to the next and over two parts.
-use Rattle.std.proofs.Common.{◌≡◌, ◌≢◌, ℕ, zero, suc, ◌+◌, ◌-◌, ◌<◌, ◌≤◌, ◌==◌, List, [], ◌∷◌, ◌++◌, length, take, drop}
-use Rattle.std.proofs.Common.{slice_index}
-use Rattle.std.proofs.Common.{count_by, refl, ap, ap₂, sym, ◌∙◌, arith, cond, ⊎_elim}
+-- The lines of some bytes, from one byte to the next and over two parts; they have the four properties of lines.
+use Rattle.std.proofs.Common.{◌≡◌, ◌≢◌, ℕ, zero, suc, ◌+◌, ◌-◌, ◌<◌, ◌≤◌, ◌==◌, List, [], ◌∷◌, ◌++◌, length}
+use Rattle.std.proofs.Common.{slice_index, subst}
+use Rattle.std.proofs.Common.{count_by, refl, ap, sym, ◌∙◌, arith, cond, ⊎_elim}
 use Rattle.std.proofs.lemmas.Bool.{cases_eq, eq-eqb, ne_eqb}
+use Rattle.std.proofs.lemmas.List.Elements.{All-nil, All-cons, All-head, All-tail}
 use Rattle.std.proofs.lemmas.List.Sums.{sum_by-cons}
 use Rattle.std.specs.List.{concat}
 use native.Mathlib.Numerals.{unary_clauses}
+use Rattle.grep_matcher.specs.AreLines.{IsUnbroken, AreEnded, AreLines}
 use Rattle.grep_matcher.specs.Lines.{lines, onto_first}
-use Rattle.grep_lines.specs.FirstLine.{IsFirstLine}
 
 -- a byte onto the first of some lines leaves as many
 length-onto : (b : ℕ) (ls : List (List ℕ)) → 0 < length ls → length (onto_first b ls) ≡ length ls
@@ -28,92 +29,13 @@ module _ (t : ℕ) where
   count bytes = count_by (λ b. b == t) bytes
 
   -- a byte t counts
-  count-end : (b : ℕ) (bytes : List ℕ) → b ≡ t → count (b ∷ bytes) ≡ 1 + count bytes
+  pub count-end : (b : ℕ) (bytes : List ℕ) → b ≡ t → count (b ∷ bytes) ≡ 1 + count bytes
   count-end b bytes same = let yes = eq-eqb b t same in rw (sum_by-cons (λ x. cond (x == t) 1 0) b bytes, yes) refl
 
   -- another byte doesn't
-  count-inner : (b : ℕ) (bytes : List ℕ) → b ≢ t → count (b ∷ bytes) ≡ count bytes
+  pub count-inner : (b : ℕ) (bytes : List ℕ) → b ≢ t → count (b ∷ bytes) ≡ count bytes
   count-inner b bytes other = let no = ne_eqb b t other in rw (sum_by-cons (λ x. cond (x == t) 1 0) b bytes, no)
       (omega arith)
-
-  -- a first line without its first byte
-  IsFirstLine-tail : (b : ℕ) (bytes : List ℕ) (e : ℕ) → IsFirstLine t (b ∷ bytes) (suc (suc e))
-      → IsFirstLine t bytes (suc e)
-  IsFirstLine-tail b bytes e h = record {
-    above = omega arith;
-    within = omega arith;
-    inner = λ i below. h.inner (suc i) (omega arith);
-    closed = λ below. simp unary_clauses (simp unary_clauses at (h.closed (omega arith)));
-  }
-
-  -- a first line with a byte in front of it
-  IsFirstLine-cons : (b : ℕ) (bytes : List ℕ) (e : ℕ) → b ≢ t → IsFirstLine t bytes (suc e)
-      → IsFirstLine t (b ∷ bytes) (suc (suc e))
-  IsFirstLine-cons b bytes e other h = record {
-    above = omega arith;
-    within = omega arith;
-    inner = λ i below. inner_at i below;
-    closed = λ below. simp unary_clauses (simp unary_clauses at (h.closed (omega arith)));
-  }
-    where
-      inner_at : (i : ℕ) → i + 1 < suc (suc e) → slice_index (b ∷ bytes) i ≢ t
-      inner_at zero below = other
-      inner_at (suc i) below = h.inner i (omega arith)
-
-  -- some bytes have a first line
-  pub first_line : (bytes : List ℕ) → 0 < length bytes → (e : ℕ) × IsFirstLine t bytes (suc e)
-  first_line [] some = absurd (omega arith)
-  first_line (b ∷ []) some = (
-    0,
-    record {
-      above = omega arith;
-      within = omega arith;
-      inner = λ i below. absurd (omega arith);
-      closed = λ below. absurd (omega arith);
-    },
-  )
-  first_line (b ∷ c ∷ later) some =
-      let rest = first_line (c ∷ later) (omega arith) in
-      ⊎_elim
-      (λ same. (
-        0,
-        record {
-          above = omega arith;
-          within = omega arith;
-          inner = λ i below. absurd (omega arith);
-          closed =
-              λ _. same;
-        },
-      ))
-      (λ other. (suc rest.0, IsFirstLine-cons b (c ∷ later) rest.0 other rest.1))
-      (cases_eq b t)
-
-  -- the first line, and the lines of what follows it
-  pub lines-first : (bytes : List ℕ) (e : ℕ) → IsFirstLine t bytes e → lines t bytes ≡ take e bytes
-      ∷ lines t (drop e bytes)
-  lines-first [] e h = absurd (omega arith)
-  lines-first (b ∷ bytes) zero h = absurd (omega arith)
-  lines-first (b ∷ []) (suc zero) h = ⊎_elim (λ same. lines-end b [] same) (λ other. lines-inner b [] other)
-      (cases_eq b t)
-  lines-first (b ∷ c ∷ later) (suc zero) h = lines-end b (c ∷ later) (h.closed (omega arith))
-  lines-first (b ∷ bytes) (suc (suc e)) h = lines-inner b bytes (h.inner 0 (omega arith))
-      ∙ ap (onto_first b) (lines-first bytes (suc e) (IsFirstLine-tail b bytes e h))
-
-  -- the same of two parts
-  pub lines-parts : (bytes line rest : List ℕ) (e : ℕ) → IsFirstLine t bytes e → line ≡ take e bytes → rest
-      ≡ drop e bytes
-      → lines t bytes ≡ line ∷ lines t rest
-  lines-parts bytes line rest e is_first is_line is_rest = lines-first bytes e is_first
-      ∙ sym (ap₂ ◌∷◌ is_line (ap (lines t) is_rest))
-
-  -- a first line that isn't the last holds one t
-  pub count-first_line : (bytes : List ℕ) (e : ℕ) → IsFirstLine t bytes e → e < length bytes
-      → count (take e bytes) ≡ 1
-  count-first_line [] e h more = absurd (omega arith)
-  count-first_line (b ∷ bytes) zero h more = absurd (omega arith)
-  count-first_line (b ∷ bytes) (suc zero) h more = count-end b [] (h.closed more)
-  count-first_line (b ∷ bytes) (suc (suc e)) h more = count-inner b (take (suc e) bytes) (h.inner 0 (omega arith))
-      ∙ count-first_line bytes (suc e) (IsFirstLine-tail b bytes e h) (omega arith)
 
   -- some bytes have a line
   lines-some : (b : ℕ) (bytes : List ℕ) → 0 < length (lines t (b ∷ bytes))
@@ -213,3 +135,62 @@ module _ (t : ℕ) where
       onto : (rest : List (List ℕ)) → concat (onto_first b rest) ≡ b ∷ concat rest
       onto [] = refl
       onto (line ∷ more) = refl
+
+-- a byte t in front, as a line of its own
+AreLines-end : (t b : ℕ) (bytes : List ℕ) (ls : List (List ℕ)) → b ≡ t → AreLines t bytes ls
+    → AreLines t (b ∷ bytes) ((b ∷ []) ∷ ls)
+AreLines-end t b bytes ls same later = record {
+  joined = ap (λ l. b ∷ l) later.joined;
+  filled = All-cons (λ piece. 0 < length piece) (b ∷ []) ls (omega arith) later.filled;
+  unbroken = All-cons (IsUnbroken t) (b ∷ []) ls (λ k below. absurd (omega arith)) later.unbroken;
+  ended = end ls later.ended;
+}
+  where
+    end : (rest : List (List ℕ)) → AreEnded t rest → AreEnded t ((b ∷ []) ∷ rest)
+    end [] is = tt
+    end (next ∷ rest) is = (same, is)
+
+-- another byte in front of the first line
+AreLines-inner : (t b : ℕ) (bytes : List ℕ) (ls : List (List ℕ)) → b ≢ t → AreLines t bytes ls
+    → AreLines t (b ∷ bytes) (onto_first b ls)
+AreLines-inner t b bytes [] other later = record {
+  joined = ap (λ l. b ∷ l) later.joined;
+  filled = All-cons (λ piece. 0 < length piece) (b ∷ []) [] (omega arith) later.filled;
+  unbroken = All-cons (IsUnbroken t) (b ∷ []) [] (λ k below. absurd (omega arith)) later.unbroken;
+  ended = tt;
+}
+AreLines-inner t b bytes (line ∷ ls) other later = record {
+  joined = ap (λ l. b ∷ l) later.joined;
+  filled = All-cons (λ piece. 0 < length piece) (b ∷ line) ls (omega arith)
+      (All-tail (λ piece. 0 < length piece) line ls later.filled);
+  unbroken = All-cons (IsUnbroken t) (b ∷ line) ls (longer line (All-head (IsUnbroken t) line ls later.unbroken))
+      (All-tail (IsUnbroken t) line ls later.unbroken);
+  ended = end line ls (All-head (λ piece. 0 < length piece) line ls later.filled) later.ended;
+}
+  where
+    longer : (l : List ℕ) → IsUnbroken t l → IsUnbroken t (b ∷ l)
+    longer l is zero below = other
+    longer l is (suc k) below = is k (omega arith)
+
+    end : (l : List ℕ) (rest : List (List ℕ)) → 0 < length l → AreEnded t (l ∷ rest) → AreEnded t ((b ∷ l) ∷ rest)
+    end l [] some is = tt
+    end [] (next ∷ rest) some is = absurd (omega arith)
+    end (c ∷ l) (next ∷ rest) some is = (simp unary_clauses (simp unary_clauses at is.0), is.1)
+
+-- the lines have the four properties
+pub AreLines-lines : (t : ℕ) (bytes : List ℕ) → AreLines t bytes (lines t bytes)
+AreLines-lines t [] = record {
+  joined = refl;
+  filled = All-nil (λ piece. 0 < length piece);
+  unbroken = All-nil
+      (IsUnbroken t);
+  ended = tt;
+}
+AreLines-lines t (b ∷ bytes) =
+    let later = AreLines-lines t bytes in
+    ⊎_elim
+    (λ same. subst (AreLines t (b ∷ bytes)) (sym (lines-end t b bytes same))
+    (AreLines-end t b bytes (lines t bytes) same later))
+    (λ other. subst (AreLines t (b ∷ bytes)) (sym (lines-inner t b bytes other))
+    (AreLines-inner t b bytes (lines t bytes) other later))
+    (cases_eq b t)

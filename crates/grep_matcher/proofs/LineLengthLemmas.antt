@@ -8,7 +8,7 @@ use Rattle.std.specs.List.{concat}
 use Rattle.std.specs.Prelude.{All, slice_index_or}
 use Rattle.grep_matcher.specs.Lines.{lines, line_start, onto_first}
 use Rattle.grep_matcher.specs.AreLines.{AreEnded}
-use Rattle.grep_lines.proofs.LawLemmas.{AreLines-lines}
+use Rattle.grep_matcher.proofs.LineLemmas.{AreLines-lines}
 
 -- no piece is longer than all pieces joined
 pieces-within : (pieces : List (List ℕ)) → All (λ piece. length piece ≤ length (concat pieces)) pieces

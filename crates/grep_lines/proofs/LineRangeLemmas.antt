@@ -3,14 +3,12 @@ use Rattle.std.proofs.Common.{◌≡◌, ℕ, ◌+◌, ◌-◌, ◌<◌, ◌≤�
 use Rattle.std.proofs.Common.{⊎_elim, length-take, length-drop, length-append}
 use Rattle.std.proofs.lemmas.Bool.{cases_lt}
 use Rattle.std.proofs.lemmas.List.{take-append-drop, get_or-drop, get_or-take, drop-drop, take_all}
-use Rattle.grep_lines.proofs.LineLemmas.{lines-append}
+use Rattle.grep_matcher.proofs.LineLemmas.{lines-append, IsClosed}
 use Rattle.grep_lines.proofs.LineStepLemmas.{IsAt-start, IsStep-line, all_passed}
 use Rattle.std.specs.Prelude.{slice_range}
 use Rattle.grep_lines.specs.Positions.{IsLine, IsLineStart}
 use Rattle.grep_matcher.specs.Lines.{lines, line_start}
-use Rattle.grep_definitions.proofs.LineStartLemmas.{line_start-ascends, line_start-last}
-use Rattle.grep_definitions.proofs.TurnEndLemmas.{line_start-le}
-use Rattle.grep_definitions.specs.Searches.{IsClosed}
+use Rattle.grep_matcher.proofs.LineStartLemmas.{line_start-ascends, line_start-last, line_start-le}
 
 -- how many lines there are between the starts of two
 pub lines-between : (t : ℕ) (window : List ℕ) (p q i j : ℕ) → IsLineStart t window p i → IsLineStart t window q j
