@@ -95,9 +95,9 @@ module _ (k : Settings) (meaning : Meaning) (front back : List ℕ)
       rw (hits-same i below, before) refl
 
   -- it ends the chosen lines in both or in neither
-  pub ends_chosen-same : (i : ℕ) → i < n → Plans.ends_chosen k meaning whole i
-      ≡ Plans.ends_chosen k meaning front i
-  ends_chosen-same i below =
+  pub ends_search-same : (i : ℕ) → i < n → Plans.ends_search k meaning whole i
+      ≡ Plans.ends_search k meaning front i
+  ends_search-same i below =
       let before = some_below-same (Plans.is_chosen k meaning whole) (Plans.is_chosen k meaning front) i
       (λ j less. is_chosen-same j (omega arith)) in
       rw (is_chosen-same i below, before) refl
@@ -106,8 +106,8 @@ module _ (k : Settings) (meaning : Meaning) (front back : List ℕ)
   pub is_selected-same : (i : ℕ) → i < n → Plans.is_selected k meaning whole i
       ≡ Plans.is_selected k meaning front i
   is_selected-same i below =
-      let before = some_below-same (Plans.ends_chosen k meaning whole) (Plans.ends_chosen k meaning front) i
-      (λ j less. ends_chosen-same j (omega arith)) in
+      let before = some_below-same (Plans.ends_search k meaning whole) (Plans.ends_search k meaning front) i
+      (λ j less. ends_search-same j (omega arith)) in
       rw (is_chosen-same i below, before) refl
 
   -- it follows a selected line in both or in neither

@@ -364,14 +364,8 @@ module _ (k : Settings) (meaning : Meaning) (front back : List ℕ)
 
   -- so is the bound by the stop
   stop-bounds : Bounds (LineSearch.turns_by_stop k meaning whole) (LineSearch.turns_by_stop k meaning front)
-  stop-bounds = go k.stop_on_nonmatch refl
-    where
-      go : (b : Bool) → k.stop_on_nonmatch ≡ b
-          → Bounds (LineSearch.turns_by_stop k meaning whole) (LineSearch.turns_by_stop k meaning front)
-      go false is = inl (rw is refl)
-      go true is = rw is (first-bounds suc (λ u. omega arith) (Plans.ends_chosen k meaning whole)
-          (Plans.ends_chosen k meaning front) (λ j below. prefix.ends_chosen-same k meaning front back
-          closed j below))
+  stop-bounds = first-bounds suc (λ u. omega arith) (Plans.ends_search k meaning whole)
+      (Plans.ends_search k meaning front) (λ j below. prefix.ends_search-same k meaning front back closed j below)
 
   -- so is the bound by the limit
   limit-bounds : (limit : Option ℕ)

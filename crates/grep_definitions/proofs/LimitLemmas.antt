@@ -12,8 +12,8 @@ use Rattle.grep_definitions.specs.Plans.{Settings, some_below, count_below, firs
 use Rattle.grep_definitions.specs.Plans.{is_at, at_most}
 use Rattle.grep_definitions.specs.LineSearch
 use Rattle.grep_definitions.specs.LineWalks.{IsOpen}
-use Rattle.grep_definitions.proofs.BelowLemmas.{some_below-some, first_below-here, first_below-of, first_below-more}
-use Rattle.grep_definitions.proofs.BelowLemmas.{first_below-late, count_below-le, is_below-le, below_next, below_none}
+use Rattle.grep_definitions.proofs.BelowLemmas.{some_below-none, some_below-some, first_below-here, first_below-of, first_below-more}
+use Rattle.grep_definitions.proofs.BelowLemmas.{first_below-nowhere, first_below-late, count_below-le, is_below-le, below_next, below_none}
 use Rattle.grep_definitions.proofs.BelowLemmas.{at_most-over, at_most-above, at_most-next, at_most-some}
 use Rattle.grep_definitions.proofs.BoolLemmas.{both_true, clash}
 
@@ -28,7 +28,7 @@ module _ (k : Settings) (meaning : Meaning) (bytes : List ℕ) where
   is_chosen = Plans.is_chosen k meaning bytes
 
   abbrev ends : ℕ → Bool
-  ends = Plans.ends_chosen k meaning bytes
+  ends = Plans.ends_search k meaning bytes
 
   abbrev fills : ℕ → Bool
   fills = LineSearch.fills_limit k meaning bytes
@@ -49,14 +49,25 @@ module _ (k : Settings) (meaning : Meaning) (bytes : List ℕ) where
 
   -- a line that isn't chosen isn't selected
   selected-none : (q : ℕ) → is_chosen q ≡ false → Plans.is_selected k meaning bytes q ≡ false
-  selected-none q unchosen = ap (λ b. b && not (k.stop_on_nonmatch && some_below ends q)) unchosen
+  selected-none q unchosen = ap (λ b. b && not (some_below ends q)) unchosen
+
+  -- in a search that doesn't stop no line ends it, and each chosen line is selected
+  module _ (never : (some : Bool) → Plans.stops_next k some ≡ false) where
+    pub ends-none : (i : ℕ) → some_below ends i ≡ false
+    ends-none i = some_below-none ends i (λ j less. rw (never (some_below is_chosen j)) refl)
+
+    pub selected-unstopped : (i : ℕ) → Plans.is_selected k meaning bytes i ≡ is_chosen i
+    selected-unstopped i = rw (ends-none i) (and-true _)
+
+    pub by_stop-none : by_stop ≡ None
+    by_stop-none = ap (option_map suc) (first_below-nowhere ends n (ends-none n))
 
   pub IsOpen-none : (k.passthru ≡ false → is_at 0 k.max_matches ≡ true → ⊥) → IsOpen k meaning bytes 0 0 0
   IsOpen-none starts = record {
     below = below_none k.max_matches;
     counted = λ _. refl;
     any = refl;
-    unended = λ _. refl;
+    unended = refl;
     unfilled = λ _. refl;
     filled = λ plain full. absurd (starts plain full);
   }
@@ -80,17 +91,11 @@ module _ (k : Settings) (meaning : Meaning) (bytes : List ℕ) where
       ∙ ap (option_map (λ m. suc (m + k.after_context))) is)
 
   stop_bound : {i left c : ℕ} → IsOpen k meaning bytes i left c → IfSome by_stop (λ b. i < b)
-  stop_bound {i} {left} {c} opened = go k.stop_on_nonmatch refl
+  stop_bound {i} {left} {c} opened = go (first_below ends n) refl
     where
-      inner : (found : Option ℕ) → first_below ends n ≡ found → k.stop_on_nonmatch ≡ true
-          → IfSome (option_map suc found) (λ b. i < b)
-      inner None is stop = tt
-      inner (Some u) is stop = let late = first_below-late ends i n u (opened.unended stop) is in omega arith
-
-      go : (s : Bool) → k.stop_on_nonmatch ≡ s → IfSome (if s then option_map suc (first_below ends n) else None)
-          (λ b. i < b)
-      go false is = tt
-      go true is = inner (first_below ends n) refl is
+      go : (found : Option ℕ) → first_below ends n ≡ found → IfSome (option_map suc found) (λ b. i < b)
+      go None is = tt
+      go (Some u) is = let late = first_below-late ends i n u opened.unended is in omega arith
 
   limit_bound : {i left c : ℕ} → i ≤ n → IsOpen k meaning bytes i left c → IfSome by_limit (λ b. i < b)
   limit_bound {i} {left} {c} inside opened = go k.passthru refl
@@ -143,11 +148,7 @@ module _ (k : Settings) (meaning : Meaning) (bytes : List ℕ) where
 
   pub selected-is : {i left c : ℕ} → IsOpen k meaning bytes i left c → Plans.is_selected k meaning bytes i
       ≡ is_chosen i
-  selected-is {i} {left} {c} opened = go k.stop_on_nonmatch refl
-    where
-      go : (s : Bool) → k.stop_on_nonmatch ≡ s → (is_chosen i && not (s && some_below ends i)) ≡ is_chosen i
-      go false is = and-true _
-      go true is = rw (opened.unended is) (and-true _)
+  selected-is opened = rw opened.unended (and-true _)
 
   pub chosen-is : {i left c : ℕ} → IsOpen k meaning bytes i left c → is_chosen i
       ≡ (hits i && not (is_at c k.max_matches))
@@ -183,7 +184,7 @@ module _ (k : Settings) (meaning : Meaning) (bytes : List ℕ) where
             below = ap (λ m. is_below m k.max_matches) (count_next j is) ∙ below_one;
             counted = λ _. count_next j is;
             any = rw (is, yes) (or-true _ ∙ sym (lt-ltb 0 (c + 1) (omega arith)));
-            unended = λ stop. rw (is, opened.unended stop, yes) refl;
+            unended = rw (is, opened.unended, yes) (and-false _);
             unfilled = λ free_next. rw (is, opened.unfilled free, fills-is, free_next) refl;
             filled = λ plain full. (
               i,
@@ -230,19 +231,17 @@ module _ (k : Settings) (meaning : Meaning) (bytes : List ℕ) where
           ∙ (ap (λ m. is_below m k.max_matches) (sym (opened.counted free)) ∙ opened.below))
           (cases_Bool (is_at c k.max_matches))
 
-      pub IsOpen-missed : (k.stop_on_nonmatch ≡ true → c ≡ 0)
+      pub IsOpen-missed : Plans.stops_next k (nat_lt 0 c) ≡ false
           → (k.passthru ≡ false → is_at c k.max_matches ≡ true → 1 < left)
           → IsOpen k meaning bytes (i + 1) (left - 1) c
-      IsOpen-missed first_of goes = at (i + 1) (omega arith)
+      IsOpen-missed on goes = at (i + 1) (omega arith)
         where
           at : (j : ℕ) → j ≡ suc i → IsOpen k meaning bytes j (left - 1) c
           at j is = record {
             below = below-more j is;
             counted = λ free. count_keep free j is;
             any = rw (is, no) (or-false _ ∙ opened.any);
-            unended = λ stop. let none : some_below is_chosen i ≡ false = opened.any
-                ∙ le-ltb 0 c (omega (arith, first_of stop)) in
-                rw (is, opened.unended stop, none) (and-false _);
+            unended = rw (is, opened.unended, opened.any, on) refl;
             unfilled = λ free. rw (is, opened.unfilled free, none-fills) refl;
             filled = λ plain full. let f = opened.filled plain full in (
               f.0,
@@ -267,16 +266,15 @@ module _ (k : Settings) (meaning : Meaning) (bytes : List ℕ) where
                 rw no_more (and-false _));
           }
 
-      pub IsDone-stop : k.stop_on_nonmatch ≡ true → nat_lt 0 c ≡ true → IsDone (i + 1)
-      IsDone-stop stop some =
-          let ended : ends i ≡ true = rw (no, opened.any, some) refl in
-          let found = first_below-here ends n i inside ended (opened.unended stop) in
-          let bound : by_stop ≡ Some (suc i) = rw (stop, found) refl in
+      pub IsDone-stop : Plans.stops_next k (nat_lt 0 c) ≡ true → IsDone (i + 1)
+      IsDone-stop stop =
+          let ended : ends i ≡ true = rw (opened.any, stop, no) refl in
+          let found = first_below-here ends n i inside ended opened.unended in
+          let bound : by_stop ≡ Some (suc i) = ap (option_map suc) found in
           let last = at_most-some by_stop i n bound inside in record {
             last = ap (λ m. at_most by_limit m) last ∙ at_most-next by_limit i
                 (limit_bound (omega arith) opened);
-            silent = λ q low below. let over = some_below-some ends q i (omega arith) ended in rw (stop, over)
-                (and-false _);
+            silent = λ q low below. let over = some_below-some ends q i (omega arith) ended in rw over (and-false _);
           }
 
   -- limit 0 without passthru

@@ -4,7 +4,7 @@ use Rattle.grep_definitions.specs.Plans.{planned, Call, Planned, breaks, matches
 use Rattle.grep_definitions.specs.Plans.{some_below, count_below, first_below, is_below, is_at}
 use Rattle.grep_definitions.specs.Plans.{joined_from, in_context}
 use Rattle.std.proofs.Math.Bool.{and-false}
-use Rattle.std.proofs.Common.{◌≡◌, ℕ, zero, suc, ◌+◌, ◌-◌, ◌<◌, ◌≤◌, Bool, true, false, not, ◌&&◌, ◌||◌, List, [], ◌∷◌}
+use Rattle.std.proofs.Common.{◌≡◌, ℕ, zero, suc, ◌+◌, ◌-◌, ◌<◌, ◌≤◌, Bool, true, false, ◌&&◌, ◌||◌, List, [], ◌∷◌}
 use Rattle.std.proofs.Common.{◌++◌, length, refl, sym, ◌∙◌, ap, arith, ⊎_elim, Option, Some, None, if◌then◌else◌}
 use Rattle.std.proofs.lemmas.Bool.{ltb-true, eqb-true, cases_lt}
 use Rattle.std.proofs.lemmas.List.{map-append, length-append, length-map}
@@ -115,22 +115,17 @@ module _ (k : Settings) (meaning : Meaning) (bytes : List ℕ) where
   fills = LineSearch.fills_limit k meaning bytes
 
   abbrev ends : ℕ → Bool
-  ends = Plans.ends_chosen k meaning bytes
+  ends = Plans.ends_search k meaning bytes
 
   -- a selected line comes before each bound of the turns
   stop-bound : (i : ℕ) → selected i ≡ true → IfSome (LineSearch.turns_by_stop k meaning bytes) (λ b. i < b)
-  stop-bound i taken = go k.stop_on_nonmatch (both_true (Plans.is_chosen k meaning bytes i) _ taken).1
+  stop-bound i taken = go (first_below ends n) refl
+      (not_false _ (both_true (Plans.is_chosen k meaning bytes i) _ taken).1)
     where
-      inner : (found : Option ℕ) → first_below ends n ≡ found → some_below ends i ≡ false
+      go : (found : Option ℕ) → first_below ends n ≡ found → some_below ends i ≡ false
           → IfSome (option_map suc found) (λ b. i < b)
-      inner None is none = tt
-      inner (Some u) is none = let late = first_below-late ends i n u none is in omega arith
-
-      go : (s : Bool) → not (s && some_below ends i) ≡ true
-          → IfSome (if s then option_map suc (first_below ends n) else None)
-          (λ b. i < b)
-      go false is = tt
-      go true is = inner (first_below ends n) refl (not_false (some_below ends i) is)
+      go None is none = tt
+      go (Some u) is none = let late = first_below-late ends i n u none is in omega arith
 
   limit-bound : (i : ℕ) → Plans.is_chosen k meaning bytes i ≡ true
       → IfSome (if k.passthru then None else LineSearch.turns_by_limit k meaning bytes k.max_matches) (λ b. i < b)

@@ -1,14 +1,12 @@
 -- The reports of a search by line, as lemmas about its walk name them.
-use Rattle.std.specs.Prelude.{ℕ, Bool, List, ◌∷◌, Option, ◌+◌, ◌&&◌, if◌then◌else◌, nat_le, filter}
-use Rattle.std.specs.Prelude.{None, suc}
+use Rattle.std.specs.Prelude.{ℕ, Bool, List, ◌∷◌, Option, ◌+◌, ◌&&◌, nat_le, filter}
 use Rattle.grep_matcher.specs.Meanings.{Meaning}
 use Rattle.grep_definitions.specs.Plans.{Planned, begins, planned, Selection, joined_from}
 use Rattle.grep_definitions.specs.Plans.{end_by_limit, reports_end, selected_lines}
-use Rattle.grep_definitions.specs.Plans.{Settings, Kind, hits, is_chosen, ends_chosen, is_at}
+use Rattle.grep_definitions.specs.Plans.{Settings, Kind, hits, is_chosen, end_by_stop, is_at}
 use Rattle.grep_definitions.specs.Plans.{count_below, first_below}
 use Rattle.grep_definitions.specs.Plans
 use Rattle.grep_definitions.specs.Selections
-use Rattle.std.specs.Option.{option_map}
 
 -- the calls after which that count is at most an offset
 abbrev pub through : ℕ → List Planned → List Planned
@@ -37,10 +35,7 @@ module _ (settings : Settings) (meaning : Meaning) (bytes : List ℕ) where
       && is_at (count_below (hits settings meaning bytes) i + 1) settings.max_matches
 
   abbrev pub turns_by_stop : Option ℕ
-  turns_by_stop =
-      if settings.stop_on_nonmatch
-      then option_map suc (first_below (ends_chosen settings meaning bytes) line_count)
-      else None
+  turns_by_stop = end_by_stop settings meaning bytes
 
   abbrev pub turns_by_limit : Option ℕ → Option ℕ
   turns_by_limit = end_by_limit settings meaning bytes

@@ -3,7 +3,7 @@
 use Rattle.std.specs.Prelude.{◌≡◌, ℕ, ◌+◌, ◌<◌, true, false, not, nat_lt, List, Some}
 use Rattle.grep_matcher.specs.Meanings.{Meaning}
 use Rattle.grep_definitions.specs.Plans.{Settings, some_below, count_below, first_below, is_below}
-use Rattle.grep_definitions.specs.Plans.{is_at, hits, is_chosen, ends_chosen, is_selected}
+use Rattle.grep_definitions.specs.Plans.{is_at, hits, is_chosen, ends_search, is_selected}
 use Rattle.grep_definitions.specs.Plans.{is_trailing}
 use Rattle.grep_definitions.specs.LineSearch.{fills_limit, line_count, turn_count}
 use Rattle.grep_definitions.specs.Selections
@@ -26,8 +26,7 @@ module _ (settings : Settings) (meaning : Meaning) (bytes : List ℕ) where
     pub counted : is_at c settings.max_matches ≡ false
         → count_below (hits settings meaning bytes) i ≡ c
     pub any : some_below (is_chosen settings meaning bytes) i ≡ nat_lt 0 c
-    pub unended : settings.stop_on_nonmatch ≡ true
-        → some_below (ends_chosen settings meaning bytes) i ≡ false
+    pub unended : some_below (ends_search settings meaning bytes) i ≡ false
     pub unfilled : is_at c settings.max_matches ≡ false
         → some_below (fills_limit settings meaning bytes) i ≡ false
     pub filled : settings.passthru ≡ false → is_at c settings.max_matches ≡ true

@@ -289,6 +289,10 @@ abbrev pub differ : Bool → Bool → Bool
 differ true b = not b
 differ false b = b
 
+-- whether a search ends at the next line that isn't chosen, by whether a line was chosen
+abbrev pub stops_next : Settings → Bool → Bool
+stops_next settings some = settings.stop_on_nonmatch && some
+
 module _ (settings : Settings) (meaning : Meaning) (bytes : List ℕ) where
   -- a line hits if whether its stripped bytes match differs from inversion
   abbrev pub hits : ℕ → Bool
@@ -307,12 +311,13 @@ module _ (settings : Settings) (meaning : Meaning) (bytes : List ℕ) where
   abbrev pub is_trailing : ℕ → Bool
   is_trailing i = hits i && not (is_open_at i)
 
-  -- after the first chosen line, a line that isn't chosen ends the chosen lines
-  abbrev pub ends_chosen : ℕ → Bool
-  ends_chosen i = not (is_chosen i) && some_below is_chosen i
+  -- a search that stops ends at a line that isn't chosen, after one that is
+  abbrev pub ends_search : ℕ → Bool
+  ends_search i = stops_next settings (some_below is_chosen i) && not (is_chosen i)
 
+  -- a chosen line is selected if no line before it ends the search
   abbrev pub is_selected : ℕ → Bool
-  is_selected i = is_chosen i && not (settings.stop_on_nonmatch && some_below ends_chosen i)
+  is_selected i = is_chosen i && not (some_below ends_search i)
 
   -- one more than the last line that may be reported, by the limit: with the context after a match
   abbrev pub end_by_limit : Option ℕ → Option ℕ
@@ -323,12 +328,14 @@ module _ (settings : Settings) (meaning : Meaning) (bytes : List ℕ) where
       (first_below (λ i. is_chosen i && is_at (count_below hits i + 1) settings.max_matches)
       (line_count settings bytes))
 
-  -- and by all of its bounds: a line that ends the chosen lines may be reported still
+  -- by the line that ends the search, which may be reported still
+  abbrev pub end_by_stop : Option ℕ
+  end_by_stop = option_map suc (first_below ends_search (line_count settings bytes))
+
+  -- and by all of its bounds
   abbrev pub reports_end : ℕ
   reports_end = at_most (if settings.passthru then None else end_by_limit settings.max_matches)
-      (at_most (if settings.stop_on_nonmatch
-      then option_map suc (first_below ends_chosen (line_count settings bytes)) else None)
-      (line_count settings bytes))
+      (at_most end_by_stop (line_count settings bytes))
 
   abbrev pub selected_lines : Selection
   selected_lines = record {
@@ -461,8 +468,7 @@ module _ (settings : Settings) (meaning : Meaning) (bytes : List ℕ) where
   pub record IsAskedAhead (i : ℕ) (haystack : List ℕ) : Type 0 where
     pub allowed : AsksAhead settings meaning
     pub room : is_open_at settings meaning bytes i ≡ true
-    pub unstopped : (settings.stop_on_nonmatch && some_below (is_chosen settings meaning bytes) i)
-        ≡ false
+    pub unstopped : stops_next settings (some_below (is_chosen settings meaning bytes) i) ≡ false
     pub end : ℕ
     pub after : i < end
     pub within : end ≤ line_count settings bytes

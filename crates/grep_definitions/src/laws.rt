@@ -178,7 +178,7 @@ pub fn whole_count_across()
     ensures { AcrossLaws.WholeCount }
 {}
 
-/// Across lines `stop_on_nonmatch` is ignored.
+/// Across lines it makes no difference whether a search would stop at a line that doesn't match.
 pub fn stop_is_ignored_across()
     ensures { AcrossLaws.StopIsIgnored }
 {}

@@ -8,7 +8,8 @@ use Rattle.std.specs.Prelude.{◌||◌, ◌&&◌, cond, nat_lt, count_by, slice_
 use Rattle.grep_matcher.specs.Lines.{byte_of, lines, strip}
 use Rattle.grep_matcher.specs.Meanings.{Meaning}
 use Rattle.grep_definitions.specs.Plans.{count_below, line, line_count, differ, reports_end}
-use Rattle.grep_definitions.specs.Plans.{Settings}
+use Rattle.grep_definitions.specs.Plans.{Settings, stops_next}
+use Rattle.grep_definitions.proofs.LimitLemmas.{ends-none, by_stop-none}
 use Rattle.grep_definitions.specs.SearchLaws.{is_matched}
 use Rattle.grep_searcher.specs.HitLines.{is_hit, HitsAreSelected, HitsAreMatched, HitsAreCounted, IsUnlimited}
 use Rattle.grep_searcher.specs.HitLines.{PredicatesAreCounted}
@@ -42,15 +43,18 @@ matched-hit true false true is = refl
 matched-hit true false false is = refl
 matched-hit false hit follows is = absurd (let never = is in cc)
 
+never : {settings : Settings} → IsUnlimited settings → (some : Bool) → stops_next settings some ≡ false
+never free some = ap (λ b. b && some) free.unstopped
+
 pub hits-are_selected : HitsAreSelected
 hits-are_selected settings meaning bytes i free below =
-    rw (free.unlimited, free.unstopped)
+    rw (ends-none settings meaning bytes (never free) i, free.unlimited)
     (selected-hit (nat_lt i (line_count settings bytes)) (is_hit settings meaning (line settings bytes i))
     (lt-ltb i (line_count settings bytes) below))
 
 pub hits-are_matched : HitsAreMatched
 hits-are_matched settings meaning bytes i free below =
-    rw (free.unlimited, free.unstopped)
+    rw (ends-none settings meaning bytes (never free) i, free.unlimited)
     (matched-hit (nat_lt i (line_count settings bytes)) (is_hit settings meaning (line settings bytes i)) _
     (lt-ltb i (line_count settings bytes) below))
 
@@ -61,8 +65,8 @@ reports_end-whole settings meaning bytes free = go settings.passthru
   where
     go : (passthru : Bool)
         → reports_end (record settings { passthru = passthru }) meaning bytes ≡ line_count settings bytes
-    go true = rw (free.unlimited, free.unstopped) refl
-    go false = rw (free.unlimited, free.unstopped) refl
+    go true = rw (by_stop-none settings meaning bytes (never free)) refl
+    go false = rw (by_stop-none settings meaning bytes (never free), free.unlimited) refl
 
 pub hits-are_counted : HitsAreCounted
 hits-are_counted settings meaning bytes free =

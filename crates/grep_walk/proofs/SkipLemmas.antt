@@ -1,5 +1,5 @@
 -- A walk that skips lines which don't match.
-use Rattle.std.proofs.Common.{◌≡◌, ℕ, zero, suc, ◌+◌, ◌-◌, ◌<◌, ◌≤◌, Bool, true, false, not, ◌&&◌, ◌||◌}
+use Rattle.std.proofs.Common.{◌≡◌, ℕ, zero, suc, ◌+◌, ◌-◌, ◌<◌, ◌≤◌, Bool, true, false, not, ◌||◌}
 use Rattle.std.proofs.Common.{if◌then◌else◌, List, length, drop, Some, None, refl, sym, ◌∙◌, ap, subst, arith}
 use Rattle.std.proofs.Common.{length-take, length-drop}
 use Rattle.std.proofs.lemmas.Bool.Decides.{nat_tests}
@@ -8,7 +8,7 @@ use Rattle.std.specs.Prelude.{nat_lt, IfSome, slice_range}
 use Rattle.grep_lines.specs.Positions.{IsLine, IsLineStart}
 use Rattle.grep_matcher.specs.Lines.{lines, line_start, byte_of}
 use Rattle.grep_matcher.specs.Meanings.{Meaning, MatcherFacts}
-use Rattle.grep_definitions.specs.Plans.{is_at, Settings, Steps, all_true, AreMade}
+use Rattle.grep_definitions.specs.Plans.{is_at, stops_next, Settings, Steps, all_true, AreMade}
 use Rattle.grep_definitions.specs.LineTurns.{matches_line}
 use Rattle.grep_report.specs.ErrorMakers.{ErrorMakers}
 use Rattle.grep_walk.specs.WalkFaults.{IsWalkFault}
@@ -28,7 +28,7 @@ record IsSkipping (k : Settings) (w : Walk) : Type 0 where
   plain : k.invert_match ≡ false
   selects : k.passthru ≡ false
   none_left : w.after_context_left ≡ 0
-  unstopped : (k.stop_on_nonmatch && nat_lt 0 w.match_count) ≡ false
+  unstopped : stops_next k (nat_lt 0 w.match_count) ≡ false
 
 is_skipping : (k : Settings) (w : Walk) → can_skip k w ≡ true → IsSkipping k w
 is_skipping k w can = record {

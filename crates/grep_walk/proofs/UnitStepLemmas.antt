@@ -7,7 +7,6 @@ use Rattle.std.specs.Prelude.{IfNone}
 use Rattle.grep_matcher.specs.Meanings.{Meaning}
 use Rattle.grep_matcher.specs.Lines.{byte_of, lines}
 use Rattle.grep_lines.specs.Blocks.{block_start, block_end}
-use Rattle.grep_matcher.proofs.LineLemmas.{AreLines-lines}
 use Rattle.grep_definitions.specs.Plans.{match_limit, Settings, position_after}
 use Rattle.grep_definitions.specs.SuccessiveMatches.{matches_left}
 use Rattle.grep_definitions.proofs.BlockLemmas.{block_start-le}

@@ -2,7 +2,7 @@
 use Rattle.grep_definitions.specs.Plans
 use Rattle.grep_definitions.specs.Plans.{planned, Planned, begins, context, Steps, Outcome}
 use Rattle.grep_definitions.specs.Plans.{all_true, stopped, failed, AreMade, counted, Settings}
-use Rattle.grep_definitions.specs.Plans.{is_at, joined_from, differ}
+use Rattle.grep_definitions.specs.Plans.{is_at, joined_from, differ, stops_next}
 use Rattle.std.proofs.Common.{◌≡◌, ℕ, ◌+◌, ◌-◌, ◌<◌, ◌≤◌, Bool, true, false, not, ◌&&◌, ◌||◌, List, [], ◌∷◌, ◌++◌}
 use Rattle.std.proofs.Common.{length, drop, refl, sym, ◌∙◌, ap, subst, arith, ⊎_elim, inl, inr, Ok}
 use Rattle.std.proofs.Common.{Err, if◌then◌else◌, length-take, length-drop}
@@ -243,7 +243,7 @@ module _ (k : Settings) (meaning : Meaning) (bytes : List ℕ) where
       open-next true is goes = IsOpen-chosen k meaning bytes walk.opened line.listed is
           (λ plain full. grind (arith, nat_tests, goes, plain, full))
       open-next false is goes = IsOpen-missed k meaning bytes walk.opened line.listed is
-          (λ stop. grind (arith, nat_tests, goes, stop)) (λ plain full. grind (arith, nat_tests, goes, plain, full))
+          (grind (arith, nat_tests, goes)) (λ plain full. grind (arith, nat_tests, goes, plain, full))
 
       pub walk-next : (chosen trailing : Bool) → Plans.is_chosen k meaning bytes w.line ≡ chosen
           → (0 < w.after_context_left → Plans.is_trailing k meaning bytes w.line ≡ trailing)
@@ -263,12 +263,12 @@ module _ (k : Settings) (meaning : Meaning) (bytes : List ℕ) where
       done-next true is over = IsDone-chosen k meaning bytes walk.opened line.listed is
           (grind (arith, nat_tests, over)) (grind (arith, nat_tests, over)) (grind (arith, nat_tests, over))
       done-next false is over = ⊎_elim
-          (λ (stop : (k.stop_on_nonmatch && nat_lt 0 w.match_count) ≡ true). IsDone-stop k meaning bytes walk.opened
-          line.listed is (grind (arith, nat_tests, stop)) (grind (arith, nat_tests, stop)))
-          (λ (on : (k.stop_on_nonmatch && nat_lt 0 w.match_count) ≡ false). IsDone-limit k meaning bytes walk.opened
+          (λ (stop : stops_next k (nat_lt 0 w.match_count) ≡ true). IsDone-stop k meaning bytes walk.opened
+          line.listed is stop)
+          (λ (on : stops_next k (nat_lt 0 w.match_count) ≡ false). IsDone-limit k meaning bytes walk.opened
           line.listed is (grind (arith, nat_tests, on, over)) (grind (arith, nat_tests, on, over))
           (grind (arith, nat_tests, on, over)))
-          (cases_Bool (k.stop_on_nonmatch && nat_lt 0 w.match_count))
+          (cases_Bool (stops_next k (nat_lt 0 w.match_count)))
 
       -- just the calls so far end at or before the start of the line
       through-is : turns_through k meaning bytes (starts w.line) ≡ front w.next_unreported

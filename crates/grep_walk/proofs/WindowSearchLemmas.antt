@@ -7,7 +7,7 @@ use Rattle.grep_matcher.specs.Lines.{lines, line_start, strip, byte_of}
 use Rattle.grep_matcher.specs.Meanings.{Meaning, MatcherFacts}
 use Rattle.std.specs.Prelude.{slice_range}
 use Rattle.grep_lines.specs.Positions.{IsLine, IsLineStart}
-use Rattle.grep_definitions.specs.Plans.{Settings, begins, Steps, Outcome, all_true, AreMade, is_at}
+use Rattle.grep_definitions.specs.Plans.{Settings, begins, Steps, Outcome, all_true, AreMade, is_at, stops_next}
 use Rattle.grep_definitions.specs.LineSearch.{turns, byte_count}
 use Rattle.grep_report.specs.ErrorMakers.{ErrorMakers}
 use Rattle.grep_walk.specs.WalkFaults.{IsWalkFault}
@@ -158,7 +158,7 @@ module _ {S E : Type 0} {step : Steps S E} {k : Settings} {meaning : Meaning} {g
       inr (record {
         allowed = may.allowed;
         room = so_far.reported.walk.opened.below ∙ ap not may.room;
-        unstopped = ap (λ b. k.stop_on_nonmatch && b) so_far.reported.walk.opened.any ∙ may.unstopped;
+        unstopped = ap (stops_next k) so_far.reported.walk.opened.any ∙ may.unstopped;
         end = before + count;
         after = omega (arith, own.listed);
         within = omega (arith, own.listed);

@@ -7,7 +7,7 @@ use Rattle.grep_matcher.specs.Meanings.{Meaning}
 use Rattle.grep_lines.specs.Positions.{IsLineStart}
 use Rattle.grep_report.specs.declared.sink_context.SinkContextKind.TheVariants.{Other}
 use Rattle.grep_definitions.specs.Plans.{Settings, Planned, Outcome, all_true, stopped, failed}
-use Rattle.grep_definitions.specs.Plans.{Steps, AreMade, counted, is_at, differ}
+use Rattle.grep_definitions.specs.Plans.{Steps, AreMade, counted, is_at, differ, stops_next}
 use Rattle.grep_definitions.specs.LineSearch.{turns_before}
 use Rattle.grep_definitions.specs.LineWalks.{IsNear, IsOpen}
 use Rattle.grep_definitions.specs.LineTurns.{number_of, matches_line, pending_turns, match_turns}
@@ -106,7 +106,7 @@ AreCounts settings w line through =
 -- whether no later line has a turn, by whether the last line was chosen
 abbrev pub is_over : Settings → Walk → Bool → Bool
 is_over settings w chosen =
-    (settings.stop_on_nonmatch && nat_lt 0 w.match_count && not chosen)
+    (stops_next settings (nat_lt 0 w.match_count) && not chosen)
     || (not settings.passthru && is_at w.match_count settings.max_matches
     && w.after_context_left == 0)
 

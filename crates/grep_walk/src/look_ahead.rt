@@ -127,9 +127,7 @@ impl Config {
         ensures { result ≡ true → (meaning : Meaning) → AreQuestions self.now meaning questions
             → MayAskAhead self.now meaning walk.now }
     {
-        matches!(questions, Questions::ManyLines)
-            && !self.is_full(walk)
-            && !(self.stop_on_nonmatch && walk.match_count > 0)
+        matches!(questions, Questions::ManyLines) && !self.is_full(walk) && !self.stops_next(walk)
     }
 
     // What a matcher's result for the lines from `start` on says of them.
@@ -206,6 +204,6 @@ impl Config {
         !self.invert_match
             && !self.passthru
             && walk.after_context_left == 0
-            && !(self.stop_on_nonmatch && walk.match_count > 0)
+            && !self.stops_next(walk)
     }
 }

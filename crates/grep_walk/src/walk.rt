@@ -1,10 +1,11 @@
 //! A walk over the lines of some bytes: how far it has come, which line comes next, what it decides
 //! of that, and whether later lines may be reported.
-ghost use Rattle.std.specs.Prelude.{◌≡◌, ◌≤◌, ◌<◌, ◌+◌, ◌^◌, ◌&&◌, ℕ, not, true, false, length};
+ghost use Rattle.std.specs.Prelude.{◌≡◌, ◌≤◌, ◌<◌, ◌+◌, ◌^◌, ◌&&◌, ℕ, not, true, false};
+ghost use Rattle.std.specs.Prelude.{length, nat_lt};
 ghost use Rattle.std.specs.Prelude.{IfOk, IfErr, IfSome, IfNone, MatchBool, None};
 ghost use Rattle.grep_matcher.specs.Lines.{byte_of, lines, strip};
 ghost use Rattle.grep_lines.specs.Positions.{IsLine, IsLineStart};
-ghost use Rattle.grep_definitions.specs.Plans.{is_at, differ};
+ghost use Rattle.grep_definitions.specs.Plans.{is_at, differ, stops_next};
 ghost use Rattle.grep_definitions.specs.Searches.{IsClosed};
 ghost use Rattle.grep_definitions.specs.LineTurns.{number_of, matches_line};
 ghost use Rattle.grep_walk.specs.Walks.{counts_lines, after_line, skip_lines, is_over, IsOrdered};
@@ -142,11 +143,19 @@ impl Config {
         }
     }
 
+    /// Whether the search ends at the next line that isn't chosen: it is to stop there, and a line
+    /// was chosen.
+    pub fn stops_next(&self, walk: &Walk) -> bool
+        ensures { result ≡ stops_next self.now (nat_lt 0 walk.now.match_count) }
+    {
+        self.stop_on_nonmatch && walk.match_count > 0
+    }
+
     /// Whether no later line may be reported, by whether the last line was chosen.
     pub fn is_over(&self, walk: &Walk, chosen: bool) -> bool
         ensures { result ≡ is_over self.now walk.now chosen }
     {
-        self.stop_on_nonmatch && walk.match_count > 0 && !chosen
+        self.stops_next(walk) && !chosen
             || !self.passthru && self.is_full(walk) && walk.after_context_left == 0
     }
 
