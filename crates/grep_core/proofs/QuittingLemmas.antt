@@ -4,7 +4,7 @@ use Rattle.grep_core.specs.InputSearches.{IsSearchedUntil}
 use Rattle.grep_core.specs.QuittingSinks.{Watch, quitting, ended, IsLookedAt, IsMadeAfter, count_to, Quits, watch_of}
 use Rattle.grep_core.specs.QuittingSinks.{first_quit}
 use Rattle.grep_core.specs.declared.quitting.Quitting.{Quitting}
-use Rattle.grep_definitions.proofs.BreakLemmas.{AreBreaksPaired}
+use Rattle.grep_definitions.proofs.BreakLemmas.{AreTurns, no_turns, report_turn, break_turn}
 use Rattle.grep_definitions.proofs.SinkRunLemmas.{AreMade-append, AreMade-ended}
 use Rattle.grep_definitions.specs.Searches.{position_of, call_at, offset_at, plan_with, point_at}
 use Rattle.grep_definitions.specs.Searches.{point_unless, planned_binary, with_offset}
@@ -15,7 +15,7 @@ use Rattle.grep_definitions.specs.Plans.{Call, Planned, begins, matches, context
 use Rattle.grep_definitions.specs.Plans.{binary_data, finishes, is_break, reported_bytes}
 use Rattle.grep_definitions.specs.Plans.{reported_from, Steps, Outcome, all_true, stopped, failed}
 use Rattle.grep_definitions.specs.Plans.{AreMade, IsFinished, IsRun, finish_result, Finish, counted}
-use Rattle.grep_definitions.specs.Plans.{planned, Kind, matched, in_context, joined_from, Settings}
+use Rattle.grep_definitions.specs.Plans.{planned, joined_from, Settings}
 use Rattle.grep_definitions.specs.SearchLaws.{is_report}
 use Rattle.grep_definitions.specs.SearchTurns.{calls_if}
 use Rattle.grep_definitions.specs.SinkRuns.{plan_of}
@@ -30,23 +30,14 @@ use Rattle.std.proofs.Common.{◌≡◌, ◌⊎◌, ℕ, zero, suc, ◌+◌, ◌
 use Rattle.std.proofs.Common.{if◌then◌else◌, ◌==◌, Result, Ok, Err, Option, None, Some, refl, sym, ap, ◌∙◌, arith}
 use Rattle.std.proofs.Common.{inl, inr, subst}
 use Rattle.std.proofs.Math.Nat.{min_comm}
-use Rattle.std.proofs.lemmas.Bool.{true≢false, false≢true, le-leb}
+use Rattle.std.proofs.lemmas.Bool.{false≢true, le-leb}
 use Rattle.std.proofs.lemmas.List.{take_min}
-use Rattle.std.specs.List.{position}
-use Rattle.std.specs.Prelude.{is_some, filter, nat_le, ◌||◌, min, length}
+use Rattle.std.specs.List.{position, position_or_len}
+use Rattle.std.specs.Prelude.{is_some, filter, nat_le, min, length}
 use Rattle.grep_definitions.specs.AcrossLines
 use Rattle.grep_definitions.specs.LineSearch
 use Rattle.grep_line_buffer.proofs.FirstPositionLemmas as first
 use Rattle.grep_definitions.proofs.BreakLemmas as pairs
-
--- each break is followed by a report with the same end
-pub data AreJoined : List Planned → Type 0 where
-  no_turns : AreJoined []
-  joined_report : {turn : Planned} {later : List Planned} → is_report turn.call ≡ true → AreJoined later
-      → AreJoined (turn ∷ later)
-  joined_break : {gap turn : Planned} {later : List Planned} → gap.call ≡ breaks → is_report turn.call ≡ true
-      → gap.if_false ≡ turn.if_false
-      → AreJoined later → AreJoined (gap ∷ turn ∷ later)
 
 -- a report is no break
 report-no-break : (call : Call) → is_report call ≡ true → is_break call ≡ false
@@ -56,22 +47,6 @@ report-no-break (context kind number from bytes) is = refl
 report-no-break breaks is = absurd (false≢true is)
 report-no-break (binary_data offset) is = refl
 report-no-break (finishes count binary) is = refl
-
-not-stopped : {E : Type 0} (finish : Finish) → ◌≡◌ {A = Outcome E} all_true (stopped finish) → ⊥
-not-stopped {E} finish eq = true≢false (ap goes eq)
-  where
-    goes : Outcome E → Bool
-    goes all_true = true
-    goes (stopped finish) = false
-    goes (failed e) = false
-
-not-failed : {E : Type 0} (e : E) → ◌≡◌ {A = Outcome E} all_true (failed e) → ⊥
-not-failed {E} e eq = true≢false (ap goes eq)
-  where
-    goes : Outcome E → Bool
-    goes all_true = true
-    goes (stopped finish) = false
-    goes (failed e) = false
 
 -- the calls before call n, without a break just before it
 abbrev calls_before : ℕ → List Planned → ℕ → List Planned
@@ -179,6 +154,24 @@ module _ {S E : Type 0} (step : Steps S E) (may_call : S → Type 0) (k : Settin
   first-call turn later old outcome new (inr (inl (is, made))) = (Ok false, new, made, (is, refl))
   first-call turn later old outcome new (inr (inr (e, is, made))) = (Err e, new, made, (is, refl))
 
+  -- a call that didn't return true ended the search; a break is a turn that ends as the report after it does
+  halts : (gap turn : Planned) (later more : List Planned) (old : S) (mid : Watch S) {outcome : Outcome E} {new : Watch S}
+      (result : Result Bool E) → (result ≡ Ok true → ⊥) → gap.if_false ≡ turn.if_false → holds_byte b gap ≡ false
+      → IsApart b gap later → step old k gap.call result mid.sink → mid.found ≡ None
+      → Went turn result mid more outcome new → HasQuit (gap ∷ later) old outcome new
+  halts gap turn later more old mid (Ok true) some same_end free apart made clear went = absurd (some refl)
+  halts gap turn later more old mid {outcome} {new} (Ok false) some same_end free apart made clear (stops, same) =
+      quits-none gap later old _ new free apart (ap (λ (w : Watch S). w.found) same ∙ clear)
+      (λ all. let never = sym all ∙ stops in cc)
+      (λ rest. inr (inl (
+        stops ∙ ap (λ f. stopped f) (sym same_end),
+        subst (λ (w : Watch S). step old k gap.call (Ok false) w.sink) (sym same) made,
+      )))
+  halts gap turn later more old mid {outcome} {new} (Err e) some same_end free apart made clear (fails, same) =
+      quits-none gap later old _ new free apart (ap (λ (w : Watch S). w.found) same ∙ clear)
+      (λ all. let never = sym all ∙ fails in cc)
+      (λ rest. inr (inr (e, fails, subst (λ (w : Watch S). step old k gap.call (Err e) w.sink) (sym same) made)))
+
   -- a report that is made
   quits-report : (turn : Planned) {later : List Planned} {old : S} (mid : Watch S) {outcome : Outcome E} {new : Watch S}
       → (result : Result Bool E) → is_break turn.call ≡ false → holds_byte b turn ≡ false
@@ -187,14 +180,10 @@ module _ {S E : Type 0} (step : Steps S E) (may_call : S → Type 0) (k : Settin
       → HasQuit (turn ∷ later) old outcome new
   quits-report turn {later} {old} mid {outcome} {new} (Ok true) is free made clear went rest =
       quits-more turn free (inl is) made (rest went)
-  quits-report turn {later} {old} mid {outcome} {new} (Ok false) is free made clear (stops, same) rest =
-      quits-none turn later old _ new free (inl is) (ap (λ (w : Watch S). w.found) same ∙ clear)
-      (λ all. not-stopped _ (sym all ∙ stops))
-      (λ rest. inr (inl (stops, subst (λ (w : Watch S). step old k turn.call (Ok false) w.sink) (sym same) made)))
-  quits-report turn {later} {old} mid {outcome} {new} (Err e) is free made clear (fails, same) rest =
-      quits-none turn later old _ new free (inl is) (ap (λ (w : Watch S). w.found) same ∙ clear)
-      (λ all. not-failed e (sym all ∙ fails))
-      (λ rest. inr (inr (e, fails, subst (λ (w : Watch S). step old k turn.call (Err e) w.sink) (sym same) made)))
+  quits-report turn {later} mid (Ok false) is free made clear went rest =
+      halts turn turn later later _ mid _ (λ all. cc) refl free (inl is) made clear went
+  quits-report turn {later} mid (Err e) is free made clear went rest =
+      halts turn turn later later _ mid _ (λ all. cc) refl free (inl is) made clear went
 
   -- the calls before a first report that holds the byte
   none-before : (turn : Planned) (later : List Planned) → calls_before b (turn ∷ later) 0 ≡ []
@@ -210,6 +199,26 @@ module _ {S E : Type 0} (step : Steps S E) (may_call : S → Type 0) (k : Settin
       → Went turn (ended returned) mid later outcome new → (new ≡ mid) × IsEnd outcome returned
   end-of turn later mid outcome new (Ok goes_on) (stops, same) = (same, (turn.if_false, stops))
   end-of turn later mid outcome new (Err e) (fails, same) = (same, fails)
+
+  -- its first report that holds the byte is call n, and nothing was made before it
+  at-byte : (turns : List Planned) (n : ℕ) (turn : Planned) (later : List Planned) (old : S) (mid : Watch S)
+      {outcome : Outcome E} {new : Watch S} (index : ℕ) {result : Result Bool E}
+      → position_of b (reported_bytes turn.call) ≡ Some index → position (holds_byte b) turns ≡ Some n
+      → call_at b turns n ≡ turn → calls_before b turns n ≡ []
+      → mid.found ≡ Some (reported_from turn.call + index) → (returned : Result Bool E) → result ≡ ended returned
+      → step old k (binary_data (reported_from turn.call + index)) returned mid.sink
+      → Went turn result mid later outcome new → HasQuit turns old outcome new
+  at-byte turns n turn later old mid {outcome} {new} index holds is there none found returned ends called went =
+      let end = end-of turn later mid _ new _ (subst (λ r. Went turn r mid later outcome new) ends went) in
+      let offset : offset_at b turns n ≡ reported_from turn.call + index =
+      ap (λ (p : Planned). reported_from p.call + position_or_len (λ x. x == b) (reported_bytes p.call)) there
+      ∙ ap (λ i. reported_from turn.call + i) (first.position-is (λ x. x == b) _ index holds) in
+      ended_at n is (ap (λ (w : Watch S). w.found) end.0 ∙ found ∙ ap (λ n. Some n) (sym offset)) old
+      (subst (λ l. AreMade step k old l all_true old) (sym none) (refl, refl)) returned
+      (subst (λ n. step old k (binary_data n) returned new.sink) (sym offset)
+      (subst (λ (w : Watch S). step old k (binary_data (reported_from turn.call + index)) returned w.sink)
+      (sym end.0) called))
+      end.1
 
   looked : (call : Call) (old : Watch S) (result : Result Bool E) (mid : Watch S) → is_report call ≡ true
       → Q old k call result mid
@@ -227,12 +236,12 @@ module _ {S E : Type 0} (step : Steps S E) (may_call : S → Type 0) (k : Settin
       (mid : Watch S) → mid.has_break ≡ false → mid.found ≡ None → AreMade Q k mid turns outcome new
       → HasQuit turns mid.sink outcome new
 
-  pub quits : (turns : List Planned) → AreJoined turns → (old : Watch S) (outcome : Outcome E) (new : Watch S)
+  pub quits : (turns : List Planned) → AreTurns turns → (old : Watch S) (outcome : Outcome E) (new : Watch S)
       → old.has_break ≡ false → old.found ≡ None → AreMade Q k old turns outcome new
       → HasQuit turns old.sink outcome new
   quits [] no_turns old outcome new whole clear (all, same) =
       unheld refl (ap (λ (w : Watch S). w.found) same ∙ clear) (all, ap (λ (w : Watch S). w.sink) same)
-  quits (turn ∷ later) (joined_report is joined) old outcome new whole clear reported =
+  quits (turn ∷ later) (report_turn is plain joined) old outcome new whole clear reported =
       let made = first-call turn later old _ new reported in
       go (λ mid none empty. quits _ joined mid _ new none empty)
       (position_of b (reported_bytes turn.call)) refl made.0 made.1 (looked _ old _ _ is made.2)
@@ -249,20 +258,10 @@ module _ {S E : Type 0} (step : Steps S E) (may_call : S → Type 0) (k : Settin
           (same ∙ clear) went
           (quits_later mid none (same ∙ clear))
       go quits_later (Some index) holds result mid (found, whole_now, (returned, ends, called)) went =
-          let end = end-of turn later mid _ new _
-          (subst (λ r. Went turn r mid later outcome new) ends went) in
-          let offset : offset_at b (turn ∷ later) 0 ≡ reported_from turn.call + index =
-          ap (λ i. reported_from turn.call + i) (first.position-is (λ x. x == b) _ index
-          holds) in
-          ended_at 0 (first.position-first (holds_byte b) turn later (ap is_some holds))
-          (ap (λ (w : Watch S). w.found) end.0 ∙ found ∙ ap (λ n. Some n) (sym offset)) old.sink
-          (subst (λ l. AreMade step k old.sink l all_true old.sink) (sym (none-before turn later)) (refl, refl))
-          returned
-          (subst (λ n. step old.sink k (binary_data n) returned new.sink) (sym offset)
-          (subst (λ (w : Watch S). step old.sink k (binary_data (reported_from turn.call + index)) returned w.sink)
-          (sym end.0) called))
-          end.1
-  quits (gap ∷ turn ∷ later) (joined_break off is same_end joined) old outcome new whole clear reported =
+          at-byte (turn ∷ later) 0 turn later _ mid index holds
+          (first.position-first (holds_byte b) turn later (ap is_some holds)) refl (none-before turn later) found
+          returned ends called went
+  quits (gap ∷ turn ∷ later) (break_turn off is plain same_end joined) old outcome new whole clear reported =
       let made = first-call gap _ old _ new reported in
       let held : (made.1 ≡ record old { has_break = true }) × (made.0 ≡ Ok true) =
       subst (λ call. Q old k call made.0 made.1) off made.2 in
@@ -294,26 +293,9 @@ module _ {S E : Type 0} (step : Steps S E) (may_call : S → Type 0) (k : Settin
           (subst (λ call. step old.sink k call (Ok true) m) (sym off) broken)
           (quits-report turn mid _ (report-no-break _ is) free made none went
           (quits_later mid whole none))
-      after quits_later (Ok true) mid free none whole (inr (never, broken)) went = absurd (never refl)
-      after quits_later (Ok false) mid free none whole (inr (never, broken)) (stops, same) =
-          quits-none gap _ _ _ new gap-free (apart free)
-          (ap (λ (w : Watch S). w.found) same ∙ none)
-          (λ all. not-stopped _ (sym all ∙ stops))
-          (λ rest. inr (inl (
-            stops ∙ ap (λ f. stopped f) (sym same_end),
-            subst (λ call. step old.sink k call (Ok false) new.sink) (sym off)
-                (subst (λ (w : Watch S). step old.sink k breaks (Ok false) w.sink) (sym same) broken),
-          )))
-      after quits_later (Err e) mid free none whole (inr (never, broken)) (fails, same) =
-          quits-none gap _ _ _ new gap-free (apart free)
-          (ap (λ (w : Watch S). w.found) same ∙ none)
-          (λ all. not-failed e (sym all ∙ fails))
-          (λ rest. inr (inr (
-            e,
-            fails,
-            subst (λ call. step old.sink k call (Err e) new.sink) (sym off)
-                (subst (λ (w : Watch S). step old.sink k breaks (Err e) w.sink) (sym same) broken),
-          )))
+      after quits_later result mid free none whole (inr (never, broken)) went =
+          halts gap turn _ later _ mid _ never same_end gap-free (apart free)
+          (subst (λ call. step old.sink k call result mid.sink) (sym off) broken) none went
 
       go : QuitsFrom later outcome new
           → (at : Option ℕ) → position_of b (reported_bytes turn.call) ≡ at → (result : Result Bool E) (mid : Watch S)
@@ -323,22 +305,13 @@ module _ {S E : Type 0} (step : Steps S E) (may_call : S → Type 0) (k : Settin
       go quits_later None free result mid (same, whole, made) went =
           after quits_later result mid (ap is_some free) (same ∙ clear) whole made went
       go quits_later (Some index) holds result mid (found, whole_now, (returned, ends, called)) went =
-          let end = end-of turn later mid _ new _
-          (subst (λ r. Went turn r mid later outcome new) ends went) in
-          let offset : offset_at b (gap ∷ turn ∷ later) 1 ≡ reported_from turn.call + index =
-          ap (λ i. reported_from turn.call + i) (first.position-is (λ x. x == b) _ index
-          holds) in
-          ended_at 1 (first.position-later (holds_byte b) gap (turn ∷ later) 0 gap-free
-          (first.position-first (holds_byte b) turn later (ap is_some holds)))
-          (ap (λ (w : Watch S). w.found) end.0 ∙ found ∙ ap (λ n. Some n) (sym offset)) old.sink
-          (subst (λ l. AreMade step k old.sink l all_true old.sink) (sym nothing) (refl, refl)) returned
-          (subst (λ n. step old.sink k (binary_data n) returned new.sink) (sym offset)
-          (subst (λ (w : Watch S). step old.sink k (binary_data (reported_from turn.call + index)) returned w.sink)
-          (sym end.0) called))
-          end.1
+          at-byte (gap ∷ turn ∷ later) 1 turn later _ mid index holds
+          (first.position-later (holds_byte b) gap (turn ∷ later) 0 gap-free
+          (first.position-first (holds_byte b) turn later (ap is_some holds))) refl nothing found returned ends called
+          went
 
   -- and of `begin` and some turns
-  pub quits-begun : (end : ℕ) {turns : List Planned} → AreJoined turns
+  pub quits-begun : (end : ℕ) {turns : List Planned} → AreTurns turns
       → (old : Watch S) {outcome : Outcome E} {new : Watch S}
       → old.has_break ≡ false → old.found ≡ None
       → AreMade Q k old (planned begins end ∷ turns) outcome new
@@ -431,90 +404,22 @@ module _ {S E : Type 0} (step : Steps S E) (may_call : S → Type 0) (k : Settin
   quits-all (unheld none clear reported) = (none, reported)
   quits-all (ended_before n is clear some reported) = absurd (some refl)
   quits-all (ended_at n is found last reported (Ok goes_on) called (end, stops)) =
-      absurd (not-stopped end stops)
-  quits-all (ended_at n is found last reported (Err e) called fails) = absurd (not-failed e fails)
+      absurd (cc)
+  quits-all (ended_at n is found last reported (Err e) called fails) = absurd (cc)
 
--- a break or a report
-abbrev pub is_of_line : Call → Bool
-is_of_line call = is_break call || is_report call
-
--- some of them, after which `finish` has no offset
-abbrev pub AreOfLines : List Planned → Type 0
-AreOfLines [] = Unit {0}
-AreOfLines (turn ∷ later) = (is_of_line turn.call ≡ true) × (turn.if_false.binary ≡ None) × AreOfLines later
-
-is-breaks : (call : Call) → is_break call ≡ true → call ≡ breaks
-is-breaks begins is = absurd (false≢true is)
-is-breaks (matches number from bytes) is = absurd (false≢true is)
-is-breaks (context kind number from bytes) is = absurd (false≢true is)
-is-breaks breaks is = refl
-is-breaks (binary_data offset) is = absurd (false≢true is)
-is-breaks (finishes count binary) is = absurd (false≢true is)
-
-report-of : (call : Call) → is_break call ≡ false → is_of_line call ≡ true → is_report call ≡ true
-report-of call other line = rw other at line
-
-same-finish : {f g : Finish} → f.count ≡ g.count → f.binary ≡ None → g.binary ≡ None → f ≡ g
-same-finish {f} {g} counts none none' =
-    ap (λ n. record { count = n; binary = f.binary }) counts
-    ∙ ap (λ b. record { count = g.count; binary = b }) (none ∙ sym none')
-
--- such calls, if each break is directly followed by a report
-pub joined-of : (turns : List Planned) → AreBreaksPaired turns → AreOfLines turns → AreJoined turns
-joined-of [] paired lines = no_turns
-joined-of (turn ∷ []) (here, paired) (line, plain, lines) = go (is_break turn.call) refl
-  where
-    go : (c : Bool) → is_break turn.call ≡ c → AreJoined (turn ∷ [])
-    go true is = absurd (here is)
-    go false is = joined_report (report-of turn.call is line) no_turns
-joined-of (turn ∷ next ∷ later) (here, (there, paired)) (line, plain, (line', plain', lines)) =
-    go (is_break turn.call) refl (joined-of _ paired lines)
-    (joined-of _ (there, paired) (line', plain', lines))
-  where
-    go : (c : Bool) → is_break turn.call ≡ c → AreJoined later → AreJoined (next ∷ later)
-        → AreJoined (turn ∷ next ∷ later)
-    go true is two one =
-        let report = here is in
-        joined_break (is-breaks _ is) (report-of next.call report.0 line')
-        (same-finish (sym report.1) plain plain') two
-    go false is two one = joined_report (report-of turn.call is line) one
-
--- the calls of a search between `begin` and `finish`
-record AreTurns (turns : List Planned) : Type 0 where
-  paired : AreBreaksPaired turns
-  lines : AreOfLines turns
-
-lines-append : (front back : List Planned) → AreOfLines front → AreOfLines back → AreOfLines (front ++ back)
-lines-append [] back none lines = lines
-lines-append (turn ∷ front) back (is, plain, rest) lines = (is, plain, lines-append front back rest lines)
-
-lines-joined : (f : ℕ → List Planned) (i n : ℕ) → ((j : ℕ) → AreOfLines (f j)) → AreOfLines (joined_from f i n)
-lines-joined f i zero each = tt
-lines-joined f i (suc n) each = lines-append (f i) (joined_from f (i + 1) n) (each i) (lines-joined f (i + 1) n each)
-
-lines-through : (offset : ℕ) (turns : List Planned) → AreOfLines turns
-    → AreOfLines (filter (λ turn. nat_le turn.if_false.count offset) turns)
-lines-through offset [] lines = tt
-lines-through offset (turn ∷ later) (line, plain, lines) = go (nat_le turn.if_false.count offset) (lines-through _
-    later lines)
-  where
-    rest : List Planned
-    rest = filter (λ turn. nat_le turn.if_false.count offset) later
-
-    go : (c : Bool) → AreOfLines rest → AreOfLines (if c then turn ∷ rest else rest)
-    go true all = (line, plain, all)
-    go false all = all
-
--- so a call that returned false leaves it without
-made-plain : {S E : Type 0} (step : Steps S E) (k : Settings) (turns : List Planned) → AreOfLines turns → (old : S)
+-- a call of a search that returned false leaves it without
+made-plain : {S E : Type 0} (step : Steps S E) (k : Settings) (turns : List Planned) → AreTurns turns → (old : S)
     (outcome : Outcome E) (new : S) → AreMade step k old turns outcome new → IsPlain outcome
-made-plain step k [] lines old outcome new (is, same) = subst IsPlain (sym is) tt
-made-plain step k (turn ∷ later) (line, plain, lines) old outcome new (inl (mid, made, rest)) =
-    made-plain step k later lines mid _ new rest
-made-plain step k (turn ∷ later) (line, plain, lines) old outcome new (inr (inl (is, made))) =
+made-plain step k [] no_turns old outcome new (is, same) = subst IsPlain (sym is) tt
+made-plain step k (turn ∷ later) (report_turn report plain rest) old outcome new (inl (mid, made, more)) =
+    made-plain step k later rest mid _ new more
+made-plain step k (gap ∷ turn ∷ later) (break_turn off report plain same rest) old outcome new (inl (mid, made, more)) =
+    made-plain step k (turn ∷ later) (report_turn report plain rest) mid _ new more
+made-plain step k (turn ∷ later) (report_turn report plain rest) old outcome new (inr (inl (is, made))) =
     subst IsPlain (sym is) plain
-made-plain step k (turn ∷ later) (line, plain, lines) old outcome new (inr (inr (e, is, made))) =
-    subst IsPlain (sym is) tt
+made-plain step k (gap ∷ turn ∷ later) (break_turn off report plain same rest) old outcome new (inr (inl (is, made))) =
+    subst IsPlain (sym (is ∙ ap (λ f. stopped f) same)) plain
+made-plain step k (turn ∷ later) are old outcome new (inr (inr (e, is, made))) = subst IsPlain (sym is) tt
 
 module _ {S E : Type 0} (step : Steps S E) (may_call : S → Type 0) (k : Settings) (b : ℕ) where
   -- the same calls, without the reference
@@ -560,12 +465,12 @@ module _ {S E : Type 0} (step : Steps S E) (may_call : S → Type 0) (k : Settin
       let all : List Planned = planned begins 0 ∷ turns in
       let made = watched all old _ _ is run.made in
       quits-run step may_call k b count _ (plain run.made)
-      (quits-begun step may_call k b 0 (joined-of turns are.paired are.lines) _ whole clear
+      (quits-begun step may_call k b 0 are _ whole clear
       made.1)
       (closed run.outcome made.0 run.finished)
     where
       plain : AreMade (Quits step may_call) k old (planned begins 0 ∷ turns) run.outcome run.mid → IsPlain run.outcome
-      plain (inl (mid, made, rest)) = made-plain (Quits step may_call) k turns are.lines mid _ _ rest
+      plain (inl (mid, made, rest)) = made-plain (Quits step may_call) k turns are mid _ _ rest
       plain (inr (inl (is, made))) = subst IsPlain (sym is) refl
       plain (inr (inr (e, is, made))) = subst IsPlain (sym is) tt
 
@@ -584,45 +489,14 @@ module _ {S E : Type 0} (step : Steps S E) (may_call : S → Type 0) (k : Settin
       closed (failed e) same (fails, stays) = (fails, ap watch_of stays)
 
 module _ (k : Settings) (meaning : Meaning) (bytes : List ℕ) where
-  line-report : (i : ℕ) (o : Option Kind) → AreOfLines (LineSearch.report k meaning bytes i o)
-  line-report i None = tt
-  line-report i (Some matched) = (refl, refl, tt)
-  line-report i (Some (in_context c)) = (refl, refl, tt)
-
-  unit-report : (i : ℕ) (o : Option Kind) → AreOfLines (AcrossLines.report k meaning bytes i o)
-  unit-report i None = tt
-  unit-report i (Some matched) = go (AcrossLines.continues_unit k meaning bytes i)
-    where
-      go : (c : Bool) → AreOfLines (if c then [] else planned (matches (LineSearch.number k meaning bytes i)
-          (LineSearch.start k meaning bytes i) (AcrossLines.unit k meaning bytes i)) (AcrossLines.turn_end k meaning
-          bytes i (Some matched)) ∷ [])
-      go true = tt
-      go false = (refl, refl, tt)
-  unit-report i (Some (in_context c)) = (refl, refl, tt)
-
-  broken-lines : (c : Bool) (end : ℕ) (report : List Planned) → AreOfLines report
-      → AreOfLines (if c then planned breaks end ∷ report else report)
-  broken-lines true end report lines = (refl, refl, lines)
-  broken-lines false end report lines = lines
-
   -- the calls after `begin`
   abbrev after : Bool → List Planned
   after true = joined_from (AcrossLines.turns_at k meaning bytes) 0 (AcrossLines.turn_count k meaning bytes)
   after false = joined_from (LineSearch.turns_at k meaning bytes) 0 (LineSearch.turn_count k meaning bytes)
 
   are-turns : (across : Bool) → AreTurns (after across)
-  are-turns true = record {
-    paired = (pairs.paired-across k meaning bytes).1;
-    lines = lines-joined _ 0 (AcrossLines.turn_count k meaning bytes)
-        (λ i. broken-lines (AcrossLines.breaks_before k meaning bytes i) _ _
-        (unit-report i (AcrossLines.kind k meaning bytes i)));
-  }
-  are-turns false = record {
-    paired = (pairs.paired-by_line k meaning bytes).1;
-    lines = lines-joined _ 0 (LineSearch.turn_count k meaning bytes)
-        (λ i. broken-lines (LineSearch.breaks_before k meaning bytes i) _ _
-        (line-report i (LineSearch.kind k meaning bytes i)));
-  }
+  are-turns true = pairs.turns-across k meaning bytes
+  are-turns false = pairs.turns-by_line k meaning bytes
 
 -- where the byte is in the bytes that are looked at first
 pub first-found : (b : ℕ) (bytes : List ℕ) {n : ℕ} {found : Option ℕ} → n ≡ min (length bytes) first_look
@@ -699,7 +573,7 @@ module _ {S E F : Type 0} (step : Steps S E) (may_call : S → Type 0) (errors :
       let begun : made ≡ planned begins 0 ∷ later = before ∙ (rw (le-leb 0 offset (omega arith)) refl) in
       let seen = watched step may_call k b made old _ new is reported in
       let calls = quits-all step may_call k b (quits-begun step may_call k b 0
-      (joined-of _ (pairs.paired-through _ turns all.paired) (lines-through _ turns all.lines)) _
+      (pairs.turns-through _ turns all) _
       whole clear
       (subst (λ l. AreMade (quitting step may_call b) k (watch_of old) l all_true (watch_of new)) begun seen.1)) in
       of_quit_matcher haystack error made asked fails message

@@ -1,5 +1,6 @@
--- A break is directly followed by a report, and their turns end alike.
-use Rattle.grep_definitions.specs.Plans.{planned, Planned, breaks, is_break, joined_from}
+-- The calls of a search are reports, and breaks, each directly before a report that ends alike.
+use Rattle.grep_definitions.specs.SearchLaws.{is_report}
+use Rattle.grep_definitions.specs.Plans.{planned, Finish, Planned, breaks, joined_from}
 use Rattle.grep_definitions.specs.Plans.{some_below, Kind, matched, in_context, Settings}
 use Rattle.std.proofs.Common.{◌≡◌, ℕ, zero, suc, ◌+◌, ◌-◌, Bool, true, false, not, ◌&&◌, List, [], ◌∷◌, ◌++◌, Option}
 use Rattle.std.proofs.Common.{Some, None, refl, ◌∙◌, ◌<◌, ◌≤◌, ap, arith, ⊎_elim, if◌then◌else◌}
@@ -11,56 +12,47 @@ use Rattle.grep_definitions.specs.AcrossLines
 use Rattle.grep_definitions.specs.LineSearch
 use Rattle.grep_definitions.proofs.BoolLemmas.{clash, not_false}
 
--- some calls begin with one that is no break, whose turn ends there
-abbrev pub BeginsWithReport : ℕ → List Planned → Type 0
-BeginsWithReport end [] = ⊥
-BeginsWithReport end (turn ∷ later) = (is_break turn.call ≡ false) × (turn.if_false.count ≡ end)
+-- the calls of a search between `begin` and `finish`: reports, and breaks, each directly before a report that ends alike;
+-- after one that returns false `finish` has no offset
+pub data AreTurns : List Planned → Type 0 where
+  no_turns : AreTurns []
+  report_turn : {turn : Planned} {later : List Planned} → is_report turn.call ≡ true → turn.if_false.binary ≡ None
+      → AreTurns later → AreTurns (turn ∷ later)
+  break_turn : {gap turn : Planned} {later : List Planned} → gap.call ≡ breaks → is_report turn.call ≡ true
+      → turn.if_false.binary ≡ None → gap.if_false ≡ turn.if_false → AreTurns later → AreTurns (gap ∷ turn ∷ later)
 
--- each break is directly followed by such a call: none is the last
-abbrev pub AreBreaksPaired : List Planned → Type 0
-AreBreaksPaired [] = Unit {0}
-AreBreaksPaired (turn ∷ later) = (is_break turn.call ≡ true → BeginsWithReport turn.if_false.count later) ×
-    AreBreaksPaired later
+turns-append : (front back : List Planned) → AreTurns front → AreTurns back → AreTurns (front ++ back)
+turns-append [] back no_turns are = are
+turns-append (turn ∷ front) back (report_turn is plain later) are = report_turn is plain (turns-append front back later are)
+turns-append (gap ∷ turn ∷ front) back (break_turn off is plain same later) are =
+    break_turn off is plain same (turns-append front back later are)
 
-begins-append : (end : ℕ) (front back : List Planned) → BeginsWithReport end front → BeginsWithReport end (front ++
-    back)
-begins-append end [] back report = absurd report
-begins-append end (turn ∷ front) back report = report
+turns-joined : (f : ℕ → List Planned) (i n : ℕ) → ((j : ℕ) → i ≤ j → j < i + n → AreTurns (f j))
+    → AreTurns (joined_from f i n)
+turns-joined f i zero each = no_turns
+turns-joined f i (suc n) each =
+    turns-append (f i) (joined_from f (i + 1) n) (each i (omega arith) (omega arith))
+    (turns-joined f (i + 1) n (λ j low high. each j (omega arith) (omega arith)))
 
-pub paired-append : (front back : List Planned) → AreBreaksPaired front → AreBreaksPaired back
-    → AreBreaksPaired (front ++ back)
-paired-append [] back front_is back_is = back_is
-paired-append (turn ∷ front) back (here, front_is) back_is =
-    (λ is. begins-append turn.if_false.count front back (here is), paired-append front back front_is back_is)
-
-pub paired-joined : (f : ℕ → List Planned) (i n : ℕ) → ((j : ℕ) → i ≤ j → j < i + n → AreBreaksPaired (f j))
-    → AreBreaksPaired (joined_from f i n)
-paired-joined f i zero each = tt
-paired-joined f i (suc n) each =
-    paired-append (f i) (joined_from f (i + 1) n) (each i (omega arith) (omega arith))
-    (paired-joined f (i + 1) n (λ j low high. each j (omega arith) (omega arith)))
-
--- those whose turn ends at or before an offset
-begins-through : (offset end : ℕ) (turns : List Planned) → nat_le end offset ≡ true → BeginsWithReport end turns
-    → BeginsWithReport end (filter (λ turn. nat_le turn.if_false.count offset) turns)
-begins-through offset end [] low report = absurd report
-begins-through offset end (turn ∷ later) low (is, same) =
-    let kept : nat_le turn.if_false.count offset ≡ true = ap (λ e. nat_le e offset) same ∙ low in
-    rw kept (is, same)
-
-pub paired-through : (offset : ℕ) (turns : List Planned) → AreBreaksPaired turns
-    → AreBreaksPaired (filter (λ turn. nat_le turn.if_false.count offset) turns)
-paired-through offset [] paired = tt
-paired-through offset (turn ∷ later) (here, paired) =
-    go (nat_le turn.if_false.count offset) refl (paired-through offset later paired)
+-- those that end at or before an offset
+pub turns-through : (offset : ℕ) (turns : List Planned) → AreTurns turns
+    → AreTurns (filter (λ turn. nat_le turn.if_false.count offset) turns)
+turns-through offset [] no_turns = no_turns
+turns-through offset (turn ∷ later) (report_turn is plain rest) =
+    go (nat_le turn.if_false.count offset) (turns-through offset later rest)
   where
-    rest : List Planned
-    rest = filter (λ turn. nat_le turn.if_false.count offset) later
-
-    go : (b : Bool) → nat_le turn.if_false.count offset ≡ b → AreBreaksPaired rest
-        → AreBreaksPaired (if b then turn ∷ rest else rest)
-    go true low all = (λ is. begins-through offset turn.if_false.count later low (here is), all)
-    go false high all = all
+    go : (b : Bool) {kept : List Planned} → AreTurns kept → AreTurns (if b then turn ∷ kept else kept)
+    go true are = report_turn is plain are
+    go false are = are
+turns-through offset (gap ∷ turn ∷ later) (break_turn off is plain same rest) =
+    let alike : nat_le gap.if_false.count offset ≡ nat_le turn.if_false.count offset =
+    ap (λ (f : Finish). nat_le f.count offset) same in
+    rw alike (go (nat_le turn.if_false.count offset) (turns-through offset later rest))
+  where
+    go : (b : Bool) {kept : List Planned} → AreTurns kept
+        → AreTurns (if b then gap ∷ (if b then turn ∷ kept else kept) else (if b then turn ∷ kept else kept))
+    go true are = break_turn off is plain same are
+    go false are = are
 
 -- what a break needs of its line
 breaks-need : (a b c d : Bool) → (a && b && c && d) ≡ true → (b ≡ true) × (c ≡ true)
@@ -72,25 +64,19 @@ breaks-need false b c d is = cc
 module _ (k : Settings) (meaning : Meaning) (bytes : List ℕ) where
   -- the report of a line, with its break or without
   report-by_line : (i : ℕ) (o : Option Kind) (b : Bool) → (b ≡ true → LineSearch.can_break k meaning bytes o ≡ true)
-      → AreBreaksPaired (if b then (planned breaks (LineSearch.turn_end k meaning bytes i o))
+      → AreTurns (if b then (planned breaks (LineSearch.turn_end k meaning bytes i o))
       ∷ LineSearch.report k meaning bytes i o else LineSearch.report k meaning bytes i o)
   report-by_line i None true can = absurd (clash (can refl) refl)
-  report-by_line i None false can = tt
-  report-by_line i (Some matched) true can = (λ is. (refl, refl), (λ is. absurd (clash is refl), tt))
-  report-by_line i (Some matched) false can = (λ is. absurd (clash is refl), tt)
-  report-by_line i (Some (in_context c)) true can = (λ is. (refl, refl), (λ is. absurd (clash is refl), tt))
-  report-by_line i (Some (in_context c)) false can = (λ is. absurd (clash is refl), tt)
+  report-by_line i None false can = no_turns
+  report-by_line i (Some matched) true can = break_turn refl refl refl refl no_turns
+  report-by_line i (Some matched) false can = report_turn refl refl no_turns
+  report-by_line i (Some (in_context c)) true can = break_turn refl refl refl refl no_turns
+  report-by_line i (Some (in_context c)) false can = report_turn refl refl no_turns
 
-  pub paired-before : (i : ℕ) → AreBreaksPaired (LineSearch.turns_before k meaning bytes i)
-  paired-before i = (
-    λ is. absurd (clash is refl),
-    paired-joined (LineSearch.turns_at k meaning bytes) 0 i
-        (λ j low high. report-by_line j (LineSearch.kind k meaning bytes j) (LineSearch.breaks_before k meaning bytes j)
-        (λ is. (breaks-need _ _ _ _ is).0)),
-  )
-
-  pub paired-by_line : AreBreaksPaired (LineSearch.turns k meaning bytes)
-  paired-by_line = paired-before (LineSearch.turn_count k meaning bytes)
+  pub turns-by_line : AreTurns (joined_from (LineSearch.turns_at k meaning bytes) 0 (LineSearch.turn_count k meaning bytes))
+  turns-by_line = turns-joined (LineSearch.turns_at k meaning bytes) 0 (LineSearch.turn_count k meaning bytes)
+      (λ j low high. report-by_line j (LineSearch.kind k meaning bytes j) (LineSearch.breaks_before k meaning bytes j)
+      (λ is. (breaks-need _ _ _ _ is).0))
 
   -- across lines a selected line is reported
   reported-selected : (i : ℕ) → i < AcrossLines.turn_count k meaning bytes → AcrossLines.is_selected k meaning bytes i
@@ -129,24 +115,20 @@ module _ (k : Settings) (meaning : Meaning) (bytes : List ℕ) where
 
   report-across : (i : ℕ) (o : Option Kind) (b : Bool) → (b ≡ true → LineSearch.can_break k meaning bytes o ≡ true)
       → (b ≡ true → AcrossLines.continues_unit k meaning bytes i ≡ false)
-      → AreBreaksPaired (if b then (planned breaks (AcrossLines.turn_end k meaning bytes i o))
+      → AreTurns (if b then (planned breaks (AcrossLines.turn_end k meaning bytes i o))
       ∷ AcrossLines.report k meaning bytes i o else AcrossLines.report k meaning bytes i o)
   report-across i None true can whole = absurd (clash (can refl) refl)
-  report-across i None false can whole = tt
+  report-across i None false can whole = no_turns
   report-across i (Some matched) true can whole =
-      rw (whole refl) (λ is. (refl, refl), (λ is. absurd (clash is refl), tt))
+      rw (whole refl) (break_turn refl refl refl refl no_turns)
   report-across i (Some matched) false can whole = ⊎_elim
-      (λ goes. rw goes tt)
-      (λ ends. rw ends (λ is. absurd (clash is refl), tt))
+      (λ goes. rw goes no_turns)
+      (λ ends. rw ends (report_turn refl refl no_turns))
       (cases_Bool (AcrossLines.continues_unit k meaning bytes i))
-  report-across i (Some (in_context c)) true can whole = (λ is. (refl, refl), (λ is. absurd (clash is refl), tt))
-  report-across i (Some (in_context c)) false can whole = (λ is. absurd (clash is refl), tt)
+  report-across i (Some (in_context c)) true can whole = break_turn refl refl refl refl no_turns
+  report-across i (Some (in_context c)) false can whole = report_turn refl refl no_turns
 
-  pub paired-across : AreBreaksPaired (AcrossLines.turns k meaning bytes)
-  paired-across = (
-    λ is. absurd (clash is refl),
-    paired-joined (AcrossLines.turns_at k meaning bytes) 0 (AcrossLines.turn_count k meaning bytes)
-        (λ j low high. report-across j (AcrossLines.kind k meaning bytes j)
-        (AcrossLines.breaks_before k meaning bytes j)
-        (λ is. (breaks-need _ _ _ _ is).0) (unit-unbroken j (omega arith))),
-  )
+  pub turns-across : AreTurns (joined_from (AcrossLines.turns_at k meaning bytes) 0 (AcrossLines.turn_count k meaning bytes))
+  turns-across = turns-joined (AcrossLines.turns_at k meaning bytes) 0 (AcrossLines.turn_count k meaning bytes)
+      (λ j low high. report-across j (AcrossLines.kind k meaning bytes j) (AcrossLines.breaks_before k meaning bytes j)
+      (λ is. (breaks-need _ _ _ _ is).0) (unit-unbroken j (omega arith)))
