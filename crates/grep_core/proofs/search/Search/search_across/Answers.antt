@@ -4,7 +4,7 @@ use Rattle.std.proofs.lemmas.Result.{err_from_is_err_and}
 use Rattle.grep_matcher.specs.Lines.{byte_of}
 use Rattle.std.specs.Prelude.{slice_range}
 use Rattle.grep_lines.specs.Positions.{IsLineStart}
-use Rattle.grep_definitions.specs.Plans.{Settings, all_true, failed, stopped, counted}
+use Rattle.grep_definitions.specs.Plans.{all_true, failed, stopped, counted}
 use Rattle.grep_walk.specs.Walks.{line_end}
 use Rattle.grep_walk.proofs.AcrossEndLemmas as ends
 use Rattle.grep_walk.proofs.AcrossStepLemmas as steps
@@ -13,10 +13,6 @@ use Rattle.grep_walk.proofs.AcrossUnitLemmas as units
 use Rattle.grep_definitions.specs.CallOrder.{of_call, of_question}
 use Rattle.grep_definitions.proofs.CallOrderLemmas.{called-none, called-then}
 use Rattle.grep_core.proofs.search.Search.search_across.Goals as goal
-
--- under passthru there are no contexts
-abbrev Bare : Settings → Type 0
-Bare settings = settings.passthru ≡ true → (settings.after_context ≡ 0) × (settings.before_context ≡ 0)
 
 pub returns-in-Err-clause-fault : goal.returns-in-Err-clause-fault
 returns-in-Err-clause-fault g c =
@@ -35,17 +31,12 @@ returns-in-Err-unit_at-clause-fault g c =
 pub returns-then-next-bytes-clause-reported : goal.returns-then-next-bytes-clause-reported
 returns-then-next-bytes-clause-reported g c = λ first begun.
     let k = c.args.self.now.config in
-    let meaning = (g.M.Matcher.facts c.args.matcher.now).meaning in
-    let ready = c.in-Ok-unit_at.ensures.ready in
-    let ahead = c.in-Ok-unit_at.ensures.ahead in
-    let chosen = c.next_chosen-next.ensures in
     let at = subst (λ o. IsLineStart (byte_of k.line_terminator) c.args.bytes.now o c.lines.walk.line)
     c.lines.invariant.same
     c.lines.invariant.walk.placed.at in
-    let next = subst (units.IsNext k meaning c.args.bytes.now c.lines.walk c.lines.start) (sym chosen)
-    (units.next-is
-    c.lines.invariant.walk
-    at ready c.lines-test.true ahead) in
+    let next = subst (units.IsNext k (g.M.Matcher.facts c.args.matcher.now).meaning c.args.bytes.now c.lines.walk c.lines.start)
+    (sym c.next_chosen-next.ensures)
+    (units.next-is c.lines.invariant.walk at c.in-Ok-unit_at.ensures.ready c.lines-test.true c.in-Ok-unit_at.ensures.ahead) in
     let plain : k.passthru ≡ false = search rules in (
       all_true,
       ends.counted-past k _ _ _ first _ _
@@ -57,18 +48,13 @@ returns-then-next-bytes-clause-reported g c = λ first begun.
 pub lines-preserved-then-walk-eq0 : goal.lines-preserved-then-walk-eq0
 lines-preserved-then-walk-eq0 g c =
     let k = c.args.self.now.config in
-    let meaning = (g.M.Matcher.facts c.args.matcher.now).meaning in
-    let ready = c.in-Ok-unit_at.ensures.ready in
-    let ahead = c.in-Ok-unit_at.ensures.ahead in
-    let chosen = c.next_chosen-next.ensures in
     let past = c.skip_lines-walk.ensures.walk in
     let at = subst (λ o. IsLineStart (byte_of k.line_terminator) c.args.bytes.now o c.lines.walk.line)
     c.lines.invariant.same
     c.lines.invariant.walk.placed.at in
-    let next = subst (units.IsNext k meaning c.args.bytes.now c.lines.walk c.lines.start) (sym chosen)
-    (units.next-is
-    c.lines.invariant.walk
-    at ready c.lines-test.true ahead) in
+    let next = subst (units.IsNext k (g.M.Matcher.facts c.args.matcher.now).meaning c.args.bytes.now c.lines.walk c.lines.start)
+    (sym c.next_chosen-next.ensures)
+    (units.next-is c.lines.invariant.walk at c.in-Ok-unit_at.ensures.ready c.lines-test.true c.in-Ok-unit_at.ensures.ahead) in
     let plain : k.passthru ≡ false = search rules in
     rw past (record {
       within = next.within;
@@ -83,8 +69,8 @@ lines-preserved-then-walk-eq0 g c =
       );
       ordered = rw past at c.skip_lines-walk.ensures.ordered;
       ready = units.ready-past
-          c.lines.invariant.walk at ready c.lines-test.true ahead _ c.next_chosen-next.result
-          chosen refl;
+          c.lines.invariant.walk at c.in-Ok-unit_at.ensures.ready c.lines-test.true c.in-Ok-unit_at.ensures.ahead _
+          c.next_chosen-next.result c.next_chosen-next.ensures refl;
       walk = steps.across-past
           c.lines.invariant.same
           c.lines.invariant.walk next plain c.if-walk-eq0.true;
@@ -96,21 +82,14 @@ lines-preserved-then-walk-eq0 g c =
 pub returns-in_err-sink_line-clause-fault : goal.returns-in_err-sink_line-clause-fault
 returns-in_err-sink_line-clause-fault g c =
     let k = c.args.self.now.config in
-    let meaning = (g.M.Matcher.facts c.args.matcher.now).meaning in
-    let ready = c.in-Ok-unit_at.ensures.ready in
-    let ahead = c.in-Ok-unit_at.ensures.ahead in
-    let chosen = c.next_chosen-next.ensures in
-    let unit = c.end_across-end.ensures.unit in
-    let line = c.end_across-end.ensures.line in
     let reported = rw (c.of-verdict.ensures.chosen, c.of-verdict.ensures.trailing) at
     c.in_err-sink_line.ensures.reported in
-    let bare = c.requires.configured.bare in
     let p = err_from_is_err_and c.from_residual.result c.from_residual.ensures.1 in
-    let turned = turns.turned bare c.lines.invariant.walk c.lines.invariant.same ready
-    ahead chosen c.end_across-end.ensures.low c.end_across-end.ensures.within
-    _ refl unit line in
+    let turned = turns.turned c.requires.configured.bare c.lines.invariant.walk c.lines.invariant.same
+    c.in-Ok-unit_at.ensures.ready c.in-Ok-unit_at.ensures.ahead c.next_chosen-next.ensures c.end_across-end.ensures.low
+    c.end_across-end.ensures.within _ refl c.end_across-end.ensures.unit c.end_across-end.ensures.line in
     rw (p.1, p.2) (λ first begun. ends.fault-sink _ _ _ k _ first _ _ _ turned.across
-    (ends.reported-next k meaning _ g.C.Calls.step first c.lines.walk _ _ c.lines.sink turned.front
+    (ends.reported-next k (g.M.Matcher.facts c.args.matcher.now).meaning _ g.C.Calls.step first c.lines.walk _ _ c.lines.sink turned.front
     (c.lines.invariant.reported first begun) (failed _) _
     (reported [] c.args.bytes.now
     (λ _. turns.in-window k _ _ _ _ c.lines.invariant.same
@@ -119,25 +98,18 @@ returns-in_err-sink_line-clause-fault g c =
 pub returns-then-not-branch-clause-reported : goal.returns-then-not-branch-clause-reported
 returns-then-not-branch-clause-reported g c = λ first begun.
     let k = c.args.self.now.config in
-    let meaning = (g.M.Matcher.facts c.args.matcher.now).meaning in
-    let ready = c.in-Ok-unit_at.ensures.ready in
-    let ahead = c.in-Ok-unit_at.ensures.ahead in
-    let chosen = c.next_chosen-next.ensures in
-    let unit = c.end_across-end.ensures.unit in
-    let line = c.end_across-end.ensures.line in
-    let bare = c.requires.configured.bare in
     let stops : c.in_ok-sink_line.field-0 ≡ false = search rules in
     let reported = rw (c.of-verdict.ensures.chosen, c.of-verdict.ensures.trailing, stops) at
     c.in_ok-sink_line.ensures.reported in
-    let turned = turns.turned bare c.lines.invariant.walk c.lines.invariant.same ready
-    ahead chosen c.end_across-end.ensures.low c.end_across-end.ensures.within
-    _ refl unit line in
+    let turned = turns.turned c.requires.configured.bare c.lines.invariant.walk c.lines.invariant.same
+    c.in-Ok-unit_at.ensures.ready c.in-Ok-unit_at.ensures.ahead c.next_chosen-next.ensures c.end_across-end.ensures.low
+    c.end_across-end.ensures.within _ refl c.end_across-end.ensures.unit c.end_across-end.ensures.line in
     let stop = line_end c.lines.walk (slice_range c.args.bytes.now c.lines.start c.end_across-end.result) in (
       stopped (counted stop),
       ends.counted-stopped k _ _ _ first _ _ _ _
           turned.across
           (sym turned.end_is)
-          (ends.reported-next k meaning _ g.C.Calls.step first c.lines.walk _ _ c.lines.sink turned.front
+          (ends.reported-next k (g.M.Matcher.facts c.args.matcher.now).meaning _ g.C.Calls.step first c.lines.walk _ _ c.lines.sink turned.front
           (c.lines.invariant.reported first begun) (stopped (counted stop)) _
           (reported [] c.args.bytes.now
           (λ _. turns.in-window k _ _ _ _ c.lines.invariant.same
@@ -147,28 +119,21 @@ returns-then-not-branch-clause-reported g c = λ first begun.
 pub lines-preserved : goal.lines-preserved
 lines-preserved g c =
     let k = c.args.self.now.config in
-    let meaning = (g.M.Matcher.facts c.args.matcher.now).meaning in
-    let ready = c.in-Ok-unit_at.ensures.ready in
-    let ahead = c.in-Ok-unit_at.ensures.ahead in
-    let chosen = c.next_chosen-next.ensures in
-    let unit = c.end_across-end.ensures.unit in
-    let line = c.end_across-end.ensures.line in
     let after = c.after_lines-walk.ensures in
-    let bare = c.requires.configured.bare in
     let goes : c.in_ok-sink_line.field-0 ≡ true = search rules in
     let reported = rw (c.of-verdict.ensures.chosen, c.of-verdict.ensures.trailing, goes) at
     c.in_ok-sink_line.ensures.reported in
     let here = rw goes at c.in_ok-sink_line.ensures.called in
-    let turned = turns.turned bare c.lines.invariant.walk c.lines.invariant.same ready
-    ahead chosen c.end_across-end.ensures.low c.end_across-end.ensures.within
-    _ refl unit line in
+    let turned = turns.turned c.requires.configured.bare c.lines.invariant.walk c.lines.invariant.same
+    c.in-Ok-unit_at.ensures.ready c.in-Ok-unit_at.ensures.ahead c.next_chosen-next.ensures c.end_across-end.ensures.low
+    c.end_across-end.ensures.within _ refl c.end_across-end.ensures.unit c.end_across-end.ensures.line in
     rw after (record {
       within = c.end_across-end.ensures.within;
       same = turned.offset;
       ordered = turns.ordered-across k _ _ _ turned.across;
       ready = turned.ready;
       walk = turned.across;
-      reported = λ first begun. ends.reported-next k meaning _ g.C.Calls.step first c.lines.walk _ _
+      reported = λ first begun. ends.reported-next k (g.M.Matcher.facts c.args.matcher.now).meaning _ g.C.Calls.step first c.lines.walk _ _
           c.lines.sink
           turned.front (c.lines.invariant.reported first begun) all_true _
           (reported [] c.args.bytes.now
@@ -180,14 +145,12 @@ lines-preserved g c =
     })
 
 pub returns-clause-reported : goal.returns-clause-reported
-returns-clause-reported g c = λ first begun.
-    let k = c.args.self.now.config in
-    let meaning = (g.M.Matcher.facts c.args.matcher.now).meaning in (
-      all_true,
-      ends.counted-end k _ _ _ first _ _ c.lines.invariant.walk
-          (omega (arith, c.lines.invariant.within, c.lines.invariant.same, c.lines-test.false))
-          (c.lines.invariant.reported first begun),
-    )
+returns-clause-reported g c = λ first begun. (
+  all_true,
+  ends.counted-end _ _ _ _ first _ _ c.lines.invariant.walk
+      (omega (arith, c.lines.invariant.within, c.lines.invariant.same, c.lines-test.false))
+      (c.lines.invariant.reported first begun),
+)
 
 pub returns-in-Err-clause-in_order : goal.returns-in-Err-clause-in_order
 returns-in-Err-clause-in_order g c =

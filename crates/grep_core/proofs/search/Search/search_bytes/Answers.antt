@@ -1,26 +1,21 @@
 use Rattle.std.proofs.Common.{arith, ◌∙◌, sym, subst, refl, Err, None}
 use Rattle.std.proofs.lemmas.Result.{err_from_is_err_and}
-use Rattle.grep_report.specs.ErrorMakers.{ErrorMakers}
-use Rattle.grep_matcher.specs.Meanings.{MatcherFacts}
 use Rattle.grep_core.specs.InputSearches.{IsBytesSearched}
 use Rattle.grep_walk.proofs.FinishLemmas.{searched-finish}
 use Rattle.grep_core.proofs.InputSearchLemmas.{look-detects, look-plain, searched-at, slice-search}
 use Rattle.grep_core.proofs.search.Search.search_bytes.Given.{Over}
 use Rattle.grep_definitions.proofs.CallOrderLemmas as order
-use Rattle.grep_report.specs.ErrorMakers.{makers_of}
+use Rattle.grep_report.specs.ErrorMakers.{makers_of, ErrorMakers}
 use Rattle.grep_core.proofs.search.Search.search_bytes.Goals as goal
 
 abbrev errors-of : (g : Over) → ErrorMakers g.row.M-Error.Denot g.row.C-Error.Denot
 errors-of g = makers_of g.M.Error.Display.output g.C.Error.SinkError.makers
 
-abbrev facts-of : (g : Over) → g.row.M.Denot → MatcherFacts g.row.M-Error.Denot
-facts-of g matcher = g.M.Matcher.facts matcher
-
 pub returns-in-Some-clause-searched : goal.returns-in-Some-clause-searched
 returns-in-Some-clause-searched g c = λ lawful.
     slice-search _ _ _ _ _
     _ _ _
-    (searched-at g.C.Calls.step (errors-of g) (facts-of g c.args.matcher.now) c.args.self.now.config c.args.bytes.now
+    (searched-at g.C.Calls.step (errors-of g) (g.M.Matcher.facts c.args.matcher.now) c.args.self.now.config c.args.bytes.now
     _
     _ (sym c.quit_byte.ensures ∙ c.in-Some.is) c.is_across-is_across.ensures
     _ c.search_until.new.sink (c.search_until.ensures.searched (λ _. lawful)))
@@ -32,12 +27,12 @@ returns-clause-searched g c = λ lawful.
     let quit = c.quit_byte.ensures in
     slice-search _ _ _ _ _
     _ _ _
-    (subst (λ look. IsBytesSearched g.C.Calls.step (errors-of g) (facts-of g c.args.matcher.now) look
+    (subst (λ look. IsBytesSearched g.C.Calls.step (errors-of g) (g.M.Matcher.facts c.args.matcher.now) look
     c.args.self.now.config
     c.args.bytes.now c.args.sink.now c.finish.result
     c.finish.new.sink)
     (sym (look-plain _ (λ b is. c.in_default.not-Some b (quit ∙ is))))
-    (searched-finish _ (errors-of g) (facts-of g c.args.matcher.now) _
+    (searched-finish _ (errors-of g) (g.M.Matcher.facts c.args.matcher.now) _
     c.args.bytes.now _
     _ _ _ _ _ reported.1 finish))
 
@@ -72,7 +67,7 @@ returns-in_err-count-clause-searched g c = λ lawful.
     let quit = c.quit_byte.ensures in
     rw (p.1, p.2) (slice-search _ _ _ _
     _ _ _ _
-    (subst (λ look. IsBytesSearched g.C.Calls.step (errors-of g) (facts-of g c.args.matcher.now) look
+    (subst (λ look. IsBytesSearched g.C.Calls.step (errors-of g) (g.M.Matcher.facts c.args.matcher.now) look
     c.args.self.now.config c.args.bytes.now c.args.sink.now (Err c.in_err-count.field-0.0) c.match_bytes.new.sink)
     (sym (look-plain _ (λ b is. c.in_default.not-Some b (quit ∙ is))))
     fault))

@@ -5,23 +5,14 @@ use Rattle.std.specs.Prelude.{vec_capacity}
 use Rattle.grep_line_buffer.specs.Contents.{FailsAfter, IsBelow, ContentsFail}
 use Rattle.grep_line_buffer.specs.Fills.{IfRead}
 use Rattle.grep_definitions.specs.ReaderRuns.{IsUnreadIn}
-use Rattle.grep_report.specs.ErrorMakers.{ErrorMakers}
-use Rattle.grep_matcher.specs.Meanings.{MatcherFacts}
 use Rattle.grep_core.proofs.InputSearchLemmas as whole
 use Rattle.grep_core.proofs.InputSearchLemmas.{look-detects, look-plain, look-quit}
 use Rattle.grep_core.proofs.search.Search.search_contents.Given.{Over}
 use Rattle.grep_definitions.specs.Searches.{read_in_order}
 use Rattle.grep_definitions.proofs.CallOrderLemmas as order
 use Rattle.grep_core.proofs.OrderLemmas.{failed-read, reading-error}
-use Rattle.grep_report.specs.ErrorMakers.{makers_of}
 use Rattle.grep_core.proofs.search.Search.search_contents.Goals as goal
 use Rattle.grep_core.proofs.search.Search.search_contents.Goals.{After-error_io, After-quit_byte}
-
-abbrev errors-of : (g : Over) → ErrorMakers g.row.M-Error.Denot g.row.C-Error.Denot
-errors-of g = makers_of g.M.Error.Display.output g.C.Error.SinkError.makers
-
-abbrev facts-of : (g : Over) → g.row.M.Denot → MatcherFacts g.row.M-Error.Denot
-facts-of g matcher = g.M.Matcher.facts matcher
 
 -- why not all was read
 unread : (g : Over) (c : goal.After-error_io g) (has_buffers : Bool) (view : List ℕ → List ℕ)

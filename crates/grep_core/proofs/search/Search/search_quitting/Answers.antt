@@ -1,8 +1,6 @@
 use Rattle.std.proofs.Common.{arith, ◌∙◌, refl, sym, subst}
 use Rattle.std.proofs.lemmas.Bool.{false≢true}
 use Rattle.std.proofs.lemmas.Result.{err_from_is_err_and}
-use Rattle.grep_report.specs.ErrorMakers.{ErrorMakers}
-use Rattle.grep_matcher.specs.Meanings.{MatcherFacts}
 use Rattle.grep_definitions.specs.ContentsSearches.{IsFaultIn}
 use Rattle.grep_definitions.specs.SearchTurns.{calls_if}
 use Rattle.grep_core.proofs.QuittingLemmas.{fault-until, until-finished}
@@ -10,14 +8,11 @@ use Rattle.grep_core.proofs.search.Search.search_quitting.Given.{Over}
 use Rattle.grep_core.specs.QuittingSinks.{Quits, count_to}
 use Rattle.grep_core.proofs.OrderLemmas as passed
 use Rattle.grep_definitions.proofs.CallOrderLemmas as order
-use Rattle.grep_report.specs.ErrorMakers.{makers_of}
+use Rattle.grep_report.specs.ErrorMakers.{makers_of, ErrorMakers}
 use Rattle.grep_core.proofs.search.Search.search_quitting.Goals as goal
 
 abbrev errors-of : (g : Over) → ErrorMakers g.row.M-Error.Denot g.row.C-Error.Denot
 errors-of g = makers_of g.M.Error.Display.output g.C.Error.SinkError.makers
-
-abbrev facts-of : (g : Over) → g.row.M.Denot → MatcherFacts g.row.M-Error.Denot
-facts-of g matcher = g.M.Matcher.facts matcher
 
 pub returns-in_err-count-clause-searched : goal.returns-in_err-count-clause-searched
 returns-in_err-count-clause-searched g c = λ lawful.
@@ -26,7 +21,7 @@ returns-in_err-count-clause-searched g c = λ lawful.
     (fault-until _ g.C.Calls.may_call _ _ _
     _ _ c.requires.none _ refl c.requires.has_break c.requires.found
     _
-    (subst (λ e. IsFaultIn (Quits g.C.Calls.step g.C.Calls.may_call) (errors-of g) (facts-of g c.args.matcher.now)
+    (subst (λ e. IsFaultIn (Quits g.C.Calls.step g.C.Calls.may_call) (errors-of g) (g.M.Matcher.facts c.args.matcher.now)
     (calls_if c.args.self.now.config (g.M.Matcher.facts c.args.matcher.now).meaning c.args.is_across) c.args.self.now.config
     c.args.bytes.now
     c.args.sink.now e c.match_bytes.new.sink) (sym error.2) (c.in_err-count.ensures.fault lawful)))
@@ -41,7 +36,7 @@ returns-in_err-count-clause-same_sink g c =
 pub returns-clause-searched : goal.returns-clause-searched
 returns-clause-searched g c = λ lawful.
     let counted = c.in_ok-count.ensures.reported lawful in
-    until-finished g.C.Calls.step g.C.Calls.may_call (errors-of g) (facts-of g c.args.matcher.now)
+    until-finished g.C.Calls.step g.C.Calls.may_call (errors-of g) (g.M.Matcher.facts c.args.matcher.now)
     _
     _ _ c.requires.none _ refl c.requires.has_break c.requires.found
     _ _ c.finish.new.sink counted.1
@@ -87,7 +82,7 @@ returns-clause-in_order g c =
     (order.passed-begun-to _ _ k (λ q. q.sink.now)
     (passed.FoundNone step k may_call c.requires.detecting)
     (λ q n. count_to q.found n) (passed.quits-one step k may_call c.requires.detecting) (errors-of g)
-    (facts-of g c.args.matcher.now)
+    (g.M.Matcher.facts c.args.matcher.now)
     (passed.quits-begun step k may_call c.requires.detecting) (passed.quits-held step k may_call c.requires.detecting)
     _
     _ _ c.requires.found c.in_ok-count.ensures.in_order) finish.2.2

@@ -1,25 +1,11 @@
-use Rattle.std.proofs.Common.{Bool, sym, ◌∙◌, arith}
+use Rattle.std.proofs.Common.{sym, ◌∙◌, arith}
 use Rattle.std.proofs.lemmas.Result.{err_from_is_err_and}
-use Rattle.grep_report.specs.ErrorMakers.{ErrorMakers}
-use Rattle.grep_matcher.specs.Meanings.{MatcherFacts}
-use Rattle.grep_definitions.specs.Plans.{SearcherState, Settings}
 use Rattle.grep_definitions.proofs.PlannedUnreadLemmas.{unread-planned}
 use Rattle.grep_core.proofs.ResultLemmas.{if_err-each}
 use Rattle.grep_core.proofs.InputSearchLemmas.{read-across, read-by_line}
 use Rattle.grep_core.proofs.StreamSearchLemmas.{stream-finished}
 use Rattle.grep_definitions.proofs.CallOrderLemmas.{order-finished}
-use Rattle.grep_core.proofs.search.Search.search_reader.Given.{Over}
-use Rattle.grep_report.specs.ErrorMakers.{makers_of}
 use Rattle.grep_core.proofs.search.Search.search_reader.Goals as goal
-
-abbrev errors-of : (g : Over) → ErrorMakers g.row.M-Error.Denot g.row.C-Error.Denot
-errors-of g = makers_of g.M.Error.Display.output g.C.Error.SinkError.makers
-
-abbrev facts-of : (g : Over) → g.row.M.Denot → MatcherFacts g.row.M-Error.Denot
-facts-of g matcher = g.M.Matcher.facts matcher
-
-abbrev state-of : Settings → Bool → SearcherState
-state-of settings has_buffers = record { settings = settings; has_buffers = has_buffers }
 
 pub returns-then-is_across-clause-searched : goal.returns-then-is_across-clause-searched
 returns-then-is_across-clause-searched g c = λ lawful has_buffers.
@@ -36,9 +22,7 @@ returns-then-is_across-clause-succeeds g c = λ never infallible lawful.
     if_err-each _ _ c.search_contents.result
     (λ e unread has_buffers.
     let why = unread has_buffers in
-    let planned = unread-planned g.R.Source.remaining g.R.Source.step (state-of c.args.self.now.config has_buffers)
-    (g.M.Matcher.facts c.args.matcher.now).meaning c.args.reader.now why.1 _ mode why.0 c.search_contents.new.reader why.2
-    in
+    let planned = unread-planned _ _ _ _ _ why.1 _ mode why.0 _ why.2 in
     (planned.0, planned.1, why.1, planned.2, why.3))
     (c.search_contents.ensures.succeeds never infallible)
 
@@ -49,7 +33,7 @@ returns-clause-searched g c = λ lawful has_buffers.
     _
     _ _ _ _
     _
-    _ mode (stream-finished _ _ (facts-of g c.args.matcher.now) _ _ _ _
+    _ mode (stream-finished _ _ (g.M.Matcher.facts c.args.matcher.now) _ _ _ _
     mode _ _ _
     _
     _ _

@@ -1,20 +1,15 @@
 use Rattle.std.proofs.Common.{◌∙◌, sym, subst}
-use Rattle.grep_report.specs.ErrorMakers.{ErrorMakers}
-use Rattle.grep_matcher.specs.Meanings.{MatcherFacts}
 use Rattle.grep_definitions.specs.SearchTurns.{calls_if}
 use Rattle.grep_core.specs.InputSearches.{IsSearchedUntil}
 use Rattle.grep_core.proofs.QuittingLemmas.{first-found, quit-searched}
 use Rattle.grep_core.proofs.search.Search.search_until.Given.{Over}
 use Rattle.grep_definitions.specs.Searches.{IsInOrder}
 use Rattle.grep_core.proofs.OrderLemmas.{quit-in-order}
-use Rattle.grep_report.specs.ErrorMakers.{makers_of}
+use Rattle.grep_report.specs.ErrorMakers.{makers_of, ErrorMakers}
 use Rattle.grep_core.proofs.search.Search.search_until.Goals as goal
 
 abbrev errors-of : (g : Over) → ErrorMakers g.row.M-Error.Denot g.row.C-Error.Denot
 errors-of g = makers_of g.M.Error.Display.output g.C.Error.SinkError.makers
-
-abbrev facts-of : (g : Over) → g.row.M.Denot → MatcherFacts g.row.M-Error.Denot
-facts-of g matcher = g.M.Matcher.facts matcher
 
 pub search_quitting-requires-clause-none : goal.search_quitting-requires-clause-none
 search_quitting-requires-clause-none g c =
@@ -23,14 +18,14 @@ search_quitting-requires-clause-none g c =
 
 pub returns-in-Some-clause-searched : goal.returns-in-Some-clause-searched
 returns-in-Some-clause-searched g c = λ lawful.
-    quit-searched (errors-of g) (facts-of g c.args.matcher.now) c.args.byte
+    quit-searched (errors-of g) (g.M.Matcher.facts c.args.matcher.now) c.args.byte
     c.args.bytes.now
     c.args.is_across _
     (first-found _ _ c.min.ensures c.in-Some.ensures) c.quit_first.ensures.quits
 
 pub returns-in-None-clause-searched : goal.returns-in-None-clause-searched
 returns-in-None-clause-searched g c = λ lawful.
-    subst (λ s. IsSearchedUntil g.C.Calls.step (errors-of g) (facts-of g c.args.matcher.now)
+    subst (λ s. IsSearchedUntil g.C.Calls.step (errors-of g) (g.M.Matcher.facts c.args.matcher.now)
     (calls_if c.args.self.now.config (g.M.Matcher.facts c.args.matcher.now).meaning c.args.is_across) c.args.byte
     c.args.self.now.config
     c.args.bytes.now c.args.sink.now c.search_quitting.result s)
@@ -44,7 +39,7 @@ returns-in-Some-clause-in_order g c =
 
 pub returns-in-None-clause-in_order : goal.returns-in-None-clause-in_order
 returns-in-None-clause-in_order g c =
-    subst (λ s. IsInOrder g.C.Calls.step (errors-of g) (facts-of g c.args.matcher.now) c.args.self.now.config (λ _. ⊥)
+    subst (λ s. IsInOrder g.C.Calls.step (errors-of g) (g.M.Matcher.facts c.args.matcher.now) c.args.self.now.config (λ _. ⊥)
     c.args.sink.now c.search_quitting.result s)
     (sym (c.sink-1.given.1 (sym (c.search_quitting.ensures.same_sink ∙ c.new-quitting.ensures.same_sink))))
     (rw c.new-quitting.ensures.sink at c.search_quitting.ensures.in_order)

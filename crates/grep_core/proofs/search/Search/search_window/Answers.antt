@@ -5,8 +5,6 @@ use Rattle.std.proofs.lemmas.Result.{err_from_is_err_and}
 use Rattle.std.specs.Prelude.{slice_range}
 use Rattle.grep_lines.specs.Positions.{IsLineStart}
 use Rattle.grep_matcher.specs.Lines.{lines}
-use Rattle.grep_report.specs.ErrorMakers.{ErrorMakers}
-use Rattle.grep_matcher.specs.Meanings.{MatcherFacts}
 use Rattle.grep_definitions.specs.Plans.{IsLawful, all_true, failed, stopped, counted}
 use Rattle.grep_walk.specs.Origins.{Origin}
 use Rattle.grep_walk.specs.Windows.{HasSearched}
@@ -19,22 +17,15 @@ use Rattle.grep_walk.specs.WalkFaults.{at_call}
 use Rattle.grep_core.proofs.search.Search.search_window.Given.{Over}
 use Rattle.grep_definitions.specs.CallOrder.{of_call, of_question}
 use Rattle.grep_definitions.proofs.CallOrderLemmas.{called-none, called-then}
-use Rattle.grep_report.specs.ErrorMakers.{makers_of}
 use Rattle.grep_core.proofs.search.Search.search_window.Goals as goal
 use Rattle.grep_core.proofs.search.Search.search_window.Goals.{After-at-known}
 
-abbrev errors : (g : Over) → ErrorMakers g.row.M-Error.Denot g.row.C-Error.Denot
-errors g = makers_of g.M.Error.Display.output g.C.Error.SinkError.makers
-
-abbrev facts : (g : Over) → g.row.M.Denot → MatcherFacts g.row.M-Error.Denot
-facts g matcher = g.M.Matcher.facts matcher
-
 -- the line that a walk decides, after those that it skipped
-reached : (g : Over) (c : goal.After-at-known g) → IsLawful (facts g c.args.matcher.now) c.args.self.now.config
+reached : (g : Over) (c : goal.After-at-known g) → IsLawful (g.M.Matcher.facts c.args.matcher.now) c.args.self.now.config
     → (gone input : List ℕ) (first : Origin g.row.C-Sink.Denot)
-    → HasSearched g.C.Calls.step c.args.self.now.config (facts g c.args.matcher.now).meaning gone c.args.window.now input
+    → HasSearched g.C.Calls.step c.args.self.now.config (g.M.Matcher.facts c.args.matcher.now).meaning gone c.args.window.now input
     first c.args.start c.args.walk.now c.args.sink.now
-    → uncounted.HasLine g.C.Calls.step c.args.self.now.config (facts g c.args.matcher.now).meaning gone
+    → uncounted.HasLine g.C.Calls.step c.args.self.now.config (g.M.Matcher.facts c.args.matcher.now).meaning gone
     c.args.window.now input first c.skip_unmatched-start.result c.in-Some.end c.skip_unmatched-start.new.walk
     c.lines.sink c.at-known.result
 reached g c lawful gone input first so_far =
