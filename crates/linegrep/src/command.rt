@@ -1,254 +1,293 @@
 //! The command line.
-use clap::{Arg, ArgAction, Command, Error, value_parser};
+use clap::{Arg, ArgAction, Command, value_parser};
 use std::alloc::{AllocError, Global};
 
-// An option without a value: its name, its letter if it has one, and what it is for.
-struct Switch {
+// An option: its name, its letter if it has one, its values, and what it is for.
+struct Row {
     name: &'static str,
     letter: Option<char>,
-    help: &'static str,
-}
-
-// An option with a value, which may be a number or a text.
-struct Valued {
-    name: &'static str,
-    letter: Option<char>,
-    value: &'static str,
     kind: Kind,
     help: &'static str,
 }
 
-// What a value is, and how often the option may be used.
+// Which values an option has.
 #[derive(Clone, Copy)]
 enum Kind {
+    // None: it asks for help.
+    Help,
+    // None: it is there or not.
+    Flag,
+    // A number, of which the last counts.
     Number,
-    Text,
-    Texts,
+    // A text with this name, of which the last counts.
+    Text(&'static str),
+    // Texts with this name, which all count.
+    Texts(&'static str),
+    // A word of `COLOR`.
+    Color,
 }
 
-const SWITCHES: [Switch; 29] = [
-    Switch {
+// The options but `--json`. Help has no letter, since -h stands for the option without paths.
+const ROWS: &[Row] = &[
+    Row {
+        name: "help",
+        letter: None,
+        kind: Kind::Help,
+        help: "Print this help",
+    },
+    Row {
+        name: "color",
+        letter: None,
+        kind: Kind::Color,
+        help: "Write paths, numbers and matches in colours; auto is for a terminal",
+    },
+    Row {
         name: "fixed-strings",
         letter: Some('F'),
+        kind: Kind::Flag,
         help: "Patterns are literals",
     },
-    Switch {
+    Row {
         name: "ignore-case",
         letter: Some('i'),
+        kind: Kind::Flag,
         help: "Letters match in either case",
     },
-    Switch {
+    Row {
         name: "word-regexp",
         letter: Some('w'),
+        kind: Kind::Flag,
         help: "Matches are whole words",
     },
-    Switch {
+    Row {
         name: "line-regexp",
         letter: Some('x'),
+        kind: Kind::Flag,
         help: "Matches are whole lines",
     },
-    Switch {
+    Row {
         name: "invert-match",
         letter: Some('v'),
+        kind: Kind::Flag,
         help: "Select the lines that don't match",
     },
-    Switch {
+    Row {
         name: "multiline",
         letter: Some('U'),
+        kind: Kind::Flag,
         help: "A match may run over several lines",
     },
-    Switch {
+    Row {
         name: "line-number",
         letter: Some('n'),
+        kind: Kind::Flag,
         help: "Write line numbers",
     },
-    Switch {
+    Row {
         name: "no-line-number",
         letter: Some('N'),
+        kind: Kind::Flag,
         help: "Write no line numbers",
     },
-    Switch {
+    Row {
         name: "with-filename",
         letter: Some('H'),
+        kind: Kind::Flag,
         help: "Write the path before each line",
     },
-    Switch {
+    Row {
         name: "no-filename",
         letter: Some('h'),
+        kind: Kind::Flag,
         help: "Write no paths",
     },
-    Switch {
+    Row {
         name: "byte-offset",
         letter: Some('b'),
+        kind: Kind::Flag,
         help: "Write the offset of each line",
     },
-    Switch {
+    Row {
         name: "column",
         letter: None,
+        kind: Kind::Flag,
         help: "Write the column of the first match",
     },
-    Switch {
+    Row {
         name: "only-matching",
         letter: Some('o'),
+        kind: Kind::Flag,
         help: "Write only the parts of lines that match, each in a line of its own",
     },
-    Switch {
+    Row {
         name: "null",
         letter: Some('0'),
+        kind: Kind::Flag,
         help: "Write a NUL after each path",
     },
-    Switch {
+    Row {
         name: "passthru",
         letter: None,
+        kind: Kind::Flag,
         help: "Write all lines",
     },
-    Switch {
+    Row {
         name: "text",
         letter: Some('a'),
+        kind: Kind::Flag,
         help: "Search binary files as text",
     },
-    Switch {
+    Row {
         name: "null-data",
         letter: Some('z'),
+        kind: Kind::Flag,
         help: "Lines end at a NUL",
     },
-    Switch {
+    Row {
         name: "crlf",
         letter: None,
+        kind: Kind::Flag,
         help: "Lines may end at a carriage return and a line feed",
     },
-    Switch {
+    Row {
         name: "no-messages",
         letter: Some('s'),
+        kind: Kind::Flag,
         help: "Don't say which files can't be read",
     },
-    Switch {
+    Row {
         name: "smart-case",
         letter: Some('S'),
+        kind: Kind::Flag,
         help: "Letters match in either case if no pattern has a capital",
     },
-    Switch {
+    Row {
         name: "recursive",
         letter: Some('r'),
+        kind: Kind::Flag,
         help: "Search the files of folders, and of the folders in them",
     },
-    Switch {
+    Row {
         name: "hidden",
         letter: None,
+        kind: Kind::Flag,
         help: "Search hidden files and folders too",
     },
-    Switch {
+    Row {
         name: "count",
         letter: Some('c'),
+        kind: Kind::Flag,
         help: "Write how many lines match, for each file",
     },
-    Switch {
+    Row {
         name: "count-matches",
         letter: None,
+        kind: Kind::Flag,
         help: "Write how many single matches there are, for each file",
     },
-    Switch {
+    Row {
         name: "files-with-matches",
         letter: Some('l'),
+        kind: Kind::Flag,
         help: "Write the paths of the files with a match",
     },
-    Switch {
+    Row {
         name: "files-without-match",
         letter: Some('L'),
+        kind: Kind::Flag,
         help: "Write the paths of the files without one",
     },
-    Switch {
+    Row {
         name: "quiet",
         letter: Some('q'),
+        kind: Kind::Flag,
         help: "Write nothing, and stop at the first match",
     },
-    Switch {
+    Row {
         name: "heading",
         letter: None,
+        kind: Kind::Flag,
         help: "Write the path once, above the lines of a file",
     },
-    Switch {
+    Row {
         name: "no-heading",
         letter: None,
+        kind: Kind::Flag,
         help: "Write the path before each line",
     },
-];
-
-const VALUED: [Valued; 9] = [
-    Valued {
+    Row {
         name: "regexp",
         letter: Some('e'),
-        value: "PATTERN",
-        kind: Kind::Texts,
+        kind: Kind::Texts("PATTERN"),
         help: "A pattern; may be given several times",
     },
-    Valued {
+    Row {
         name: "file",
         letter: Some('f'),
-        value: "FILE",
-        kind: Kind::Texts,
+        kind: Kind::Texts("FILE"),
         help: "A file with a pattern in each line",
     },
-    Valued {
+    Row {
         name: "glob",
         letter: Some('g'),
-        value: "GLOB",
-        kind: Kind::Texts,
+        kind: Kind::Texts("GLOB"),
         help: "Search the files of folders that match GLOB, or with ! before it those that don't",
     },
-    Valued {
+    Row {
         name: "max-count",
         letter: Some('m'),
-        value: "NUM",
         kind: Kind::Number,
         help: "Stop in a file after NUM matched lines",
     },
-    Valued {
+    Row {
         name: "max-columns",
         letter: Some('M'),
-        value: "NUM",
         kind: Kind::Number,
         help: "Write a notice in place of lines of more than NUM bytes; 0 is no limit",
     },
-    Valued {
+    Row {
         name: "after-context",
         letter: Some('A'),
-        value: "NUM",
         kind: Kind::Number,
         help: "Write NUM lines after each match",
     },
-    Valued {
+    Row {
         name: "before-context",
         letter: Some('B'),
-        value: "NUM",
         kind: Kind::Number,
         help: "Write NUM lines before each match",
     },
-    Valued {
+    Row {
         name: "context",
         letter: Some('C'),
-        value: "NUM",
         kind: Kind::Number,
         help: "Write NUM lines before and after each match",
     },
-    Valued {
+    Row {
         name: "encoding",
         letter: Some('E'),
-        value: "LABEL",
-        kind: Kind::Text,
+        kind: Kind::Text("LABEL"),
         help: "The encoding of the files",
     },
 ];
 
 // When colours are written.
-const COLOR: [&str; 3] = ["auto", "always", "never"];
+const COLOR: &[&str] = &["auto", "always", "never"];
 
-/// The command line of the program. An error is one of being out of memory.
-pub fn command<'a>(alloc: Global) -> Result<Command<'a>, Error> {
+// Counts and paths, which aren't written as messages in JSON.
+const OTHER_OUTPUTS: &[&str] = &[
+    "count",
+    "count-matches",
+    "files-with-matches",
+    "files-without-match",
+];
+
+/// The command line of the program. The only error is being out of memory.
+pub fn command<'a>(alloc: Global) -> Result<Command<'a>, AllocError> {
     let json = json(alloc)?;
-    let command = add_single(alloc, program(alloc), json)?;
-    let command = add_switches(alloc, command)?;
-    Ok(add_valued(alloc, command)?)
+    let command = program(alloc).arg(json)?;
+    let command = command.arg(operands(alloc))?;
+    add_rows(alloc, command, ROWS)
 }
 
 // The program, without its arguments.
@@ -263,31 +302,18 @@ fn program<'a>(alloc: Global) -> Command<'a> {
         .args_override_self(true)
 }
 
-// Adds the arguments that are in neither table.
-fn add_single<'a>(
+// Adds the options of a table. A `match` is proved sooner than a `?` here.
+fn add_rows<'a>(
     alloc: Global,
-    command: Command<'a>,
-    json: Arg<'a>,
+    start: Command<'a>,
+    rows: &[Row],
 ) -> Result<Command<'a>, AllocError> {
-    command
-        .arg(operands(alloc))?
-        .arg(help(alloc))?
-        .arg(json)?
-        .arg(color(alloc))
-}
-
-fn add_switches<'a>(alloc: Global, command: Command<'a>) -> Result<Command<'a>, AllocError> {
-    let mut command = command;
-    for switch in &SWITCHES {
-        command = command.arg(switch.arg(alloc))?;
-    }
-    Ok(command)
-}
-
-fn add_valued<'a>(alloc: Global, command: Command<'a>) -> Result<Command<'a>, AllocError> {
-    let mut command = command;
-    for valued in &VALUED {
-        command = command.arg(valued.arg(alloc))?;
+    let mut command = start;
+    for row in rows {
+        match command.arg(row.arg(alloc)) {
+            Ok(next) => command = next,
+            Err(error) => return Err(error),
+        }
     }
     Ok(command)
 }
@@ -301,40 +327,24 @@ fn operands<'a>(alloc: Global) -> Arg<'a> {
         .help("A pattern, unless -e or -f has one, and the paths of files")
 }
 
-// Help has no letter, since -h stands for the option without paths.
-fn help<'a>(alloc: Global) -> Arg<'a> {
-    Arg::new(alloc, "help")
-        .long("help")
-        .action(ArgAction::Help)
-        .help("Print this help")
-}
-
-// Messages in JSON can't be counts or paths.
 fn json<'a>(alloc: Global) -> Result<Arg<'a>, AllocError> {
-    Arg::new(alloc, "json")
+    let mut json = Arg::new(alloc, "json")
         .long("json")
         .action(ArgAction::SetTrue)
-        .help("Write messages in JSON")
-        .conflicts_with("count")?
-        .conflicts_with("count-matches")?
-        .conflicts_with("files-with-matches")?
-        .conflicts_with("files-without-match")
+        .help("Write messages in JSON");
+    for other in OTHER_OUTPUTS {
+        match json.conflicts_with(*other) {
+            Ok(next) => json = next,
+            Err(error) => return Err(error),
+        }
+    }
+    Ok(json)
 }
 
-fn color<'a>(alloc: Global) -> Arg<'a> {
-    Arg::new(alloc, "color")
-        .long("color")
-        .value_name("WHEN")
-        .value_parser(COLOR.as_slice())
-        .help("Write paths, numbers and matches in colours; auto is for a terminal")
-}
-
-impl Switch {
+impl Row {
     fn arg<'a>(&self, alloc: Global) -> Arg<'a> {
-        let arg = Arg::new(alloc, self.name)
-            .long(self.name)
-            .action(ArgAction::SetTrue)
-            .help(self.help);
+        let arg = Arg::new(alloc, self.name).long(self.name).help(self.help);
+        let arg = with_values(arg, self.kind);
         match self.letter {
             Some(letter) => arg.short(letter),
             None => arg,
@@ -342,27 +352,26 @@ impl Switch {
     }
 }
 
-impl Valued {
-    fn arg<'a>(&self, alloc: Global) -> Arg<'a> {
-        let arg = Arg::new(alloc, self.name)
-            .long(self.name)
-            .value_name(self.value)
-            .help(self.help)
-            .action(self.action());
-        let arg = match self.kind {
-            Kind::Number => arg.value_parser(value_parser!(u64)),
-            Kind::Text | Kind::Texts => arg.allow_hyphen_values(true),
-        };
-        match self.letter {
-            Some(letter) => arg.short(letter),
-            None => arg,
-        }
+// An argument with the values of a kind.
+fn with_values<'a>(arg: Arg<'a>, kind: Kind) -> Arg<'a> {
+    match kind {
+        Kind::Help => arg.action(ArgAction::Help),
+        Kind::Flag => arg.action(ArgAction::SetTrue),
+        Kind::Number => with_number(arg),
+        Kind::Text(name) => with_text(arg, name),
+        Kind::Texts(name) => with_text(arg, name).action(ArgAction::Append),
+        Kind::Color => with_color(arg),
     }
+}
 
-    fn action(&self) -> ArgAction {
-        match self.kind {
-            Kind::Number | Kind::Text => ArgAction::Set,
-            Kind::Texts => ArgAction::Append,
-        }
-    }
+fn with_number<'a>(arg: Arg<'a>) -> Arg<'a> {
+    arg.value_name("NUM").value_parser(value_parser!(u64))
+}
+
+fn with_text<'a>(arg: Arg<'a>, name: &'a str) -> Arg<'a> {
+    arg.value_name(name).allow_hyphen_values(true)
+}
+
+fn with_color<'a>(arg: Arg<'a>) -> Arg<'a> {
+    arg.value_name("WHEN").value_parser(COLOR)
 }

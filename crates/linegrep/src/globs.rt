@@ -5,6 +5,7 @@ use clap::ArgMatches;
 use regex::{Matcher, Regex};
 use regex_syntax::is_meta_character;
 use std::alloc::{AllocError, Global};
+use std::fmt::Display;
 
 /// What globs say of a file or a folder.
 #[derive(Clone, Copy)]
@@ -15,6 +16,12 @@ pub enum Choice {
     LeftOut,
     /// No glob matches it.
     Unmatched,
+}
+
+/// What chooses among the files and folders that are found.
+pub trait Chooser {
+    /// What it says of the file or the folder at a path.
+    fn choice(&mut self, path: &str, is_folder: bool) -> Choice;
 }
 
 /// The globs of the arguments, in order.
@@ -85,10 +92,10 @@ struct GlobMatcher<'g> {
     matcher: Matcher<'g>,
 }
 
-impl<'g> GlobsMatcher<'g> {
-    /// What the globs say of a path. The last that matches it decides. If none does, a file is left
-    /// out if there is a glob that asks for files.
-    pub fn choice(&mut self, path: &str, is_folder: bool) -> Choice {
+// The last glob that matches a path decides. If none does, a file is left out if there is a glob
+// that asks for files.
+impl<'g> Chooser for GlobsMatcher<'g> {
+    fn choice(&mut self, path: &str, is_folder: bool) -> Choice {
         let path = path.strip_prefix("./").unwrap_or(path);
         for matcher in self.matchers.iter_mut().rev() {
             if matcher.is_match(path, is_folder) {
@@ -124,29 +131,43 @@ fn compile(alloc: Global, text: &str) -> Result<Glob, Failure> {
         Some(glob) => (true, glob),
         None => (false, glob),
     };
-    let mut letters = Vec::new(alloc);
-    for letter in glob.strip_prefix('/').unwrap_or(glob).chars() {
-        letters.push(letter)?;
-    }
-    let mut translation = Translation::new(alloc, !glob.contains('/'))?;
-    if let Err(error) = translation.push_all(&letters) {
-        return Err(failure(alloc, text, error));
-    }
-    match Regex::new(alloc, translation.finish()?.as_str()) {
+    let regex = match translate(alloc, glob) {
+        Ok(regex) => regex,
+        Err(Error::Glob(cause)) => return Err(failure(alloc, text, &cause)),
+        Err(Error::OutOfMemory) => return Err(Failure::from(AllocError)),
+    };
+    match Regex::new(alloc, regex.as_str()) {
         Ok(regex) => Ok(Glob {
             regex,
             is_exclusion,
             names_folders,
         }),
-        Err(error) => Err(failure(alloc, text, Error::Regex(error))),
+        Err(error) => Err(failure(alloc, text, &error)),
     }
 }
 
-// Why a glob can't be compiled.
-#[derive(Drop)]
+// The regular expression of a glob.
+fn translate(alloc: Global, glob: &str) -> Result<String, Error> {
+    let letters = letters(alloc, glob.strip_prefix('/').unwrap_or(glob))?;
+    let mut translation = Translation::new(alloc, !glob.contains('/'))?;
+    match translation.push_all(&letters) {
+        Ok(()) => Ok(translation.finish()?),
+        Err(error) => Err(error),
+    }
+}
+
+fn letters(alloc: Global, text: &str) -> Result<Vec<char>, AllocError> {
+    let mut letters = Vec::new(alloc);
+    for letter in text.chars() {
+        letters.push(letter)?;
+    }
+    Ok(letters)
+}
+
+// Why a glob can't be translated.
+#[derive(Clone, Copy)]
 enum Error {
     Glob(&'static str),
-    Regex(regex::Error),
     OutOfMemory,
 }
 
@@ -157,13 +178,8 @@ impl From<AllocError> for Error {
 }
 
 // The failure of a glob, with its text.
-fn failure(alloc: Global, text: &str, error: Error) -> Failure {
-    let message = match error {
-        Error::Glob(cause) => format!(in alloc; "the glob {text}: {cause}"),
-        Error::Regex(cause) => format!(in alloc; "the glob {text}: {cause}"),
-        Error::OutOfMemory => return Failure::from(AllocError),
-    };
-    match message {
+fn failure<C: Display>(alloc: Global, text: &str, cause: &C) -> Failure {
+    match format!(in alloc; "the glob {text}: {cause}") {
         Ok(message) => Failure::Setting(message),
         Err(error) => Failure::from(error),
     }

@@ -3,6 +3,7 @@
 
 mod colors;
 mod command;
+mod engine;
 mod failures;
 mod globs;
 mod haystacks;
@@ -10,6 +11,7 @@ mod json_run;
 mod options;
 mod patterns;
 mod printers;
+mod run;
 mod search;
 mod walk;
 
@@ -21,6 +23,7 @@ use crate::search::search_all;
 use clap::ArgMatches;
 use grep_output::{Output, Writing};
 use grep_searcher::Reading;
+use std::alloc::Global;
 use std::env;
 use std::io::{BufWriter, IsTerminal};
 use std::process::ExitCode;
@@ -29,18 +32,33 @@ use std::process::ExitCode;
 const ROOM: usize = 64 * 1024;
 
 fn main(rt: HostRuntime) -> ExitCode {
-    match run(&rt) {
+    match grep(&rt) {
         Ok(code) => code,
         Err(failure) => failure.report(&rt),
     }
 }
 
 // Does what the arguments ask for.
-fn run(rt: &HostRuntime) -> Result<ExitCode, Failure> {
+fn grep(rt: &HostRuntime) -> Result<ExitCode, Failure> {
     let words: Vec<String> = env::args(rt)?.collect(rt.alloc())?;
-    let matches = command(rt.alloc())?.try_get_matches_from(words.as_slice())?;
-    let operands = Operands::read(rt, &matches)?;
-    search_operands(rt, &matches, &operands)
+    match parse(rt.alloc(), &words) {
+        Ok(matches) => search_parsed(rt, &matches),
+        Err(error) => Err(Failure::Usage(error)),
+    }
+}
+
+// Parses the arguments.
+fn parse<'w>(alloc: Global, words: &'w [String]) -> Result<ArgMatches<'w>, clap::Error> {
+    match command(alloc) {
+        Ok(command) => command.try_get_matches_from(words),
+        Err(error) => Err(clap::Error::from(error)),
+    }
+}
+
+// Searches what parsed arguments name.
+fn search_parsed(rt: &HostRuntime, matches: &ArgMatches<'_>) -> Result<ExitCode, Failure> {
+    let operands = Operands::read(rt, matches)?;
+    search_operands(rt, matches, &operands)
 }
 
 // Searches what the operands name. A terminal gets each text at once.
@@ -50,11 +68,12 @@ fn search_operands(
     operands: &Operands,
 ) -> Result<ExitCode, Failure> {
     let stdout = rt.stdout();
-    if stdout.is_terminal() {
-        return search_to(rt, matches, operands, true, Writing::new(stdout));
+    let is_terminal = stdout.is_terminal();
+    let room = if is_terminal { 0 } else { ROOM };
+    match BufWriter::with_capacity(rt.alloc(), room, stdout) {
+        Ok(writer) => search_to(rt, matches, operands, is_terminal, Writing::new(writer)),
+        Err(error) => Err(Failure::System(error)),
     }
-    let buffered = BufWriter::with_capacity(rt.alloc(), ROOM, stdout)?;
-    search_to(rt, matches, operands, false, Writing::new(buffered))
 }
 
 // Searches what the operands name, and writes what is found to `writer`.

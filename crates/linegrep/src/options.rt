@@ -5,7 +5,9 @@ use crate::json_run::JsonRun;
 use crate::printers::Printer;
 use clap::ArgMatches;
 use grep_output::Output;
-use grep_printer::{JsonBuilder, SearchSeparator, StandardBuilder, SummaryBuilder, SummaryKind};
+use grep_printer::{
+    ColorSpecs, JsonBuilder, SearchSeparator, StandardBuilder, SummaryBuilder, SummaryKind,
+};
 use grep_searcher::{
     BinaryDetection, ConfigError, Encoding, LineTerminator, Searcher, SearcherBuilder,
 };
@@ -19,23 +21,46 @@ pub fn searcher(
     matches: &ArgMatches<'_>,
     is_terminal: bool,
 ) -> Result<Searcher, Failure> {
-    let encoding = encoding(alloc, matches)?;
+    match encoding(alloc, matches) {
+        Ok(encoding) => build_searcher(alloc, matches, is_terminal, encoding),
+        Err(error) => Err(refused(alloc, error)),
+    }
+}
+
+fn build_searcher(
+    alloc: Global,
+    matches: &ArgMatches<'_>,
+    is_terminal: bool,
+    encoding: Option<Encoding>,
+) -> Result<Searcher, Failure> {
     let mut builder = SearcherBuilder::new();
     builder
-        .line_terminator(line_terminator(matches))
-        .invert_match(matches.get_flag("invert-match"))
-        .line_number(shows_numbers(matches, is_terminal))
-        .multi_line(matches.get_flag("multiline"))
-        .after_context(context(matches, "after-context"))
-        .before_context(context(matches, "before-context"))
-        .passthru(matches.get_flag("passthru"))
-        .max_matches(matches.get_one::<u64>("max-count"))
         .encoding(encoding)
-        .binary_detection(binary_detection(matches));
+        .line_number(shows_numbers(matches, is_terminal));
+    select(&mut builder, matches);
+    surround(&mut builder, matches);
     match builder.build(alloc) {
         Ok(searcher) => Ok(searcher),
         Err(error) => Err(refused(alloc, error)),
     }
+}
+
+// Sets which lines a search selects.
+fn select(builder: &mut SearcherBuilder, matches: &ArgMatches<'_>) {
+    builder
+        .line_terminator(line_terminator(matches))
+        .invert_match(matches.get_flag("invert-match"))
+        .multi_line(matches.get_flag("multiline"))
+        .max_matches(matches.get_one::<u64>("max-count"))
+        .binary_detection(binary_detection(matches));
+}
+
+// Sets which other lines a search reports.
+fn surround(builder: &mut SearcherBuilder, matches: &ArgMatches<'_>) {
+    builder
+        .after_context(context(matches, "after-context"))
+        .before_context(context(matches, "before-context"))
+        .passthru(matches.get_flag("passthru"));
 }
 
 /// The printer that the arguments ask for, which writes to `writer`. A terminal gets headings, and
@@ -46,33 +71,47 @@ pub fn build_printer<T: Clock + Env + AllocGlobal, W: Output>(
     is_terminal: bool,
     writer: W,
 ) -> Printer<W> {
-    let alloc = rt.alloc();
-    let terminator = path_terminator(matches);
-    let color_specs = color_specs(rt, matches, is_terminal);
+    let colors = color_specs(rt, matches, is_terminal);
     if let Some(kind) = summary_kind(matches) {
-        let mut builder = SummaryBuilder::new();
-        builder
-            .kind(kind)
-            .path_terminator(terminator)
-            .color_specs(color_specs);
-        return Printer::Summary(builder.build(alloc, writer));
+        Printer::Summary(summary(matches, kind, colors).build(rt.alloc(), writer))
+    } else if matches.get_flag("json") {
+        let printer = JsonBuilder::new().build(rt.alloc(), writer);
+        Printer::Json(JsonRun::new(rt, printer))
+    } else {
+        Printer::Lines(lines(matches, is_terminal, colors).build(rt.alloc(), writer))
     }
-    if matches.get_flag("json") {
-        let printer = JsonBuilder::new().build(alloc, writer);
-        return Printer::Json(JsonRun::new(rt, printer));
-    }
+}
+
+// How a summary is written.
+fn summary(matches: &ArgMatches<'_>, kind: SummaryKind, colors: ColorSpecs) -> SummaryBuilder {
+    let mut builder = SummaryBuilder::new();
+    builder
+        .kind(kind)
+        .path_terminator(path_terminator(matches))
+        .color_specs(colors);
+    builder
+}
+
+// How lines are written.
+fn lines(matches: &ArgMatches<'_>, is_terminal: bool, colors: ColorSpecs) -> StandardBuilder {
     let heading = shows_headings(matches, is_terminal);
     let mut builder = StandardBuilder::new();
     builder
         .heading(heading)
+        .separator_search(separator(matches, heading))
+        .path_terminator(path_terminator(matches))
+        .color_specs(colors);
+    show(&mut builder, matches);
+    builder
+}
+
+// Sets what is written of a line.
+fn show(builder: &mut StandardBuilder, matches: &ArgMatches<'_>) {
+    builder
         .column(matches.get_flag("column"))
         .byte_offset(matches.get_flag("byte-offset"))
         .only_matching(matches.get_flag("only-matching"))
-        .max_columns(max_columns(matches))
-        .path_terminator(terminator)
-        .color_specs(color_specs)
-        .separator_search(separator(matches, heading));
-    Printer::Lines(builder.build(alloc, writer))
+        .max_columns(max_columns(matches));
 }
 
 /// The kind of the summary that the arguments ask for, if they ask for one.
@@ -176,14 +215,13 @@ fn context(matches: &ArgMatches<'_>, name: &str) -> usize {
     number.or(both).unwrap_or(0) as usize
 }
 
-fn encoding(alloc: Global, matches: &ArgMatches<'_>) -> Result<Option<Encoding>, Failure> {
-    let label = matches.get_str("encoding").unwrap_or("auto");
-    if label == "auto" {
-        return Ok(None);
-    }
-    match Encoding::new(alloc, label) {
-        Ok(encoding) => Ok(Some(encoding)),
-        Err(error) => Err(refused(alloc, error)),
+fn encoding(alloc: Global, matches: &ArgMatches<'_>) -> Result<Option<Encoding>, ConfigError> {
+    match matches.get_str("encoding") {
+        None | Some("auto") => Ok(None),
+        Some(label) => match Encoding::new(alloc, label) {
+            Ok(encoding) => Ok(Some(encoding)),
+            Err(error) => Err(error),
+        },
     }
 }
 

@@ -1,0 +1,224 @@
+//! A run over files.
+use crate::engine::{Engine, written_error};
+use crate::failures::{Failure, report_cause};
+use crate::globs::Chooser;
+use crate::haystacks::{Haystack, PathHaystack, ReaderHaystack};
+use crate::options::shows_paths;
+use crate::printers::Searched;
+use crate::walk::{Found, Walk};
+use clap::ArgMatches;
+use grep_searcher::Source;
+use std::fmt::Display;
+use std::process::ExitCode;
+use std::rt::Files;
+use std::{fs, io};
+
+// The name of standard input.
+const STDIN: &str = "<stdin>";
+
+/// What the arguments say of a run.
+#[derive(Clone, Copy)]
+pub struct Flags {
+    is_recursive: bool,
+    shows_hidden: bool,
+    shows_paths: bool,
+    is_silent: bool,
+    is_quiet: bool,
+}
+
+impl Flags {
+    /// What parsed arguments say of a run over the files at some paths.
+    pub fn new<T: Files>(rt: &T, matches: &ArgMatches<'_>, paths: &[String]) -> Flags {
+        let is_recursive = matches.get_flag("recursive");
+        let names_folder = is_recursive && names_folder(rt, paths);
+        Flags {
+            is_recursive,
+            shows_hidden: matches.get_flag("hidden"),
+            shows_paths: shows_paths(matches, names_folder || paths.len() > 1),
+            is_silent: matches.get_flag("no-messages"),
+            is_quiet: matches.get_flag("quiet"),
+        }
+    }
+}
+
+/// A run over files: what it searches with, and what came of those that it has searched.
+#[derive(Drop)]
+pub struct Run<'r, T, E, C> {
+    rt: &'r T,
+    engine: &'r mut E,
+    chooser: &'r mut C,
+    flags: Flags,
+    has_match: bool,
+    has_error: bool,
+}
+
+impl<'r, T, E, C> Run<'r, T, E, C>
+where
+    T: Files + Eprint + AllocGlobal + Clone + Drop,
+    E: Engine,
+    C: Chooser,
+{
+    /// A run that has searched nothing yet.
+    pub fn new(rt: &'r T, engine: &'r mut E, chooser: &'r mut C, flags: Flags) -> Run<'r, T, E, C> {
+        Run {
+            rt,
+            engine,
+            chooser,
+            flags,
+            has_match: false,
+            has_error: false,
+        }
+    }
+
+    /// Searches the files at some paths, writes what is left, and gives the status.
+    pub fn complete<R: Source>(
+        &mut self,
+        paths: &[String],
+        input: &mut R,
+    ) -> Result<ExitCode, Failure> {
+        match self.search_paths(paths, input) {
+            Ok(()) => self.finish(),
+            Err(error) if self.engine.has_failed() => Err(Failure::Output(error)),
+            Err(error) => Err(Failure::System(error)),
+        }
+    }
+
+    // Searches the files at some paths. If there is none, it searches the current folder or the
+    // input. An error is the writer's, or one of being out of memory.
+    fn search_paths<R: Source>(&mut self, paths: &[String], input: &mut R) -> io::Result<()> {
+        if paths.is_empty() {
+            return if self.flags.is_recursive {
+                self.search_folder("")
+            } else {
+                self.search_input(input)
+            };
+        }
+        for path in paths {
+            self.search_operand(path.as_str(), input)?;
+            if self.is_over() {
+                break;
+            }
+        }
+        Ok(())
+    }
+
+    // Searches what an operand names: the input, a folder or a file.
+    fn search_operand<R: Source>(&mut self, path: &str, input: &mut R) -> io::Result<()> {
+        if path == "-" {
+            self.search_input(input)
+        } else if self.flags.is_recursive && is_folder(self.rt, path) {
+            self.search_folder(path)
+        } else {
+            self.search_path(path)
+        }
+    }
+
+    // Whether nothing that is found from now on makes a difference.
+    fn is_over(&self) -> bool {
+        self.flags.is_quiet && self.has_match
+    }
+
+    // Searches the files of a folder. The search of one that has a NUL ends there, unless files are
+    // searched as text.
+    fn search_folder(&mut self, folder: &str) -> io::Result<()> {
+        self.engine.set_quits(true);
+        let walked = self.walk(folder);
+        self.engine.set_quits(false);
+        walked
+    }
+
+    // Searches what a walk through a folder finds.
+    fn walk(&mut self, folder: &str) -> io::Result<()> {
+        let mut walk = Walk::new(self.rt, self.flags.shows_hidden, folder)?;
+        for _ in 0..u64::MAX {
+            match walk.next(self.chooser)? {
+                Some(found) => self.search_found(&found)?,
+                None => break,
+            }
+            if self.is_over() {
+                break;
+            }
+        }
+        Ok(())
+    }
+
+    // Searches a file that a walk has found, or says why something can't be read.
+    fn search_found(&mut self, found: &Found) -> io::Result<()> {
+        match found {
+            Found::File(path) => self.search_path(path.as_str()),
+            Found::Unread(path, error) => {
+                self.report(path.as_str(), error);
+                Ok(())
+            }
+        }
+    }
+
+    // Searches the file at a path.
+    fn search_path(&mut self, path: &str) -> io::Result<()> {
+        let mut haystack = PathHaystack { rt: self.rt, path };
+        self.search(&mut haystack, path)
+    }
+
+    // Searches standard input.
+    fn search_input<R: Source>(&mut self, input: &mut R) -> io::Result<()> {
+        let mut haystack = ReaderHaystack { reader: input };
+        self.search(&mut haystack, STDIN)
+    }
+
+    // Searches a haystack with a name.
+    fn search<H: Haystack>(&mut self, haystack: &mut H, name: &str) -> io::Result<()> {
+        let path = if self.flags.shows_paths {
+            Some(name)
+        } else {
+            None
+        };
+        let searched = self.engine.search(haystack, path);
+        self.keep(name, searched)
+    }
+
+    // Goes on after a search. An error of reading is reported; one of writing ends the run.
+    fn keep(&mut self, path: &str, searched: Searched) -> io::Result<()> {
+        self.has_match = self.has_match || searched.has_match;
+        let Err(error) = searched.result else {
+            return Ok(());
+        };
+        if self.engine.has_failed() {
+            return Err(written_error(error));
+        }
+        self.report(path, &error);
+        Ok(())
+    }
+
+    // Says what can't be read, and why.
+    fn report<D: Display>(&mut self, path: &str, error: &D) {
+        self.has_error = true;
+        if !self.flags.is_silent {
+            let _ = report_cause(self.rt, path, error);
+        }
+    }
+
+    // Writes what is left, and gives the status.
+    fn finish(&mut self) -> Result<ExitCode, Failure> {
+        if let Err(error) = self.engine.finish() {
+            return Err(Failure::Output(error));
+        }
+        if self.has_error && !self.is_over() {
+            return Ok(ExitCode::from(2));
+        }
+        Ok(ExitCode::from(if self.has_match { 0 } else { 1 }))
+    }
+}
+
+// Whether there is a folder at one of the paths, or no path at all.
+fn names_folder<T: Files>(rt: &T, paths: &[String]) -> bool {
+    paths.is_empty()
+        || paths.iter().any(|path| path.as_str() != "-" && is_folder(rt, path.as_str()))
+}
+
+// Whether there is a folder at a path.
+fn is_folder<T: Files>(rt: &T, path: &str) -> bool {
+    match fs::metadata(rt, path) {
+        Ok(metadata) => metadata.is_dir(),
+        Err(_) => false,
+    }
+}
