@@ -1,5 +1,5 @@
 -- What contracts see of a compiled expression.
-use Rattle.std.specs.Prelude.{◌≡◌, ℕ, List, Option}
+use Rattle.std.specs.Prelude.{◌≡◌, ℕ, Bool, true, false, List, Option, is_some}
 use Rattle.std.specs.Arc.{arc_value}
 use Rattle.regex_hir.specs.Meaning.{meaning}
 use Rattle.regex_hir.specs.Re.{Re}
@@ -37,6 +37,11 @@ regex_first_at r = first_match_at (regex_options r) (regex_patterns r)
 -- the first match of a haystack
 abbrev pub regex_first : Regex → List ℕ → Option (ℕ × ℕ)
 regex_first r haystack = regex_first_at r haystack 0
+
+-- the first match is told, or as early as that is known only whether there is one
+abbrev pub IsTold : Bool → Option (ℕ × ℕ) → Option (ℕ × ℕ) → Type 0
+IsTold false first found = found ≡ first
+IsTold true first found = is_some found ≡ is_some first
 
 -- the expression for which an engine was made
 abbrev pub engine_regex : Engine → Regex

@@ -1,5 +1,5 @@
 //! What searches for a regular expression.
-ghost use Rattle.std.specs.Prelude.{◌≡◌, ◌≤◌, length, is_some, IfOk};
+ghost use Rattle.std.specs.Prelude.{◌≡◌, ◌≤◌, length, IfOk};
 ghost use Rattle.std.specs.Arc.{arc_value};
 
 use crate::finder::Finder;
@@ -26,7 +26,7 @@ impl<'r> Drop for Engine<'r> {
 
 impl<'r> Engine<'r> {
     ghost use Rattle.grep_matcher.specs.FindResults.{IsFrom};
-    ghost use Rattle.grep_regex.specs.Views.{engine_regex, regex_first, regex_first_at};
+    ghost use Rattle.grep_regex.specs.Views.{engine_regex, regex_first_at, IsTold};
 
     pub(crate) fn new(alloc: Global, regex: &'r Regex) -> Result<Engine<'r>, AllocError>
         ensures { IfOk result (λ engine. engine.regex.now ≡ regex.now) }
@@ -37,49 +37,44 @@ impl<'r> Engine<'r> {
         }
     }
 
-    pub(crate) fn find_at(&mut self, haystack: &[u8], start: usize) -> Option<(usize, usize)>
+    // The first match from a position on; if `earliest`, the position if there is a match.
+    pub(crate) fn find_at(
+        &mut self,
+        haystack: &[u8],
+        start: usize,
+        earliest: bool,
+    ) -> Option<(usize, usize)>
         requires { start ≤ length haystack.now }
-        ensures value { result ≡ regex_first_at (engine_regex self.old) haystack.now start }
+        ensures value { IsTold earliest
+            (regex_first_at (engine_regex self.old) haystack.now start) result }
         ensures within { IsFrom start haystack.now result }
         ensures same { self.new.regex.now ≡ self.old.regex.now }
     {
-        self.searcher.find(haystack, start)
+        if !earliest {
+            return self.searcher.find(haystack, start);
+        }
+        if self.searcher.is_match(haystack, start) {
+            Some((start, start))
+        } else {
+            None
+        }
     }
 
-    pub(crate) fn is_match(&mut self, haystack: &[u8]) -> bool
-        ensures value { result ≡ is_some (regex_first (engine_regex self.old) haystack.now) }
-        ensures same { self.new.regex.now ≡ self.old.regex.now }
-    {
-        self.searcher.is_match(haystack, 0)
-    }
-
-    // The first match from a position on, by a new engine.
+    // The same by a new engine.
     pub(crate) fn find_anew(
         alloc: Global,
         regex: &'r Regex,
         haystack: &[u8],
         start: usize,
+        earliest: bool,
     ) -> Result<Option<(usize, usize)>, AllocError>
         requires { start ≤ length haystack.now }
-        ensures value { IfOk result (λ found. found ≡ regex_first_at regex.now haystack.now start) }
+        ensures value { IfOk result
+            (IsTold earliest (regex_first_at regex.now haystack.now start)) }
         ensures within { IfOk result (IsFrom start haystack.now) }
     {
         match Engine::new(alloc, regex) {
-            Ok(mut engine) => Ok(engine.find_at(haystack, start)),
-            Err(error) => Err(error),
-        }
-    }
-
-    // Whether there is a match, by a new engine.
-    pub(crate) fn is_match_anew(
-        alloc: Global,
-        regex: &'r Regex,
-        haystack: &[u8],
-    ) -> Result<bool, AllocError>
-        ensures { IfOk result (λ matches. matches ≡ is_some (regex_first regex.now haystack.now)) }
-    {
-        match Engine::new(alloc, regex) {
-            Ok(mut engine) => Ok(engine.is_match(haystack)),
+            Ok(mut engine) => Ok(engine.find_at(haystack, start, earliest)),
             Err(error) => Err(error),
         }
     }
@@ -94,17 +89,11 @@ impl<'r> Finder for Engine<'r> {
         regex: &Regex,
         haystack: &[u8],
         start: usize,
+        earliest: bool,
     ) -> Option<Option<(usize, usize)>> {
         if !self.regex.is_equal(regex) {
             return None;
         }
-        Some(self.find_at(haystack, start))
-    }
-
-    fn is_match_for(&mut self, regex: &Regex, haystack: &[u8]) -> Option<bool> {
-        if !self.regex.is_equal(regex) {
-            return None;
-        }
-        Some(self.is_match(haystack))
+        Some(self.find_at(haystack, start, earliest))
     }
 }

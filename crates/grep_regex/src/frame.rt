@@ -34,9 +34,6 @@ pub(crate) fn framed(alloc: Global, options: &Options, hir: Hir) -> Result<Hir, 
 fn between(alloc: Global, before: Look, hir: Hir, after: Look) -> Result<Hir, AllocError>
     ensures { IfOk result (λ whole. meaning whole ≡ between before after (meaning hir)) }
 {
-    let mut parts = Vec::new(alloc);
-    parts.push(Hir::Look(before))?;
-    parts.push(hir)?;
-    parts.push(Hir::Look(after))?;
+    let parts = vec![in alloc; Hir::Look(before), hir, Hir::Look(after)]?;
     Ok(Hir::Concat(parts))
 }

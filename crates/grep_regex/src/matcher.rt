@@ -1,10 +1,10 @@
 //! The matcher of a regular expression.
 ghost use Rattle.std.specs.Prelude.{◌≡◌, ◌≤◌, length, IfOk};
 ghost use Rattle.grep_matcher.specs.FindResults.{IsFrom};
-ghost use Rattle.grep_regex.specs.Views.{regex_first_at};
+ghost use Rattle.grep_regex.specs.Views.{regex_first_at, IsTold};
 
 use crate::engine::Engine;
-use crate::finder::{find_by, is_match_by};
+use crate::finder::find_by;
 use crate::regex::Regex;
 use grep_matcher::{ByteSet, FindAt, LineMatchKind, LineTerminator, Match, Matcher};
 use std::alloc::{AllocError, Global};
@@ -22,31 +22,48 @@ pub struct RegexMatcher<'r> {
     engine: RefCell<Engine<'r>>,
 }
 
-impl<'r> RegexMatcher<'r> {
+impl Regex {
     ghost use Rattle.grep_regex.specs.Views.{matcher_regex};
 
-    // The matcher of an expression.
-    pub(crate) fn new(alloc: Global, regex: &'r Regex) -> Result<RegexMatcher<'r>, AllocError>
-        ensures { IfOk result (λ matcher. matcher_regex matcher ≡ regex.now) }
+    /// A matcher of the expression. The only error is being out of memory for what its engines
+    /// write to.
+    pub fn matcher(&self, alloc: Global) -> Result<RegexMatcher<'_>, AllocError>
+        ensures { IfOk result (λ m. matcher_regex m ≡ self.now) }
     {
-        match Engine::new(alloc, regex) {
+        match Engine::new(alloc, self) {
             Ok(engine) => Ok(RegexMatcher {
                 alloc,
-                regex,
+                regex: self,
                 engine: RefCell::new(engine),
             }),
             Err(error) => Err(error),
         }
     }
+}
 
-    // The first match from a position on.
-    fn find_by(&self, haystack: &[u8], start: usize) -> Result<Option<(usize, usize)>, AllocError>
+impl RegexMatcher<'_> {
+    ghost use Rattle.grep_regex.specs.Views.{matcher_regex};
+
+    // The first match from a position on; if `earliest`, any place if there is a match.
+    fn find_by(
+        &self,
+        haystack: &[u8],
+        start: usize,
+        earliest: bool,
+    ) -> Result<Option<(usize, usize)>, AllocError>
         requires { start ≤ length haystack.now }
         ensures value { IfOk result
-            (λ found. found ≡ regex_first_at (matcher_regex self.now) haystack.now start) }
+            (IsTold earliest (regex_first_at (matcher_regex self.now) haystack.now start)) }
         ensures within { IfOk result (IsFrom start haystack.now) }
     {
-        find_by(self.alloc, self.regex, &self.engine, haystack, start)
+        find_by(
+            self.alloc,
+            self.regex,
+            &self.engine,
+            haystack,
+            start,
+            earliest,
+        )
     }
 }
 
@@ -68,16 +85,20 @@ impl Matcher for RegexMatcher<'_> {
     }
 
     fn is_match(&self, haystack: &[u8]) -> Result<bool, AllocError> {
-        is_match_by(self.alloc, self.regex, &self.engine, haystack)
+        match self.find_by(haystack, 0, true) {
+            Ok(found) => Ok(found.is_some()),
+            Err(error) => Err(error),
+        }
     }
 
     fn find_candidate_line(&self, haystack: &[u8]) -> Result<Option<LineMatchKind>, AllocError> {
         if !self.regex.is_by_line() {
             return Ok(Some(LineMatchKind::Candidate(0)));
         }
-        match self.find_by(haystack, 0)? {
-            Some((start, _)) => Ok(Some(LineMatchKind::Confirmed(start))),
-            None => Ok(None),
+        match self.find_by(haystack, 0, false) {
+            Ok(Some((start, _))) => Ok(Some(LineMatchKind::Confirmed(start))),
+            Ok(None) => Ok(None),
+            Err(error) => Err(error),
         }
     }
 
@@ -102,9 +123,10 @@ impl FindAt for RegexMatcher<'_> {
         first-matches (regex_options (matcher_regex m)) (regex_patterns (matcher_regex m)) };
 
     fn find_at(&self, haystack: &[u8], start: usize) -> Result<Option<Match>, AllocError> {
-        match self.find_by(haystack, start)? {
-            Some((from, end)) => Ok(Some(Match::new(from, end))),
-            None => Ok(None),
+        match self.find_by(haystack, start, false) {
+            Ok(Some((from, end))) => Ok(Some(Match::new(from, end))),
+            Ok(None) => Ok(None),
+            Err(error) => Err(error),
         }
     }
 }

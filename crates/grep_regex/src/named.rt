@@ -1,10 +1,10 @@
 //! The matcher of an expression that has a name.
 ghost use Rattle.std.specs.Prelude.{◌≡◌, ◌≤◌, length, IfOk};
 ghost use Rattle.grep_matcher.specs.FindResults.{IsFrom};
-ghost use Rattle.grep_regex.specs.Views.{regex_first_at, IsNamed};
+ghost use Rattle.grep_regex.specs.Views.{regex_first_at, IsNamed, IsTold};
 
 use crate::engine::Engine;
-use crate::finder::{Finder, find_by, is_match_by};
+use crate::finder::{Finder, find_by};
 use crate::regex::Regex;
 use grep_matcher::{ByteSet, FindAt, LineMatchKind, LineTerminator, Match, Matcher};
 use std::alloc::{AllocError, Global};
@@ -50,12 +50,9 @@ impl<'r, N: Naming> Finder for NamedEngine<'r, N> {
         _regex: &Regex,
         haystack: &[u8],
         start: usize,
+        earliest: bool,
     ) -> Option<Option<(usize, usize)>> {
-        Some(self.engine.find_at(haystack, start))
-    }
-
-    fn is_match_for(&mut self, _regex: &Regex, haystack: &[u8]) -> Option<bool> {
-        Some(self.engine.is_match(haystack))
+        Some(self.engine.find_at(haystack, start, earliest))
     }
 }
 
@@ -69,18 +66,18 @@ pub struct NamedMatcher<'r, N: Naming> {
     ghost named: { IsNamed N.options N.patterns regex.now },
 }
 
-impl<'r, N: Naming> NamedMatcher<'r, N> {
+impl Regex {
     ghost use Rattle.grep_regex.specs.NamedViews.{named_regex};
 
-    // The matcher of an expression.
-    pub(crate) fn new(alloc: Global, regex: &'r Regex) -> Result<NamedMatcher<'r, N>, AllocError>
-        requires { IsNamed N.options N.patterns regex.now }
-        ensures { IfOk result (λ matcher. named_regex matcher ≡ regex.now) }
+    /// A matcher as `matcher` gives it, for an expression that `N` names.
+    pub fn named_matcher<N: Naming>(&self, alloc: Global) -> Result<NamedMatcher<'_, N>, AllocError>
+        requires { IsNamed N.options N.patterns self.now }
+        ensures { IfOk result (λ m. named_regex m ≡ self.now) }
     {
-        match Engine::new(alloc, regex) {
+        match Engine::new(alloc, self) {
             Ok(engine) => Ok(NamedMatcher {
                 alloc,
-                regex,
+                regex: self,
                 engine: RefCell::new(NamedEngine {
                     engine,
                     name: PhantomData,
@@ -89,15 +86,31 @@ impl<'r, N: Naming> NamedMatcher<'r, N> {
             Err(error) => Err(error),
         }
     }
+}
 
-    // The first match from a position on.
-    fn find_by(&self, haystack: &[u8], start: usize) -> Result<Option<(usize, usize)>, AllocError>
+impl<N: Naming> NamedMatcher<'_, N> {
+    ghost use Rattle.grep_regex.specs.NamedViews.{named_regex};
+
+    // The first match from a position on; if `earliest`, any place if there is a match.
+    fn find_by(
+        &self,
+        haystack: &[u8],
+        start: usize,
+        earliest: bool,
+    ) -> Result<Option<(usize, usize)>, AllocError>
         requires { start ≤ length haystack.now }
         ensures value { IfOk result
-            (λ found. found ≡ regex_first_at (named_regex self.now) haystack.now start) }
+            (IsTold earliest (regex_first_at (named_regex self.now) haystack.now start)) }
         ensures within { IfOk result (IsFrom start haystack.now) }
     {
-        find_by(self.alloc, self.regex, &self.engine, haystack, start)
+        find_by(
+            self.alloc,
+            self.regex,
+            &self.engine,
+            haystack,
+            start,
+            earliest,
+        )
     }
 }
 
@@ -120,16 +133,20 @@ impl<N: Naming> Matcher for NamedMatcher<'_, N> {
     }
 
     fn is_match(&self, haystack: &[u8]) -> Result<bool, AllocError> {
-        is_match_by(self.alloc, self.regex, &self.engine, haystack)
+        match self.find_by(haystack, 0, true) {
+            Ok(found) => Ok(found.is_some()),
+            Err(error) => Err(error),
+        }
     }
 
     fn find_candidate_line(&self, haystack: &[u8]) -> Result<Option<LineMatchKind>, AllocError> {
         if !self.regex.is_by_line() {
             return Ok(Some(LineMatchKind::Candidate(0)));
         }
-        match self.find_by(haystack, 0)? {
-            Some((start, _)) => Ok(Some(LineMatchKind::Confirmed(start))),
-            None => Ok(None),
+        match self.find_by(haystack, 0, false) {
+            Ok(Some((start, _))) => Ok(Some(LineMatchKind::Confirmed(start))),
+            Ok(None) => Ok(None),
+            Err(error) => Err(error),
         }
     }
 
@@ -154,9 +171,10 @@ impl<N: Naming> FindAt for NamedMatcher<'_, N> {
         first-matches (regex_options (named_regex m)) (regex_patterns (named_regex m)) };
 
     fn find_at(&self, haystack: &[u8], start: usize) -> Result<Option<Match>, AllocError> {
-        match self.find_by(haystack, start)? {
-            Some((from, end)) => Ok(Some(Match::new(from, end))),
-            None => Ok(None),
+        match self.find_by(haystack, start, false) {
+            Ok(Some((from, end))) => Ok(Some(Match::new(from, end))),
+            Ok(None) => Ok(None),
+            Err(error) => Err(error),
         }
     }
 }

@@ -13,8 +13,6 @@ use crate::absent::absent_bytes;
 use crate::error::Error;
 use crate::frame::framed;
 use crate::locality::is_by_line;
-use crate::matcher::RegexMatcher;
-use crate::named::{NamedMatcher, Naming};
 use crate::options::Options;
 use crate::parse::{Choice, read_choice};
 use crate::strip::without_bytes;
@@ -115,9 +113,7 @@ impl fmt::Debug for Regex {
 
 impl Regex {
     ghost use Rattle.grep_regex.specs.Views.{regex_options, regex_patterns, program_re};
-    ghost use Rattle.grep_regex.specs.Views.{regex_program, searcher_program, matcher_regex};
-    ghost use Rattle.grep_regex.specs.NamedViews.{named_regex};
-    ghost use Rattle.grep_regex.specs.Views.{IsNamed};
+    ghost use Rattle.grep_regex.specs.Views.{regex_program, searcher_program};
 
     // Compiles the first of the patterns that works.
     pub(crate) fn new(alloc: Global, options: Options, patterns: &[&str]) -> Result<Regex, Error>
@@ -143,22 +139,6 @@ impl Regex {
             Ok(shared) => Ok(Regex { shared }),
             Err(error) => Err(Error::from(error)),
         }
-    }
-
-    /// A matcher of the expression. The only error is being out of memory for what its engines
-    /// write to.
-    pub fn matcher(&self, alloc: Global) -> Result<RegexMatcher<'_>, AllocError>
-        ensures { IfOk result (λ m. matcher_regex m ≡ self.now) }
-    {
-        RegexMatcher::new(alloc, self)
-    }
-
-    /// The same, for an expression that `N` names.
-    pub fn named_matcher<N: Naming>(&self, alloc: Global) -> Result<NamedMatcher<'_, N>, AllocError>
-        requires { IsNamed N.options N.patterns self.now }
-        ensures { IfOk result (λ m. named_regex m ≡ self.now) }
-    {
-        NamedMatcher::new(alloc, self)
     }
 
     /// The options that it was compiled with.

@@ -8,14 +8,14 @@ pub returns-then-not-is_by_line-clause-trusted : goal.returns-then-not-is_by_lin
 returns-then-not-is_by_line-clause-trusted g c =
     trusted-first (regex_meaning (named_regex c.args.self.now)) (λ _. Unit {0}) c.args.haystack.now
 
-pub returns-in-None-clause-trusted : goal.returns-in-None-clause-trusted
-returns-in-None-clause-trusted g c = trusted-none (named_regex c.args.self.now) (λ _. Unit {0}) c.args.haystack.now
+pub returns-in-Ok-None-clause-trusted : goal.returns-in-Ok-None-clause-trusted
+returns-in-Ok-None-clause-trusted g c = trusted-none (named_regex c.args.self.now) (λ _. Unit {0}) c.args.haystack.now
     (λ k. (c.type_inv.haystack k).fits) (c.is_by_line.ensures.local c.if-not-is_by_line.false)
     (c.is_by_line.ensures.strips c.if-not-is_by_line.false)
-    (sym c.in_ok-start.ensures.value ∙ c.in-None.is)
+    (sym c.in-Ok-None.ensures.value ∙ c.in-Ok-None.field-0-is)
 
-pub returns-in-Some-clause-trusted : goal.returns-in-Some-clause-trusted
-returns-in-Some-clause-trusted g c = trusted-some (named_regex c.args.self.now) (λ _. Unit {0}) c.args.haystack.now
+pub returns-in-Ok-Some-clause-trusted : goal.returns-in-Ok-Some-clause-trusted
+returns-in-Ok-Some-clause-trusted g c = trusted-some (named_regex c.args.self.now) (λ _. Unit {0}) c.args.haystack.now
     (λ k. (c.type_inv.haystack k).fits) (c.is_by_line.ensures.local c.if-not-is_by_line.false)
     (c.is_by_line.ensures.strips c.if-not-is_by_line.false)
-    c.in-Some.start c.in-Some.field-0-1 (sym c.in_ok-start.ensures.value ∙ c.in-Some.is)
+    c.in-Ok-Some.start c.in-Ok-Some.field-0-0-1 (sym c.in-Ok-Some.ensures.value ∙ c.in-Ok-Some.field-0-is)
