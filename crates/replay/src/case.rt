@@ -55,6 +55,13 @@ pub(crate) enum Pattern {
     Regex,
 }
 
+impl Pattern {
+    // Whether a case may say which terminator the matcher names.
+    fn may_name(self) -> bool {
+        matches!(self, Pattern::Literal | Pattern::Candidates)
+    }
+}
+
 impl FromStr for Pattern {
     type Err = CaseError;
 
@@ -177,19 +184,14 @@ impl Case {
     /// `Malformed`, which is also the error of a line that isn't UTF-8 or lacks the input or the
     /// literal. `OutOfMemory` for the whole input comes after these.
     pub(crate) fn parse(alloc: Global, line: &[u8]) -> Result<Case, CaseError> {
-        let line = str::from_utf8(line).map_err(|_| CaseError::Malformed)?;
-        let mut fields = Fields {
-            input: None,
-            head: Vec::new(alloc),
-            tail: Vec::new(alloc),
-            literal: None,
-            other: Vec::new(alloc),
-            options: Options::new(),
+        let Ok(line) = str::from_utf8(line) else {
+            return Err(CaseError::Malformed);
         };
-        for field in line.split(' ') {
-            fields.read(alloc, field)?;
+        let mut fields = Fields::new(alloc);
+        match fields.read_all(alloc, line) {
+            Ok(()) => fields.into_case(),
+            Err(error) => Err(error),
         }
-        fields.into_case()
     }
 
     /// Where the same search makes the same calls, plain or not: a slice, a reader in one piece and
@@ -243,18 +245,52 @@ struct Fields {
 }
 
 impl Fields {
-    // Reads one field.
-    fn read(&mut self, alloc: Global, field: &str) -> Result<(), CaseError> {
-        let (key, value) = field.split_once('=').ok_or(CaseError::Malformed)?;
-        match key {
-            "in" => self.input = Some(hex::decode(alloc, value)?),
-            "head" => self.head = hex::decode(alloc, value)?,
-            "tail" => self.tail = hex::decode(alloc, value)?,
-            "lit" => self.literal = Some(hex::decode(alloc, value)?),
-            "or" => self.other = hex::decode(alloc, value)?,
-            _ => self.options.set(alloc, key, value)?,
+    // No field yet.
+    fn new(alloc: Global) -> Fields {
+        Fields {
+            input: None,
+            head: Vec::new(alloc),
+            tail: Vec::new(alloc),
+            literal: None,
+            other: Vec::new(alloc),
+            options: Options::new(),
+        }
+    }
+
+    // Reads the fields of a line.
+    fn read_all(&mut self, alloc: Global, line: &str) -> Result<(), CaseError> {
+        for field in line.split(' ') {
+            self.read(alloc, field)?;
         }
         Ok(())
+    }
+
+    // Reads one field.
+    fn read(&mut self, alloc: Global, field: &str) -> Result<(), CaseError> {
+        let Some((key, value)) = field.split_once('=') else {
+            return Err(CaseError::Malformed);
+        };
+        match key {
+            "in" | "head" | "tail" | "lit" | "or" => match hex::decode(alloc, value) {
+                Ok(bytes) => {
+                    self.keep(key, bytes);
+                    Ok(())
+                }
+                Err(error) => Err(CaseError::from(error)),
+            },
+            _ => self.options.set(alloc, key, value),
+        }
+    }
+
+    // Keeps the bytes of a field.
+    fn keep(&mut self, key: &str, bytes: Vec<u8>) {
+        match key {
+            "in" => self.input = Some(bytes),
+            "head" => self.head = bytes,
+            "tail" => self.tail = bytes,
+            "lit" => self.literal = Some(bytes),
+            _ => self.other = bytes,
+        }
     }
 
     // The case of all fields.
@@ -270,6 +306,9 @@ impl Fields {
         let (Some(input), Some(literal)) = (input, literal) else {
             return Err(CaseError::Malformed);
         };
+        if options.names.is_some() && !options.pattern.may_name() {
+            return Err(CaseError::Malformed);
+        }
         Ok(Case {
             input: between(head, &input, options.times, &tail)?,
             literal,
@@ -379,17 +418,24 @@ fn express(expression: &mut RegexMatcherBuilder, letter: char) -> Result<(), Cas
 fn configure(settings: &mut SearcherBuilder, key: &str, value: &str) -> Result<(), CaseError> {
     match key {
         "term" => settings.line_terminator(terminator(value)?),
-        "invert" => settings.invert_match(flag(value)?),
-        "nums" => settings.line_number(flag(value)?),
-        "multi" => settings.multi_line(flag(value)?),
+        "bin" => settings.binary_detection(detection(value)?),
         "after" => settings.after_context(number(value)?),
         "before" => settings.before_context(number(value)?),
-        "passthru" => settings.passthru(flag(value)?),
-        "bom" => settings.bom_sniffing(flag(value)?),
-        "stop" => settings.stop_on_nonmatch(flag(value)?),
         "heap" => settings.heap_limit(limit(value)?),
-        "bin" => settings.binary_detection(detection(value)?),
         "max" => settings.max_matches(limit(value)?),
+        _ => return configure_flag(settings, key, flag(value)?),
+    };
+    Ok(())
+}
+
+fn configure_flag(settings: &mut SearcherBuilder, key: &str, yes: bool) -> Result<(), CaseError> {
+    match key {
+        "invert" => settings.invert_match(yes),
+        "nums" => settings.line_number(yes),
+        "multi" => settings.multi_line(yes),
+        "passthru" => settings.passthru(yes),
+        "bom" => settings.bom_sniffing(yes),
+        "stop" => settings.stop_on_nonmatch(yes),
         _ => return Err(CaseError::Malformed),
     };
     Ok(())

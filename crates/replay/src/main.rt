@@ -1,9 +1,12 @@
-//! Reads cases of searches from standard input, one a line, and writes the calls that each search
-//! makes, one line a case. An empty line is skipped.
+//! Reads cases of searches from standard input, one a line, and writes what each search comes to:
+//! its calls, one line a case, or the text of a printer. An empty line is skipped.
 #![tactic(auto)]
 
 mod case;
+mod printing;
+mod row;
 mod run;
+mod texts;
 
 use std::io;
 use std::io::{BufWriter, Read, Write};
@@ -13,7 +16,9 @@ fn main(rt: HostRuntime) -> io::Result<()> {
     rt.stdin().read_to_end(&mut input)?;
     let mut output = BufWriter::new(rt.alloc(), rt.stdout())?;
     for line in input.as_slice().split(|byte| *byte == b'\n') {
-        if !line.is_empty() {
+        if line.starts_with(b"-") {
+            printing::print(rt.alloc(), line, &mut output)?;
+        } else if !line.is_empty() {
             run::replay(rt.alloc(), line, &mut output)?;
         }
     }

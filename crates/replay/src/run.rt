@@ -151,22 +151,41 @@ fn search(
     match case.options.pattern {
         Pattern::Literal => {
             let matcher = literal(alloc, &case.literal)?;
-            search_by(matcher, searcher, case, way, recorder)
+            search_literal(matcher, searcher, case, way, recorder)
         }
         Pattern::Candidates => {
             let matcher = CandidatesOnly(literal(alloc, &case.literal)?);
-            search_by(matcher, searcher, case, way, recorder)
+            search_named(matcher, searcher, case, way.place, recorder)
         }
         Pattern::Either => {
             let first = literal(alloc, &case.literal)?;
             let second = literal(alloc, &case.other)?;
-            search_by(Either { first, second }, searcher, case, way, recorder)
+            search_with(
+                Either { first, second },
+                searcher,
+                case,
+                way.place,
+                recorder,
+            )
         }
-        Pattern::End => search_by(ConfirmsEnd, searcher, case, way, recorder),
-        Pattern::Empty => search_by(Empty, searcher, case, way, recorder),
-        Pattern::AtEnd => search_by(AtEnd, searcher, case, way, recorder),
-        Pattern::Failing => search_by(Failing, searcher, case, way, recorder),
         Pattern::Regex => search_regex(alloc, searcher, case, way, recorder),
+        Pattern::End => search_by(ConfirmsEnd, searcher, case, way, recorder),
+        _ => search_bare(searcher, case, way.place, recorder),
+    }
+}
+
+// Searches with a matcher that has no literal, names no terminator and has no byte set. It is its
+// own `Plain`.
+fn search_bare(
+    searcher: &mut Searcher,
+    case: &Case,
+    place: Place,
+    recorder: &mut Recorder,
+) -> Result<(), SearchError> {
+    match case.options.pattern {
+        Pattern::Empty => search_with(Empty, searcher, case, place, recorder),
+        Pattern::AtEnd => search_with(AtEnd, searcher, case, place, recorder),
+        _ => search_with(Failing, searcher, case, place, recorder),
     }
 }
 
@@ -204,9 +223,9 @@ fn no_memory(error: AllocError) -> SearchError {
     SearchError::Io(io::Error::from(error))
 }
 
-// Searches with a matcher, plain or not.
-fn search_by<M: Matcher + Drop>(
-    matcher: M,
+// Searches with the matcher of a literal, plain or not, which may name a terminator.
+fn search_literal(
+    matcher: LiteralMatcher<'static>,
     searcher: &mut Searcher,
     case: &Case,
     way: Way,
@@ -216,6 +235,21 @@ fn search_by<M: Matcher + Drop>(
         search_named(Plain(matcher), searcher, case, way.place, recorder)
     } else {
         search_named(matcher, searcher, case, way.place, recorder)
+    }
+}
+
+// Searches with a matcher, plain or not.
+fn search_by<M: Matcher + Drop>(
+    matcher: M,
+    searcher: &mut Searcher,
+    case: &Case,
+    way: Way,
+    recorder: &mut Recorder,
+) -> Result<(), SearchError> {
+    if way.plain {
+        search_with(Plain(matcher), searcher, case, way.place, recorder)
+    } else {
+        search_with(matcher, searcher, case, way.place, recorder)
     }
 }
 

@@ -1,4 +1,4 @@
-//! What a line asks for.
+//! A row: a search of texts that are held here, and what writes its reports.
 use grep_printer::{
     ColorSpecs, JsonBuilder, SearchSeparator, StandardBuilder, SummaryBuilder, SummaryKind,
 };
@@ -24,6 +24,8 @@ pub struct Row<'r> {
     pub pattern: &'r str,
     /// Whether the text that isn't UTF-8 is searched, in place of the others.
     pub searches_bytes: bool,
+    /// Whether a match may run over several lines.
+    pub is_across: bool,
     /// The settings of the search.
     pub search: SearcherBuilder,
     /// The settings of the printer of lines.
@@ -52,6 +54,7 @@ impl<'r> Row<'r> {
             kind: Kind::Lines,
             pattern: "",
             searches_bytes: false,
+            is_across: false,
             search: SearcherBuilder::new(),
             lines: StandardBuilder::new(),
             summary: SummaryBuilder::new(),
@@ -63,7 +66,7 @@ impl<'r> Row<'r> {
     // such a word.
     fn set(&mut self, word: &'r str) -> bool {
         let is_kind = self.set_kind(word);
-        let is_search = set_search(&mut self.search, word);
+        let is_search = self.set_search(word);
         let is_of_lines = set_lines(&mut self.lines, word);
         let is_summary = set_summary(&mut self.summary, word);
         let is_number = self.set_number(word);
@@ -81,6 +84,21 @@ impl<'r> Row<'r> {
             }
             _ => return false,
         }
+        true
+    }
+
+    fn set_search(&mut self, word: &str) -> bool {
+        let search = &mut self.search;
+        match word {
+            "-n" => search.line_number(true),
+            "-N" => search.line_number(false),
+            "-v" => search.invert_match(true),
+            "-U" => {
+                self.is_across = true;
+                search.multi_line(true)
+            }
+            _ => return false,
+        };
         true
     }
 
@@ -115,17 +133,6 @@ impl<'r> Row<'r> {
         self.searches_bytes = true;
         word == "bytes.txt"
     }
-}
-
-fn set_search(search: &mut SearcherBuilder, word: &str) -> bool {
-    match word {
-        "-n" => search.line_number(true),
-        "-N" => search.line_number(false),
-        "-v" => search.invert_match(true),
-        "-U" => search.multi_line(true),
-        _ => return false,
-    };
-    true
 }
 
 fn set_lines(lines: &mut StandardBuilder, word: &str) -> bool {

@@ -1,0 +1,190 @@
+//! The search of a row, and what a printer makes of it.
+use crate::row::{Kind, Row};
+use crate::texts::{compile, texts};
+use grep_output::{Output, Writing};
+use grep_printer::{Json, Standard, Stats, Summary};
+use grep_regex::Regex;
+use grep_searcher::{FindAt, SearchError, Searcher, Sink};
+use std::alloc::Global;
+use std::time::Duration;
+use std::{io, str};
+
+// How long each search takes, in nanoseconds, in place of what a clock would say.
+const ELAPSED: u64 = 1_023_456_789;
+
+/// Makes the search of a line, and writes the line and what a printer makes of the search. A line
+/// that is no row, and a search that fails, are reported in what is written.
+pub(crate) fn print<W: io::Write>(alloc: Global, line: &[u8], output: &mut W) -> io::Result<()> {
+    match str::from_utf8(line) {
+        Ok(line) => print_line(alloc, line, output),
+        Err(_) => writeln!(output, "err case"),
+    }
+}
+
+fn print_line<W: io::Write>(alloc: Global, line: &str, output: &mut W) -> io::Result<()> {
+    writeln!(output, "== {line}")?;
+    match Row::read(line) {
+        Some(row) => print_row(alloc, &row, output),
+        None => writeln!(output, "err case"),
+    }
+}
+
+fn print_row<W: io::Write>(alloc: Global, row: &Row<'_>, output: &mut W) -> io::Result<()> {
+    match print_search(alloc, row, Writing::new(&mut *output)) {
+        Ok(()) => Ok(()),
+        Err(error) => writeln!(output, "err {error}"),
+    }
+}
+
+// Writes what the printer of a row makes of its search.
+fn print_search<W: Output + Drop>(
+    alloc: Global,
+    row: &Row<'_>,
+    writer: W,
+) -> Result<(), SearchError> {
+    let regex = compile(alloc, row.pattern, row.is_across)?;
+    print_regex(alloc, row, &regex, writer)
+}
+
+fn print_regex<W: Output + Drop>(
+    alloc: Global,
+    row: &Row<'_>,
+    regex: &Regex,
+    writer: W,
+) -> Result<(), SearchError> {
+    let matcher = regex.matcher(alloc)?;
+    print_matches(alloc, row, &matcher, writer)
+}
+
+// Writes what a matcher finds, by the printer that the row asks for.
+fn print_matches<M: FindAt, W: Output + Drop>(
+    alloc: Global,
+    row: &Row<'_>,
+    matcher: &M,
+    writer: W,
+) -> Result<(), SearchError> {
+    match row.kind {
+        Kind::Lines => print_by(alloc, row, matcher, &mut row.lines.build(alloc, writer)),
+        Kind::Summary => print_by(alloc, row, matcher, &mut row.summary.build(alloc, writer)),
+        Kind::Json => {
+            let mut messages = Messages {
+                printer: row.json.build(alloc, writer),
+                stats: Stats::new(),
+            };
+            print_by(alloc, row, matcher, &mut messages)
+        }
+    }
+}
+
+// Searches the texts of a row, and has a printer write what is found.
+fn print_by<M: FindAt, P: Printer>(
+    alloc: Global,
+    row: &Row<'_>,
+    matcher: &M,
+    printer: &mut P,
+) -> Result<(), SearchError> {
+    let mut searcher = row.search.build(alloc)?;
+    for (path, text) in texts(row.searches_bytes) {
+        printer.print(&mut searcher, matcher, path, text)?;
+    }
+    printer.finish()
+}
+
+// What writes the reports of searches.
+trait Printer {
+    // Searches a text, and writes what is found in it.
+    fn print<M: FindAt>(
+        &mut self,
+        searcher: &mut Searcher,
+        matcher: &M,
+        path: &str,
+        text: &[u8],
+    ) -> Result<(), SearchError>;
+
+    // Writes what is left after all searches.
+    fn finish(&mut self) -> Result<(), SearchError>;
+}
+
+impl<W: Output> Printer for Standard<W> {
+    fn print<M: FindAt>(
+        &mut self,
+        searcher: &mut Searcher,
+        matcher: &M,
+        path: &str,
+        text: &[u8],
+    ) -> Result<(), SearchError> {
+        let mut sink = self.sink(matcher, Some(path));
+        search(searcher, matcher, text, &mut sink)
+    }
+
+    fn finish(&mut self) -> Result<(), SearchError> {
+        flushed(self.flush())
+    }
+}
+
+impl<W: Output> Printer for Summary<W> {
+    fn print<M: FindAt>(
+        &mut self,
+        searcher: &mut Searcher,
+        matcher: &M,
+        path: &str,
+        text: &[u8],
+    ) -> Result<(), SearchError> {
+        let mut sink = self.sink(matcher, Some(path));
+        search(searcher, matcher, text, &mut sink)
+    }
+
+    fn finish(&mut self) -> Result<(), SearchError> {
+        flushed(self.flush())
+    }
+}
+
+// A printer of JSON, and what all searches have come to.
+#[derive(Drop)]
+struct Messages<W> {
+    printer: Json<W>,
+    stats: Stats,
+}
+
+impl<W: Output> Printer for Messages<W> {
+    fn print<M: FindAt>(
+        &mut self,
+        searcher: &mut Searcher,
+        matcher: &M,
+        path: &str,
+        text: &[u8],
+    ) -> Result<(), SearchError> {
+        let mut sink = self.printer.sink(matcher, Some(path));
+        search(searcher, matcher, text, &mut sink)?;
+        let stats = sink.write_end(Duration::from_nanos(ELAPSED))?;
+        self.stats.add(&stats);
+        Ok(())
+    }
+
+    fn finish(&mut self) -> Result<(), SearchError> {
+        self.printer
+            .write_summary(&self.stats, Duration::from_nanos(ELAPSED))?;
+        flushed(self.printer.flush())
+    }
+}
+
+// The end of a search whose writer was flushed.
+fn flushed(flushed: io::Result<()>) -> Result<(), SearchError> {
+    match flushed {
+        Ok(()) => Ok(()),
+        Err(error) => Err(SearchError::Io(error)),
+    }
+}
+
+// Searches a text. The contract of the searcher's call isn't passed on: the program needs none of
+// it, and is proved sooner without it.
+fn search<M: FindAt, S: Sink<Error = SearchError>>(
+    searcher: &mut Searcher,
+    matcher: &M,
+    text: &[u8],
+    sink: &mut S,
+) -> Result<(), SearchError>
+    requires { S.may_call sink.old }
+{
+    searcher.search_slice(matcher, text, sink)
+}
