@@ -1,5 +1,4 @@
 //! Matchers for tests of what a search asks about many lines at once.
-use grep_lines::LineStep;
 use grep_matcher::{ByteSet, LineMatchKind, LineTerminator, Match, Matcher};
 use std::io;
 
@@ -28,43 +27,6 @@ impl<M: Matcher> Matcher for CandidatesOnly<M> {
         match self.0.find_candidate_line(haystack) {
             Ok(found) => Ok(found),
             Err(_) => Err(CANDIDATES_ONLY),
-        }
-    }
-
-    fn line_terminator(&self) -> Option<LineTerminator> {
-        self.0.line_terminator()
-    }
-
-    fn non_matching_bytes(&self) -> Option<&ByteSet> {
-        self.0.non_matching_bytes()
-    }
-}
-
-/// Another matcher, for which every line is a candidate: of lines that are split at a line feed it
-/// finds the first, as a `Candidate` at its last byte.
-#[derive(Drop)]
-pub struct EveryLine<M>(pub M);
-
-impl<M: Matcher> Matcher for EveryLine<M> {
-    type Error = M::Error;
-
-    ghost use Rattle.std.specs.Prelude.{◌≡◌};
-    ghost use Rattle.grep_matcher.specs.Lines.{byte_of};
-
-    ghost facts = { λ m. record {
-      meaning = (M.facts m.0).meaning;
-      fails = (M.facts m.0).fails;
-      is_lawful = λ terminator. byte_of terminator ≡ 10;
-    } };
-
-    fn find(&self, haystack: &[u8]) -> Result<Option<Match>, M::Error> {
-        self.0.find(haystack)
-    }
-
-    fn find_candidate_line(&self, haystack: &[u8]) -> Result<Option<LineMatchKind>, M::Error> {
-        match LineStep::new(b'\n', 0, haystack.len()).next(haystack) {
-            Some((_, end)) => Ok(Some(LineMatchKind::Candidate(end - 1))),
-            None => Ok(None),
         }
     }
 
