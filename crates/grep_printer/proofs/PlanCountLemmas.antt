@@ -24,7 +24,6 @@ use Rattle.grep_printer.specs.StandardTexts.{is_text}
 use Rattle.grep_printer.specs.StatsSums.{capped_sum}
 use Rattle.grep_printer.specs.SummaryTexts.{SummaryFrame, Summed, counted_parts, counts_on, summed_with, sums_on}
 use Rattle.grep_printer.specs.declared.json_printer.JsonProgress.{JsonProgress}
-use Rattle.grep_printer.specs.declared.summary.Counts.{Counts}
 
 -- a sum that is capped at each step
 capped-more : (a b : ℕ) → capped_sum (capped a) b ≡ capped (a + b)

@@ -1,7 +1,7 @@
 -- What the sink of a printer has written after a run along a plan.
-use Rattle.std.proofs.Common.{◌≡◌, ◌⊎◌, ◌∙◌, ◌∷◌, ◌++◌, [], ap, inl, inr, refl, subst}
+use Rattle.std.proofs.Common.{◌≡◌, ◌⊎◌, ◌∙◌, ap, inl, inr, refl, subst}
 use Rattle.std.specs.Global.{Global}
-use Rattle.std.specs.Prelude.{ℕ, List, Option, Bool, true, false, ◌||◌, Err, Ok}
+use Rattle.std.specs.Prelude.{ℕ, List, Option, Bool, ◌||◌, Err, Ok}
 use Rattle.grep_output.proofs.OutputLemmas.{Writes-none, Writes-more}
 use Rattle.grep_output.specs.Outputs.{Begins, FailsToWrite, OutputCall, WritesAll}
 use Rattle.grep_matcher.specs.Meanings.{MatcherFacts}

@@ -5,12 +5,12 @@ use Rattle.std.proofs.lemmas.Fmt.{decimal_injective}
 use Rattle.std.proofs.lemmas.List.Elements.{All-head, All-tail}
 use Rattle.std.specs.Borrow.{Bor}
 use Rattle.std.specs.Option.{IfSome}
-use Rattle.std.specs.Prelude.{All, Ok, codes, decimal, if◌then◌else◌}
+use Rattle.std.specs.Prelude.{All, codes, decimal, if◌then◌else◌}
 use Rattle.std.specs.Str.{is_utf8}
 use Rattle.base64.proofs.EngineFacts.{decode_of-encode_of}
 use Rattle.base64.specs.Engines.{standard}
 use Rattle.base64.specs.GeneralPurpose.{IsBytes, decode_of, encode_of}
-use Rattle.grep_printer.specs.JsonLaws.{IsReport, IsSameReport, IsWordRange, MessagesTell, Reported, message_of}
+use Rattle.grep_printer.specs.JsonLaws.{IsWordRange, MessagesTell}
 use Rattle.grep_printer.specs.JsonLaws.{path_text}
 use Rattle.grep_printer.specs.JsonMessages.{base64_json, bytes_json, optional_json, path_json, report_json}
 use Rattle.grep_printer.specs.JsonMessages.{submatch_items, submatch_json, text_json}

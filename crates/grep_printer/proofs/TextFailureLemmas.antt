@@ -2,7 +2,7 @@
 use Rattle.std.proofs.Common.{◌≡◌, ◌∙◌, ℕ, List, [], ◌++◌, append_assoc, subst, sym}
 use Rattle.std.proofs.lemmas.List.{append-nil}
 use Rattle.std.specs.Global.{Global}
-use Rattle.std.specs.Prelude.{Err, Ok}
+use Rattle.std.specs.Prelude.{Err}
 use Rattle.std.specs.declared.io.Error.{Error}
 use Rattle.grep_output.proofs.OutputLemmas.{Writes-cut, Writes-more}
 use Rattle.grep_output.specs.Outputs.{Begins, FailsToWrite, OutputCall, WritesAll}

@@ -1,6 +1,6 @@
 -- What the counts of a printer come to for a whole plan, in terms of all its calls.
 use Rattle.std.specs.Prelude.{◌≡◌, ℕ, ◌-◌, ◌^◌, min, not, Bool, true, false, ◌==◌, if◌then◌else◌}
-use Rattle.std.specs.Prelude.{All, List, [], length, Option, Some}
+use Rattle.std.specs.Prelude.{All, List, [], length, Some}
 use Rattle.std.specs.List.{sum_by}
 use Rattle.grep_matcher.specs.Lines.{byte_of}
 use Rattle.grep_searcher.specs.Lines.{lines}

@@ -8,6 +8,7 @@
 
 mod colors;
 mod config;
+mod draft;
 mod fields;
 mod json_lines;
 mod json_printer;

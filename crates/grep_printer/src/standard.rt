@@ -1,48 +1,32 @@
 //! The printer of lines.
-ghost use Rattle.std.specs.Prelude.{◌≡◌, ◌⊎◌, ◌+◌, ◌<◌, ◌^◌, ◌&&◌, ◌||◌, ◌∷◌, true, false, []};
+ghost use Rattle.std.specs.Prelude.{◌≡◌, ◌⊎◌, ◌+◌, ◌<◌, ◌^◌, ◌&&◌, ◌||◌, true, false};
 ghost use Rattle.std.specs.Prelude.{OnOk, is_ok, IfErr, MatchResult, length, not};
-ghost use Rattle.std.specs.Prelude.{if◌then◌else◌, ◌++◌, codes, decimal};
+ghost use Rattle.std.specs.Prelude.{if◌then◌else◌};
 ghost use Rattle.grep_report.specs.SinkReports.{match_bytes};
 ghost use Rattle.grep_searcher.specs.SearchErrors.{IsOutOfMemory};
 ghost use Rattle.grep_searcher.specs.SinkArguments.{context_call, match_call};
 ghost use Rattle.grep_output.specs.Outputs.{Writes, flushes};
-ghost use Rattle.grep_printer.specs.ColoredTexts.{color_of, path_color};
-ghost use Rattle.grep_printer.specs.LineTexts.{opening_text};
 ghost use Rattle.grep_printer.specs.MatchedParts.{AreInOrder};
-ghost use Rattle.grep_printer.specs.PartTexts.{column_of, context_text, match_text, writes_parts};
 ghost use Rattle.grep_printer.specs.StandardSteps.{IsComposing, IsErrorAt, IsWritten};
 ghost use Rattle.grep_printer.specs.StandardSteps.{FailsToBeWritten, frame_of, report_of};
-ghost use Rattle.grep_printer.specs.StandardTexts.{binary_message, context_parts};
-ghost use Rattle.grep_printer.specs.StandardTexts.{is_hidden, is_text, layout_of, new_progress};
-ghost use Rattle.grep_printer.specs.StandardTexts.{parts_of, path_prefix};
+ghost use Rattle.grep_printer.specs.StandardTexts.{context_parts, is_hidden, is_text, layout_of};
+ghost use Rattle.grep_printer.specs.StandardTexts.{new_progress, parts_of};
 
-use crate::colors::push_colored;
 use crate::config::Config;
-use crate::fields::{Layout, LineKind, Place, push_digits};
+use crate::draft::Draft;
+use crate::fields::Layout;
 use crate::parts::find_reported_parts;
-use crate::reports::Report;
 use grep_output::{Output, write_all};
-use grep_searcher::{
-    BinaryDetection, FindAt, Match, SearchError, Searcher, Sink, SinkContext, SinkFinish, SinkMatch,
-};
-use std::alloc::{AllocError, Allocator, Global};
+use grep_searcher::{FindAt, SearchError, Searcher, Sink, SinkContext, SinkFinish, SinkMatch};
+use std::alloc::{Allocator, Global};
 use std::io;
-
-// What is said of a binary byte, before its offset and what ends both messages.
-const STOPPED: &str =
-    "WARNING: stopped searching binary file after match (found \"\\0\" byte around offset ";
-
-const MATCHES: &str = "binary file matches (found \"\\0\" byte around offset ";
 
 /// A printer of lines: it writes each line that a search reports, after the fields that are asked
 /// for. `sink` gives the sink of one search after another.
 #[derive(Drop)]
 pub struct Standard<W> {
     writer: W,
-    // The text of the call at hand.
-    text: Vec<u8>,
-    // The parts of the report at hand that match, if they are asked for.
-    parts: Vec<Match>,
+    draft: Draft,
     config: Config,
     has_written: bool,
     has_failed: bool,
@@ -58,8 +42,7 @@ impl<W> Standard<W> {
     {
         Standard {
             writer,
-            text: Vec::new(alloc),
-            parts: Vec::new(alloc),
+            draft: Draft::new(alloc),
             config,
             has_written: false,
             has_failed: false,
@@ -103,163 +86,13 @@ impl<W> Standard<W> {
         self.has_failed
     }
 
-    // Begins a text, which is empty but for the opening before the first report of a search.
-    fn open(&mut self, layout: &Layout<'_>, progress: &Progress) -> Result<(), AllocError>
-        ensures writer { self.new.writer ≡ self.old.writer }
-        ensures config { self.new.config ≡ self.old.config }
-        ensures has_written { self.new.has_written ≡ self.old.has_written }
-        ensures has_failed { self.new.has_failed ≡ self.old.has_failed }
-        ensures parts { self.new.parts ≡ self.old.parts }
-        ensures text { OnOk result (self.new.text.items
-            ≡ (if progress.now.is_open then [] else opening_text layout.now progress.now.follows)) }
-    {
-        self.text.clear();
-        if progress.is_open {
-            return Ok(());
-        }
-        layout.push_opening(&mut self.text, progress.follows)
-    }
-
-    // Pushes the text of a match: its parts, or its lines.
-    fn push_match(
-        &mut self,
-        layout: &Layout<'_>,
-        found: &SinkMatch<'_>,
-        is_across: bool,
-    ) -> Result<(), AllocError>
-        requires fits { found.now.offset + length (match_bytes found.now) < 2 ^ 64 }
-        requires ordered { AreInOrder 0 (length (match_bytes found.now)) self.old.parts.items }
-        ensures writer { self.new.writer ≡ self.old.writer }
-        ensures config { self.new.config ≡ self.old.config }
-        ensures has_written { self.new.has_written ≡ self.old.has_written }
-        ensures has_failed { self.new.has_failed ≡ self.old.has_failed }
-        ensures text { OnOk result (self.new.text.items ≡ self.old.text.items
-            ++ match_text layout.now is_across found.now.line_number found.now.offset
-            (match_bytes found.now) self.old.parts.items) }
-    {
-        let number = found.line_number();
-        let report = Report {
-            kind: LineKind::Match(0),
-            offset: found.absolute_byte_offset(),
-            bytes: found.bytes(),
-        };
-        if !self.writes_parts(layout) {
-            let place = self.place(layout, number, &report);
-            let kind = LineKind::Match(self.parts.len());
-            return layout.push_lines(&mut self.text, kind, place, &self.parts, report.bytes);
-        }
-        if is_across {
-            return layout.push_across(&mut self.text, &report, number, &self.parts);
-        }
-        layout.push_parts(&mut self.text, &report, number, &self.parts)
-    }
-
-    // Pushes the text of a line that isn't a match: its parts, or all of it.
-    fn push_context(
-        &mut self,
-        layout: &Layout<'_>,
-        line: &SinkContext<'_>,
-    ) -> Result<(), AllocError>
-        requires fits { line.now.offset + length line.now.bytes < 2 ^ 64 }
-        requires ordered { AreInOrder 0 (length line.now.bytes) self.old.parts.items }
-        ensures writer { self.new.writer ≡ self.old.writer }
-        ensures config { self.new.config ≡ self.old.config }
-        ensures has_written { self.new.has_written ≡ self.old.has_written }
-        ensures has_failed { self.new.has_failed ≡ self.old.has_failed }
-        ensures text { OnOk result (self.new.text.items ≡ self.old.text.items
-            ++ context_text layout.now line.now.line_number line.now.offset line.now.bytes
-            self.old.parts.items) }
-    {
-        let number = line.line_number();
-        let report = Report {
-            kind: LineKind::Context(0),
-            offset: line.absolute_byte_offset(),
-            bytes: line.bytes(),
-        };
-        if !self.writes_parts(layout) {
-            let place = self.place(layout, number, &report);
-            let kind = LineKind::Context(self.parts.len());
-            return layout.push_line(&mut self.text, kind, &place, &self.parts, report.bytes);
-        }
-        layout.push_parts(&mut self.text, &report, number, &self.parts)
-    }
-
-    // Whether the parts of the report at hand are written in place of its lines.
-    fn writes_parts(&self, layout: &Layout<'_>) -> bool
-        ensures { result ≡ writes_parts layout.now self.now.parts.items }
-    {
-        layout.config.only_matching && !self.parts.is_empty()
-    }
-
-    // The place of the report at hand, with the column of its first part if columns are written.
-    fn place(&self, layout: &Layout<'_>, number: Option<u64>, report: &Report<'_>) -> Place
-        requires { AreInOrder 0 (length report.now.bytes.now) self.now.parts.items }
-        ensures { result ≡ record {
-          number = number;
-          column = column_of layout.now self.now.parts.items;
-          offset = report.now.offset;
-          start = 0;
-        } }
-    {
-        let column = match self.parts.first() {
-            Some(part) if layout.config.column => Some(part.start() as u64 + 1),
-            _ => None,
-        };
-        Place {
-            number,
-            column,
-            offset: report.offset,
-            start: 0,
-        }
-    }
-
-    // Makes a text of the line between two groups of lines.
-    fn compose_break(&mut self, terminator: u8) -> Result<(), AllocError>
-        ensures writer { self.new.writer ≡ self.old.writer }
-        ensures config { self.new.config ≡ self.old.config }
-        ensures has_written { self.new.has_written ≡ self.old.has_written }
-        ensures has_failed { self.new.has_failed ≡ self.old.has_failed }
-        ensures text { OnOk result (self.new.text.items ≡ 45 ∷ 45 ∷ terminator ∷ []) }
-    {
-        self.text.clear();
-        self.text.extend_from_slice(&[b'-', b'-', terminator])
-    }
-
-    // Makes a text of the message about a binary byte.
-    fn compose_message(
-        &mut self,
-        detection: BinaryDetection,
-        path: Option<&str>,
-        offset: u64,
-    ) -> Result<(), AllocError>
-        ensures writer { self.new.writer ≡ self.old.writer }
-        ensures config { self.new.config ≡ self.old.config }
-        ensures has_written { self.new.has_written ≡ self.old.has_written }
-        ensures has_failed { self.new.has_failed ≡ self.old.has_failed }
-        ensures text { OnOk result
-            (self.new.text.items ≡ binary_message (path_color self.old.config.color_specs)
-            detection
-            path.entry offset) }
-    {
-        self.text.clear();
-        let color = self.config.color_specs.path();
-        match detection {
-            BinaryDetection::None => Ok(()),
-            BinaryDetection::Quit(_) => push_message(&mut self.text, color, path, STOPPED, offset),
-            BinaryDetection::Convert(_) => {
-                push_message(&mut self.text, color, path, MATCHES, offset)
-            }
-        }
-    }
-
     /// The writer back.
     pub fn into_inner(self) -> W
         ensures { result ≡ self.writer }
     {
         let Standard {
             writer,
-            text: _,
-            parts: _,
+            draft: _,
             config: _,
             has_written: _,
             has_failed: _,
@@ -283,17 +116,17 @@ impl<W: Output> Standard<W> {
 
     // Writes the text at hand.
     fn write_text(&mut self) -> io::Result<()>
-        ensures written { Writes W.step self.old.writer self.old.text.items result self.new.writer }
-        ensures text { self.new.text.items ≡ self.old.text.items }
+        ensures written { Writes W.step self.old.writer self.old.draft.text.items result self.new.writer }
+        ensures text { self.new.draft.text.items ≡ self.old.draft.text.items }
         ensures config { self.new.config ≡ self.old.config }
         ensures has_written { self.new.has_written
-            ≡ (self.old.has_written || (is_ok result && is_text self.old.text.items)) }
+            ≡ (self.old.has_written || (is_ok result && is_text self.old.draft.text.items)) }
         ensures has_failed { self.new.has_failed
             ≡ (if is_ok result then self.old.has_failed else true) }
     {
-        match write_all(&mut self.writer, &self.text) {
+        match write_all(&mut self.writer, &self.draft.text) {
             Ok(()) => {
-                self.has_written = self.has_written || !self.text.is_empty();
+                self.has_written = self.has_written || !self.draft.text.is_empty();
                 Ok(())
             }
             Err(error) => {
@@ -301,42 +134,6 @@ impl<W: Output> Standard<W> {
                 Err(error)
             }
         }
-    }
-}
-
-// Pushes a message about a binary byte at an offset, after the path if there is one.
-fn push_message(
-    text: &mut Vec<u8>,
-    color: Option<&str>,
-    path: Option<&str>,
-    message: &str,
-    offset: u64,
-) -> Result<(), AllocError>
-    ensures { OnOk result (text.new.items
-        ≡ text.old.items ++ (path_prefix (color_of color.entry) path.entry
-        ++ (message.now ++ (decimal offset ++ codes ")\n")))) }
-{
-    push_prefix(text, color, path)?;
-    text.extend_from_slice(message.as_bytes())?;
-    push_digits(text, offset, b')')?;
-    text.extend_from_slice(b"\n")
-}
-
-// Pushes a path before a message, in a colour if there is one, if there is a path.
-fn push_prefix(
-    text: &mut Vec<u8>,
-    color: Option<&str>,
-    path: Option<&str>,
-) -> Result<(), AllocError>
-    ensures { OnOk result
-        (text.new.items ≡ text.old.items ++ path_prefix (color_of color.entry) path.entry) }
-{
-    match path {
-        Some(path) => {
-            push_colored(text, color, path.as_bytes())?;
-            text.extend_from_slice(b": ")
-        }
-        None => Ok(()),
     }
 }
 
@@ -407,18 +204,23 @@ impl<'s, M: FindAt, W: Output> StandardSink<'s, M, W> {
         bytes: &[u8],
     ) -> Result<(), SearchError>
         ensures composing { IsComposing self.old self.new }
-        ensures parts { OnOk result (self.new.printer.now.parts.items
+        ensures parts { OnOk result (self.new.printer.now.draft.parts.items
             ≡ parts_of (frame_of M.facts M.first_at self.old searcher.now.settings) bytes.now) }
         ensures ordered { OnOk result
-            (AreInOrder 0 (length bytes.now) self.new.printer.now.parts.items) }
+            (AreInOrder 0 (length bytes.now) self.new.printer.now.draft.parts.items) }
         ensures error { IfErr result (λ e. IsOutOfMemory e
             ⊎ IsErrorAt M.facts self.old searcher.now.settings bytes.now e) }
     {
         if !self.printer.config.asks_for_parts() {
-            self.printer.parts.clear();
+            self.printer.draft.parts.clear();
             return Ok(());
         }
-        find_reported_parts(&mut self.printer.parts, searcher, &self.matcher, bytes)
+        find_reported_parts(
+            &mut self.printer.draft.parts,
+            searcher,
+            &self.matcher,
+            bytes,
+        )
     }
 
     // Makes the text of a match.
@@ -429,7 +231,7 @@ impl<'s, M: FindAt, W: Output> StandardSink<'s, M, W> {
     ) -> Result<(), SearchError>
         requires { found.now.offset + length (match_bytes found.now) < 2 ^ 64 }
         ensures composing { IsComposing self.old self.new }
-        ensures text { OnOk result (self.new.printer.now.text.items
+        ensures text { OnOk result (self.new.printer.now.draft.text.items
             ≡ report_of M.facts M.first_at self.old searcher.now.settings (match_call found.now)) }
         ensures error { IfErr result (λ e. IsOutOfMemory e
             ⊎ IsErrorAt M.facts self.old searcher.now.settings (match_bytes found.now) e) }
@@ -439,9 +241,9 @@ impl<'s, M: FindAt, W: Output> StandardSink<'s, M, W> {
             Err(error) => return Err(error),
         }
         let layout = self.layout(searcher);
-        self.printer.open(&layout, &self.progress)?;
+        self.printer.draft.open(&layout, &self.progress)?;
         let is_across = searcher.multi_line_with_matcher(&self.matcher);
-        self.printer.push_match(&layout, found, is_across)?;
+        self.printer.draft.push_match(&layout, found, is_across)?;
         Ok(())
     }
 
@@ -453,7 +255,7 @@ impl<'s, M: FindAt, W: Output> StandardSink<'s, M, W> {
     ) -> Result<(), SearchError>
         requires { line.now.offset + length line.now.bytes < 2 ^ 64 }
         ensures composing { IsComposing self.old self.new }
-        ensures text { OnOk result (self.new.printer.now.text.items
+        ensures text { OnOk result (self.new.printer.now.draft.text.items
             ≡ report_of M.facts M.first_at self.old searcher.now.settings
             (context_call line.now)) }
         ensures error { IfErr result (λ e. IsOutOfMemory e
@@ -464,8 +266,8 @@ impl<'s, M: FindAt, W: Output> StandardSink<'s, M, W> {
             Err(error) => return Err(error),
         }
         let layout = self.layout(searcher);
-        self.printer.open(&layout, &self.progress)?;
-        self.printer.push_context(&layout, line)?;
+        self.printer.draft.open(&layout, &self.progress)?;
+        self.printer.draft.push_context(&layout, line)?;
         Ok(())
     }
 
@@ -477,18 +279,18 @@ impl<'s, M: FindAt, W: Output> StandardSink<'s, M, W> {
         line: &[u8],
     ) -> Result<(), SearchError>
         ensures composing { IsComposing self.old self.new }
-        ensures parts { OnOk result (self.new.printer.now.parts.items
+        ensures parts { OnOk result (self.new.printer.now.draft.parts.items
             ≡ context_parts (frame_of M.facts M.first_at self.old searcher.now.settings)
             line.now) }
         ensures ordered { OnOk result
-            (AreInOrder 0 (length line.now) self.new.printer.now.parts.items) }
+            (AreInOrder 0 (length line.now) self.new.printer.now.draft.parts.items) }
         ensures error { IfErr result (λ e. IsOutOfMemory e
             ⊎ IsErrorAt M.facts self.old searcher.now.settings line.now e) }
     {
         if searcher.invert_match() {
             return self.find_parts(searcher, line);
         }
-        self.printer.parts.clear();
+        self.printer.draft.parts.clear();
         Ok(())
     }
 
@@ -561,6 +363,7 @@ impl<'s, M: FindAt, W: Output> Sink for StandardSink<'s, M, W> {
         searcher: &Searcher<A>,
     ) -> Result<bool, SearchError> {
         self.printer
+            .draft
             .compose_break(searcher.line_terminator().as_byte())?;
         self.write()
     }
@@ -585,8 +388,11 @@ impl<'s, M: FindAt, W: Output> Sink for StandardSink<'s, M, W> {
         let Some(offset) = finish.binary_byte_offset() else {
             return Ok(());
         };
+        let colors = self.printer.config.color_specs;
+        let detection = *searcher.binary_detection();
         self.printer
-            .compose_message(*searcher.binary_detection(), self.path, offset)?;
+            .draft
+            .compose_message(&colors, detection, self.path, offset)?;
         self.write()?;
         Ok(())
     }

@@ -2,10 +2,10 @@ use Rattle.std.proofs.Common.{◌^◌, arith, length, subst, sym}
 use Rattle.grep_report.specs.SinkReports.{match_bytes}
 use Rattle.grep_printer.proofs.FoundPartLemmas.{ordered-within}
 use Rattle.grep_printer.specs.MatchedParts.{AreInOrder}
-use Rattle.grep_printer.proofs.standard.Standard.push_match.Goals as goal
+use Rattle.grep_printer.proofs.draft.Draft.push_match.Goals as goal
 
 pub push_lines-requires-clause-ordered : goal.push_lines-requires-clause-ordered
-push_lines-requires-clause-ordered g c =
+push_lines-requires-clause-ordered c =
     let fits = c.requires.fits in
     subst (AreInOrder 0 (2 ^ 64)) (sym c.deref.ensures.value)
     (ordered-within c.args.self.now.parts.items 0 (length (match_bytes c.args.found.now)) (2 ^ 64)
