@@ -4,7 +4,7 @@ use std::fmt::Display;
 use std::io;
 use std::process::ExitCode;
 
-const MORE: &str = "For more information, try 'linegrep --help'.";
+const NO_PATTERN: &str = "there is no pattern\n\nFor more information, try 'linegrep --help'.";
 
 /// Why the program ends before it has searched all.
 #[derive(Drop)]
@@ -31,15 +31,12 @@ impl Failure {
     pub fn report<T: Print + Eprint + AllocGlobal>(&self, rt: &T) -> ExitCode {
         let reported = match self {
             Failure::Usage(error) => error.print(rt),
-            Failure::NoPattern => eprintln!(rt; "linegrep: there is no pattern\n\n{MORE}"),
+            Failure::NoPattern => say(rt, &NO_PATTERN),
             Failure::Pattern(text, error) => report_pattern(rt, text, error),
-            Failure::Setting(message) => eprintln!(rt; "linegrep: {message}"),
+            Failure::Setting(message) => say(rt, message),
             Failure::Patterns(path, error) => report_cause(rt, path, error),
             Failure::Output(error) => report_output(rt, error),
-            Failure::System(error) if error.kind() == io::ErrorKind::InvalidData => {
-                eprintln!(rt; "linegrep: an argument isn't UTF-8")
-            }
-            Failure::System(error) => eprintln!(rt; "linegrep: {error}"),
+            Failure::System(error) => report_system(rt, error),
         };
         match (self, reported) {
             (Failure::Usage(error), Err(cause)) if !error.use_stderr() => report_help(rt, cause),
@@ -53,6 +50,20 @@ impl Failure {
             Failure::Output(error) if error.kind() == io::ErrorKind::BrokenPipe => 0,
             _ => 2,
         }
+    }
+}
+
+// Says something on standard error.
+fn say<T: Eprint, D: Display>(rt: &T, text: &D) -> io::Result<()> {
+    eprintln!(rt; "linegrep: {text}")
+}
+
+// Says what the system refuses, or that an argument is no text.
+fn report_system<T: Eprint>(rt: &T, error: &io::Error) -> io::Result<()> {
+    if error.kind() == io::ErrorKind::InvalidData {
+        say(rt, &"an argument isn't UTF-8")
+    } else {
+        say(rt, error)
     }
 }
 
@@ -78,9 +89,13 @@ pub fn report_cause<T: Eprint + AllocGlobal, E: Display>(
     error: &E,
 ) -> io::Result<()> {
     let cause = format!(in rt.alloc(); "{error}")?;
-    match cause.as_str().split_once(" (os error ") {
-        Some((words, _)) => eprintln!(rt; "linegrep: {name}: {words}"),
-        None => eprintln!(rt; "linegrep: {name}: {cause}"),
+    eprintln!(rt; "linegrep: {name}: {}", words_of(cause.as_str()))
+}
+
+fn words_of(cause: &str) -> &str {
+    match cause.split_once(" (os error ") {
+        Some((words, _)) => words,
+        None => cause,
     }
 }
 
@@ -88,8 +103,8 @@ pub fn report_cause<T: Eprint + AllocGlobal, E: Display>(
 fn report_pattern<T: Eprint>(rt: &T, text: &str, error: &grep_regex::Error) -> io::Result<()> {
     match error {
         grep_regex::Error::Syntax { pattern: _, error } => {
-            let message = error.kind.message();
-            eprintln!(rt; "linegrep: {message}\n    {text}")?;
+            say(rt, &error.kind.message())?;
+            eprintln!(rt; "    {text}")?;
             report_mark(rt, text, error.span.start)
         }
         grep_regex::Error::NotAllowed(_) => {
@@ -97,7 +112,7 @@ fn report_pattern<T: Eprint>(rt: &T, text: &str, error: &grep_regex::Error) -> i
             report_text(rt, text)
         }
         other => {
-            eprintln!(rt; "linegrep: {other}")?;
+            say(rt, other)?;
             report_text(rt, text)
         }
     }

@@ -1,6 +1,5 @@
 //! Globs, which choose among the files of folders.
 use crate::failures::Failure;
-use crate::options::texts;
 use clap::ArgMatches;
 use regex::{Matcher, Regex};
 use regex_syntax::is_meta_character;
@@ -43,26 +42,44 @@ impl Globs {
     /// Reads the globs of `-g` from parsed arguments; an empty one is left out. A failure is that
     /// of a glob that isn't well formed, or of being out of memory.
     pub fn read(alloc: Global, matches: &ArgMatches<'_>) -> Result<Globs, Failure> {
-        let mut globs = Vec::new(alloc);
-        for text in &texts(alloc, matches, "glob")? {
+        let mut globs = Globs {
+            globs: Vec::new(alloc),
+        };
+        match matches.get_strs("glob") {
+            Some(texts) => match globs.add_all(alloc, texts) {
+                Ok(()) => Ok(globs),
+                Err(failure) => Err(failure),
+            },
+            None => Ok(globs),
+        }
+    }
+
+    fn add_all(&mut self, alloc: Global, texts: &[&str]) -> Result<(), Failure> {
+        for text in texts {
             if !text.is_empty() {
-                globs.push(compile(alloc, text.as_str())?)?;
+                self.add(compile(alloc, text)?)?;
             }
         }
-        Ok(Globs { globs })
+        Ok(())
+    }
+
+    fn add(&mut self, glob: Glob) -> Result<(), Failure> {
+        match self.globs.push(glob) {
+            Ok(()) => Ok(()),
+            Err(error) => Err(Failure::from(error)),
+        }
     }
 
     /// What asks these globs about paths. The only error is being out of memory.
     pub fn matcher(&self, alloc: Global) -> Result<GlobsMatcher<'_>, AllocError> {
-        let are_exclusions = self.globs.iter().all(|glob: &Glob| glob.is_exclusion);
-        let mut matchers = Vec::new(alloc);
-        for glob in &self.globs {
-            matchers.push(glob.matcher(alloc)?)?;
+        let mut matcher = GlobsMatcher {
+            matchers: Vec::new(alloc),
+            are_exclusions: self.globs.iter().all(|glob: &Glob| glob.is_exclusion),
+        };
+        match matcher.add_all(alloc, &self.globs) {
+            Ok(()) => Ok(matcher),
+            Err(error) => Err(error),
         }
-        Ok(GlobsMatcher {
-            matchers,
-            are_exclusions,
-        })
     }
 }
 
@@ -97,20 +114,34 @@ struct GlobMatcher<'g> {
 impl<'g> Chooser for GlobsMatcher<'g> {
     fn choice(&mut self, path: &str, is_folder: bool) -> Choice {
         let path = path.strip_prefix("./").unwrap_or(path);
-        for matcher in self.matchers.iter_mut().rev() {
-            if matcher.is_match(path, is_folder) {
-                return if matcher.glob.is_exclusion {
-                    Choice::LeftOut
-                } else {
-                    Choice::Chosen
-                };
+        match self.is_excluded(path, is_folder) {
+            Some(true) => Choice::LeftOut,
+            Some(false) => Choice::Chosen,
+            None if self.are_exclusions || is_folder => Choice::Unmatched,
+            None => Choice::LeftOut,
+        }
+    }
+}
+
+impl<'g> GlobsMatcher<'g> {
+    fn add_all(&mut self, alloc: Global, globs: &'g [Glob]) -> Result<(), AllocError> {
+        for glob in globs {
+            match glob.matcher(alloc) {
+                Ok(matcher) => self.matchers.push(matcher)?,
+                Err(error) => return Err(error),
             }
         }
-        if self.are_exclusions || is_folder {
-            Choice::Unmatched
-        } else {
-            Choice::LeftOut
+        Ok(())
+    }
+
+    // Whether the last glob that matches a path leaves it out, if one matches.
+    fn is_excluded(&mut self, path: &str, is_folder: bool) -> Option<bool> {
+        for matcher in self.matchers.iter_mut().rev() {
+            if matcher.is_match(path, is_folder) {
+                return Some(matcher.glob.is_exclusion);
+            }
         }
+        None
     }
 }
 
@@ -149,8 +180,12 @@ fn compile(alloc: Global, text: &str) -> Result<Glob, Failure> {
 // The regular expression of a glob.
 fn translate(alloc: Global, glob: &str) -> Result<String, Error> {
     let letters = letters(alloc, glob.strip_prefix('/').unwrap_or(glob))?;
-    let mut translation = Translation::new(alloc, !glob.contains('/'))?;
-    match translation.push_all(&letters) {
+    translate_letters(alloc, &letters, !glob.contains('/'))
+}
+
+fn translate_letters(alloc: Global, glob: &[char], is_of_names: bool) -> Result<String, Error> {
+    let mut translation = Translation::new(alloc, is_of_names)?;
+    match translation.push_all(glob) {
         Ok(()) => Ok(translation.finish()?),
         Err(error) => Err(error),
     }

@@ -11,7 +11,7 @@ use grep_printer::{
 use grep_searcher::{
     BinaryDetection, ConfigError, Encoding, LineTerminator, Searcher, SearcherBuilder,
 };
-use std::alloc::{AllocError, Global};
+use std::alloc::Global;
 use std::rt::{Clock, Env};
 
 /// The searcher that the arguments ask for. Lines are numbered for a terminal, if nothing else is
@@ -171,21 +171,6 @@ pub fn line_terminator(matches: &ArgMatches<'_>) -> LineTerminator {
     } else {
         LineTerminator::byte(b'\n')
     }
-}
-
-/// The values of an option or an operand, in order.
-pub fn texts(
-    alloc: Global,
-    matches: &ArgMatches<'_>,
-    name: &str,
-) -> Result<Vec<String>, AllocError> {
-    let mut texts = Vec::new(alloc);
-    if let Some(values) = matches.get_strs(name) {
-        for value in values {
-            texts.push(String::from_str(alloc, value)?)?;
-        }
-    }
-    Ok(texts)
 }
 
 fn shows_numbers(matches: &ArgMatches<'_>, is_terminal: bool) -> bool {

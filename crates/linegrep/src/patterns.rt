@@ -1,12 +1,12 @@
 //! The patterns that are searched for, and the paths.
 use crate::failures::Failure;
-use crate::options::{line_terminator, texts};
+use crate::options::line_terminator;
 use clap::ArgMatches;
 use grep_regex::{Error, Regex, RegexMatcherBuilder};
 use grep_searcher::LineTerminator;
-use std::alloc::Global;
-use std::fs;
+use std::alloc::{AllocError, Global};
 use std::rt::Files;
+use std::{fs, io};
 
 /// The patterns and the paths that the arguments name.
 #[derive(Drop)]
@@ -26,38 +26,73 @@ impl Operands {
         rt: &T,
         matches: &ArgMatches<'_>,
     ) -> Result<Operands, Failure> {
-        let alloc = rt.alloc();
-        let mut patterns = texts(alloc, matches, "regexp")?;
-        let files = texts(alloc, matches, "file")?;
-        let mut paths = texts(alloc, matches, "operands")?;
-        if patterns.is_empty() && files.is_empty() {
-            if paths.is_empty() {
-                return Err(Failure::NoPattern);
+        let mut operands = Operands {
+            patterns: Vec::new(rt.alloc()),
+            paths: Vec::new(rt.alloc()),
+        };
+        match operands.add_all(rt, matches) {
+            Ok(()) => Ok(operands),
+            Err(failure) => Err(failure),
+        }
+    }
+
+    fn add_all<T: Files + AllocGlobal>(
+        &mut self,
+        rt: &T,
+        matches: &ArgMatches<'_>,
+    ) -> Result<(), Failure> {
+        let patterns = matches.get_strs("regexp").unwrap_or(&[]);
+        let files = matches.get_strs("file").unwrap_or(&[]);
+        let operands = matches.get_strs("operands").unwrap_or(&[]);
+        if !(patterns.is_empty() && files.is_empty()) {
+            add_texts(rt.alloc(), &mut self.patterns, patterns)?;
+            add_texts(rt.alloc(), &mut self.paths, operands)?;
+            return self.add_files(rt, files);
+        }
+        let [pattern, paths @ ..] = operands else {
+            return Err(Failure::NoPattern);
+        };
+        add_text(rt.alloc(), &mut self.patterns, pattern)?;
+        Ok(add_texts(rt.alloc(), &mut self.paths, paths)?)
+    }
+
+    // Adds the lines of files to the patterns.
+    fn add_files<T: Files + AllocGlobal>(&mut self, rt: &T, files: &[&str]) -> Result<(), Failure> {
+        for file in files {
+            match fs::read_to_string(rt, *file) {
+                Ok(text) => add_lines(rt.alloc(), &mut self.patterns, text.as_str())?,
+                Err(error) => return Err(unread(rt.alloc(), file, error)),
             }
-            patterns.push(paths.remove(0))?;
         }
-        for file in &files {
-            push_lines(rt, &mut patterns, file.as_str())?;
-        }
-        Ok(Operands { patterns, paths })
+        Ok(())
     }
 }
 
-// Adds the lines of a file.
-fn push_lines<T: Files + AllocGlobal>(
-    rt: &T,
-    patterns: &mut Vec<String>,
-    path: &str,
-) -> Result<(), Failure> {
-    let alloc = rt.alloc();
-    let text = match fs::read_to_string(rt, path) {
-        Ok(text) => text,
-        Err(error) => return Err(Failure::Patterns(String::from_str(alloc, path)?, error)),
-    };
-    for line in text.as_str().lines() {
-        patterns.push(String::from_str(alloc, line)?)?;
+fn add_lines(alloc: Global, texts: &mut Vec<String>, text: &str) -> Result<(), AllocError> {
+    for line in text.lines() {
+        add_text(alloc, texts, line)?;
     }
     Ok(())
+}
+
+fn add_texts(alloc: Global, texts: &mut Vec<String>, added: &[&str]) -> Result<(), AllocError> {
+    for text in added {
+        add_text(alloc, texts, text)?;
+    }
+    Ok(())
+}
+
+fn add_text(alloc: Global, texts: &mut Vec<String>, text: &str) -> Result<(), AllocError> {
+    texts.push(String::from_str(alloc, text)?)?;
+    Ok(())
+}
+
+// The failure of a file of patterns that can't be read.
+fn unread(alloc: Global, path: &str, error: io::Error) -> Failure {
+    match String::from_str(alloc, path) {
+        Ok(path) => Failure::Patterns(path, error),
+        Err(error) => Failure::from(error),
+    }
 }
 
 /// Compiles patterns as the arguments say. A failure is that of a pattern, or of being out of

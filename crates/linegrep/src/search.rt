@@ -17,8 +17,8 @@ use std::rt::{Clock, Files};
 
 /// Searches the files at the paths, one after another, and writes what is found. If there is no
 /// path, it searches the current folder under `-r`, and otherwise what `input` gives. The status is
-/// 0 if there is a match, 1 if there is none, and 2 if a file can't be read, of which standard error
-/// says why. If nothing is to be written, the first match ends it with 0.
+/// 0 if there is a match, 1 if there is none, and 2 if a file can't be read, which standard error
+/// says. If nothing is to be written, the first match ends it with 0.
 pub fn search_all<T, R: Source, W: Output>(
     rt: &T,
     matches: &ArgMatches<'_>,
