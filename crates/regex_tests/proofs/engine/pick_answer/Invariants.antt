@@ -1,5 +1,0 @@
-use Rattle.grep_regex.specs.Views.{regex_options, regex_patterns}
-use Rattle.regex_tests.proofs.engine.pick_answer.Given as goal
-
-abbrev pub ghosts-named_answer : goal.ghosts-named_answer
-ghosts-named_answer a = record { options = regex_options a.regex.now; patterns = regex_patterns a.regex.now }

@@ -1,0 +1,4 @@
+//! Tests of what is built on the search: the program `lgrep` as a library, and the small callers of
+//! `uses`.
+mod lent;
+mod programs;

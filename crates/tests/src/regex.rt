@@ -1,0 +1,8 @@
+//! Tests of the matcher of regular expressions.
+mod candidates;
+mod debug;
+mod engine;
+mod errors;
+mod from_position;
+mod hostile;
+mod matches;

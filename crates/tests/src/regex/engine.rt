@@ -1,0 +1,216 @@
+//! What is built and asked, as plain values. An expression is dropped in this file alone, since
+//! that costs much to prove.
+ghost use Rattle.grep_regex.specs.Views.{IsNamed};
+
+use crate::texts::debugs;
+use grep_matcher::{FindAt, LineTerminator, Matcher};
+use grep_regex::{Error, Naming, Regex, RegexMatcherBuilder};
+use std::alloc::Global;
+use std::marker::Brand;
+
+// What the matcher of an expression returns for a haystack.
+#[derive(Clone, Copy)]
+pub struct Answer {
+    // Where the first match starts and ends.
+    pub range: Option<(usize, usize)>,
+    pub is_match: bool,
+    // The position that is found in lines, with whether it is confirmed.
+    pub position: Option<(usize, bool)>,
+    pub terminator: Option<LineTerminator>,
+}
+
+// The builder with the options that the letters name: case-insensitive, fixed strings, word, whole
+// lines (`x`), multi-line, `.` for line feeds (`s`), ASCII (`a`), and a limit of 1,000 bytes (`L`);
+// as the terminator a line feed (`n`), CRLF (`r`), the byte 0 (`z`) or the byte 200 (`T`). Then
+// those of `set_syntax`.
+fn builder_of(letters: &str) -> RegexMatcherBuilder {
+    let mut builder = RegexMatcherBuilder::default();
+    builder.case_insensitive(letters.contains('i'));
+    builder.fixed_strings(letters.contains('F'));
+    builder.word(letters.contains('w'));
+    builder.whole_line(letters.contains('x'));
+    builder.multi_line(letters.contains('m'));
+    builder.dot_matches_new_line(letters.contains('s'));
+    builder.unicode(!letters.contains('a'));
+    builder.crlf(letters.contains('r'));
+    if letters.contains('n') {
+        builder.line_terminator(Some(b'\n'));
+    }
+    if letters.contains('z') {
+        builder.line_terminator(Some(0));
+    }
+    if letters.contains('T') {
+        builder.line_terminator(Some(200));
+    }
+    if letters.contains('L') {
+        builder.size_limit(1000);
+    }
+    set_syntax(&mut builder, letters);
+    builder
+}
+
+// Sets what the letters name: CRLF with no terminator (`k`), swapped greed (`U`), white space that
+// is ignored (`v`), octal numbers (`o`), and two levels of nesting (`d`) or none (`D`).
+fn set_syntax(builder: &mut RegexMatcherBuilder, letters: &str) {
+    if letters.contains('k') {
+        builder.crlf(true).line_terminator(None);
+    }
+    builder.swap_greed(letters.contains('U'));
+    builder.ignore_whitespace(letters.contains('v'));
+    builder.octal(letters.contains('o'));
+    if letters.contains('d') {
+        builder.nest_limit(2);
+    }
+    if letters.contains('D') {
+        builder.nest_limit(0);
+    }
+}
+
+// The expression of one pattern, of several, or under `l` of literals.
+fn build(alloc: Global, letters: &str, patterns: &[&str]) -> Result<Regex, Error> {
+    let builder = builder_of(letters);
+    if letters.contains('l') {
+        return builder.build_literals(alloc, patterns);
+    }
+    match patterns {
+        [pattern] => builder.build(alloc, pattern),
+        _ => builder.build_many(alloc, patterns),
+    }
+}
+
+// What the matcher of an expression returns for a haystack.
+fn ask<M: Matcher>(matcher: &M, haystack: &[u8]) -> Result<Answer, M::Error> {
+    Ok(Answer {
+        range: matcher
+            .find(haystack)?
+            .map(|found| (found.start(), found.end())),
+        is_match: matcher.is_match(haystack)?,
+        position: matcher
+            .find_candidate_line(haystack)?
+            .map(|found| (found.position(), found.is_confirmed())),
+        terminator: matcher.line_terminator(),
+    })
+}
+
+// What the matchers of patterns return for a haystack, or `None` if one can't be made or they
+// differ.
+pub fn answer_of(
+    alloc: Global,
+    letters: &str,
+    patterns: &[&str],
+    haystack: &[u8],
+) -> Option<Answer> {
+    let Ok(regex) = build(alloc, letters, patterns) else {
+        return None;
+    };
+    let answer = plain_answer(alloc, &regex, haystack)?;
+    let named = pick_answer(alloc, &regex, haystack)?;
+    if is_same(&answer, &named) {
+        Some(answer)
+    } else {
+        None
+    }
+}
+
+fn plain_answer(alloc: Global, regex: &Regex, haystack: &[u8]) -> Option<Answer> {
+    let Ok(matcher) = regex.matcher(alloc) else {
+        return None;
+    };
+    ask(&matcher, haystack).ok()
+}
+
+fn pick_answer(alloc: Global, regex: &Regex, haystack: &[u8]) -> Option<Answer> {
+    named_answer::<Brand>(alloc, regex, haystack)
+}
+
+fn named_answer<N: Naming>(alloc: Global, regex: &Regex, haystack: &[u8]) -> Option<Answer>
+    requires { IsNamed N.options N.patterns regex.now }
+{
+    let Ok(matcher) = regex.named_matcher::<N>(alloc) else {
+        return None;
+    };
+    ask(&matcher, haystack).ok()
+}
+
+fn is_same(answer: &Answer, other: &Answer) -> bool {
+    answer.range == other.range
+        && answer.is_match == other.is_match
+        && answer.position == other.position
+        && answer.terminator == other.terminator
+}
+
+// Where the first match from a position on starts and ends.
+fn ask_from<M: FindAt>(
+    matcher: &M,
+    haystack: &[u8],
+    start: usize,
+) -> Result<Option<(usize, usize)>, M::Error> {
+    if start > haystack.len() {
+        return Ok(None);
+    }
+    Ok(
+        matcher
+            .find_at(haystack, start)?
+            .map(|found| (found.start(), found.end())),
+    )
+}
+
+// What `ask_from` returns of the named matcher of a pattern, or `None` if one can't be made.
+pub fn first_from(
+    alloc: Global,
+    letters: &str,
+    pattern: &str,
+    haystack: &[u8],
+    start: usize,
+) -> Option<Option<(usize, usize)>> {
+    let Ok(regex) = build(alloc, letters, &[pattern]) else {
+        return None;
+    };
+    pick_from(alloc, &regex, haystack, start)
+}
+
+fn pick_from(
+    alloc: Global,
+    regex: &Regex,
+    haystack: &[u8],
+    start: usize,
+) -> Option<Option<(usize, usize)>> {
+    named_from::<Brand>(alloc, regex, haystack, start)
+}
+
+fn named_from<N: Naming>(
+    alloc: Global,
+    regex: &Regex,
+    haystack: &[u8],
+    start: usize,
+) -> Option<Option<(usize, usize)>>
+    requires { IsNamed N.options N.patterns regex.now }
+{
+    let Ok(matcher) = regex.named_matcher::<N>(alloc) else {
+        return None;
+    };
+    ask_from(&matcher, haystack, start).ok()
+}
+
+// Whether this is the debug form of a clone of the expression of patterns.
+pub fn has_form(alloc: Global, letters: &str, patterns: &[&str], form: &str) -> bool {
+    match build(alloc, letters, patterns) {
+        Ok(regex) => copy_has_form(alloc, &regex, form),
+        Err(_) => false,
+    }
+}
+
+fn copy_has_form(alloc: Global, regex: &Regex, form: &str) -> bool {
+    match regex.clone() {
+        Ok(copy) => debugs(alloc, &copy, form),
+        Err(_) => false,
+    }
+}
+
+// Why patterns can't be compiled, or `None` if they can.
+pub fn error_of(alloc: Global, letters: &str, patterns: &[&str]) -> Option<Error> {
+    match build(alloc, letters, patterns) {
+        Ok(_) => None,
+        Err(error) => Some(error),
+    }
+}

@@ -1,0 +1,5 @@
+//! Tests of the crates below the search, each alone.
+mod encodings;
+mod lines;
+mod patterns;
+mod reports;

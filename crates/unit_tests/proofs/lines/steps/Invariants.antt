@@ -1,6 +1,0 @@
-use Rattle.std.proofs.Common.{◌≤◌, length}
-use Rattle.unit_tests.proofs.lines.steps.Given as goal
-
--- the steps end within the bytes
-abbrev pub invariant-loop-line : goal.invariant-loop-line
-invariant-loop-line l = l.step.end ≤ length l.bytes
