@@ -3,7 +3,7 @@
 ghost use Rattle.grep_regex.specs.Views.{IsNamed};
 
 use crate::texts::debugs;
-use grep_matcher::{FindAt, LineTerminator, Matcher};
+use grep_matcher::{FindAt, LineTerminator};
 use grep_regex::{Error, Naming, Regex, RegexMatcherBuilder};
 use std::alloc::Global;
 use std::marker::Brand;
@@ -13,6 +13,8 @@ use std::marker::Brand;
 pub struct Answer {
     // Where the first match starts and ends.
     pub range: Option<(usize, usize)>,
+    // The same of the first match from a position on.
+    pub from_position: Option<(usize, usize)>,
     pub is_match: bool,
     // The position that is found in lines, with whether it is confirmed.
     pub position: Option<(usize, bool)>,
@@ -78,67 +80,6 @@ fn build(alloc: Global, letters: &str, patterns: &[&str]) -> Result<Regex, Error
     }
 }
 
-// What the matcher of an expression returns for a haystack.
-fn ask<M: Matcher>(matcher: &M, haystack: &[u8]) -> Result<Answer, M::Error> {
-    Ok(Answer {
-        range: matcher
-            .find(haystack)?
-            .map(|found| (found.start(), found.end())),
-        is_match: matcher.is_match(haystack)?,
-        position: matcher
-            .find_candidate_line(haystack)?
-            .map(|found| (found.position(), found.is_confirmed())),
-        terminator: matcher.line_terminator(),
-    })
-}
-
-// What the matchers of patterns return for a haystack, or `None` if one can't be made or they
-// differ.
-pub fn answer_of(
-    alloc: Global,
-    letters: &str,
-    patterns: &[&str],
-    haystack: &[u8],
-) -> Option<Answer> {
-    let Ok(regex) = build(alloc, letters, patterns) else {
-        return None;
-    };
-    let answer = plain_answer(alloc, &regex, haystack)?;
-    let named = pick_answer(alloc, &regex, haystack)?;
-    if is_same(&answer, &named) {
-        Some(answer)
-    } else {
-        None
-    }
-}
-
-fn plain_answer(alloc: Global, regex: &Regex, haystack: &[u8]) -> Option<Answer> {
-    let Ok(matcher) = regex.matcher(alloc) else {
-        return None;
-    };
-    ask(&matcher, haystack).ok()
-}
-
-fn pick_answer(alloc: Global, regex: &Regex, haystack: &[u8]) -> Option<Answer> {
-    named_answer::<Brand>(alloc, regex, haystack)
-}
-
-fn named_answer<N: Naming>(alloc: Global, regex: &Regex, haystack: &[u8]) -> Option<Answer>
-    requires { IsNamed N.options N.patterns regex.now }
-{
-    let Ok(matcher) = regex.named_matcher::<N>(alloc) else {
-        return None;
-    };
-    ask(&matcher, haystack).ok()
-}
-
-fn is_same(answer: &Answer, other: &Answer) -> bool {
-    answer.range == other.range
-        && answer.is_match == other.is_match
-        && answer.position == other.position
-        && answer.terminator == other.terminator
-}
-
 // Where the first match from a position on starts and ends.
 fn ask_from<M: FindAt>(
     matcher: &M,
@@ -155,41 +96,83 @@ fn ask_from<M: FindAt>(
     )
 }
 
-// What `ask_from` returns of the named matcher of a pattern, or `None` if one can't be made.
-pub fn first_from(
+// What the matcher of an expression returns for a haystack and a position in it.
+fn ask<M: FindAt>(matcher: &M, haystack: &[u8], start: usize) -> Result<Answer, M::Error> {
+    Ok(Answer {
+        range: matcher
+            .find(haystack)?
+            .map(|found| (found.start(), found.end())),
+        from_position: ask_from(matcher, haystack, start)?,
+        is_match: matcher.is_match(haystack)?,
+        position: matcher
+            .find_candidate_line(haystack)?
+            .map(|found| (found.position(), found.is_confirmed())),
+        terminator: matcher.line_terminator(),
+    })
+}
+
+// What the matchers of patterns return for a haystack, and for its start as a position, or `None`
+// if one can't be made or they differ.
+pub fn answer_of(
     alloc: Global,
     letters: &str,
-    pattern: &str,
+    patterns: &[&str],
+    haystack: &[u8],
+) -> Option<Answer> {
+    answer_from(alloc, letters, patterns, haystack, 0)
+}
+
+// The same for a position.
+pub fn answer_from(
+    alloc: Global,
+    letters: &str,
+    patterns: &[&str],
     haystack: &[u8],
     start: usize,
-) -> Option<Option<(usize, usize)>> {
-    let Ok(regex) = build(alloc, letters, &[pattern]) else {
+) -> Option<Answer> {
+    let Ok(regex) = build(alloc, letters, patterns) else {
         return None;
     };
-    pick_from(alloc, &regex, haystack, start)
+    let answer = plain_answer(alloc, &regex, haystack, start)?;
+    let named = pick_answer(alloc, &regex, haystack, start)?;
+    if is_same(&answer, &named) {
+        Some(answer)
+    } else {
+        None
+    }
 }
 
-fn pick_from(
+fn plain_answer(alloc: Global, regex: &Regex, haystack: &[u8], start: usize) -> Option<Answer> {
+    let Ok(matcher) = regex.matcher(alloc) else {
+        return None;
+    };
+    ask(&matcher, haystack, start).ok()
+}
+
+fn pick_answer(alloc: Global, regex: &Regex, haystack: &[u8], start: usize) -> Option<Answer> {
+    named_answer::<Brand>(alloc, regex, haystack, start)
+}
+
+fn named_answer<N: Naming>(
     alloc: Global,
     regex: &Regex,
     haystack: &[u8],
     start: usize,
-) -> Option<Option<(usize, usize)>> {
-    named_from::<Brand>(alloc, regex, haystack, start)
-}
-
-fn named_from<N: Naming>(
-    alloc: Global,
-    regex: &Regex,
-    haystack: &[u8],
-    start: usize,
-) -> Option<Option<(usize, usize)>>
+) -> Option<Answer>
     requires { IsNamed N.options N.patterns regex.now }
 {
     let Ok(matcher) = regex.named_matcher::<N>(alloc) else {
         return None;
     };
-    ask_from(&matcher, haystack, start).ok()
+    ask(&matcher, haystack, start).ok()
+}
+
+fn is_same(answer: &Answer, other: &Answer) -> bool {
+    answer.range == other.range
+        && answer.from_position == other.from_position
+        && answer.is_match == other.is_match
+        && answer.position == other.position
+        && answer.terminator == other.terminator
 }
 
 // Whether this is the debug form of a clone of the expression of patterns.

@@ -1,5 +1,6 @@
 //! First matches from a position on.
-use crate::regex::engine::first_from;
+use crate::regex::engine::answer_from;
+use std::alloc::Global;
 
 // Options by their letters, a pattern, a haystack, a position, and where the first match from it on
 // starts and ends.
@@ -28,10 +29,18 @@ const ROWS: &[Row] = &[
     ("n", r"[^b]*", b"a\nac", 1, Some((1, 1))),
 ];
 
+// Whether the first match from a row's position on is the row's.
+fn finds_from(alloc: Global, row: &Row) -> bool {
+    match answer_from(alloc, row.0, &[row.1], row.2, row.3) {
+        Some(answer) => answer.from_position == row.4,
+        None => false,
+    }
+}
+
 #[test]
 fn positions(rt: HostRuntime) -> Result<(), usize> {
     for (index, row) in ROWS.iter().enumerate() {
-        if first_from(rt.alloc(), row.0, row.1, row.2, row.3) != Some(row.4) {
+        if !finds_from(rt.alloc(), row) {
             return Err(index);
         }
     }
